@@ -1,0 +1,5 @@
+mod Buffers
+mod Examples
+pub mod KnownOctets
+pub mod LineAnswers
+mod Scans

@@ -1,0 +1,8 @@
+pub mod Buffers
+pub mod Counts
+pub mod LineFaults
+pub mod Lines
+pub mod MemoryEnds
+pub mod Reading
+pub mod StandardEnds
+pub mod Windows

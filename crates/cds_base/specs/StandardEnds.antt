@@ -1,0 +1,18 @@
+-- What a source over a reader and a sink over a writer are to their callers. Own.
+use Rattle.std.specs.Prelude.{ℕ}
+use Rattle.cds_base.specs.declared.standard.StdSource.{StdSource}
+use Rattle.cds_base.specs.declared.standard.StdSink.{StdSink}
+
+-- the reader, and how often it has failed
+abbrev pub reader_of : {R : Type 0} → StdSource R → R
+reader_of source = source.reader
+
+abbrev pub failed_reads : {R : Type 0} → StdSource R → ℕ
+failed_reads source = source.faults
+
+-- the writer, and how often it has failed
+abbrev pub writer_of : {W : Type 0} → StdSink W → W
+writer_of sink = sink.writer
+
+abbrev pub failed_writes : {W : Type 0} → StdSink W → ℕ
+failed_writes sink = sink.faults

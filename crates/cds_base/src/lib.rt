@@ -1,0 +1,20 @@
+//! What a program reads from and writes to, each with a count of its failures, and readers over it:
+//! lines, and a window of octets.
+#![tactic(auto)]
+
+mod buffer;
+mod ends;
+mod lines;
+mod memory;
+mod scan;
+mod standard;
+#[cfg(test)]
+mod tests;
+mod window;
+
+pub use ends::{Failed, PutFault, Sink, Source, put_all};
+pub use lines::{Line, Lines};
+pub use memory::{MemSink, MemSource};
+pub use scan::LineFault;
+pub use standard::{StdSink, StdSource};
+pub use window::Window;
