@@ -1,0 +1,6 @@
+pub mod TreeViews
+pub mod Undoing
+pub mod ValidJoins
+pub mod NameLaws
+pub mod OutcomeLaws
+mod Examples

@@ -1,0 +1,9 @@
+pub mod Keyed
+pub mod Semilattice
+pub mod Joins
+pub mod Stamps
+pub mod Octets
+pub mod Names
+pub mod Undos
+pub mod Outcomes
+pub mod Members

@@ -1,0 +1,28 @@
+// A fault, or want of memory.
+ghost use Rattle.std.specs.Prelude.{◌≡◌};
+ghost use Rattle.cds_stamps.specs.declared.alloc_or.AllocOr.TheVariants.{OutOfMemory};
+
+use std::alloc::{AllocError, AllocFailed};
+
+/// Why a call that makes a value made none: a fault of what it was given, or want of memory.
+#[derive(Clone, Copy, Debug, PartialEq, Eq)]
+pub enum AllocOr<E> {
+    Fault(E),
+    OutOfMemory,
+}
+
+impl<E> From<AllocError> for AllocOr<E> {
+    ghost from_gives = { λ _ e. e ≡ OutOfMemory };
+
+    fn from(_error: AllocError) -> AllocOr<E> {
+        AllocOr::OutOfMemory
+    }
+}
+
+impl<E, T: Drop> From<AllocFailed<T>> for AllocOr<E> {
+    ghost from_gives = { λ _ e. e ≡ OutOfMemory };
+
+    fn from(_error: AllocFailed<T>) -> AllocOr<E> {
+        AllocOr::OutOfMemory
+    }
+}

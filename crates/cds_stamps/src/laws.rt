@@ -1,0 +1,13 @@
+//! Laws of the definitions: functions that do nothing, whose contracts are proved.
+ghost use Rattle.std.specs.Prelude.{◌≡◌, ◌↔◌, ℕ, List, None};
+ghost use Rattle.cds_stamps.specs.Names.{simple_name_fault, IsSimpleName, attr_fault, IsAttrName};
+
+/// No fault is found exactly where the octets are a simple name.
+pub fn simple_names_have_no_fault()
+    ensures { (octets : List ℕ) → (simple_name_fault octets ≡ None) ↔ IsSimpleName octets }
+{}
+
+/// No fault is found exactly where the octets are an attribute name.
+pub fn attribute_names_have_no_fault()
+    ensures { (octets : List ℕ) → (attr_fault octets ≡ None) ↔ IsAttrName octets }
+{}

@@ -1,0 +1,21 @@
+//! Stamps, floors, house numbers and simple names of a cell, and the joins of what replicas hold.
+#![tactic(auto)]
+
+mod alloc_or;
+mod lattice;
+pub mod laws;
+mod members;
+mod names;
+mod numbers;
+mod octets;
+mod stamp;
+#[cfg(test)]
+mod tests;
+
+pub use alloc_or::AllocOr;
+pub use lattice::Lattice;
+pub use members::MemberKind;
+pub use names::{AttrFault, AttrName, NameFault, SimpleName, is_attr_octet, is_name_octet};
+pub use numbers::{DirId, EpochNo, HouseNo};
+pub use octets::Octets;
+pub use stamp::{Floor, Node, Stamp};

@@ -1,0 +1,92 @@
+// Names, stamps and nodes at their bounds.
+use super::*;
+use std::test::Fail;
+
+#[test]
+fn names_at_their_bounds(rt: HostRuntime) -> Result<(), Fail> {
+    let alloc = rt.alloc();
+    let most = vec![in alloc; b'a'; 254]?;
+    let many = vec![in alloc; b'a'; 255]?;
+    let table = [
+        (b"e".as_slice(), None),
+        (b"*?\\".as_slice(), None),
+        (most.as_slice(), None),
+        (b"".as_slice(), Some(NameFault::Empty(1))),
+        (b"a/b".as_slice(), Some(NameFault::BadOctet(2))),
+        (b"ab c".as_slice(), Some(NameFault::BadOctet(3))),
+        (b"\x7f".as_slice(), Some(NameFault::BadOctet(1))),
+        (many.as_slice(), Some(NameFault::ComponentTooLong(255))),
+    ];
+    for (octets, fault) in table {
+        match SimpleName::parse(alloc, octets) {
+            Ok(name) => {
+                assert_eq!(rt; fault, None);
+                assert_eq!(rt; name.octets(), octets);
+                assert_eq!(rt; name.copy(alloc)?, name);
+            }
+            Err(e) => assert_eq!(rt; Some(e), fault.map(AllocOr::Fault)),
+        }
+    }
+    Ok(())
+}
+
+#[test]
+fn attribute_names_at_their_bounds(rt: HostRuntime) -> Result<(), Fail> {
+    let alloc = rt.alloc();
+    let most = vec![in alloc; b'Z'; 31]?;
+    let many = vec![in alloc; b'9'; 32]?;
+    let table = [
+        (b"CDS_Towers".as_slice(), None),
+        (most.as_slice(), None),
+        (b"".as_slice(), Some(AttrFault::BadAttr(1))),
+        (b"A-b".as_slice(), Some(AttrFault::BadAttr(2))),
+        (many.as_slice(), Some(AttrFault::BadAttr(32))),
+    ];
+    for (octets, fault) in table {
+        match AttrName::parse(alloc, octets) {
+            Ok(name) => {
+                assert_eq!(rt; fault, None);
+                assert_eq!(rt; name.octets(), octets);
+                assert_eq!(rt; name.copy(alloc)?, name);
+            }
+            Err(e) => assert_eq!(rt; Some(e), fault.map(AllocOr::Fault)),
+        }
+    }
+    Ok(())
+}
+
+#[test]
+fn stamps_at_their_bounds(rt: HostRuntime) -> Result<(), Fail> {
+    assert_eq!(rt; Node::new(1 << 48), None);
+    let node = Node::new((1 << 48) - 1).ok_or("a node")?;
+    assert_eq!(rt; node.number(), 281474976710655);
+
+    // The clock, the floor, and the time of the stamp.
+    let last = u64::MAX;
+    let table = [
+        (0, 0, Some(1)),
+        (100, 0, Some(100)),
+        (100, 100, Some(101)),
+        (5, 100, Some(101)),
+        (0, last - 1, Some(last)),
+        (last, 7, Some(last)),
+        (0, last, None),
+        (last, last, None),
+    ];
+    for (clock, floor, time) in table {
+        let mut floor = Floor { time: floor };
+        let before = floor.time;
+        assert_eq!(rt;
+            floor.issue(clock, node),
+            time.map(|time| Stamp { time, node })
+        );
+        assert_eq!(rt; floor.time, time.unwrap_or(before));
+    }
+
+    let mut floor = Floor { time: 9 };
+    floor.raise(3);
+    assert_eq!(rt; floor.time, 9);
+    floor.raise(12);
+    assert_eq!(rt; floor.time, 12);
+    Ok(())
+}
