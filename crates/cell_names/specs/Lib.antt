@@ -1,0 +1,3 @@
+pub mod FullNames
+pub mod Houses
+pub mod ChildPointers
