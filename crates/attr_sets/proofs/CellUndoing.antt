@@ -1,0 +1,59 @@
+-- Joins of cells in place.
+use Rattle.std.proofs.Common.{◌≡◌, ℕ, List, [], ◌∷◌, Option, None, refl, sym, ap, ◌∙◌}
+use Rattle.std.specs.FinMap.{FinMap, get, from_entries, get-empty, empty}
+use Rattle.std.specs.Map.{keys_of}
+use Rattle.std.specs.List.Sorted.{IsStrictlySortedBy}
+use Rattle.std.specs.Cmp.Lexicographic.{nat_list_cmp_total}
+use Rattle.cds_stamps.specs.declared.stamp.Stamp.{Stamp}
+use Rattle.cds_stamps.specs.Octets.{octets_cmp}
+use Rattle.cds_stamps.specs.Semilattice.{maybe, join_of}
+use Rattle.cds_stamps.specs.Stamps.{later_stamp}
+use Rattle.cds_stamps.proofs.TreeViews.{entry_at, join_of-entries, get-view}
+use Rattle.attr_sets.specs.declared.mark.ValueMark.{ValueMark}
+use Rattle.attr_sets.specs.declared.cell.AttrCell.{AttrCell}
+use Rattle.attr_sets.specs.Marks.{later, kept}
+use Rattle.attr_sets.specs.Cells.{cell_of, join_cells, IsValidCell}
+use Rattle.attr_sets.specs.CellLaws.{same_cell, get-cell_of, get-join_cells, kept-later, kept-kept, clears}
+
+-- two cells, where the clear of the first is not the earlier
+pub kept_joined : (a b c : AttrCell) → c.cleared ≡ a.cleared → maybe later_stamp a.cleared b.cleared ≡ a.cleared → ((q : List ℕ) → get c.values q ≡ maybe later (get a.values q) (kept a.cleared (get b.values q))) → IsValidCell a → c ≡ join_cells a b
+kept_joined a b c stays last joined valid =
+    same_cell c (join_cells a b) (stays ∙ sym last) (λ q.
+    joined q ∙ ap (λ x. maybe later x (kept a.cleared (get b.values q))) (sym (valid q)) ∙ sym (kept-later a.cleared (get a.values q) (get b.values q))
+    ∙ ap (λ x. kept x (maybe later (get a.values q) (get b.values q))) (sym last) ∙ sym (get-join_cells a b q))
+
+-- a clear takes away from each mark of a list what it takes from the latest
+pub join_of-kept : {T : Type 0} (c : Option Stamp) (g : T → Option ValueMark) (es : List T) → join_of later (λ e. kept c (g e)) es ≡ kept c (join_of later g es)
+join_of-kept c g [] = refl
+join_of-kept c g (e ∷ es) = ap (maybe later (kept c (g e))) (join_of-kept c g es) ∙ sym (kept-later c (g e) (join_of later g es))
+
+-- what the entries of a map give at a value, as far as the clear keeps it
+pub all_kept : (c : Option Stamp) (m : FinMap octets_cmp ValueMark) (es items : List (List ℕ × ValueMark)) → from_entries es ≡ m → IsStrictlySortedBy octets_cmp (keys_of es) → {rest : List (List ℕ × ValueMark)} → rest ≡ es → items ≡ rest
+    → (q : List ℕ) → join_of later (λ e. kept c (entry_at octets_cmp q e)) items ≡ kept c (get m q)
+all_kept c m es items view sorted at given q =
+    ap (join_of later (λ e. kept c (entry_at octets_cmp q e))) (given ∙ at)
+    ∙ join_of-kept c (entry_at octets_cmp q) es
+    ∙ ap (kept c) (join_of-entries nat_list_cmp_total later q es sorted ∙ sym (get-view nat_list_cmp_total es q) ∙ ap (λ m. get m q) view)
+
+-- marks of both, where those of the second were kept to the later clear before
+pub later_joined : (a b c : AttrCell) (values : FinMap octets_cmp ValueMark) → c.cleared ≡ maybe later_stamp a.cleared b.cleared
+    → ((q : List ℕ) → get values q ≡ maybe later (get a.values q) (kept b.cleared (get b.values q))) → ((q : List ℕ) → get c.values q ≡ kept c.cleared (get values q)) → c ≡ join_cells a b
+later_joined a b c values same joined keeps = same_cell c (join_cells a b) same (λ q.
+    let e = maybe later_stamp a.cleared b.cleared in
+    let m = get a.values q in
+    let n = get b.values q in
+    cc (keeps q, joined q, same, get-join_cells a b q, kept-later e m (kept b.cleared n), kept-later e m n, kept-kept e b.cleared n, clears.assoc a.cleared b.cleared b.cleared, clears.idem b.cleared))
+
+-- marks of both, each kept to the later clear, put into an empty map
+pub both_kept : (a b : AttrCell) (none first both : FinMap octets_cmp ValueMark) (c : Option Stamp) → none ≡ empty → c ≡ maybe later_stamp a.cleared b.cleared
+    → ((q : List ℕ) → get first q ≡ maybe later (get none q) (kept c (get a.values q))) → ((q : List ℕ) → get both q ≡ maybe later (get first q) (kept c (get b.values q)))
+    → record { cleared = c; values = both } ≡ join_cells a b
+both_kept a b none first both c is_empty same from_a from_b = same_cell (record { cleared = c; values = both }) (join_cells a b) same (λ q.
+    let m = get a.values q in
+    let n = get b.values q in
+    from_b q ∙ ap (λ x. maybe later x (kept c n)) (from_a q ∙ ap (λ x. maybe later x (kept c m)) (ap (λ m. get m q) is_empty ∙ get-empty octets_cmp q))
+    ∙ sym (kept-later c m n) ∙ ap (λ c. kept c (maybe later m n)) same ∙ sym (get-join_cells a b q))
+
+-- nothing is known of an attribute with no history
+pub new_cell : (none : FinMap octets_cmp ValueMark) → none ≡ empty → record { cleared = None; values = none } ≡ cell_of []
+new_cell none is_empty = same_cell (record { cleared = None; values = none }) (cell_of []) refl (λ q. ap (λ m. get m q) is_empty ∙ get-empty octets_cmp q ∙ sym (get-cell_of [] q))

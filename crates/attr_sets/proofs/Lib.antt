@@ -1,0 +1,5 @@
+pub mod CellUndoing
+pub mod Greatest
+pub mod ShownLaws
+pub mod UpdateLaws
+mod Examples

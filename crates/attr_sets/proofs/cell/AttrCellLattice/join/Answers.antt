@@ -1,0 +1,13 @@
+use Rattle.std.proofs.Common.{refl}
+use Rattle.attr_sets.specs.declared.cell.AttrCell.{AttrCell}
+use Rattle.attr_sets.proofs.CellUndoing.{kept_joined, later_joined}
+use Rattle.attr_sets.proofs.cell.AttrCellLattice.join.Goals as goal
+
+pub returns-clause-ok : goal.returns-clause-ok
+returns-clause-ok c = λ _ _.
+    later_joined c.args.self.now c.args.other.now c.join_clear.new.self c.join-2.new.self c.join_clear.ensures.cleared c.in_ok-join-2.ensures.ok c.join_clear.ensures.values
+
+pub returns-then-covers_clear-clause-ok : goal.returns-then-covers_clear-clause-ok
+returns-then-covers_clear-clause-ok c = λ own _.
+    let new : AttrCell = record { cleared = c.args.self.now.cleared; values = c.join.new.self } in
+    kept_joined c.args.self.now c.args.other.now new refl (rw c.if-covers_clear.true at c.covers_clear.ensures) c.in_ok-join.ensures.ok own

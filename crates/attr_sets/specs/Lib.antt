@@ -1,0 +1,7 @@
+pub mod Values
+pub mod Marks
+pub mod Cells
+pub mod CellLaws
+pub mod CellUndos
+pub mod CellPurges
+pub mod ShownValues

@@ -1,0 +1,46 @@
+-- Marks of one value of an attribute (own, after C705, present and absent values).
+use Rattle.std.specs.Prelude.{Bool, true, false, Option, Some, None, if◌then◌else◌, refl}
+use Rattle.std.proofs.Common.{ap}
+use Rattle.std.specs.declared.cmp.Ordering.{Ordering}
+use Rattle.std.specs.Coded.{Coded, code_by, coded×, coded_bool}
+use Rattle.std.specs.Ordering.{bool_cmp, ordering_then, flip_args}
+use Rattle.std.specs.Cmp.{IsTotalOrder, bool_cmp_total}
+use Rattle.std.specs.FinMap.{IsAntisymmetric}
+use Rattle.std.proofs.lemmas.Cmp.{on_total, then_total, back_total}
+use Rattle.std.proofs.lemmas.Map.Lookups.{exact_pairs, CmpEqualImpliesEq}
+use Rattle.cds_stamps.specs.declared.stamp.Stamp.{Stamp}
+use Rattle.cds_stamps.specs.Semilattice.{IsSemilattice, greater, greater_semilattice}
+use Rattle.cds_stamps.specs.Stamps.{stamp_cmp, stamp_total, stamp_exact, stamp_code, is_earlier}
+use Rattle.attr_sets.specs.declared.mark.ValueMark.{ValueMark}
+
+-- by stamp; of two marks with one stamp the absent one is greater (own)
+abbrev pub mark_cmp : ValueMark → ValueMark → Ordering
+mark_cmp a b = ordering_then (stamp_cmp a.stamp b.stamp) (bool_cmp b.present a.present)
+
+exact_flags : CmpEqualImpliesEq (flip_args bool_cmp)
+exact_flags true true e = refl
+exact_flags true false e = cc
+exact_flags false true e = cc
+exact_flags false false e = refl
+
+pub mark_total : IsTotalOrder mark_cmp
+mark_total = then_total (on_total (λ m. m.stamp) stamp_total) (back_total (on_total (λ m. m.present) bool_cmp_total))
+
+pub mark_exact : IsAntisymmetric mark_cmp
+mark_exact a b h = ap (λ (p : Stamp × Bool). record { present = p.1; stamp = p.0 }) (exact_pairs stamp_cmp (flip_args bool_cmp) stamp_exact exact_flags (a.stamp, a.present) (b.stamp, b.present) h)
+
+-- of two marks of one value, the one that counts (own, after C705, later timestamps win)
+abbrev pub later : ValueMark → ValueMark → ValueMark
+later = greater mark_cmp
+
+pub later_laws : IsSemilattice later
+later_laws = greater_semilattice mark_total mark_exact
+
+abbrev pub mark_code : Coded ValueMark
+mark_code = code_by (Bool × Stamp) (coded× coded_bool stamp_code) (λ m. (m.present, m.stamp)) (λ p. record { present = p.0; stamp = p.1 }) (λ _. refl)
+
+-- a mark, unless it is earlier than the clear (own)
+abbrev pub kept : Option Stamp → Option ValueMark → Option ValueMark
+kept c None = None
+kept None (Some m) = Some m
+kept (Some c) (Some m) = if is_earlier m.stamp c then None else Some m

@@ -1,0 +1,233 @@
+// The cell of an attribute.
+ghost use Rattle.std.specs.Prelude.{◌≡◌, List, ℕ, [], ◌∷◌, true, false, IfOk, OnOk, OnErr, MatchBool};
+ghost use Rattle.std.specs.FinMap as map;
+ghost use Rattle.cds_stamps.specs.Semilattice.{maybe};
+ghost use Rattle.cds_stamps.specs.Stamps.{later_stamp};
+ghost use Rattle.attr_sets.specs.Marks.{kept};
+ghost use Rattle.attr_sets.specs.Cells.{Cleared, Marked, cell_of, cell_values, join_cells, IsValidCell};
+ghost use Rattle.attr_sets.specs.CellUndos.{undo_cell};
+ghost use Rattle.attr_sets.specs.CellLaws.{join_cells-comm, join_cells-assoc, join_cells-idem, join_cells-valid};
+
+use crate::mark::ValueMark;
+use crate::undo::CellUndo;
+use crate::value::Value;
+use crate::value_map::{ValueMap, covers};
+use cds_stamps::{Lattice, Stamp};
+use std::alloc::{AllocError, Global};
+use std::mem::replace;
+
+/// What is known of an attribute: its latest clear, and a mark for each value that the clear keeps.
+#[derive(Drop)]
+pub struct AttrCell {
+    pub cleared: Option<Stamp>,
+    pub values: ValueMap,
+}
+
+impl Clone for AttrCell {
+    ghost is_clone = { λ x y. y ≡ x };
+
+    fn clone(&self) -> Result<AttrCell, AllocError> {
+        Ok(AttrCell {
+            cleared: self.cleared,
+            values: self.values.clone()?,
+        })
+    }
+}
+
+impl AttrCell {
+    /// The cell of an attribute of which nothing is known.
+    pub fn new(alloc: Global) -> Self
+        ensures { result ≡ cell_of [] }
+    {
+        AttrCell {
+            cleared: None,
+            values: ValueMap::new(alloc),
+        }
+    }
+
+    /// A cell of the same clear and marks.
+    pub fn copy(&self, _alloc: Global) -> Result<AttrCell, AllocError>
+        ensures { IfOk result (λ c. c ≡ self.now) }
+    {
+        self.clone()
+    }
+
+    /// The values that are present, ascending.
+    pub fn present_values(&self, alloc: Global) -> Result<Vec<Value>, AllocError>
+        ensures { IfOk result (λ v. v.items ≡ cell_values self.now) }
+    {
+        let mut found = Vec::new(alloc);
+        for (value, mark) in self.values.iter() {
+            if mark.present {
+                found.push(value.copy(alloc)?)?;
+            }
+        }
+        Ok(found)
+    }
+
+    /// Adds a present mark of a value, in place.
+    pub fn add(&mut self, alloc: Global, value: &Value, stamp: Stamp) -> Result<(), AllocError>
+        ensures ok { OnOk result (IsValidCell self.old → self.new ≡ join_cells self.old (cell_of (Marked value.now (record { present = true; stamp = stamp }) ∷ []))) }
+        ensures err { OnErr result (self.new ≡ self.old) }
+    {
+        self.mark(
+            alloc,
+            value,
+            ValueMark {
+                present: true,
+                stamp,
+            },
+        )
+    }
+
+    /// Adds an absent mark of a value, whether it is there or not, in place.
+    pub fn remove(&mut self, alloc: Global, value: &Value, stamp: Stamp) -> Result<(), AllocError>
+        ensures ok { OnOk result (IsValidCell self.old → self.new ≡ join_cells self.old (cell_of (Marked value.now (record { present = false; stamp = stamp }) ∷ []))) }
+        ensures err { OnErr result (self.new ≡ self.old) }
+    {
+        self.mark(
+            alloc,
+            value,
+            ValueMark {
+                present: false,
+                stamp,
+            },
+        )
+    }
+
+    /// Adds a clear and a present mark of a value with one stamp, in place: the value alone is left of what was before.
+    pub fn put(&mut self, alloc: Global, value: &Value, stamp: Stamp) -> Result<(), AllocError>
+        ensures ok { OnOk result (IsValidCell self.old → self.new ≡ join_cells self.old (cell_of (Cleared stamp ∷ Marked value.now (record { present = true; stamp = stamp }) ∷ []))) }
+        ensures err { OnErr result (self.new ≡ self.old) }
+    {
+        let stamp = &stamp;
+        self.add(alloc, value, *stamp)?;
+        self.clear(*stamp);
+        Ok(())
+    }
+
+    /// Adds a clear.
+    pub fn clear(&mut self, stamp: Stamp)
+        ensures { self.new ≡ join_cells self.old (cell_of (Cleared stamp ∷ [])) }
+    {
+        self.join_clear(Some(stamp));
+    }
+
+    /// Joins another cell in. What takes it back. A later clear has no cell to be put back into: then the old cell is
+    /// kept whole, and the marks that the clear leaves of it are copied.
+    pub fn join_logged(&mut self, alloc: Global, other: &AttrCell) -> Result<CellUndo, AllocError>
+        ensures ok { OnOk result (IsValidCell self.old → self.new ≡ join_cells self.old other.now) }
+        ensures back { IfOk result (λ undo. undo_cell undo self.new ≡ self.old) }
+        ensures err { OnErr result (self.new ≡ self.old) }
+    {
+        if covers_clear(&self.cleared, &other.cleared) {
+            let log = self
+                .values
+                .join_logged(alloc, &other.values, &self.cleared)?;
+            return Ok(CellUndo::Marks(log));
+        }
+        let next = self.joined(alloc, other)?;
+        Ok(CellUndo::Whole(replace(self, next)))
+    }
+
+    /// Takes a join back, with no memory.
+    pub fn take_back(&mut self, undo: CellUndo)
+        ensures { self.new ≡ undo_cell undo self.old }
+    {
+        match undo {
+            CellUndo::Whole(old) => {
+                *self = old;
+            }
+            CellUndo::Marks(log) => {
+                self.values.take_back(log);
+            }
+        }
+    }
+
+    /// Both cells joined, apart from either.
+    fn joined(&self, alloc: Global, other: &AttrCell) -> Result<AttrCell, AllocError>
+        ensures { IfOk result (λ c. c ≡ join_cells self.now other.now) }
+    {
+        let cleared = later_of(self.cleared, other.cleared);
+        let mut values = ValueMap::new(alloc);
+        values.raise_all(alloc, &self.values, &cleared)?;
+        values.raise_all(alloc, &other.values, &cleared)?;
+        Ok(AttrCell { cleared, values })
+    }
+
+    fn mark(&mut self, alloc: Global, value: &Value, mark: ValueMark) -> Result<(), AllocError>
+        ensures ok { OnOk result (IsValidCell self.old → self.new ≡ join_cells self.old (cell_of (Marked value.now mark ∷ []))) }
+        ensures err { OnErr result (self.new ≡ self.old) }
+    {
+        if covers(&self.cleared, &mark) {
+            return Ok(());
+        }
+        self.values.raise(alloc, value, mark)?;
+        Ok(())
+    }
+
+    /// Keeps the later clear, and drops the marks that are earlier than it.
+    fn join_clear(&mut self, clear: Option<Stamp>)
+        ensures cleared { self.new.cleared ≡ maybe later_stamp self.old.cleared clear }
+        ensures values { (q : List ℕ) → map.get self.new.values q ≡ kept self.new.cleared (map.get self.old.values q) }
+    {
+        self.cleared = later_of(self.cleared, clear);
+        self.keep();
+    }
+
+    /// Drops the marks that are earlier than the clear.
+    fn keep(&mut self)
+        ensures cleared { self.new.cleared ≡ self.old.cleared }
+        ensures values { (q : List ℕ) → map.get self.new.values q ≡ kept self.old.cleared (map.get self.old.values q) }
+    {
+        if let Some(clear) = self.cleared {
+            self.values.keep_from(clear);
+        }
+    }
+}
+
+impl Lattice for AttrCell {
+    ghost valid = { IsValidCell };
+
+    ghost joined = { join_cells };
+
+    ghost keeps_valid = { λ x y _ _. join_cells-valid x y };
+
+    ghost commutative = { λ x y _ _. join_cells-comm x y };
+
+    ghost associative = { λ x y z _ _ _. join_cells-assoc x y z };
+
+    ghost idempotent = { λ x valid. join_cells-idem x valid };
+
+    fn join(&mut self, alloc: Global, other: &Self) -> Result<(), AllocError> {
+        if covers_clear(&self.cleared, &other.cleared) {
+            self.values.join(alloc, &other.values, &self.cleared)?;
+            return Ok(());
+        }
+        self.values.join(alloc, &other.values, &other.cleared)?;
+        self.join_clear(other.cleared);
+        Ok(())
+    }
+}
+
+/// The later of two clears.
+fn later_of(a: Option<Stamp>, b: Option<Stamp>) -> Option<Stamp>
+    ensures { result ≡ maybe later_stamp a b }
+{
+    match (a, b) {
+        (Some(x), Some(y)) => Some(if x < y { y } else { x }),
+        (Some(x), None) => Some(x),
+        (None, y) => y,
+    }
+}
+
+/// Whether the other clear is not later.
+fn covers_clear(own: &Option<Stamp>, other: &Option<Stamp>) -> bool
+    ensures { MatchBool result (maybe later_stamp own.now other.now ≡ own.now) (Unit {0}) }
+{
+    match (own, other) {
+        (Some(a), Some(b)) => *b <= *a,
+        (None, Some(_)) => false,
+        (_, None) => true,
+    }
+}

@@ -1,0 +1,37 @@
+// The laws of cells and of what shows, each the contract of a function that does nothing.
+ghost use Rattle.std.specs.Prelude.{◌≡◌, ℕ, ◌++◌, ◌↔◌, ◌⊎◌, [], ◌∷◌, List, true, false};
+ghost use Rattle.std.specs.List.{Contains};
+ghost use Rattle.std.specs.List.Sorted.{IsStrictlySortedBy};
+ghost use Rattle.cds_stamps.specs.Octets.{octets_cmp};
+ghost use Rattle.cds_stamps.specs.declared.stamp.Stamp.{Stamp};
+ghost use Rattle.attr_sets.specs.Cells.{AttrMark, Cleared, Marked, cell_of, join_cells, shown_values, IsValidCell};
+ghost use Rattle.attr_sets.specs.ShownValues.{IsBefore, IsShown};
+
+/// The join of the cells of two histories is the cell of both together.
+pub fn joins_are_unions()
+    ensures { (g h : List AttrMark) → join_cells (cell_of g) (cell_of h) ≡ cell_of (g ++ h) }
+{}
+
+/// The cell of a history holds no mark that is earlier than its clear.
+pub fn cells_are_valid()
+    ensures { (h : List AttrMark) → IsValidCell (cell_of h) }
+{}
+
+/// A value shows exactly where its greatest mark is present and not earlier than any clear.
+pub fn shown_values_are_present()
+    ensures { (h : List AttrMark) (v : List ℕ) → Contains (shown_values h) v ↔ IsShown h v }
+{}
+
+/// The values that show ascend, each once.
+pub fn shown_values_ascend()
+    ensures { (h : List AttrMark) → IsStrictlySortedBy octets_cmp (shown_values h) }
+{}
+
+/// An update that is later than all before shows at once: an added value shows, a removed one doesn't, a put one shows
+/// alone, and after a clear none does. The other values show as before an addition and a removal.
+pub fn later_updates_show()
+    ensures added { (h : List AttrMark) (v : List ℕ) (s : Stamp) → IsBefore h s → (w : List ℕ) → Contains (shown_values (h ++ Marked v (record { present = true; stamp = s }) ∷ [])) w ↔ ((w ≡ v) ⊎ Contains (shown_values h) w) }
+    ensures removed { (h : List AttrMark) (v : List ℕ) (s : Stamp) → IsBefore h s → (w : List ℕ) → Contains (shown_values (h ++ Marked v (record { present = false; stamp = s }) ∷ [])) w ↔ ((¬ (w ≡ v)) × Contains (shown_values h) w) }
+    ensures put { (h : List AttrMark) (v : List ℕ) (s : Stamp) → IsBefore h s → (w : List ℕ) → Contains (shown_values (h ++ Cleared s ∷ Marked v (record { present = true; stamp = s }) ∷ [])) w ↔ (w ≡ v) }
+    ensures cleared { (h : List AttrMark) (s : Stamp) → IsBefore h s → (w : List ℕ) → ¬ Contains (shown_values (h ++ Cleared s ∷ [])) w }
+{}

@@ -1,0 +1,21 @@
+//! The values of one attribute of an entry, each present or absent by its latest mark.
+#![tactic(auto)]
+
+mod cell;
+mod laws;
+mod mark;
+#[cfg(test)]
+mod tests;
+mod undo;
+mod value;
+mod value_map;
+
+pub use cell::AttrCell;
+pub use laws::{
+    cells_are_valid, joins_are_unions, later_updates_show, shown_values_are_present,
+    shown_values_ascend,
+};
+pub use mark::ValueMark;
+pub use undo::CellUndo;
+pub use value::{Value, ValueFault};
+pub use value_map::{MarkLog, ValueMap};

@@ -1,0 +1,68 @@
+// Values of an attribute.
+ghost use Rattle.std.specs.Prelude.{◌≡◌, IfOk, IfSome};
+ghost use Rattle.cds_stamps.specs.Outcomes.{Answers, ok_unless};
+ghost use Rattle.cds_stamps.specs.declared.alloc_or.AllocOr.TheVariants.{Fault};
+ghost use Rattle.attr_sets.specs.Values.{value_fault};
+
+use cds_stamps::{AllocOr, Octets};
+use std::alloc::{AllocError, Global};
+use std::marker::Model;
+use thiserror::Error;
+
+/// Why octets are no value.
+#[derive(Clone, Copy, Debug, PartialEq, Eq, Drop, Error)]
+pub enum ValueFault {
+    #[error("a value has 1 to 1,024 octets")]
+    BadSize,
+}
+
+/// The octets of a value, 1 to 1,024 of them, ordered by the octets.
+#[derive(Clone, Debug, PartialEq, Eq, PartialOrd, Ord, Drop)]
+pub struct Value {
+    octets: Octets,
+}
+
+impl Model for Value {
+    ghost use Rattle.std.specs.Prelude.{ℕ, List, ◌≤◌, ◌<◌, length};
+
+    ghost Value = { List ℕ };
+
+    ghost view = { λ v. v.octets };
+
+    ghost invariant = { λ v. (0 < length v.octets) × (length v.octets ≤ 1024) };
+
+    ghost inverse = { λ xs. record { octets = xs } };
+}
+
+/// The most octets that a value has.
+const MAX_OCTETS: usize = 1024;
+
+impl Value {
+    /// The value of these octets. No memory is asked for where they are none.
+    pub fn new(alloc: Global, octets: &[u8]) -> Result<Value, AllocOr<ValueFault>>
+        ensures answer { Answers result (ok_unless (value_fault octets.now) octets.now) }
+        ensures faulty { IfSome (value_fault octets.now) (λ fault. result ≡ Err (Fault fault)) }
+    {
+        if octets.is_empty() || octets.len() > MAX_OCTETS {
+            return Err(AllocOr::Fault(ValueFault::BadSize));
+        }
+        Ok(Value {
+            octets: Octets::of(alloc, octets)?,
+        })
+    }
+
+    pub fn octets(&self) -> &[u8]
+        ensures { result.now ≡ self.now }
+    {
+        self.octets.list()
+    }
+
+    /// Another value of the same octets.
+    pub fn copy(&self, alloc: Global) -> Result<Value, AllocError>
+        ensures { IfOk result (λ v. v ≡ self.now) }
+    {
+        Ok(Value {
+            octets: self.octets.copy(alloc)?,
+        })
+    }
+}
