@@ -1,0 +1,10 @@
+mod Examples
+pub mod HistoryLaws
+pub mod ShownLaws
+pub mod TableLaws
+pub mod MemberLaws
+pub mod SeenLaws
+pub mod UpdateLaws
+pub mod ChangeLaws
+pub mod Lookups
+pub mod FragmentLaws

@@ -1,0 +1,75 @@
+-- The laws of entries and tables.
+use Rattle.std.specs.Prelude.{◌≡◌, Option, Some, None, refl}
+use Rattle.std.proofs.Common.{sym, ◌∙◌, ap}
+use Rattle.std.specs.FinMap.{IsAntisymmetric, get, empty, get-empty}
+use Rattle.std.specs.Cmp.{nat_cmp_total}
+use Rattle.std.specs.Cmp.Lexicographic.{nat_list_cmp_total}
+use Rattle.std.proofs.lemmas.Cmp.{on_total}
+use Rattle.std.proofs.lemmas.Map.Lookups.{exact_unsigned}
+use Rattle.cds_stamps.specs.declared.stamp.Stamp.{Stamp}
+use Rattle.attr_sets.specs.declared.mark.ValueMark.{ValueMark}
+use Rattle.attr_sets.specs.declared.cell.AttrCell.{AttrCell}
+use Rattle.directory.specs.declared.entry.EntryCell.{EntryCell}
+use Rattle.cds_stamps.specs.Semilattice.{IsJoin, IsSemilattice, maybe, maybe_semilattice, greater, greater_semilattice}
+use Rattle.cds_stamps.specs.Stamps.{stamp_total, stamp_exact, later_stamp, earlier_stamp, earlier_stamp_laws}
+use Rattle.cds_stamps.specs.Octets.{octets_cmp, octets_exact}
+use Rattle.attr_sets.specs.Marks.{later, kept}
+use Rattle.attr_sets.specs.Cells.{join_cells}
+use Rattle.attr_sets.specs.CellLaws.{same_cell, get-join_cells, join_cells-comm, join_cells-assoc, join_cells-idem, join_cells-valid}
+use Rattle.cds_stamps.specs.Joins.{JoinsTied, join_maps, map_join, key_join, EachValue}
+use Rattle.directory.specs.Kinds.{rank, kind_of_rank, rank_back, kind_cmp}
+use Rattle.directory.specs.Entries.{join_tied, join_entries, IsHeldCell, IsValidEntry, join_tables, IsValidTable}
+
+pub kind_exact : IsAntisymmetric kind_cmp
+kind_exact a b e = sym (rank_back a) ∙ ap kind_of_rank (exact_unsigned (rank a) (rank b) e) ∙ rank_back b
+
+pub kinds : IsSemilattice (greater kind_cmp)
+kinds = greater_semilattice (on_total rank nat_cmp_total) kind_exact
+
+deaths : IsSemilattice (maybe earlier_stamp)
+deaths = maybe_semilattice earlier_stamp_laws
+
+-- what is joined with a cell that holds something holds something
+nothing_left : (x y : Option Stamp) → maybe later_stamp x y ≡ None → x ≡ None
+nothing_left None y e = refl
+nothing_left (Some x) None e = cc
+nothing_left (Some x) (Some y) e = cc
+
+no_mark_left : (x y : Option ValueMark) → kept None (maybe later x y) ≡ None → x ≡ None
+no_mark_left None y e = refl
+no_mark_left (Some x) None e = cc
+no_mark_left (Some x) (Some y) e = cc
+
+join_held : (a b : AttrCell) → join_cells a b ≡ record { cleared = None; values = empty } → a ≡ record { cleared = None; values = empty }
+join_held a b e =
+    let none : (join_cells a b).cleared ≡ None = ap (λ (c : AttrCell). c.cleared) e in
+    same_cell a (record { cleared = None; values = empty }) (nothing_left a.cleared b.cleared none) (λ v.
+    no_mark_left (get a.values v) (get b.values v)
+    (ap (λ c. kept c (maybe later (get a.values v) (get b.values v))) (sym none) ∙ sym (get-join_cells a b v) ∙ ap (λ (c : AttrCell). get c.values v) e ∙ get-empty octets_cmp v)
+    ∙ sym (get-empty octets_cmp v))
+
+pub cell_join : IsJoin IsHeldCell join_cells
+cell_join = record {
+  keeps = λ x y p q. (join_cells-valid x y, λ e. p.1 (join_held x y e));
+  comm = join_cells-comm;
+  assoc = join_cells-assoc;
+  idem = λ x p. join_cells-idem x p.0;
+}
+
+attrs : IsJoin (EachValue {R = octets_cmp} IsHeldCell) (join_maps join_cells)
+attrs = map_join nat_list_cmp_total octets_exact cell_join
+
+tied_join : JoinsTied (λ (e : EntryCell). e.birth) stamp_total stamp_exact IsValidEntry join_tied
+tied_join = record {
+  keyed = λ x y e. refl;
+  keeps = λ x y p q. attrs.keeps x.attrs y.attrs p q;
+  comm = λ x y e i. record { birth = e i; kind = kinds.comm x.kind y.kind i; death = deaths.comm x.death y.death i; attrs = attrs.comm x.attrs y.attrs i };
+  assoc = λ x y z e f i. record { birth = x.birth; kind = kinds.assoc x.kind y.kind z.kind i; death = deaths.assoc x.death y.death z.death i; attrs = attrs.assoc x.attrs y.attrs z.attrs i };
+  idem = λ x p i. record { birth = x.birth; kind = kinds.idem x.kind i; death = deaths.idem x.death i; attrs = attrs.idem x.attrs p i };
+}
+
+pub entry_join : IsJoin IsValidEntry join_entries
+entry_join = key_join (λ (e : EntryCell). e.birth) stamp_total stamp_exact tied_join
+
+pub table_join : IsJoin IsValidTable join_tables
+table_join = map_join nat_list_cmp_total octets_exact entry_join

@@ -1,0 +1,11 @@
+-- What takes a join of entries back (own).
+use Rattle.cds_stamps.specs.Undos.{taken_back}
+use Rattle.attr_sets.specs.CellUndos.{undo_cell}
+use Rattle.directory.specs.declared.entry.EntryCell.{EntryCell}
+use Rattle.directory.specs.declared.undo.EntryUndo.{EntryUndo}
+use Rattle.directory.specs.declared.undo.EntryUndo.TheVariants.{Whole, Tied}
+
+-- the entry with the join taken back: the old entry, or the entry with what was changed of it put back (own)
+abbrev pub undo_entry : EntryUndo → EntryCell → EntryCell
+undo_entry (Whole old) e = old
+undo_entry (Tied kind death log) e = record { birth = e.birth; kind = kind; death = death; attrs = taken_back undo_cell log e.attrs }

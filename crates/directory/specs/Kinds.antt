@@ -1,0 +1,39 @@
+-- The kinds of entries (own, after C705, object entries, soft links and child pointers).
+use Rattle.std.specs.Prelude.{◌≡◌, ℕ, zero, suc, Bool, ◌==◌, List, codes, refl}
+use Rattle.std.specs.Coded.{Coded, code_by, coded_ℕ}
+use Rattle.std.specs.declared.cmp.Ordering.{Ordering}
+use Rattle.std.specs.Ordering.{nat_cmp, on}
+use Rattle.directory.specs.declared.entry.Kind.{Kind}
+use Rattle.directory.specs.declared.entry.Kind.TheVariants.{Object, Link, Child}
+
+-- their order: object, link, child (own)
+abbrev pub rank : Kind → ℕ
+rank Object = 0
+rank Link = 1
+rank Child = 2
+
+abbrev pub kind_cmp : Kind → Kind → Ordering
+kind_cmp = on rank nat_cmp
+
+abbrev pub is_child : Kind → Bool
+is_child k = rank k == 2
+
+abbrev pub kind_of_rank : ℕ → Kind
+kind_of_rank zero = Object
+kind_of_rank (suc zero) = Link
+kind_of_rank (suc (suc n)) = Child
+
+pub rank_back : (k : Kind) → kind_of_rank (rank k) ≡ k
+rank_back Object = refl
+rank_back Link = refl
+rank_back Child = refl
+
+abbrev pub kind_code : Coded Kind
+kind_code = code_by ℕ coded_ℕ rank kind_of_rank rank_back
+
+-- the attributes that make an entry a link or a child (C705, CDS_LinkTarget and CDS_Replicas)
+abbrev pub link_target : List ℕ
+link_target = codes "CDS_LinkTarget"
+
+abbrev pub replicas : List ℕ
+replicas = codes "CDS_Replicas"

@@ -1,0 +1,9 @@
+pub mod Kinds
+pub mod Entries
+pub mod EntryLaws
+pub mod CellLogs
+pub mod EntryUndos
+pub mod Updates
+pub mod Histories
+pub mod Shown
+pub mod Purges

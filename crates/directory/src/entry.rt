@@ -1,0 +1,277 @@
+// Entries.
+ghost use Rattle.std.specs.Prelude.{◌≡◌, ◌==◌, Some, None, IfOk, OnOk, OnErr, if◌then◌else◌, filter, is_some, length, option_copied};
+ghost use Rattle.cds_stamps.specs.Semilattice.{maybe, greater};
+ghost use Rattle.cds_stamps.specs.Stamps.{earlier_stamp};
+ghost use Rattle.directory.specs.Kinds.{kind_cmp};
+ghost use Rattle.directory.specs.Entries.{join_tied, join_entries, IsValidEntry};
+ghost use Rattle.directory.specs.EntryLaws.{entry_join};
+ghost use Rattle.directory.specs.EntryUndos.{undo_entry};
+ghost use Rattle.attr_sets.specs.Cells.{cell_values};
+ghost use Rattle.directory.specs.Shown.{is_readable, leads, entry_values, shown_entry};
+
+use crate::attr_map::{AttrMap, CellLog};
+use crate::undo::EntryUndo;
+use attr_sets::{AttrCell, Value};
+use cds_stamps::{AttrName, Lattice, SimpleName, Stamp};
+use cell_names::{ChildPointer, FullName};
+use std::alloc::{AllocError, Global};
+use std::cmp::Ordering;
+use std::mem::replace;
+
+/// The attribute with the target of a link.
+pub const LINK_TARGET: &[u8] = b"CDS_LinkTarget";
+
+/// The attribute with the pointer of a child.
+pub const REPLICAS: &[u8] = b"CDS_Replicas";
+
+/// The kind of an entry.
+#[derive(Clone, Copy, Debug, PartialEq, Eq, PartialOrd, Ord)]
+pub enum Kind {
+    Object,
+    Link,
+    Child,
+}
+
+/// What is known of a name: its greatest birth, the least death of that birth, and its attributes.
+#[derive(Drop)]
+pub struct EntryCell {
+    pub birth: Stamp,
+    pub kind: Kind,
+    pub death: Option<Stamp>,
+    pub attrs: AttrMap,
+}
+
+/// What one update adds to a table: the entry of its name, with its birth and the new marks alone.
+#[derive(Drop)]
+pub struct Fragment {
+    pub name: SimpleName,
+    pub entry: EntryCell,
+}
+
+impl Clone for EntryCell {
+    ghost is_clone = { λ x y. y ≡ x };
+
+    fn clone(&self) -> Result<EntryCell, AllocError> {
+        Ok(EntryCell {
+            birth: self.birth,
+            kind: self.kind,
+            death: self.death,
+            attrs: self.attrs.clone()?,
+        })
+    }
+}
+
+impl EntryCell {
+    /// An entry of the same birth, kind, death and cells.
+    pub fn copy(&self, _alloc: Global) -> Result<EntryCell, AllocError>
+        ensures { IfOk result (λ e. e ≡ self.now) }
+    {
+        self.clone()
+    }
+
+    /// Whether it shows: it is not known to be dead, and a link or a child has exactly one readable value of its attribute.
+    /// It takes no memory. Of a link or a child it goes through the attributes, and through the values of one.
+    pub fn is_live(&self) -> bool
+        ensures { result ≡ is_some (shown_entry self.now) }
+    {
+        self.death.is_none() && self.leads()
+    }
+
+    /// The entry itself, if it shows.
+    pub(crate) fn if_live(&self) -> Option<&EntryCell>
+        ensures { option_copied result ≡ (if is_some (shown_entry self.now) then Some self.now else None) }
+    {
+        if self.is_live() { Some(self) } else { None }
+    }
+
+    /// The values of an attribute that are present, ascending.
+    pub fn values(&self, alloc: Global, attr: &AttrName) -> Result<Vec<Value>, AllocError>
+        ensures { IfOk result (λ found. found.items ≡ entry_values self.now attr.now) }
+    {
+        match self.attrs.get(attr) {
+            Some(cell) => cell.present_values(alloc),
+            None => Ok(Vec::new(alloc)),
+        }
+    }
+
+    /// Whether there is what an entry of its kind leads to.
+    fn leads(&self) -> bool
+        ensures { result ≡ leads self.now.kind (entry_values self.now) }
+    {
+        match self.kind {
+            Kind::Object => true,
+            Kind::Link => self.has_one_readable(LINK_TARGET),
+            Kind::Child => self.has_one_readable(REPLICAS),
+        }
+    }
+
+    /// Whether exactly one value that is present in an attribute reads by the entry's kind.
+    fn has_one_readable(&self, attr: &[u8]) -> bool
+        ensures { result ≡ (length (filter (is_readable self.now.kind) (entry_values self.now attr.now)) == 1) }
+    {
+        match self.attrs.find(attr) {
+            Some(cell) => has_one_readable(self.kind, cell),
+            None => false,
+        }
+    }
+
+    /// Joins another entry in. What takes it back. Where the other birth is later, the old entry is kept whole.
+    pub(crate) fn join_logged(
+        &mut self,
+        alloc: Global,
+        other: &EntryCell,
+    ) -> Result<EntryUndo, AllocError>
+        ensures ok { OnOk result (IsValidEntry self.old → IsValidEntry other.now → self.new ≡ join_entries self.old other.now) }
+        ensures back { IfOk result (λ undo. undo_entry undo self.new ≡ self.old) }
+        ensures err { OnErr result (self.new ≡ self.old) }
+    {
+        match self.birth.cmp(&other.birth) {
+            Ordering::Less => {
+                let next = other.copy(alloc)?;
+                Ok(EntryUndo::Whole(replace(self, next)))
+            }
+            Ordering::Greater => Ok(EntryUndo::Tied(self.kind, self.death, CellLog::new(alloc))),
+            Ordering::Equal => {
+                let undo = self.join_tied_logged(alloc, other)?;
+                Ok(undo)
+            }
+        }
+    }
+
+    /// Joins an entry of the same birth in.
+    fn join_tied(&mut self, alloc: Global, other: &EntryCell) -> Result<(), AllocError>
+        ensures ok { OnOk result (IsValidEntry self.old → IsValidEntry other.now → self.new ≡ join_tied self.old other.now) }
+        ensures err { OnErr result (self.new ≡ self.old) }
+    {
+        self.attrs.join(alloc, &other.attrs)?;
+        let kind = greater_kind(self.kind, other.kind);
+        let death = earlier_of(self.death, other.death);
+        self.kind = kind;
+        self.death = death;
+        Ok(())
+    }
+
+    /// Joins an entry of the same birth in. What takes it back.
+    fn join_tied_logged(
+        &mut self,
+        alloc: Global,
+        other: &EntryCell,
+    ) -> Result<EntryUndo, AllocError>
+        ensures ok { OnOk result (IsValidEntry self.old → IsValidEntry other.now → self.new ≡ join_tied self.old other.now) }
+        ensures back { IfOk result (λ undo. undo_entry undo self.new ≡ self.old) }
+        ensures err { OnErr result (self.new ≡ self.old) }
+    {
+        let log = self.attrs.join_logged(alloc, &other.attrs)?;
+        let kind = greater_kind(self.kind, other.kind);
+        let death = earlier_of(self.death, other.death);
+        Ok(EntryUndo::Tied(
+            replace(&mut self.kind, kind),
+            replace(&mut self.death, death),
+            log,
+        ))
+    }
+
+    /// Takes a join back, with no memory.
+    pub(crate) fn take_back(&mut self, undo: EntryUndo)
+        ensures { self.new ≡ undo_entry undo self.old }
+    {
+        match undo {
+            EntryUndo::Whole(old) => {
+                *self = old;
+            }
+            EntryUndo::Tied(kind, death, log) => {
+                self.kind = kind;
+                self.death = death;
+                self.attrs.take_back(log);
+            }
+        }
+    }
+}
+
+impl Lattice for EntryCell {
+    ghost valid = { IsValidEntry };
+
+    ghost joined = { join_entries };
+
+    ghost keeps_valid = { λ x y p q. entry_join.keeps x y p q };
+
+    ghost commutative = { λ x y _ _. entry_join.comm x y };
+
+    ghost associative = { λ x y z _ _ _. entry_join.assoc x y z };
+
+    ghost idempotent = { λ x valid. entry_join.idem x valid };
+
+    fn join(&mut self, alloc: Global, other: &Self) -> Result<(), AllocError> {
+        match self.birth.cmp(&other.birth) {
+            Ordering::Less => {
+                *self = other.copy(alloc)?;
+            }
+            Ordering::Greater => {}
+            Ordering::Equal => {
+                self.join_tied(alloc, other)?;
+            }
+        }
+        Ok(())
+    }
+}
+
+impl Fragment {
+    /// A fragment of the same name and entry.
+    pub fn copy(&self, alloc: Global) -> Result<Fragment, AllocError>
+        ensures { IfOk result (λ f. f ≡ self.now) }
+    {
+        Ok(Fragment {
+            name: self.name.copy(alloc)?,
+            entry: self.entry.copy(alloc)?,
+        })
+    }
+}
+
+/// Whether octets read as what an entry of this kind leads to.
+fn is_readable(kind: Kind, octets: &[u8]) -> bool
+    ensures { result ≡ is_readable kind octets.now }
+{
+    match kind {
+        Kind::Object => false,
+        Kind::Link => FullName::check(octets).is_ok(),
+        Kind::Child => ChildPointer::check(octets).is_ok(),
+    }
+}
+
+/// Whether exactly one value that is present in the cell reads by this kind.
+fn has_one_readable(kind: Kind, cell: &AttrCell) -> bool
+    ensures { result ≡ (length (filter (is_readable kind) (cell_values cell.now)) == 1) }
+{
+    let mut found = false;
+    for (value, mark) in cell.values.iter() {
+        if mark.present && is_readable(kind, value.octets()) {
+            if found {
+                return false;
+            }
+            found = true;
+        }
+    }
+    found
+}
+
+/// The greater of two kinds: object, link, child.
+fn greater_kind(a: Kind, b: Kind) -> Kind
+    ensures { result ≡ greater kind_cmp a b }
+{
+    match (a, b) {
+        (Kind::Child, _) | (_, Kind::Child) => Kind::Child,
+        (Kind::Link, _) | (_, Kind::Link) => Kind::Link,
+        (Kind::Object, Kind::Object) => Kind::Object,
+    }
+}
+
+/// The earlier of two deaths.
+fn earlier_of(a: Option<Stamp>, b: Option<Stamp>) -> Option<Stamp>
+    ensures { result ≡ maybe earlier_stamp a b }
+{
+    match (a, b) {
+        (Some(x), Some(y)) => Some(if y < x { y } else { x }),
+        (Some(x), None) => Some(x),
+        (None, y) => y,
+    }
+}

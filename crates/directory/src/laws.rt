@@ -1,0 +1,68 @@
+// The laws of histories, tables and updates, each the contract of a function that does nothing.
+ghost use Rattle.std.specs.Prelude.{◌≡◌, ◌≢◌, ◌⊎◌, ℕ, List, [], ◌++◌, Some, None, IfSome, IsSomeAnd};
+ghost use Rattle.std.specs.FinMap as map;
+ghost use Rattle.std.specs.List.{AllByRecursion, Contains};
+ghost use Rattle.cds_stamps.specs.Undos.{RaisesAt};
+ghost use Rattle.cds_stamps.specs.declared.stamp.Stamp.{Stamp};
+ghost use Rattle.directory.specs.declared.entry.EntryCell.{EntryCell};
+ghost use Rattle.directory.specs.declared.entry.Fragment.{Fragment};
+ghost use Rattle.directory.specs.Entries.{Entries, join_entries, join_tables, IsValidEntry, IsValidTable};
+ghost use Rattle.directory.specs.declared.entry.Kind.TheVariants.{Object};
+ghost use Rattle.directory.specs.Updates.{Change, Create, Delete, Add, Remove, Put, Clear, changed_name};
+ghost use Rattle.directory.specs.Histories.{Mark, name_in, entry_of, table_of, HasBirths, IsHistory, IsBefore, SameMarks};
+ghost use Rattle.directory.specs.Shown.{shown, shown_in, refusal_of, marks_of, Shown, ChangesValues};
+
+/// The table of two histories together is the join of their tables.
+pub fn joins_are_unions()
+    ensures { (g h : List Mark) → HasBirths g → HasBirths h → join_tables (table_of g) (table_of h) ≡ table_of (g ++ h) }
+{}
+
+/// The table of a history is valid, and that of no marks is empty.
+pub fn tables_are_valid()
+    ensures valid { (h : List Mark) → IsValidTable (table_of h) }
+    ensures empty { table_of [] ≡ map.empty }
+{}
+
+/// A table shows what its history shows.
+pub fn tables_show_histories()
+    ensures { (h : List Mark) (n : List ℕ) → shown_in (table_of h) n ≡ shown h n }
+{}
+
+/// Neither the order nor repeats of marks count.
+pub fn same_marks_make_one_table()
+    ensures { (g h : List Mark) → SameMarks g h → table_of g ≡ table_of h }
+{}
+
+/// The marks of one name change that name alone: their entry is joined in.
+pub fn marks_of_one_name_join_in()
+    ensures { (h marks : List Mark) (n : List ℕ) (e : EntryCell) → HasBirths h → HasBirths marks → AllByRecursion (λ m. name_in m ≡ n) marks → entry_of marks n ≡ Some e → RaisesAt join_entries (table_of h) (table_of (h ++ marks)) n e }
+{}
+
+/// The marks of an accepted update, stamped later than the history, belong together, with the history and to one name.
+pub fn accepted_marks_belong()
+    ensures together { (h : List Mark) (u : Change) (s : Stamp) → IsHistory h → IsBefore h s → refusal_of (shown h (changed_name u)) u ≡ None → IsHistory (marks_of (shown h (changed_name u)) u s) }
+    ensures with_history { (h : List Mark) (u : Change) (s : Stamp) → IsHistory h → IsBefore h s → refusal_of (shown h (changed_name u)) u ≡ None → IsHistory (h ++ marks_of (shown h (changed_name u)) u s) }
+    ensures one_name { (h : List Mark) (u : Change) (s : Stamp) → IsHistory h → IsBefore h s → refusal_of (shown h (changed_name u)) u ≡ None → AllByRecursion (λ m. name_in m ≡ changed_name u) (marks_of (shown h (changed_name u)) u s) }
+{}
+
+/// A table that stands for a history stands for it with the marks of one name, once their entry is joined in.
+pub fn joined_tables_stand()
+    ensures { (h marks : List Mark) (n : List ℕ) (e : EntryCell) (old new : Entries) → HasBirths h → HasBirths marks → AllByRecursion (λ m. name_in m ≡ n) marks → entry_of marks n ≡ Some e → old ≡ table_of h → (IfSome (map.get old n) IsValidEntry → IsValidEntry e → RaisesAt join_entries old new n e) → new ≡ table_of (h ++ marks) }
+{}
+
+/// So does the table of the house that accepts an update, once the fragment is joined in.
+pub fn accepted_tables_stand()
+    ensures { (h : List Mark) (u : Change) (s : Stamp) → IsHistory h → IsBefore h s → refusal_of (shown h (changed_name u)) u ≡ None → (old new : Entries) (f : Fragment) → old ≡ table_of h → f.name ≡ changed_name u → entry_of (marks_of (shown_in old (changed_name u)) u s) f.name ≡ Some f.entry → (IfSome (map.get old f.name) IsValidEntry → IsValidEntry f.entry → RaisesAt join_entries old new f.name f.entry) → new ≡ table_of (h ++ marks_of (shown h (changed_name u)) u s) }
+{}
+
+/// An accepted update, stamped later than the history, shows at once, and changes what shows of its name alone: a created
+/// object shows with no values, a deleted entry no longer shows, and of a live entry one attribute is changed alone.
+pub fn accepted_updates_show()
+    ensures others { (h : List Mark) (u : Change) (s : Stamp) → IsHistory h → IsBefore h s → refusal_of (shown h (changed_name u)) u ≡ None → (q : List ℕ) → q ≢ changed_name u → shown (h ++ marks_of (shown h (changed_name u)) u s) q ≡ shown h q }
+    ensures created { (h : List Mark) (n : List ℕ) (s : Stamp) → IsHistory h → IsBefore h s → shown (h ++ marks_of (shown h n) (Create n) s) n ≡ Some (record { birth = s; kind = Object; values = λ _. [] }) }
+    ensures added { (h : List Mark) (n : List ℕ) (e : Shown) → shown h n ≡ Some e → (s : Stamp) (a v : List ℕ) → IsBefore h s → refusal_of (Some e) (Add n a v) ≡ None → IsSomeAnd (shown (h ++ marks_of (shown h n) (Add n a v) s) n) (ChangesValues e a (λ w. (w ≡ v) ⊎ Contains (e.values a) w)) }
+    ensures removed { (h : List Mark) (n : List ℕ) (e : Shown) → shown h n ≡ Some e → (s : Stamp) (a v : List ℕ) → IsBefore h s → refusal_of (Some e) (Remove n a v) ≡ None → IsSomeAnd (shown (h ++ marks_of (shown h n) (Remove n a v) s) n) (ChangesValues e a (λ w. (w ≢ v) × Contains (e.values a) w)) }
+    ensures put { (h : List Mark) (n : List ℕ) (e : Shown) → shown h n ≡ Some e → (s : Stamp) (a v : List ℕ) → IsBefore h s → refusal_of (Some e) (Put n a v) ≡ None → IsSomeAnd (shown (h ++ marks_of (shown h n) (Put n a v) s) n) (ChangesValues e a (λ w. w ≡ v)) }
+    ensures cleared { (h : List Mark) (n : List ℕ) (e : Shown) → shown h n ≡ Some e → (s : Stamp) (a : List ℕ) → IsBefore h s → refusal_of (Some e) (Clear n a) ≡ None → IsSomeAnd (shown (h ++ marks_of (shown h n) (Clear n a) s) n) (ChangesValues e a (λ _. ⊥)) }
+    ensures deleted { (h : List Mark) (n : List ℕ) (e : Shown) → shown h n ≡ Some e → (s : Stamp) → shown (h ++ marks_of (shown h n) (Delete n) s) n ≡ None }
+{}

@@ -1,0 +1,16 @@
+//! The table of a directory: its entries, and what updates and other tables do to them.
+#![tactic(auto)]
+
+mod attr_map;
+mod entry;
+pub mod laws;
+mod table;
+#[cfg(test)]
+mod tests;
+mod undo;
+mod update;
+
+pub use attr_map::AttrMap;
+pub use entry::{EntryCell, Fragment, Kind, LINK_TARGET, REPLICAS};
+pub use table::Table;
+pub use update::{Update, UpdateRefusal};

@@ -1,0 +1,452 @@
+// The table of a directory.
+ghost use Rattle.std.specs.Prelude.{◌≡◌, List, ℕ, [], ◌∷◌, Some, None, MatchOption, MatchBool, true, false, IsSome, IfOk, IfSome, OnOk, OnErr, if◌then◌else◌, option_copied};
+ghost use Rattle.std.specs.FinMap as map;
+ghost use Rattle.std.specs.Option.{option_map};
+ghost use Rattle.cds_stamps.specs.Octets.{octets_cmp, is_octets};
+ghost use Rattle.cds_stamps.specs.Outcomes.{ok_unless};
+ghost use Rattle.cds_stamps.specs.Undos.{RaisesAt, TakesBack, LogsChange, MendsAt, back_at};
+ghost use Rattle.attr_sets.specs.Cells.{Marked, cell_of};
+ghost use Rattle.directory.specs.Entries.{join_entries, join_tables, IsValidEntry, IsValidTable};
+ghost use Rattle.directory.specs.EntryLaws.{table_join};
+ghost use Rattle.directory.specs.EntryUndos.{undo_entry};
+ghost use Rattle.directory.specs.Updates.{Create, Clear, changed_name, change_of};
+ghost use Rattle.directory.specs.Histories.{entry_of};
+ghost use Rattle.directory.specs.Shown.{face_of, shown_in, live_count, is_reserved, live_refusal, refusal_of, marks_of};
+
+use crate::attr_map::AttrMap;
+use crate::entry::{EntryCell, Fragment, Kind, LINK_TARGET, REPLICAS};
+use crate::undo::EntryUndo;
+use crate::update::{Update, UpdateRefusal};
+use attr_sets::{AttrCell, Value};
+use cds_stamps::{AttrName, Lattice, SimpleName, Stamp};
+use std::alloc::{AllocError, Global};
+use std::collections::BTreeMap;
+use std::collections::btree_map::Iter;
+use std::marker::Model;
+
+/// An entry for each simple name, in ascending order of the names.
+#[derive(Drop)]
+pub struct Table {
+    entries: BTreeMap<SimpleName, EntryCell>,
+}
+
+impl Model for Table {
+    ghost use Rattle.std.specs.FinMap as map;
+    ghost use Rattle.cds_stamps.specs.Octets.{octets_cmp, octets_code};
+    ghost use Rattle.directory.specs.Entries.{entry_code};
+    ghost use Rattle.directory.specs.declared.entry.EntryCell.{EntryCell};
+
+    ghost Value = { map.FinMap octets_cmp EntryCell };
+
+    ghost coded = { map.code octets_code entry_code };
+
+    ghost view = { λ m. map.from_entries m.entries.entries };
+}
+
+impl Clone for Table {
+    ghost is_clone = { λ x y. y ≡ x };
+
+    fn clone(&self) -> Result<Table, AllocError> {
+        Ok(Table {
+            entries: self.entries.clone()?,
+        })
+    }
+}
+
+// Reading.
+impl Table {
+    pub fn new(alloc: Global) -> Self
+        ensures { result ≡ map.empty }
+    {
+        Table {
+            entries: BTreeMap::new(alloc),
+        }
+    }
+
+    /// How many names have an entry, live or not.
+    pub fn len(&self) -> usize
+        ensures { result ≡ map.len self.now }
+    {
+        self.entries.len()
+    }
+
+    /// The names with their entries, live or not, ascending.
+    pub fn iter(&self) -> Iter<'_, SimpleName, EntryCell>
+        ensures { result ≡ map.entries self.now }
+    {
+        self.entries.iter()
+    }
+
+    /// The entry of a name, live or not.
+    pub fn get(&self, name: &SimpleName) -> Option<&EntryCell>
+        ensures { option_copied result ≡ map.get self.now name.now }
+    {
+        self.entries.get(name)
+    }
+
+    /// A table of the same entries.
+    pub fn copy(&self, _alloc: Global) -> Result<Table, AllocError>
+        ensures { IfOk result (λ m. m ≡ self.now) }
+    {
+        self.clone()
+    }
+
+    /// The entry that shows of a name. It takes no memory.
+    pub fn live(&self, name: &SimpleName) -> Option<&EntryCell>
+        ensures entry { IfSome (option_copied result) (λ e. map.get self.now name.now ≡ Some e) }
+        ensures shown { option_map face_of (option_copied result) ≡ shown_in self.now name.now }
+    {
+        match self.get(name) {
+            Some(entry) => entry.if_live(),
+            None => None,
+        }
+    }
+
+    /// The values of an attribute that show of a name, ascending; none, where the name has no entry that shows.
+    pub fn values(
+        &self,
+        alloc: Global,
+        name: &SimpleName,
+        attr: &AttrName,
+    ) -> Result<Option<Vec<Value>>, AllocError>
+        ensures { IfOk result (λ found. option_map (λ v. v.items) found ≡ option_map (λ e. e.values attr.now) (shown_in self.now name.now)) }
+    {
+        match self.live(name) {
+            Some(entry) => Ok(Some(entry.values(alloc, attr)?)),
+            None => Ok(None),
+        }
+    }
+
+    /// How many entries show.
+    pub fn live_entries(&self) -> u64
+        ensures { result ≡ live_count self.now }
+    {
+        self.iter().filter(|(_, entry)| entry.is_live()).count() as u64
+    }
+}
+
+// Updates.
+impl Table {
+    /// Whether an update is accepted by what shows of its name, or why not. It takes no memory.
+    pub fn check(&self, update: &Update) -> Result<(), UpdateRefusal>
+        ensures { result ≡ ok_unless (refusal_of (shown_in self.now (changed_name (change_of update.now))) (change_of update.now)) tt }
+    {
+        match update {
+            Update::Create(name) => self.check_new(name),
+            Update::Add(name, attr, _) => self.check_change(name, attr),
+            Update::Remove(name, attr, _) => self.check_change(name, attr),
+        }
+    }
+
+    /// Whether a new entry of this name is accepted.
+    fn check_new(&self, name: &SimpleName) -> Result<(), UpdateRefusal>
+        ensures { result ≡ ok_unless (refusal_of (shown_in self.now name.now) (Create name.now)) tt }
+    {
+        match self.live(name) {
+            Some(_) => Err(UpdateRefusal::EntryExists),
+            None => Ok(()),
+        }
+    }
+
+    /// Whether a change of an attribute of this name is accepted, whatever the value.
+    fn check_change(&self, name: &SimpleName, attr: &AttrName) -> Result<(), UpdateRefusal>
+        ensures { result ≡ ok_unless (refusal_of (shown_in self.now name.now) (Clear name.now attr.now)) tt }
+    {
+        match self.live(name) {
+            None => Err(UpdateRefusal::NoSuchEntry),
+            Some(_) => check_attr(attr),
+        }
+    }
+
+    /// What an accepted update adds to the table, with this stamp.
+    pub fn fragment(
+        &self,
+        alloc: Global,
+        update: &Update,
+        stamp: Stamp,
+    ) -> Result<Fragment, AllocError>
+        requires { refusal_of (shown_in self.now (changed_name (change_of update.now))) (change_of update.now) ≡ None }
+        ensures name { IfOk result (λ f. f.name ≡ changed_name (change_of update.now)) }
+        ensures entry { IfOk result (λ f. entry_of (marks_of (shown_in self.now (changed_name (change_of update.now))) (change_of update.now) stamp) f.name ≡ Some f.entry) }
+    {
+        match update {
+            Update::Create(name) => born(alloc, name, Kind::Object, stamp),
+            Update::Add(name, attr, value) => {
+                let cell = present_mark(alloc, value, stamp)?;
+                self.value_fragment(alloc, name, attr, cell)
+            }
+            Update::Remove(name, attr, value) => {
+                let cell = absent_mark(alloc, value, stamp)?;
+                self.value_fragment(alloc, name, attr, cell)
+            }
+        }
+    }
+
+    /// The fragment of a live entry with one cell.
+    fn value_fragment(
+        &self,
+        alloc: Global,
+        name: &SimpleName,
+        attr: &AttrName,
+        cell: AttrCell,
+    ) -> Result<Fragment, AllocError>
+        requires { IsSome (shown_in self.now name.now) }
+        ensures name { IfOk result (λ f. f.name ≡ name.now) }
+        ensures entry { IfOk result (λ f. IfSome (shown_in self.now name.now) (λ e. f.entry ≡ record { birth = e.birth; kind = e.kind; death = None; attrs = map.insert map.empty attr.now cell })) }
+    {
+        let own = self.live(name).unwrap();
+        let mut attrs = AttrMap::new(alloc);
+        attrs.insert(attr.copy(alloc)?, cell)?;
+        Ok(Fragment {
+            name: name.copy(alloc)?,
+            entry: EntryCell {
+                birth: own.birth,
+                kind: own.kind,
+                death: None,
+                attrs,
+            },
+        })
+    }
+
+    /// Joins what an update adds in, in place, with at most one insertion at each level of the entry: of one mark the cost
+    /// grows with the logarithm of the number of entries, attributes and values.
+    pub fn join_entry(&mut self, alloc: Global, fragment: &Fragment) -> Result<(), AllocError>
+        ensures ok { OnOk result (IfSome (map.get self.old fragment.now.name) IsValidEntry → IsValidEntry fragment.now.entry → RaisesAt join_entries self.old self.new fragment.now.name fragment.now.entry) }
+        ensures err { OnErr result (self.new ≡ self.old) }
+    {
+        self.join_one(alloc, &fragment.name, &fragment.entry)?;
+        Ok(())
+    }
+}
+
+// Joins.
+impl Table {
+    fn insert(&mut self, name: SimpleName, entry: EntryCell) -> Result<(), AllocError>
+        ensures ok { OnOk result (self.new ≡ map.insert self.old name entry) }
+        ensures err { OnErr result (self.new ≡ self.old) }
+    {
+        self.entries.insert(name, entry)?;
+        Ok(())
+    }
+
+    /// Joins one entry in, in place, with at most one insertion.
+    fn join_one(
+        &mut self,
+        alloc: Global,
+        name: &SimpleName,
+        entry: &EntryCell,
+    ) -> Result<(), AllocError>
+        ensures ok { OnOk result (IfSome (map.get self.old name.now) IsValidEntry → IsValidEntry entry.now → RaisesAt join_entries self.old self.new name.now entry.now) }
+        ensures err { OnErr result (self.new ≡ self.old) }
+    {
+        let here = self.join_here(alloc, name, entry)?;
+        if here {
+            return Ok(());
+        }
+        let key = name.copy(alloc)?;
+        self.insert(key, entry.copy(alloc)?)?;
+        Ok(())
+    }
+
+    /// Joins an entry in where the name has one. Whether it has.
+    fn join_here(
+        &mut self,
+        alloc: Global,
+        name: &SimpleName,
+        entry: &EntryCell,
+    ) -> Result<bool, AllocError>
+        ensures ok { IfOk result (λ here. MatchBool here (IfSome (map.get self.old name.now) IsValidEntry → IsValidEntry entry.now → RaisesAt join_entries self.old self.new name.now entry.now) ((map.get self.old name.now ≡ None) × (self.new ≡ self.old))) }
+        ensures err { OnErr result (self.new ≡ self.old) }
+    {
+        match self.entries.get_mut(name) {
+            Some(own) => {
+                own.join(alloc, entry)?;
+                Ok(true)
+            }
+            None => Ok(false),
+        }
+    }
+
+    /// Joins one entry in, with at most one insertion. What takes it back.
+    fn raise(
+        &mut self,
+        alloc: Global,
+        name: &SimpleName,
+        entry: &EntryCell,
+    ) -> Result<Option<EntryUndo>, AllocError>
+        ensures ok { OnOk result (IfSome (map.get self.old name.now) IsValidEntry → IsValidEntry entry.now → RaisesAt join_entries self.old self.new name.now entry.now) }
+        ensures back { IfOk result (λ undo. TakesBack undo_entry self.old self.new ((name.now, undo) ∷ [])) }
+        ensures err { OnErr result (self.new ≡ self.old) }
+    {
+        let here = self.raise_here(alloc, name, entry)?;
+        if let Some(undo) = here {
+            return Ok(Some(undo));
+        }
+        let key = name.copy(alloc)?;
+        self.insert(key, entry.copy(alloc)?)?;
+        Ok(None)
+    }
+
+    /// Joins an entry in where the name has one. What takes it back.
+    fn raise_here(
+        &mut self,
+        alloc: Global,
+        name: &SimpleName,
+        entry: &EntryCell,
+    ) -> Result<Option<EntryUndo>, AllocError>
+        ensures ok { IfOk result (λ undo. MatchOption undo ((map.get self.old name.now ≡ None) × (self.new ≡ self.old)) (λ undo. (IfSome (map.get self.old name.now) IsValidEntry → IsValidEntry entry.now → RaisesAt join_entries self.old self.new name.now entry.now) × TakesBack undo_entry self.old self.new ((name.now, Some undo) ∷ []))) }
+        ensures err { OnErr result (self.new ≡ self.old) }
+    {
+        match self.entries.get_mut(name) {
+            Some(own) => {
+                let undo = own.join_logged(alloc, entry)?;
+                Ok(Some(undo))
+            }
+            None => Ok(None),
+        }
+    }
+
+    /// Joins the entries of another table in, each logged before the next one.
+    fn raise_all(
+        &mut self,
+        alloc: Global,
+        other: &Table,
+        log: &mut Vec<(SimpleName, Option<EntryUndo>)>,
+    ) -> Result<(), AllocError>
+        ensures ok { OnOk result (IsValidTable self.old → IsValidTable other.now → self.new ≡ join_tables self.old other.now) }
+        ensures back { LogsChange undo_entry self.old self.new log.old.items log.new.items }
+    {
+        for (name, entry) in other.entries.iter() {
+            self.raise_logged(alloc, name, entry, log)?;
+        }
+        Ok(())
+    }
+
+    /// Joins one entry in, and logs the change. Room in the log comes first.
+    fn raise_logged(
+        &mut self,
+        alloc: Global,
+        name: &SimpleName,
+        entry: &EntryCell,
+        log: &mut Vec<(SimpleName, Option<EntryUndo>)>,
+    ) -> Result<(), AllocError>
+        ensures ok { OnOk result (IfSome (map.get self.old name.now) IsValidEntry → IsValidEntry entry.now → RaisesAt join_entries self.old self.new name.now entry.now) }
+        ensures back { LogsChange undo_entry self.old self.new log.old.items log.new.items }
+    {
+        log.reserve(1)?;
+        let key = name.copy(alloc)?;
+        let undo = self.raise(alloc, name, entry)?;
+        log.push((key, undo)).unwrap();
+        Ok(())
+    }
+
+    /// Takes the changes of a log back, with no memory.
+    fn take_back(&mut self, log: Vec<(SimpleName, Option<EntryUndo>)>)
+        ensures { (q : List ℕ) → map.get self.new q ≡ back_at octets_cmp undo_entry log.items q (map.get self.old q) }
+    {
+        let mut log = log;
+        while let Some((name, undo)) = log.pop() {
+            self.mend(&name, undo);
+        }
+    }
+
+    fn mend(&mut self, name: &SimpleName, undo: Option<EntryUndo>)
+        ensures { MendsAt undo_entry self.old self.new name.now undo }
+    {
+        match undo {
+            Some(undo) => self.mend_here(name, undo),
+            None => {
+                self.remove(name);
+            }
+        }
+    }
+
+    fn mend_here(&mut self, name: &SimpleName, undo: EntryUndo)
+        ensures { MendsAt undo_entry self.old self.new name.now (Some undo) }
+    {
+        if let Some(own) = self.entries.get_mut(name) {
+            own.take_back(undo);
+        }
+    }
+
+    fn remove(&mut self, name: &SimpleName) -> Option<EntryCell>
+        ensures { MendsAt undo_entry self.old self.new name.now None }
+    {
+        self.entries.remove(name)
+    }
+}
+
+impl Lattice for Table {
+    ghost valid = { IsValidTable };
+
+    ghost joined = { join_tables };
+
+    ghost keeps_valid = { λ x y p q. table_join.keeps x y p q };
+
+    ghost commutative = { λ x y _ _. table_join.comm x y };
+
+    ghost associative = { λ x y z _ _ _. table_join.assoc x y z };
+
+    ghost idempotent = { λ x valid. table_join.idem x valid };
+
+    fn join(&mut self, alloc: Global, other: &Self) -> Result<(), AllocError> {
+        let mut log = Vec::new(alloc);
+        if let Err(error) = self.raise_all(alloc, other, &mut log) {
+            self.take_back(log);
+            return Err(error);
+        }
+        Ok(())
+    }
+}
+
+/// Whether the attribute changes by updates of values.
+fn check_attr(attr: &AttrName) -> Result<(), UpdateRefusal>
+    ensures { result ≡ ok_unless (live_refusal (is_reserved attr.now)) tt }
+{
+    if is_reserved(attr) {
+        Err(UpdateRefusal::WrongKind)
+    } else {
+        Ok(())
+    }
+}
+
+/// Whether the attribute changes only by the updates that make or repoint links and children.
+fn is_reserved(attr: &AttrName) -> bool
+    ensures { result ≡ is_reserved attr.now }
+{
+    attr.octets() == LINK_TARGET || attr.octets() == REPLICAS
+}
+
+/// The fragment of a new entry.
+fn born(alloc: Global, name: &SimpleName, kind: Kind, stamp: Stamp) -> Result<Fragment, AllocError>
+    ensures name { IfOk result (λ f. f.name ≡ name.now) }
+    ensures entry { IfOk result (λ f. f.entry ≡ record { birth = stamp; kind = kind; death = None; attrs = map.empty }) }
+{
+    Ok(Fragment {
+        name: name.copy(alloc)?,
+        entry: EntryCell {
+            birth: stamp,
+            kind,
+            death: None,
+            attrs: AttrMap::new(alloc),
+        },
+    })
+}
+
+/// The cell of one present mark of a value.
+fn present_mark(alloc: Global, value: &Value, stamp: Stamp) -> Result<AttrCell, AllocError>
+    ensures { IfOk result (λ c. c ≡ cell_of (Marked value.now (record { present = true; stamp = stamp }) ∷ [])) }
+{
+    let mut cell = AttrCell::new(alloc);
+    cell.add(alloc, value, stamp)?;
+    Ok(cell)
+}
+
+/// The cell of one absent mark of a value.
+fn absent_mark(alloc: Global, value: &Value, stamp: Stamp) -> Result<AttrCell, AllocError>
+    ensures { IfOk result (λ c. c ≡ cell_of (Marked value.now (record { present = false; stamp = stamp }) ∷ [])) }
+{
+    let mut cell = AttrCell::new(alloc);
+    cell.remove(alloc, value, stamp)?;
+    Ok(cell)
+}

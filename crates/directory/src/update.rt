@@ -1,0 +1,64 @@
+// Updates, and why one is refused.
+ghost use Rattle.std.specs.Prelude.{◌≡◌, IfOk};
+ghost use Rattle.directory.specs.Updates.{change_of, changed_name};
+
+use attr_sets::Value;
+use cds_stamps::{AttrName, SimpleName};
+use std::alloc::{AllocError, Global};
+use thiserror::Error;
+
+/// An update of one entry of a directory.
+#[derive(Drop)]
+pub enum Update {
+    /// Makes an object.
+    Create(SimpleName),
+    /// Makes a value of an attribute present.
+    Add(SimpleName, AttrName, Value),
+    /// Makes a value of an attribute absent, whether it is there or not.
+    Remove(SimpleName, AttrName, Value),
+}
+
+impl Update {
+    /// The name of the entry that it is about.
+    pub fn name(&self) -> &SimpleName
+        ensures { result.now ≡ changed_name (change_of self.now) }
+    {
+        match self {
+            Update::Create(name) => name,
+            Update::Add(name, _, _) => name,
+            Update::Remove(name, _, _) => name,
+        }
+    }
+
+    /// The same update of the same name, attribute and value.
+    pub fn copy(&self, alloc: Global) -> Result<Update, AllocError>
+        ensures { IfOk result (λ u. u ≡ self.now) }
+    {
+        Ok(match self {
+            Update::Create(name) => Update::Create(name.copy(alloc)?),
+            Update::Add(name, attr, value) => {
+                Update::Add(name.copy(alloc)?, attr.copy(alloc)?, value.copy(alloc)?)
+            }
+            Update::Remove(name, attr, value) => {
+                Update::Remove(name.copy(alloc)?, attr.copy(alloc)?, value.copy(alloc)?)
+            }
+        })
+    }
+}
+
+/// Why a house refuses an update.
+#[derive(Clone, Copy, Debug, PartialEq, Eq, Drop, Error)]
+pub enum UpdateRefusal {
+    #[error("the house holds no replica of the directory")]
+    NoReplica,
+    #[error("the house is not the master of the directory")]
+    NotMaster,
+    #[error("no entry of that name shows")]
+    NoSuchEntry,
+    #[error("an entry of that name shows")]
+    EntryExists,
+    #[error("the entry or the attribute is of another kind")]
+    WrongKind,
+    #[error("the house has issued the last stamp")]
+    StampsSpent,
+}
