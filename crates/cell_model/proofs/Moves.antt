@@ -1,0 +1,334 @@
+-- Each command is one of these moves, or two of them.
+use Rattle.std.proofs.Common.{◌≡◌, ◌≢◌, ℕ, ◌+◌, ◌-◌, ◌<◌, ◌≤◌, Bool, true, false, ◌&&◌, ◌||◌, not, eqb, cond, List, [], ◌∷◌, Option, Some, None, refl, subst, arith, nat_lt, nat_le}
+use Rattle.std.specs.Prelude.{slice_get}
+use Rattle.std.specs.Option.{option_map}
+use Rattle.cds_stamps.specs.declared.stamp.Stamp.{Stamp}
+use Rattle.cds_stamps.specs.Members.{Member, master_of, others_of, is_listed, since_in}
+use Rattle.cds_stamps.specs.Stamps.{is_stamp}
+use Rattle.directory.specs.declared.update.UpdateRefusal.{UpdateRefusal}
+use Rattle.directory.specs.Histories.{Mark}
+use Rattle.directory.specs.Shown.{shown, marks_of}
+use Rattle.directory.specs.Updates as changes
+use Rattle.directory.specs.Updates.{Change, changed_name}
+use Rattle.cell_model.specs.Sets.{In}
+use Rattle.cell_model.specs.Cells.{Phase, Idle, Gathering, Spreading, Replica, Slot, Absent, Gone, Held, Copy, Body, Update, Gather, Gathered, Spread, SpreadAck, Advance, Join, Leave, Message, Cell, IsHeld}
+use Rattle.cell_model.specs.Commands as commands
+use Rattle.cell_model.specs.Commands.{Command, Refusal, NoHouse, NoDirectory, BadMembers, NotMember, Down, Answer, Done, Posted, Made, Stamped, NewEpoch, Taken, Late, Early, Stale, Foreign, Complete, Refused, Accepted}
+use Rattle.cell_model.specs.Steps.{Outcome, first_refusal, unless, has, is_missing, is_taken, is_down, is_unknown, moved, holding, grown, copy_of, merged, to_each, serials_of, stamp_at, ascending, listing, new_house, set_clock, founded, accept_at, update_refusal, accept, with_directory, raised, begin, skulk_at, skulk, promote, new_epoch, floor_after, reply, to_others, all_answered, take_gathered, take_ack, take_own, take_other, copied, kept_at_join, unless_late, take_join, take_leave, take, message_at, deliver, lose, crash, start, refusals_of, effect, outcome}
+use Rattle.cell_model.specs.Agreement.{place_of}
+use Rattle.cell_model.proofs.Lists.{In-from_get, or_left, or_right, not_true, eq_from, stamp_from, answered_all}
+
+-- the marks of an update
+abbrev pub new_marks : Replica → Change → Stamp → List Mark
+new_marks r u s = marks_of (shown r.history (changed_name u)) u s
+
+abbrev pub IsUp : Cell → ℕ → Type 0
+IsUp g h = (g.house h).up ≡ true
+
+-- a message that the house takes as one of its epoch
+pub record Taking (g : Cell) (m : Message) (b : Body) (r : Replica) : Type 0 where
+  pub posted : In m g.bag
+  pub is : m.body ≡ b
+  pub up : IsUp g m.receiver
+  pub held : IsHeld g m.receiver m.dir r
+  pub epoch : m.epoch ≡ r.epoch
+  pub member : is_listed m.sender r.members ≡ true
+
+-- a Join or a Leave that is not late
+pub record Entering (g : Cell) (m : Message) (b : Body) : Type 0 where
+  pub posted : In m g.bag
+  pub is : m.body ≡ b
+  pub up : IsUp g m.receiver
+  pub gone : (e : ℕ) → (g.house m.receiver).slots m.dir ≡ Gone e → e < m.epoch
+
+-- a house issues a stamp for a directory that it holds
+pub record Issuing (g : Cell) (h d : ℕ) (r : Replica) (s : Stamp) : Type 0 where
+  pub up : IsUp g h
+  pub held : IsHeld g h d r
+  pub next : stamp_at (g.house h) ≡ Some s
+
+-- the update that the house accepts
+abbrev pub accepting : (h d : ℕ) → Change → Replica → Stamp → Accepted
+accepting h d u r s = record { by = h; dir = d; epoch = r.epoch; since = since_in r.members h 0; stamp = s; marks = new_marks r u s }
+
+-- what a house does in one directory: its new floor and slot, what it posts, the answer, and what it accepted
+pub data Act (g : Cell) : (h d floor : ℕ) → Slot → List Message → Answer → List Accepted → Type 0 where
+  accepts : (h d : ℕ) (u : Change) (r : Replica) (s : Stamp) (ns : List ℕ) → Issuing g h d r s → update_refusal h u r ≡ None → Act g h d s.time (Held (grown r (new_marks r u s))) (to_each (others_of h r.members) d h r.epoch s.time (Update (new_marks r u s))) (Stamped s ns) (accepting h d u r s ∷ [])
+  skulks : (h d : ℕ) (r : Replica) (t : Stamp) (ns : List ℕ) → Issuing g h d r t → master_of r.members ≡ h → Act g h d t.time (Held (record r { phase = Gathering t [] })) (to_each (others_of h r.members) d h r.epoch t.time (Gather t)) (Stamped t ns) []
+  lone : (h d : ℕ) (r : Replica) (t : Stamp) → Issuing g h d r t → master_of r.members ≡ h → others_of h r.members ≡ [] → Act g h d t.time (Held (record r { all_up_to = raised r.all_up_to t; phase = Idle })) [] (Complete t []) []
+  updates : (m : Message) (marks : List Mark) (r : Replica) (ns : List ℕ) → Taking g m (Update marks) r → Act g m.receiver m.dir (floor_after g m) (Held (grown r marks)) [] (Taken ns) []
+  gives : (m : Message) (t : Stamp) (r : Replica) (ns : List ℕ) → Taking g m (Gather t) r → Act g m.receiver m.dir (floor_after g m) (Held r) (reply g m (Gathered t (copy_of r))) (Taken ns) []
+  gathers : (m : Message) (t : Stamp) (copy : Copy) (a : List ℕ) (r : Replica) (ns : List ℕ) → Taking g m (Gathered t copy) r → r.phase ≡ Gathering t a → Act g m.receiver m.dir (floor_after g m) (Held (record (merged r copy) { phase = Gathering t (m.sender ∷ a) })) [] (Taken ns) []
+  turns : (m : Message) (t : Stamp) (copy : Copy) (a : List ℕ) (r : Replica) (ns : List ℕ) → Taking g m (Gathered t copy) r → r.phase ≡ Gathering t a → ((x : ℕ) → In x (others_of m.receiver r.members) → In x (m.sender ∷ a)) → Act g m.receiver m.dir (floor_after g m) (Held (record (merged r copy) { phase = Spreading t [] })) (to_others g m r (Spread t (copy_of (merged r copy)))) (Taken ns) []
+  gathers_again : (m : Message) (t : Stamp) (copy : Copy) (a : List ℕ) (r : Replica) (ns : List ℕ) → Taking g m (Gathered t copy) r → r.phase ≡ Spreading t a → Act g m.receiver m.dir (floor_after g m) (Held (merged r copy)) [] (Taken ns) []
+  spreads : (m : Message) (t : Stamp) (copy : Copy) (r : Replica) (ns : List ℕ) → Taking g m (Spread t copy) r → Act g m.receiver m.dir (floor_after g m) (Held (merged r copy)) (reply g m (SpreadAck t)) (Taken ns) []
+  acks_early : (m : Message) (t : Stamp) (a : List ℕ) (r : Replica) (ns : List ℕ) → Taking g m (SpreadAck t) r → r.phase ≡ Gathering t a → Act g m.receiver m.dir (floor_after g m) (Held r) [] (Taken ns) []
+  acks : (m : Message) (t : Stamp) (a : List ℕ) (r : Replica) (ns : List ℕ) → Taking g m (SpreadAck t) r → r.phase ≡ Spreading t a → Act g m.receiver m.dir (floor_after g m) (Held (record r { phase = Spreading t (m.sender ∷ a) })) [] (Taken ns) []
+  completes : (m : Message) (t : Stamp) (a : List ℕ) (r : Replica) (ns : List ℕ) → Taking g m (SpreadAck t) r → r.phase ≡ Spreading t a → ((x : ℕ) → In x (others_of m.receiver r.members) → In x (m.sender ∷ a)) → Act g m.receiver m.dir (floor_after g m) (Held (record r { all_up_to = raised r.all_up_to t; phase = Idle })) (to_others g m r (Advance t)) (Complete t ns) []
+  advances : (m : Message) (t : Stamp) (r : Replica) (ns : List ℕ) → Taking g m (Advance t) r → Act g m.receiver m.dir (floor_after g m) (Held (record r { all_up_to = raised r.all_up_to t })) [] (Taken ns) []
+  copies : (m : Message) (ms : List Member) (copy : Copy) (ns : List ℕ) → Entering g m (Join ms copy) → ((r : Replica) → IsHeld g m.receiver m.dir r → (r.epoch ≤ m.epoch) × (r.epoch < since_in ms m.receiver 0)) → Act g m.receiver m.dir (floor_after g m) (Held (copied m ms copy)) [] (Taken ns) []
+  keeps : (m : Message) (ms : List Member) (copy : Copy) (r : Replica) (ns : List ℕ) → Entering g m (Join ms copy) → IsHeld g m.receiver m.dir r → r.epoch ≤ m.epoch → since_in ms m.receiver 0 ≤ r.epoch → Act g m.receiver m.dir (floor_after g m) (Held (kept_at_join m ms copy r)) [] (Taken ns) []
+  leaves : (m : Message) (ns : List ℕ) → Entering g m Leave → ((r : Replica) → IsHeld g m.receiver m.dir r → r.epoch < m.epoch) → Act g m.receiver m.dir (floor_after g m) (Gone m.epoch) [] (Taken ns) []
+
+-- answers with no stamp that was issued and none of a skulk that completed
+abbrev pub IsQuiet : Answer → Type 0
+IsQuiet (Stamped s ns) = ⊥
+IsQuiet (Made d s ns) = ⊥
+IsQuiet (Complete t ns) = ⊥
+IsQuiet _ = Unit {0}
+
+-- p is the house and the directory that the command acts at
+pub data Move (g : Cell) (p : Option (ℕ × ℕ)) : Cell → Answer → List Accepted → Type 0 where
+  stays : (a : Answer) → IsQuiet a → Move g p g a []
+  houses : (h node : ℕ) → is_taken g h node ≡ false → Move g p (new_house g h node) Done []
+  clocks : (h time : ℕ) → has h g.made ≡ true → Move g p (set_clock g h time) Done []
+  loses : (n : ℕ) → Move g p (record g { lost = n ∷ g.lost }) Done []
+  crashes : (h : ℕ) → IsUp g h → Move g p (crash g h) Done []
+  starts : (h : ℕ) → has h g.made ≡ true → Move g p (start g h) Done []
+  acts : (h d : ℕ) → p ≡ Some (h, d) → (floor : ℕ) (s : Slot) (posts : List Message) (a : Answer) (n : List Accepted) → Act g h d floor s posts a n → Move g p (moved g h (holding (g.house h) d floor s) posts) a n
+  founds : (d m : ℕ) (rs ns : List ℕ) → d ≡ 1 → IsUp g m → g.top d ≡ 0 → Move g p (founded g d m (listing [] 1 m rs)) (Posted ns) []
+  crowns : (d m : ℕ) (rs : List ℕ) (r : Replica) → IsUp g m → g.top d ≢ 0 → IsHeld g m d r → is_listed m (g.present d) ≡ true → since_in (g.present d) m 0 ≤ r.epoch → Move g p (promote g d m (g.top d + 1) (listing (g.present d) (g.top d + 1) m rs) r).cell (promote g d m (g.top d + 1) (listing (g.present d) (g.top d + 1) m rs) r).answer []
+
+-- a command is a move; or the update of a parent, and then the directory of the child
+pub data Steps (g : Cell) (p : Option (ℕ × ℕ)) : Cell → Answer → List Accepted → Type 0 where
+  one : (g' : Cell) (a : Answer) (n : List Accepted) → Move g p g' a n → Steps g p g' a n
+  mkdirs : (h d m : ℕ) (u : Change) (rs : List ℕ) (r : Replica) (s : Stamp) (ns : List ℕ) → p ≡ Some (h, d) → Issuing g h d r s → update_refusal h u r ≡ None → IsUp g m → g.top d ≢ 0 → Steps g p (record (founded (moved g h (holding (g.house h) d s.time (Held (grown r (new_marks r u s)))) (to_each (others_of h r.members) d h r.epoch s.time (Update (new_marks r u s)))) g.next_dir m (listing [] 1 m rs)) { next_dir = g.next_dir + 1 }) (Made g.next_dir s ns) (accepting h d u r s ∷ [])
+
+abbrev pub Moves : Cell → Option (ℕ × ℕ) → Outcome → Type 0
+Moves g p o = Move g p o.cell o.answer o.accepted
+
+abbrev pub StepsOf : Cell → Option (ℕ × ℕ) → Outcome → Type 0
+StepsOf g p o = Steps g p o.cell o.answer o.accepted
+
+if_moves : (g : Cell) (p : Option (ℕ × ℕ)) (b : Bool) (x y : Outcome) → (b ≡ true → Moves g p x) → (b ≡ false → Moves g p y) → Moves g p (cond b x y)
+if_moves g p true x y k l = k refl
+if_moves g p false x y k l = l refl
+
+unless_moves : (g : Cell) (p : Option (ℕ × ℕ)) (r : Option Refusal) (x : Outcome) → (r ≡ None → Moves g p x) → Moves g p (unless g r x)
+unless_moves g p None x k = k refl
+unless_moves g p (Some r) x k = stays (Refused r) tt
+
+late_moves : (g : Cell) (p : Option (ℕ × ℕ)) (m : Message) (r : Option ℕ) (x : Outcome) → (r ≡ None → Moves g p x) → Moves g p (unless_late g m r x)
+late_moves g p m None x k = k refl
+late_moves g p m (Some e) x k = stays (Late m.epoch e) tt
+
+-- the first test of a list of refusals fails, and so do the others
+first_fails : (b : Bool) (r : Refusal) (ts : List (Bool × Refusal)) → cond b (Some r) (first_refusal ts) ≡ None → (b ≡ false) × (first_refusal ts ≡ None)
+first_fails true r ts e = absurd (cc)
+first_fails false r ts e = (refl, e)
+
+le_from : (a b : ℕ) → nat_le a b ≡ true → a ≤ b
+le_from a b e = grind arith
+
+lt_from : (a b : ℕ) → nat_lt a b ≡ true → a < b
+lt_from a b e = grind arith
+
+le_not : (a b : ℕ) → nat_le a b ≡ false → b < a
+le_not a b e = grind arith
+
+lt_not : (a b : ℕ) → nat_lt a b ≡ false → b ≤ a
+lt_not a b e = grind arith
+
+-- a message that is not late is of a later epoch, or of the same
+not_reached : (k e : ℕ) (b : Bool) → nat_le k e ≡ b → cond b (Some e) None ≡ None → e < k
+not_reached k e true q z = absurd (cc)
+not_reached k e false q z = le_not k e q
+
+not_passed : (k e : ℕ) (b : Bool) → nat_lt k e ≡ b → cond b (Some e) None ≡ None → e ≤ k
+not_passed k e true q z = absurd (cc)
+not_passed k e false q z = lt_not k e q
+
+gathered_moves : (g : Cell) (m : Message) (t : Stamp) (copy : Copy) (r : Replica) (p : Phase) → Taking g m (Gathered t copy) r → r.phase ≡ p → Moves g (Some (m.receiver, m.dir)) (take_gathered g m t copy r p)
+gathered_moves g m t copy r Idle k phase = stays _ tt
+gathered_moves g m t copy r (Gathering u a) k phase =
+    if_moves g _ (is_stamp t u) _ _
+    (λ e. let k' = subst (λ (s : Stamp). Taking g m (Gathered s copy) r) (stamp_from t u e) k in
+    if_moves g _ (all_answered (others_of m.receiver r.members) (m.sender ∷ a)) _ _
+    (λ all. acts m.receiver m.dir refl (floor_after g m) _ _ _ [] (turns m u copy a r _ k' phase (answered_all (others_of m.receiver r.members) (m.sender ∷ a) all)))
+    (λ _. acts m.receiver m.dir refl (floor_after g m) _ [] _ [] (gathers m u copy a r _ k' phase)))
+    (λ _. stays _ tt)
+gathered_moves g m t copy r (Spreading u a) k phase =
+    if_moves g _ (is_stamp t u) _ _
+    (λ e. acts m.receiver m.dir refl (floor_after g m) _ [] _ [] (gathers_again m u copy a r _ (subst (λ (s : Stamp). Taking g m (Gathered s copy) r) (stamp_from t u e) k) phase))
+    (λ _. stays _ tt)
+
+ack_moves : (g : Cell) (m : Message) (t : Stamp) (r : Replica) (p : Phase) → Taking g m (SpreadAck t) r → r.phase ≡ p → Moves g (Some (m.receiver, m.dir)) (take_ack g m t r p)
+ack_moves g m t r Idle k phase = stays _ tt
+ack_moves g m t r (Gathering u a) k phase =
+    if_moves g _ (is_stamp t u) _ _
+    (λ e. acts m.receiver m.dir refl (floor_after g m) _ [] _ [] (acks_early m u a r _ (subst (λ (s : Stamp). Taking g m (SpreadAck s) r) (stamp_from t u e) k) phase))
+    (λ _. stays _ tt)
+ack_moves g m t r (Spreading u a) k phase =
+    if_moves g _ (is_stamp t u) _ _
+    (λ e. let k' = subst (λ (s : Stamp). Taking g m (SpreadAck s) r) (stamp_from t u e) k in
+    if_moves g _ (all_answered (others_of m.receiver r.members) (m.sender ∷ a)) _ _
+    (λ all. acts m.receiver m.dir refl (floor_after g m) _ _ _ [] (completes m u a r _ k' phase (answered_all (others_of m.receiver r.members) (m.sender ∷ a) all)))
+    (λ _. acts m.receiver m.dir refl (floor_after g m) _ [] _ [] (acks m u a r _ k' phase)))
+    (λ _. stays _ tt)
+
+own_moves : (g : Cell) (m : Message) (r : Replica) (b : Body) → Taking g m b r → Moves g (Some (m.receiver, m.dir)) (take_own g m r b)
+own_moves g m r (Update marks) k = acts m.receiver m.dir refl (floor_after g m) _ [] _ [] (updates m marks r _ k)
+own_moves g m r (Gather t) k = acts m.receiver m.dir refl (floor_after g m) _ _ _ [] (gives m t r _ k)
+own_moves g m r (Gathered t copy) k = gathered_moves g m t copy r r.phase k refl
+own_moves g m r (Spread t copy) k = acts m.receiver m.dir refl (floor_after g m) _ _ _ [] (spreads m t copy r _ k)
+own_moves g m r (SpreadAck t) k = ack_moves g m t r r.phase k refl
+own_moves g m r (Advance t) k = acts m.receiver m.dir refl (floor_after g m) _ [] _ [] (advances m t r _ k)
+own_moves g m r (Join ms copy) k = stays Foreign tt
+own_moves g m r Leave k = stays Foreign tt
+
+other_moves : (g : Cell) (m : Message) (b : Body) (s : Slot) → In m g.bag → m.body ≡ b → IsUp g m.receiver → (g.house m.receiver).slots m.dir ≡ s → Moves g (Some (m.receiver, m.dir)) (take_other g m b s)
+other_moves g m b Absent at is up e = stays commands.NoReplica tt
+other_moves g m b (Gone d) at is up e = stays commands.NoReplica tt
+other_moves g m b (Held r) at is up e =
+    if_moves g _ (nat_lt m.epoch r.epoch) _ _ (λ _. stays _ tt)
+    (λ low. if_moves g _ (nat_lt r.epoch m.epoch) _ _ (λ _. stays _ tt)
+    (λ high. if_moves g _ (is_listed m.sender r.members) _ _
+    (λ member. let p = lt_not _ _ low in let q = lt_not _ _ high in own_moves g m r b (record { posted = at; is = is; up = up; held = e; epoch = omega arith; member = member }))
+    (λ _. stays Foreign tt)))
+
+join_moves : (g : Cell) (m : Message) (ms : List Member) (copy : Copy) (s : Slot) → In m g.bag → m.body ≡ Join ms copy → IsUp g m.receiver → (g.house m.receiver).slots m.dir ≡ s → Moves g (Some (m.receiver, m.dir)) (take_join g m ms copy s)
+join_moves g m ms copy Absent at is up e =
+    if_moves g _ (is_listed m.receiver ms && is_listed m.sender ms) _ _
+    (λ _. acts m.receiver m.dir refl (floor_after g m) _ [] _ [] (copies m ms copy _ (record { posted = at; is = is; up = up; gone = λ d q. absurd (cc) }) (λ r q. absurd (cc))))
+    (λ _. stays Foreign tt)
+join_moves g m ms copy (Gone d) at is up e =
+    late_moves g _ m (cond (nat_le m.epoch d) (Some d) None) _
+    (λ late. if_moves g _ (is_listed m.receiver ms && is_listed m.sender ms) _ _
+    (λ _. acts m.receiver m.dir refl (floor_after g m) _ [] _ [] (copies m ms copy _ (record { posted = at; is = is; up = up; gone = λ d' e'. let same : d ≡ d' = cc in subst (λ (z : ℕ). z < m.epoch) same (not_reached m.epoch d (nat_le m.epoch d) refl late) }) (λ r q. absurd (cc))))
+    (λ _. stays Foreign tt))
+join_moves g m ms copy (Held r) at is up e =
+    late_moves g _ m (cond (nat_lt m.epoch r.epoch) (Some r.epoch) None) _
+    (λ late. if_moves g _ (is_listed m.receiver ms && is_listed m.sender ms) _ _
+    (λ _. by_since (nat_le (since_in ms m.receiver 0) r.epoch) refl (not_passed m.epoch r.epoch (nat_lt m.epoch r.epoch) refl late))
+    (λ _. stays Foreign tt))
+  where
+    en : Entering g m (Join ms copy)
+    en = record { posted = at; is = is; up = up; gone = λ d e'. absurd (cc) }
+
+    by_since : (b : Bool) → nat_le (since_in ms m.receiver 0) r.epoch ≡ b → r.epoch ≤ m.epoch → Moves g (Some (m.receiver, m.dir)) (record { cell = moved g m.receiver (holding (g.house m.receiver) m.dir (floor_after g m) (Held (cond b (kept_at_join m ms copy r) (copied m ms copy)))) []; answer = Taken (serials_of g []); accepted = [] })
+    by_since true q le = acts m.receiver m.dir refl (floor_after g m) _ [] _ [] (keeps m ms copy r _ en e le (le_from _ _ q))
+    by_since false q le = acts m.receiver m.dir refl (floor_after g m) _ [] _ [] (copies m ms copy _ en (λ r' e'. let same : r ≡ r' = cc in subst (λ (z : Replica). (z.epoch ≤ m.epoch) × (z.epoch < since_in ms m.receiver 0)) same (le, le_not _ _ q)))
+
+leave_moves : (g : Cell) (m : Message) (s : Slot) → In m g.bag → m.body ≡ Leave → IsUp g m.receiver → (g.house m.receiver).slots m.dir ≡ s → Moves g (Some (m.receiver, m.dir)) (take_leave g m s)
+leave_moves g m Absent at is up e = acts m.receiver m.dir refl (floor_after g m) _ [] _ [] (leaves m _ (record { posted = at; is = is; up = up; gone = λ d q. absurd (cc) }) (λ r q. absurd (cc)))
+leave_moves g m (Gone d) at is up e =
+    late_moves g _ m (cond (nat_le m.epoch d) (Some d) None) _
+    (λ late. acts m.receiver m.dir refl (floor_after g m) _ [] _ [] (leaves m _ (record { posted = at; is = is; up = up; gone = λ d' e'. let same : d ≡ d' = cc in subst (λ (z : ℕ). z < m.epoch) same (not_reached m.epoch d (nat_le m.epoch d) refl late) }) (λ r q. absurd (cc))))
+leave_moves g m (Held r) at is up e =
+    late_moves g _ m (cond (nat_le m.epoch r.epoch) (Some r.epoch) None) _
+    (λ late. acts m.receiver m.dir refl (floor_after g m) _ [] _ [] (leaves m _ (record { posted = at; is = is; up = up; gone = λ d q. absurd (cc) }) (λ r' e'. let same : r ≡ r' = cc in subst (λ (z : Replica). z.epoch < m.epoch) same (not_reached m.epoch r.epoch (nat_le m.epoch r.epoch) refl late))))
+
+take_moves : (g : Cell) (m : Message) (b : Body) → In m g.bag → m.body ≡ b → IsUp g m.receiver → Moves g (Some (m.receiver, m.dir)) (take g m b ((g.house m.receiver).slots m.dir))
+take_moves g m (Update marks) at is up = other_moves g m (Update marks) _ at is up refl
+take_moves g m (Gather t) at is up = other_moves g m (Gather t) _ at is up refl
+take_moves g m (Gathered t copy) at is up = other_moves g m (Gathered t copy) _ at is up refl
+take_moves g m (Spread t copy) at is up = other_moves g m (Spread t copy) _ at is up refl
+take_moves g m (SpreadAck t) at is up = other_moves g m (SpreadAck t) _ at is up refl
+take_moves g m (Advance t) at is up = other_moves g m (Advance t) _ at is up refl
+take_moves g m (Join ms copy) at is up = join_moves g m ms copy _ at is up refl
+take_moves g m Leave at is up = leave_moves g m _ at is up refl
+
+message_posted : (g : Cell) (n : ℕ) (b : Bool) (m : Message) → cond b None (slice_get g.bag (n - 1)) ≡ Some m → In m g.bag
+message_posted g n true m e = absurd (cc)
+message_posted g n false m e = In-from_get m g.bag (n - 1) e
+
+deliver_moves : (g : Cell) (n : ℕ) (o : Option Message) → message_at g n ≡ o → Moves g (option_map (λ (m : Message). (m.receiver, m.dir)) o) (deliver g o)
+deliver_moves g n None e = stays _ tt
+deliver_moves g n (Some m) e =
+    if_moves g _ (is_down g m.receiver) _ _ (λ _. stays _ tt)
+    (λ up. take_moves g m m.body (message_posted g n ((eqb n 0) || has n g.lost) m e) refl (not_true _ up))
+
+lose_moves : (g : Cell) (n : ℕ) (o : Option Message) → Moves g None (lose g n o)
+lose_moves g n None = stays _ tt
+lose_moves g n (Some m) = loses n
+
+none_of : (o : Option UpdateRefusal) → option_map commands.Update o ≡ None → o ≡ None
+none_of None e = refl
+none_of (Some r) e = absurd (cc)
+
+accept_at_moves : (g : Cell) (h d : ℕ) (u : Change) (r : Replica) (o : Option Stamp) → IsUp g h → IsHeld g h d r → update_refusal h u r ≡ None → stamp_at (g.house h) ≡ o → Moves g (Some (h, d)) (accept_at g h d u r o)
+accept_at_moves g h d u r None up at fine e = stays _ tt
+accept_at_moves g h d u r (Some s) up at fine e = acts h d refl s.time _ _ _ _ (accepts h d u r s _ (record { up = up; held = at; next = e }) fine)
+
+accept_moves : (g : Cell) (h d : ℕ) (u : Change) (s : Slot) → IsUp g h → (g.house h).slots d ≡ s → Moves g (Some (h, d)) (accept g h d u s)
+accept_moves g h d u Absent up e = stays _ tt
+accept_moves g h d u (Gone k) up e = stays _ tt
+accept_moves g h d u (Held r) up e = unless_moves g _ (option_map commands.Update (update_refusal h u r)) _ (λ fine. accept_at_moves g h d u r (stamp_at (g.house h)) up e (none_of (update_refusal h u r) fine) refl)
+
+begin_moves : (g : Cell) (h d : ℕ) (r : Replica) (t : Stamp) (os : List ℕ) → Issuing g h d r t → master_of r.members ≡ h → others_of h r.members ≡ os → Moves g (Some (h, d)) (begin g h d r t os)
+begin_moves g h d r t [] i head o = acts h d refl t.time _ [] _ [] (lone h d r t i head o)
+begin_moves g h d r t (y ∷ ys) i head o =
+    subst (λ (l : List ℕ). Moves g (Some (h, d)) (record { cell = moved g h (holding (g.house h) d t.time (Held (record r { phase = Gathering t [] }))) (to_each l d h r.epoch t.time (Gather t)); answer = Stamped t (serials_of g (to_each l d h r.epoch t.time (Gather t))); accepted = [] }))
+    o (acts h d refl t.time _ _ _ [] (skulks h d r t _ i head))
+
+skulk_at_moves : (g : Cell) (h d : ℕ) (r : Replica) (o : Option Stamp) → IsUp g h → IsHeld g h d r → master_of r.members ≡ h → stamp_at (g.house h) ≡ o → Moves g (Some (h, d)) (skulk_at g h d r o)
+skulk_at_moves g h d r None up at head e = stays _ tt
+skulk_at_moves g h d r (Some t) up at head e = begin_moves g h d r t (others_of h r.members) (record { up = up; held = at; next = e }) head refl
+
+skulk_moves : (g : Cell) (h d : ℕ) (s : Slot) → IsUp g h → (g.house h).slots d ≡ s → Moves g (Some (h, d)) (skulk g h d s)
+skulk_moves g h d Absent up e = stays _ tt
+skulk_moves g h d (Gone k) up e = stays _ tt
+skulk_moves g h d (Held r) up e = if_moves g _ (eqb (master_of r.members) h) _ _ (λ q. skulk_at_moves g h d r (stamp_at (g.house h)) up e (eq_from _ _ q) refl) (λ _. stays _ tt)
+
+epoch_moves : (g : Cell) (d m : ℕ) (rs : List ℕ) (s : Slot) → IsUp g m → g.top d ≢ 0 → is_listed m (g.present d) ≡ true → (g.house m).slots d ≡ s → Moves g (Some (m, d)) (new_epoch g d m rs s)
+epoch_moves g d m rs Absent up known l e = stays _ tt
+epoch_moves g d m rs (Gone k) up known l e = stays _ tt
+epoch_moves g d m rs (Held r) up known l e = if_moves g _ (nat_le (since_in (g.present d) m 0) r.epoch) _ _ (λ q. crowns d m rs r up known e l (le_from _ _ q)) (λ _. stays _ tt)
+
+-- the update of a parent, and then the directory
+mkdir_stamp : (g : Cell) (h d m : ℕ) (u : Change) (rs : List ℕ) (r : Replica) (o : Option Stamp) → IsUp g h → IsUp g m → g.top d ≢ 0 → IsHeld g h d r → update_refusal h u r ≡ None → stamp_at (g.house h) ≡ o → StepsOf g (Some (h, d)) (with_directory (accept_at g h d u r o) g.next_dir m (listing [] 1 m rs) (accept_at g h d u r o).answer)
+mkdir_stamp g h d m u rs r None up up' known at fine e = one _ _ _ (stays _ tt)
+mkdir_stamp g h d m u rs r (Some s) up up' known at fine e = mkdirs h d m u rs r s _ refl (record { up = up; held = at; next = e }) fine up' known
+
+mkdir_unless : (g : Cell) (h d m : ℕ) (u : Change) (rs : List ℕ) (r : Replica) (q : Option Refusal) → IsUp g h → IsUp g m → g.top d ≢ 0 → IsHeld g h d r → (q ≡ None → update_refusal h u r ≡ None) → StepsOf g (Some (h, d)) (with_directory (unless g q (accept_at g h d u r (stamp_at (g.house h)))) g.next_dir m (listing [] 1 m rs) (unless g q (accept_at g h d u r (stamp_at (g.house h)))).answer)
+mkdir_unless g h d m u rs r None up up' known at fine = mkdir_stamp g h d m u rs r (stamp_at (g.house h)) up up' known at (fine refl) refl
+mkdir_unless g h d m u rs r (Some q) up up' known at fine = one _ _ _ (stays _ tt)
+
+mkdir_steps : (g : Cell) (h d m : ℕ) (u : Change) (rs : List ℕ) (s : Slot) → IsUp g h → IsUp g m → g.top d ≢ 0 → (g.house h).slots d ≡ s → StepsOf g (Some (h, d)) (with_directory (accept g h d u s) g.next_dir m (listing [] 1 m rs) (accept g h d u s).answer)
+mkdir_steps g h d m u rs Absent up up' known e = one _ _ _ (stays _ tt)
+mkdir_steps g h d m u rs (Gone k) up up' known e = one _ _ _ (stays _ tt)
+mkdir_steps g h d m u rs (Held r) up up' known e = mkdir_unless g h d m u rs r (option_map commands.Update (update_refusal h u r)) up up' known e (none_of (update_refusal h u r))
+
+unless_steps : (g : Cell) (p : Option (ℕ × ℕ)) (r : Option Refusal) (x : Outcome) → (r ≡ None → StepsOf g p x) → StepsOf g p (unless g r x)
+unless_steps g p None x k = k refl
+unless_steps g p (Some r) x k = one _ _ _ (stays (Refused r) tt)
+
+one_of : (g : Cell) (p : Option (ℕ × ℕ)) (x : Outcome) → Moves g p x → StepsOf g p x
+one_of g p x m = one x.cell x.answer x.accepted m
+
+-- each test of a list of refusals fails
+abbrev AllFail : List (Bool × Refusal) → Type 0
+AllFail [] = Unit {0}
+AllFail (t ∷ ts) = (t.0 ≡ false) × AllFail ts
+
+all_fail : (ts : List (Bool × Refusal)) → first_refusal ts ≡ None → AllFail ts
+all_fail [] e = tt
+all_fail (t ∷ ts) e = let p = first_fails t.0 t.1 ts e in (p.0, all_fail ts p.1)
+
+is_known : (g : Cell) (d : ℕ) → is_unknown g d ≡ false → g.top d ≢ 0
+is_known g d e = grind arith
+
+is_new : (g : Cell) (d : ℕ) → not (is_unknown g d) ≡ false → g.top d ≡ 0
+is_new g d e = eq_from _ _ (not_true _ e)
+
+made_of : (g : Cell) (h : ℕ) → is_missing g (h ∷ []) ≡ false → has h g.made ≡ true
+made_of g h e = not_true _ (or_left (not (has h g.made)) _ e)
+
+effect_steps : (g : Cell) (c : Command) → AllFail (refusals_of g c) → StepsOf g (place_of g c) (effect g c)
+effect_steps g (commands.House h node) p = one_of g _ _ (houses h node p.0)
+effect_steps g (commands.Clock h time) p = one_of g _ _ (clocks h time (made_of g h p.0))
+effect_steps g (commands.Root m rs) p = one_of g _ _ (founds 1 m rs _ refl (not_true _ p.1.1.1.0) (is_new g 1 p.0))
+effect_steps g (commands.Mkdir h d n m rs) p =
+    let down = p.1.1.1.0 in mkdir_steps g h d m (changes.MakeChild n (record { dir = g.next_dir; master = m; others = ascending rs })) rs _ (not_true _ (or_left _ (is_down g m) down)) (not_true _ (or_right (is_down g h) _ down)) (is_known g d p.0) refl
+effect_steps g (commands.Repoint h d n m rs) p = one_of g _ _ (accept_moves g h d (changes.Repoint n m (ascending rs)) _ (not_true _ p.1.1.1.0) refl)
+effect_steps g (commands.Accept h d u) p = one_of g _ _ (accept_moves g h d u _ (not_true _ p.1.1.0) refl)
+effect_steps g (commands.Epoch d m rs) p = one_of g _ _ (epoch_moves g d m rs _ (not_true _ p.1.1.1.1.0) (is_known g d p.0) (not_true _ p.1.1.1.0) refl)
+effect_steps g (commands.Skulk h d) p = one_of g _ _ (skulk_moves g h d _ (not_true _ p.1.1.0) refl)
+effect_steps g (commands.Deliver n) p = one_of g _ _ (deliver_moves g n (message_at g n) refl)
+effect_steps g (commands.Lose n) p = one_of g _ _ (lose_moves g n (message_at g n))
+effect_steps g (commands.Crash h) p = one_of g _ _ (crashes h (not_true _ p.1.0))
+effect_steps g (commands.Start h) p = one_of g _ _ (starts h (made_of g h p.0))
+
+-- each command is a move, or two
+pub outcome_steps : (g : Cell) (c : Command) → StepsOf g (place_of g c) (outcome g c)
+outcome_steps g c = unless_steps g _ (first_refusal (refusals_of g c)) (effect g c) (λ e. effect_steps g c (all_fail (refusals_of g c) e))

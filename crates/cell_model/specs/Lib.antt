@@ -1,0 +1,13 @@
+pub mod Sets
+pub mod Cells
+pub mod Bodies
+pub mod Commands
+pub mod Steps
+pub mod Readings
+pub mod Agreement
+pub mod Skulks
+pub mod Merges
+pub mod Nevers
+pub mod Floors
+pub mod Provenance
+pub mod Rounds

@@ -1,0 +1,58 @@
+-- Where messages, epochs and histories come from (own).
+use Rattle.std.specs.Prelude.{◌≡◌, ℕ, ◌<◌, ◌≤◌, ◌⊎◌, List, Some}
+use Rattle.cds_stamps.specs.Members.{Member, since_in}
+use Rattle.cell_model.specs.Sets.{In, IsPart}
+use Rattle.cell_model.specs.Cells.{Replica, Slot, Absent, Gone, Held, Copy, Join, Leave, Message, Cell, IsHeld}
+use Rattle.cell_model.specs.Bodies.{marks_in, copy_in}
+use Rattle.cell_model.specs.Steps.{copy_of}
+
+-- the epoch of a slot: that of its replica, or that in which the house left; 0 where there was nothing (own)
+abbrev pub epoch_of : Slot → ℕ
+epoch_of Absent = 0
+epoch_of (Gone e) = e
+epoch_of (Held r) = r.epoch
+
+-- the house holds the directory, or is gone, at an epoch later than k (own)
+abbrev pub HasPassed : Cell → (x d k : ℕ) → Type 0
+HasPassed g x d k = k < epoch_of ((g.house x).slots d)
+
+-- the epoch, floor, marks and AllUpTo of a message are those of its sender (own)
+pub record IsFromSender (g : Cell) (m : Message) : Type 0 where
+  pub replica : Replica
+  pub held : IsHeld g m.sender m.dir replica
+  pub epoch : m.epoch ≡ replica.epoch
+  pub floor : m.floor ≡ (g.house m.sender).floor
+  pub marks : IsPart (marks_in m.body) replica.history
+  pub copy : (c : Copy) → copy_in m.body ≡ Some c → c ≡ copy_of replica
+
+-- a Join makes the replica r' of a house, which held r in an earlier term, a copy (own)
+pub record TakesCopy (g : Cell) (x d : ℕ) (r r' : Replica) : Type 0 where
+  pub message : Message
+  pub members : List Member
+  pub copy : Copy
+  pub posted : In message g.bag
+  pub receiver : message.receiver ≡ x
+  pub dir : message.dir ≡ d
+  pub body : message.body ≡ Join members copy
+  pub term : r.epoch < since_in members x 0
+  pub epoch : message.epoch ≡ r'.epoch
+  pub marks : IsPart copy.history r'.history
+
+-- a Leave drops the replica of a house (own)
+pub record TakesLeave (g : Cell) (x d : ℕ) (now : Slot) : Type 0 where
+  pub message : Message
+  pub posted : In message g.bag
+  pub receiver : message.receiver ≡ x
+  pub dir : message.dir ≡ d
+  pub body : message.body ≡ Leave
+  pub is : now ≡ Gone message.epoch
+
+-- what a step from g to g' does to messages, epochs and histories (own)
+pub record ProvenanceHolds (g g' : Cell) : Type 0 where
+  -- a message that the step posts is from its sender
+  pub posts : (m : Message) → In m g'.bag → In m g.bag ⊎ IsFromSender g' m
+  -- no epoch falls
+  pub epochs : (x d : ℕ) → epoch_of ((g.house x).slots d) ≤ epoch_of ((g'.house x).slots d)
+  -- a history shrinks at a Join that makes a copy, or at a Leave, and at nothing else
+  pub shrinks : (x d : ℕ) (r r' : Replica) → IsHeld g x d r → IsHeld g' x d r' → IsPart r.history r'.history ⊎ TakesCopy g x d r r'
+  pub drops : (x d : ℕ) (r : Replica) → IsHeld g x d r → ((r' : Replica) × IsHeld g' x d r') ⊎ TakesLeave g x d ((g'.house x).slots d)

@@ -1,0 +1,17 @@
+-- Sets of marks: lists in which neither order nor repeats count (own).
+use Rattle.std.specs.Prelude.{◌≡◌, ◌⊎◌, true, List, [], ◌∷◌}
+use Rattle.cds_stamps.specs.declared.stamp.Stamp.{Stamp}
+use Rattle.cds_stamps.specs.Stamps.{is_up_to}
+
+-- the value stands in the list (own)
+abbrev pub In : {A : Type 0} → A → List A → Type 0
+In x [] = ⊥
+In x (y ∷ ys) = (x ≡ y) ⊎ In x ys
+
+-- each value of a stands in b (own)
+abbrev pub IsPart : {A : Type 0} → List A → List A → Type 0
+IsPart {A} a b = (k : A) → In k a → In k b
+
+-- s is not later than t (own)
+abbrev pub IsUpTo : Stamp → Stamp → Type 0
+IsUpTo s t = is_up_to t s ≡ true

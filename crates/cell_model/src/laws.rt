@@ -1,0 +1,53 @@
+// What holds of every run of the model. A law is a function without parameters and with an empty body: its contract is
+// the theorem, for every list of commands.
+ghost use Rattle.std.specs.Prelude.{List};
+ghost use Rattle.cell_model.specs.Commands.{Command};
+ghost use Rattle.cell_model.specs.Steps.{outcome, replay};
+ghost use Rattle.cell_model.specs.Agreement.{Converges};
+ghost use Rattle.cell_model.specs.Skulks.{AdvancesHold, RaisesUpTo};
+ghost use Rattle.cell_model.specs.Merges.{MergesHold};
+ghost use Rattle.cell_model.specs.Nevers.{Nevers};
+ghost use Rattle.cell_model.specs.Floors.{FloorsHold, FloorsRise, IssuesAbove, IssuesOnce};
+ghost use Rattle.cell_model.specs.Provenance.{ProvenanceHolds};
+ghost use Rattle.cell_model.specs.Rounds.{GatheringHolds, SecondHolds, SpreadingHolds, CompletedHolds, CompletedAtOnce};
+
+/// From each completed skulk on, the replicas of its epoch and of later ones agree up to its stamp.
+pub fn convergence()
+    ensures { (commands : List Command) → Converges commands }
+{}
+
+/// Whatever a message adds to a replica can be merged into it: the replica lacks none of it up to the AllUpTo that it
+/// then has.
+pub fn merges()
+    ensures { (commands : List Command) → MergesHold commands }
+{}
+
+/// No time stands above its house's floor or its message's, and each stamp is issued once, above all of them.
+pub fn floors()
+    ensures held { (commands : List Command) → FloorsHold (replay commands) }
+    ensures rise { (commands : List Command) (c : Command) → FloorsRise (replay commands) (outcome (replay commands) c).cell }
+    ensures above { (commands : List Command) (c : Command) → IssuesAbove commands c }
+    ensures once { (commands : List Command) → IssuesOnce commands }
+{}
+
+/// What the answers Foreign and a stale epoch would tell of never comes.
+pub fn absences()
+    ensures { (commands : List Command) → Nevers (replay commands) }
+{}
+
+/// The AllUpTo of a master becomes the stamp of the skulk that it completes.
+pub fn completion()
+    ensures { (commands : List Command) (c : Command) → RaisesUpTo commands c }
+{}
+
+/// The convergence invariant, part by part: where messages, epochs and histories come from; the first round; the second
+/// from its start on; what spreading brings about, and a completed skulk leaves; and what each AllUpTo tells.
+pub fn invariant()
+    ensures provenance { (commands : List Command) (c : Command) → ProvenanceHolds (replay commands) (outcome (replay commands) c).cell }
+    ensures gathering { (commands : List Command) → GatheringHolds commands }
+    ensures second { (commands : List Command) → SecondHolds commands }
+    ensures spreading { (commands : List Command) → SpreadingHolds commands }
+    ensures completed { (commands : List Command) → CompletedHolds commands }
+    ensures at_once { (commands : List Command) → CompletedAtOnce commands }
+    ensures advances { (commands : List Command) → AdvancesHold commands }
+{}

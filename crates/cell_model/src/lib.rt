@@ -1,0 +1,6 @@
+//! The model of a cell, in logic alone: houses that keep whole histories, and what each command does to them.
+#![tactic(auto)]
+
+mod laws;
+
+pub use laws::{absences, completion, convergence, floors, invariant, merges};
