@@ -1,0 +1,9 @@
+pub mod Words
+pub mod Lines
+pub mod Texts
+pub mod Replies
+pub mod Demand
+pub mod Standing
+pub mod Waiting
+pub mod Runs
+pub mod Scripts

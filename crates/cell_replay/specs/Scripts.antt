@@ -1,0 +1,39 @@
+-- Scripts and their transcripts (own).
+use Rattle.std.specs.Prelude.{◌≡◌, ℕ, ◌+◌, false, List, [], ◌∷◌, ◌++◌, Option, Some, None, Ok, Err, Result}
+use Rattle.std.specs.Io.KnownBytes.{Consumes, Appends}
+use Rattle.cds_base.specs.LineFaults.{IsLine}
+use Rattle.cell_model.specs.Cells.{Cell}
+use Rattle.cell_replay.specs.declared.commands.ScriptLine.{ScriptLine}
+use Rattle.cell_replay.specs.declared.commands.ParseFault.{ParseFault}
+use Rattle.cell_replay.specs.Words.{words_of}
+use Rattle.cell_replay.specs.Lines.{said_in}
+use Rattle.cell_replay.specs.Replies.{Numbered, transcript}
+use Rattle.cell_replay.specs.Demand.{Demand}
+
+-- lines, each with its end (own)
+abbrev pub text_of : List (List ℕ) → List ℕ
+text_of [] = []
+text_of (l ∷ ls) = (l ++ 10 ∷ []) ++ text_of ls
+
+-- what line number says stands in front of what the lines behind it say, if it says anything (own)
+abbrev pub Says : ℕ → Result (Option ScriptLine) ParseFault → List Numbered → (List Numbered → Type 0) → Type 0
+Says number (Ok None) said Behind = Behind said
+Says number (Ok (Some l)) said Behind = (rest : List Numbered) × (said ≡ record { number = number; says = l } ∷ rest) × Behind rest
+Says number (Err fault) said Behind = ⊥
+
+-- the lines are in order, and this is what they say, from line number on (own)
+abbrev pub IsScript : ℕ → (lines : List (List ℕ)) → List Numbered → Type 0
+IsScript number [] said = said ≡ []
+IsScript number (l ∷ ls) said = IsLine number l × Says number (said_in (words_of l)) said (IsScript (number + 1) ls)
+
+-- a text is due, and nothing is faulty (own)
+abbrev pub whole : List ℕ → Demand
+whole text = record { body = text; end = []; faulty = false }
+
+-- a script was read, and its transcript by the model was written, from this cell on (own)
+pub record IsReplay (g : Cell) (left left' old new : Option (List ℕ)) : Type 0 where
+  pub lines : List (List ℕ)
+  pub said : List Numbered
+  pub script : IsScript 1 lines said
+  pub taken : Consumes left left' (text_of lines)
+  pub written : Appends old new (transcript g said)

@@ -1,0 +1,375 @@
+// Runs over whole scripts, and over ends that fail.
+ghost use Rattle.std.specs.Prelude.{◌<◌};
+
+use super::*;
+use crate::answers::print_line_fault;
+use cds_base::{LineFault, MemSink, MemSource};
+use std::alloc::{AllocError, Global};
+use std::test::Fail;
+
+// More octets than any run here writes.
+const ROOM: usize = 4096;
+
+// One entry of one house: made, given a value, and relieved of it.
+const PLAIN: &str = "house 1 00000000000a\n\
+    root 1\n\
+    clock 1 100\n\
+    create 1 1 lpr\n\
+    add 1 1 lpr CDS_Class 5072\n\
+    read 1 low /.:/lpr CDS_Class\n\
+    remove 1 1 lpr CDS_Class 5072\n\
+    read 1 low /.:/lpr CDS_Class\n";
+
+const PLAIN_ANSWERS: &str = "1 ok\n\
+    2 ok\n\
+    3 ok\n\
+    4 ok 100@00000000000a\n\
+    5 ok 101@00000000000a\n\
+    6 ok 1 5072\n\
+    7 ok 102@00000000000a\n\
+    8 ok 0\n";
+
+// The clock stands at the last time that there is.
+const LAST_STAMP: &str = "house 1 00000000000a\n\
+    root 1\n\
+    clock 1 18446744073709551615\n\
+    create 1 1 e\n\
+    add 1 1 e A 01\n\
+    #\n\
+    read 1 high /.:/e A\n";
+
+const LAST_STAMP_ANSWERS: &str = "1 ok\n\
+    2 ok\n\
+    3 ok\n\
+    4 ok 18446744073709551615@00000000000a\n\
+    5 refused StampsSpent\n\
+    7 ok 0\n";
+
+// Stamps go on above a clock that is set back, digits of either case are taken, and spaces, comments
+// and empty lines say nothing. An update that changes nothing is taken too.
+const CLOCK_SET_BACK: &str = "house 1 00000000ABCD\n\
+    \x20 root  1 \n\
+    clock 1 10\n\
+    create 1 1 e\n\
+    clock 1 3\n\
+    add 1 1 e A fF\n\
+    \n\
+    \x20 # add 1 1 e A 02\n\
+    #add 1 1 e A 03\n\
+    add 1 1 e A 0B0a\n\
+    add 1 1 e A 0b\n\
+    add 1 1 e A ff\n\
+    remove 1 1 e A 00\n\
+    read 1 low /.:/e A\n\
+    read 1 low /.:/e B\n";
+
+const CLOCK_SET_BACK_ANSWERS: &str = "1 ok\n\
+    2 ok\n\
+    3 ok\n\
+    4 ok 10@00000000abcd\n\
+    5 ok\n\
+    6 ok 11@00000000abcd\n\
+    10 ok 12@00000000abcd\n\
+    11 ok 13@00000000abcd\n\
+    12 ok 14@00000000abcd\n\
+    13 ok 15@00000000abcd\n\
+    14 ok 3 0b 0b0a ff\n\
+    15 ok 0\n";
+
+// Each refusal, in the order in which they may come. A refused update spends no stamp.
+const REFUSALS: &str = "clock 1 1\n\
+    root 1\n\
+    read 1 low /.:/e A\n\
+    create 1 1 e\n\
+    house 1 00000000000a\n\
+    house 1 00000000000b\n\
+    create 1 1 e\n\
+    read 1 low /.:/e A\n\
+    root 1\n\
+    root 1\n\
+    create 1 9 e\n\
+    add 1 1 e A 01\n\
+    remove 1 1 e A 01\n\
+    read 1 high /.:/e A\n\
+    create 1 1 e\n\
+    create 1 1 e\n\
+    add 1 1 f A 01\n\
+    add 1 1 e CDS_Replicas 01\n\
+    remove 1 1 e CDS_LinkTarget 01\n\
+    add 1 1 e A 01\n";
+
+const REFUSALS_ANSWERS: &str = "1 refused NoHouse\n\
+    2 refused NoHouse\n\
+    3 refused NoHouse\n\
+    4 refused NoDirectory\n\
+    5 ok\n\
+    6 refused HouseExists\n\
+    7 refused NoDirectory\n\
+    8 refused Unreachable 1\n\
+    9 ok\n\
+    10 refused DirectoryExists\n\
+    11 refused NoDirectory\n\
+    12 refused NoSuchEntry\n\
+    13 refused NoSuchEntry\n\
+    14 refused NoSuchName 0\n\
+    15 ok 1@00000000000a\n\
+    16 refused EntryExists\n\
+    17 refused NoSuchEntry\n\
+    18 refused WrongKind\n\
+    19 refused WrongKind\n\
+    20 ok 2@00000000000a\n";
+
+fn words_of(alloc: Global, texts: &[&str]) -> Result<Vec<String>, AllocError> {
+    let mut words = Vec::new(alloc);
+    for text in texts {
+        words.push(String::from_str(alloc, text)?)?;
+    }
+    Ok(words)
+}
+
+// What a run over these octets writes, and how it ends.
+fn replay(alloc: Global, script: &[u8], most: usize) -> Result<(Vec<u8>, Status), AllocError>
+    requires { 0 < most }
+{
+    let words = words_of(alloc, &["run"])?;
+    let mut source = MemSource::new(script.to_vec(alloc)?, Vec::new(alloc), most);
+    let mut sink = MemSink::new(alloc, ROOM, Vec::new(alloc), most)?;
+    let status = run(alloc, &words, &mut source, &mut sink);
+    Ok((sink.written().to_vec(alloc)?, status))
+}
+
+#[test]
+fn scripts_are_answered(rt: HostRuntime) -> Result<(), Fail> {
+    let alloc = rt.alloc();
+    let rows = [
+        ("", "", Status::Ok),
+        (PLAIN, PLAIN_ANSWERS, Status::Ok),
+        (LAST_STAMP, LAST_STAMP_ANSWERS, Status::Ok),
+        (CLOCK_SET_BACK, CLOCK_SET_BACK_ANSWERS, Status::Ok),
+        (REFUSALS, REFUSALS_ANSWERS, Status::Ok),
+        (
+            "house 1 00000000000a",
+            "1 fault NoLineEnd 21\n",
+            Status::BadInput,
+        ),
+    ];
+    for (script, answers, status) in rows {
+        for most in [1, 3, 4096] {
+            let (written, end) = replay(alloc, script.as_bytes(), most)?;
+            assert_eq!(rt; written.as_slice(), answers.as_bytes(), "over {script}");
+            assert_eq!(rt; end, status, "over {script}");
+        }
+    }
+    Ok(())
+}
+
+#[test]
+fn the_longest_line_has_4096_octets(rt: HostRuntime) -> Result<(), Fail> {
+    let alloc = rt.alloc();
+    let rows = [
+        (4096, "", Status::Ok),
+        (4097, "1 fault LineTooLong 4097\n", Status::BadInput),
+    ];
+    for (spaces, answers, status) in rows {
+        let mut script = vec![in alloc; b' '; spaces]?;
+        script.push(b'\n')?;
+        let (written, end) = replay(alloc, &script, 4096)?;
+        assert_eq!(rt; written.as_slice(), answers.as_bytes(), "at {spaces}");
+        assert_eq!(rt; end, status, "at {spaces}");
+    }
+    Ok(())
+}
+
+// A faulty line, and the fault's name and place.
+static FAULTY: [(&str, &str); 40] = [
+    ("hous 1", "UnknownCommand 1"),
+    ("House 1 00000000000a", "UnknownCommand 1"),
+    ("  hous #", "UnknownCommand 1"),
+    ("root", "WrongCount 1"),
+    ("house 0", "WrongCount 2"),
+    ("clock 1 1 1", "WrongCount 4"),
+    ("create 1 1", "WrongCount 3"),
+    ("remove 1 1 e A", "WrongCount 5"),
+    ("add 1 1 e A 01 # 1", "WrongCount 8"),
+    ("read 1 low /.:/e A B", "WrongCount 6"),
+    ("house 0 00000000000a", "BadWord 2"),
+    ("house 256 00000000000a", "BadWord 2"),
+    ("house 01 00000000000a", "BadWord 2"),
+    ("house x g", "BadWord 2"),
+    ("house 1 00000000000", "BadWord 3"),
+    ("house 1 00000000000g", "BadWord 3"),
+    ("house 1 0000000000000a", "BadWord 3"),
+    ("clock 1 18446744073709551616", "BadWord 3"),
+    ("clock 1 -1", "BadWord 3"),
+    ("clock 1 00", "BadWord 3"),
+    ("root 1 0", "BadWord 3"),
+    ("create 1 0 e", "BadWord 3"),
+    ("create 1 4294967296 e", "BadWord 3"),
+    ("create 1 1 a/b", "BadWord 4"),
+    ("add 1 1 e A- 01", "BadWord 5"),
+    ("add 1 1 e A 012", "BadWord 6"),
+    ("remove 1 1 e A 0g", "BadWord 6"),
+    ("read 1 medium /.:/e A", "BadWord 3"),
+    ("read 1 low /.:/e A-", "BadWord 5"),
+    ("house 2 00000000000b", "NotBuilt 2"),
+    ("house 255 g", "NotBuilt 2"),
+    ("root 2", "NotBuilt 2"),
+    ("root 1 2", "NotBuilt 3"),
+    ("read 1 low a A", "NotBuilt 4"),
+    ("read 1 low /.:/a/b A-", "NotBuilt 4"),
+    ("put 1 1 s A 01", "NotBuilt 1"),
+    ("decode", "NotBuilt 1"),
+    ("skulk 0 0 0", "NotBuilt 1"),
+    ("clock\t1 1", "NotAscii 6"),
+    ("hous 1\x7f", "NotAscii 7"),
+];
+
+#[test]
+fn the_first_faulty_line_ends_a_run(rt: HostRuntime) -> Result<(), Fail> {
+    let alloc = rt.alloc();
+    for (line, fault) in FAULTY {
+        let script = format!(in alloc; "clock 1 1\n{line}\nclock 1 1\n\x7f\n")?;
+        let answers = format!(in alloc; "1 refused NoHouse\n2 fault {fault}\n")?;
+        let (written, end) = replay(alloc, script.as_bytes(), 4096)?;
+        assert_eq!(rt; written.as_slice(), answers.as_bytes(), "at {line}");
+        assert_eq!(rt; end, Status::BadInput, "at {line}");
+    }
+    let text = print_line_fault(alloc, LineFault::TooManyLines(16777217, 1))?;
+    assert_eq!(rt; text.as_str(), "16777217 fault TooManyLines 1\n");
+    Ok(())
+}
+
+#[test]
+fn other_words_are_usage(rt: HostRuntime) -> Result<(), Fail> {
+    let alloc = rt.alloc();
+    let rows: [&[&str]; 7] = [
+        &[],
+        &["run", "run"],
+        &["run", ""],
+        &[""],
+        &["Run"],
+        &["check"],
+        &["load", "1"],
+    ];
+    for texts in rows {
+        let words = words_of(alloc, texts)?;
+        let script = PLAIN.as_bytes();
+        let mut source = MemSource::new(script.to_vec(alloc)?, vec![in alloc; 1]?, 4096);
+        let mut sink = MemSink::new(alloc, ROOM, vec![in alloc; 1]?, 4096)?;
+        let status = run(alloc, &words, &mut source, &mut sink);
+        assert_eq!(rt; status, Status::Usage, "at {texts:?}");
+        assert_eq!(rt; source.left(), script, "at {texts:?}");
+        assert!(rt; sink.written().is_empty());
+    }
+    Ok(())
+}
+
+// The source gives at most this many octets a read, and its call of this number fails (at 0 none
+// does). So does the sink. What is written then, how many octets are left, and how the run ends.
+struct Failing {
+    reads: usize,
+    failing_read: u64,
+    writes: usize,
+    failing_write: u64,
+    written: &'static str,
+    left: usize,
+    status: Status,
+}
+
+static FAILING: [Failing; 6] = [
+    Failing {
+        reads: 4096,
+        failing_read: 0,
+        writes: 1,
+        failing_write: 2,
+        written: "1",
+        left: 0,
+        status: Status::WriteFault,
+    },
+    Failing {
+        reads: 4096,
+        failing_read: 1,
+        writes: 4096,
+        failing_write: 0,
+        written: "",
+        left: 170,
+        status: Status::ReadFault,
+    },
+    // The first read gives the first line alone. Its answer goes out before the second.
+    Failing {
+        reads: 21,
+        failing_read: 2,
+        writes: 4096,
+        failing_write: 1,
+        written: "",
+        left: 149,
+        status: Status::WriteFault,
+    },
+    // The same where the second read would not fail: it is not made.
+    Failing {
+        reads: 21,
+        failing_read: 0,
+        writes: 4096,
+        failing_write: 1,
+        written: "",
+        left: 149,
+        status: Status::WriteFault,
+    },
+    Failing {
+        reads: 21,
+        failing_read: 2,
+        writes: 4096,
+        failing_write: 0,
+        written: "1 ok\n",
+        left: 149,
+        status: Status::ReadFault,
+    },
+    // The read that would give the end of the input.
+    Failing {
+        reads: 4096,
+        failing_read: 2,
+        writes: 4096,
+        failing_write: 0,
+        written: PLAIN_ANSWERS,
+        left: 0,
+        status: Status::ReadFault,
+    },
+];
+
+#[test]
+fn ends_that_fail(rt: HostRuntime) -> Result<(), Fail> {
+    let alloc = rt.alloc();
+    let words = words_of(alloc, &["run"])?;
+    for row in &FAILING {
+        let script = PLAIN.as_bytes().to_vec(alloc)?;
+        assert!(rt; 0 < row.reads && 0 < row.writes);
+        let mut source = MemSource::new(script, vec![in alloc; row.failing_read]?, row.reads);
+        let mut sink = MemSink::new(alloc, ROOM, vec![in alloc; row.failing_write]?, row.writes)?;
+        let status = run(alloc, &words, &mut source, &mut sink);
+        assert_eq!(rt; status, row.status);
+        assert_eq!(rt; sink.written(), row.written.as_bytes());
+        assert_eq!(rt; source.left().len(), row.left);
+    }
+    Ok(())
+}
+
+#[test]
+fn little_is_read_ahead(rt: HostRuntime) -> Result<(), Fail> {
+    let alloc = rt.alloc();
+    let mut script = PLAIN.as_bytes().to_vec(alloc)?;
+    let mut comment = vec![in alloc; b'#'; 99]?;
+    comment.push(b'\n')?;
+    for _ in 0..1000 {
+        script.extend_from_slice(&comment)?;
+    }
+    assert_eq!(rt; script.len(), 100170);
+    let words = words_of(alloc, &["run"])?;
+    let mut source = MemSource::new(script, Vec::new(alloc), 100170);
+    let mut sink = MemSink::new(alloc, ROOM, vec![in alloc; 1]?, 4096)?;
+    let status = run(alloc, &words, &mut source, &mut sink);
+    assert_eq!(rt; status, Status::WriteFault);
+    assert!(rt; sink.written().is_empty());
+    // All but what is read at once, and the first line.
+    assert!(rt; source.left().len() >= 91957);
+    Ok(())
+}
