@@ -1,0 +1,40 @@
+//! `cdsreplay`: replays the script of a cell that is read from standard input, and answers on standard output.
+#![tactic(auto)]
+
+use cds_base::{StdSink, StdSource};
+use cell_replay::{Status, run};
+use std::alloc::{AllocError, Global};
+use std::env;
+use std::io::{Error, ErrorKind};
+use std::process::ExitCode;
+use std::rt::Env;
+
+/// How the program ends where its words can't be had: there is no memory for them, or they are no text.
+fn status_without_words(error: &Error) -> Status {
+    match error.kind() {
+        ErrorKind::OutOfMemory => Status::OutOfMemory,
+        _ => Status::Usage,
+    }
+}
+
+/// The words behind the program's name.
+fn words_of(rt: &(impl Env + Alloc<A = Global>)) -> Result<Vec<String>, Status> {
+    let args = match env::args(rt) {
+        Ok(args) => args,
+        Err(error) => return Err(status_without_words(&error)),
+    };
+    match args.skip(1).collect(rt.alloc()) {
+        Ok(words) => Ok(words),
+        Err(AllocError) => Err(Status::OutOfMemory),
+    }
+}
+
+fn main(rt: HostRuntime) -> ExitCode {
+    let words = match words_of(&rt) {
+        Ok(words) => words,
+        Err(status) => return ExitCode::from(status.code()),
+    };
+    let mut source = StdSource::new(rt.stdin());
+    let mut sink = StdSink::new(rt.stdout());
+    ExitCode::from(run(rt.alloc(), &words, &mut source, &mut sink).code())
+}
