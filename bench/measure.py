@@ -1,0 +1,87 @@
+#!/usr/bin/env python3
+"""Measures a program over scripts of generate.py:
+
+    measure.py [--runs K] [--divide D] [--kinds KIND,KIND] NAME=PROGRAM [NAME=PROGRAM ..]
+
+Each PROGRAM is run as `PROGRAM run`, with the script on its standard input, K times (3); one run at a time. For each script
+and each program one line tells the number of lines of the script, the seconds of the fastest run, the lines it took in one
+second, the processor time of that run, and the greatest peak of memory of its runs in KiB. The programs have to give the
+same answers and status 0; if not, it says so and ends with status 1. D divides the sizes of the scripts.
+"""
+
+import argparse
+import filecmp
+import os
+import resource
+import shutil
+import subprocess
+import sys
+import tempfile
+import time
+
+sys.dont_write_bytecode = True
+import generate
+
+SIZES = {"comments": 10_000_000, "adds": 1_000_000, "creates": 100_000}
+# GNU time has a small peak of its own; this process would lend its children a greater one.
+TIME = shutil.which("time")
+
+
+def run_once(program, script, answers):
+    """Seconds, processor seconds and peak KiB of one run, and its status."""
+    with tempfile.NamedTemporaryFile("r") as peak, open(script, "rb") as source, open(answers, "wb") as sink:
+        command = [program, "run"]
+        if TIME:
+            command = [TIME, "-q", "-f", "%M", "-o", peak.name] + command
+        before, start = resource.getrusage(resource.RUSAGE_CHILDREN), time.perf_counter()
+        status = subprocess.run(command, stdin=source, stdout=sink).returncode
+        seconds, after = time.perf_counter() - start, resource.getrusage(resource.RUSAGE_CHILDREN)
+        processor = after.ru_utime + after.ru_stime - before.ru_utime - before.ru_stime
+        return seconds, processor, int(peak.read()) if TIME else after.ru_maxrss, status
+
+
+def measure(kind, size, programs, runs, folder):
+    """Prints the line of each program; true where they agree."""
+    script = os.path.join(folder, "script")
+    with open(script, "wb") as out:
+        lines = generate.write(kind, size, out)
+    agreed, first = True, None
+    for name, program in programs:
+        answers = os.path.join(folder, f"answers-{name}")
+        results = [run_once(program, script, answers) for _ in range(runs)]
+        seconds, processor = min(results)[:2]
+        peak = max(result[2] for result in results)
+        print(f"{kind:<10}{name:<12}{lines:>12,}{seconds:>10.2f}{lines / seconds:>14,.0f}{processor:>11.2f}{peak:>11,}", flush=True)
+        if any(result[3] != 0 for result in results):
+            print(f"{name} ended with a status other than 0")
+            agreed = False
+        if first and not filecmp.cmp(first, answers, shallow=False):
+            print(f"{name} answers otherwise than {programs[0][0]}")
+            agreed = False
+        first = first or answers
+    return agreed
+
+
+def main():
+    parser = argparse.ArgumentParser(description=__doc__, formatter_class=argparse.RawDescriptionHelpFormatter)
+    parser.add_argument("--runs", type=int, default=3)
+    parser.add_argument("--divide", type=int, default=1)
+    parser.add_argument("--kinds", default=",".join(SIZES))
+    parser.add_argument("programs", nargs="+", metavar="NAME=PROGRAM")
+    args = parser.parse_args()
+    programs = []
+    for word in args.programs:
+        name, mark, path = word.partition("=")
+        if not mark:
+            name, path = os.path.basename(word), word
+        programs.append((name, os.path.abspath(path)))
+    print(f"{'script':<10}{'program':<12}{'lines':>12}{'seconds':>10}{'lines/second':>14}{'processor':>11}{'peak KiB':>11}")
+    agreed = True
+    with tempfile.TemporaryDirectory() as folder:
+        for kind in args.kinds.split(","):
+            agreed &= measure(kind, SIZES[kind] // args.divide, programs, args.runs, folder)
+    sys.exit(0 if agreed else 1)
+
+
+if __name__ == "__main__":
+    main()

@@ -1,0 +1,301 @@
+//! The work of `cdsreplay run` on the scripts of generate.py, written in plain Rust: what a proved program is to be
+//! compared with. It answers the commands of one house, and stops at the first faulty line without saying why.
+
+use std::collections::BTreeMap;
+use std::io::{self, BufRead, BufReader, BufWriter, Read, Write};
+use std::process::ExitCode;
+
+const LONGEST: usize = 4096;
+
+#[derive(Clone, Copy, PartialEq, Eq, PartialOrd, Ord)]
+struct Stamp {
+    time: u64,
+    node: u64,
+}
+
+struct Mark {
+    present: bool,
+    stamp: Stamp,
+}
+
+/// The marks of an attribute's values.
+type Values = BTreeMap<Vec<u8>, Mark>;
+
+struct Entry {
+    birth: Stamp,
+    attributes: BTreeMap<Vec<u8>, Values>,
+}
+
+struct House {
+    node: u64,
+    clock: u64,
+    floor: u64,
+    root: Option<BTreeMap<Vec<u8>, Entry>>,
+}
+
+enum Answer {
+    Done,
+    Stamped(Stamp),
+    Values(Vec<Vec<u8>>),
+    Refused(&'static str),
+}
+
+/// A line that is no command.
+struct Faulty;
+
+fn number(word: &[u8]) -> Result<u64, Faulty> {
+    let digits = word.iter().all(u8::is_ascii_digit) && (word.len() == 1 || !word.starts_with(b"0"));
+    let text = std::str::from_utf8(word).map_err(|_| Faulty)?;
+    if digits { text.parse().map_err(|_| Faulty) } else { Err(Faulty) }
+}
+
+fn the_house(word: &[u8]) -> Result<(), Faulty> {
+    if number(word)? == 1 { Ok(()) } else { Err(Faulty) }
+}
+
+fn directory(word: &[u8]) -> Result<u32, Faulty> {
+    match u32::try_from(number(word)?) {
+        Ok(number) if number > 0 => Ok(number),
+        _ => Err(Faulty),
+    }
+}
+
+fn hex(word: &[u8]) -> Result<Vec<u8>, Faulty> {
+    let digit = |b: u8| (b as char).to_digit(16).map(|d| d as u8).ok_or(Faulty);
+    if word.len() % 2 != 0 {
+        return Err(Faulty);
+    }
+    word.chunks_exact(2).map(|pair| Ok(digit(pair[0])? << 4 | digit(pair[1])?)).collect()
+}
+
+fn node(word: &[u8]) -> Result<u64, Faulty> {
+    let octets = hex(word)?;
+    if octets.len() != 6 {
+        return Err(Faulty);
+    }
+    Ok(octets.iter().fold(0, |node, b| node << 8 | u64::from(*b)))
+}
+
+fn simple_name(word: &[u8]) -> Result<&[u8], Faulty> {
+    let fits = (1..=254).contains(&word.len()) && word.iter().all(|b| b.is_ascii_graphic() && *b != b'/');
+    if fits { Ok(word) } else { Err(Faulty) }
+}
+
+fn entry_name(word: &[u8]) -> Result<&[u8], Faulty> {
+    simple_name(word.strip_prefix(b"/.:/").ok_or(Faulty)?)
+}
+
+fn attribute(word: &[u8]) -> Result<&[u8], Faulty> {
+    let fits = (1..=31).contains(&word.len()) && word.iter().all(|b| b.is_ascii_alphanumeric() || *b == b'_');
+    if fits { Ok(word) } else { Err(Faulty) }
+}
+
+fn value(word: &[u8]) -> Result<Vec<u8>, Faulty> {
+    let octets = hex(word)?;
+    if (1..=1024).contains(&octets.len()) { Ok(octets) } else { Err(Faulty) }
+}
+
+fn is_reserved(attribute: &[u8]) -> bool {
+    attribute == b"CDS_LinkTarget" || attribute == b"CDS_Replicas"
+}
+
+fn issue(clock: u64, floor: &mut u64, node: u64) -> Option<Stamp> {
+    let time = clock.max(floor.checked_add(1)?);
+    *floor = time;
+    Some(Stamp { time, node })
+}
+
+/// A cell of at most one house.
+#[derive(Default)]
+struct Cell {
+    house: Option<House>,
+}
+
+impl Cell {
+    fn make_house(&mut self, node: u64) -> Answer {
+        if self.house.is_some() {
+            return Answer::Refused("HouseExists");
+        }
+        self.house = Some(House { node, clock: 0, floor: 0, root: None });
+        Answer::Done
+    }
+
+    fn set_clock(&mut self, time: u64) -> Answer {
+        match &mut self.house {
+            Some(house) => {
+                house.clock = time;
+                Answer::Done
+            }
+            None => Answer::Refused("NoHouse"),
+        }
+    }
+
+    fn make_root(&mut self) -> Answer {
+        match &mut self.house {
+            Some(House { root: Some(_), .. }) => Answer::Refused("DirectoryExists"),
+            Some(house) => {
+                house.root = Some(BTreeMap::new());
+                Answer::Done
+            }
+            None => Answer::Refused("NoHouse"),
+        }
+    }
+
+    fn create(&mut self, dir: u32, name: &[u8]) -> Answer {
+        let Some(House { node, clock, floor, root: Some(root) }) = &mut self.house else {
+            return Answer::Refused("NoDirectory");
+        };
+        if dir != 1 {
+            return Answer::Refused("NoDirectory");
+        }
+        if root.contains_key(name) {
+            return Answer::Refused("EntryExists");
+        }
+        let Some(birth) = issue(*clock, floor, *node) else {
+            return Answer::Refused("StampsSpent");
+        };
+        root.insert(name.to_vec(), Entry { birth, attributes: BTreeMap::new() });
+        Answer::Stamped(birth)
+    }
+
+    fn mark(&mut self, dir: u32, name: &[u8], attribute: &[u8], value: Vec<u8>, present: bool) -> Answer {
+        let Some(House { node, clock, floor, root: Some(root) }) = &mut self.house else {
+            return Answer::Refused("NoDirectory");
+        };
+        if dir != 1 {
+            return Answer::Refused("NoDirectory");
+        }
+        let Some(entry) = root.get_mut(name) else {
+            return Answer::Refused("NoSuchEntry");
+        };
+        if is_reserved(attribute) {
+            return Answer::Refused("WrongKind");
+        }
+        let Some(stamp) = issue(*clock, floor, *node) else {
+            return Answer::Refused("StampsSpent");
+        };
+        debug_assert!(entry.birth < stamp);
+        let values = match entry.attributes.get_mut(attribute) {
+            Some(values) => values,
+            None => entry.attributes.entry(attribute.to_vec()).or_default(),
+        };
+        match values.get_mut(&value) {
+            Some(mark) if mark.stamp < stamp => *mark = Mark { present, stamp },
+            Some(_) => {}
+            None => {
+                values.insert(value, Mark { present, stamp });
+            }
+        }
+        Answer::Stamped(stamp)
+    }
+
+    fn read(&self, name: &[u8], attribute: &[u8]) -> Answer {
+        let Some(house) = &self.house else {
+            return Answer::Refused("NoHouse");
+        };
+        let Some(root) = &house.root else {
+            return Answer::Refused("Unreachable 1");
+        };
+        let Some(entry) = root.get(name) else {
+            return Answer::Refused("NoSuchName 0");
+        };
+        let values = entry.attributes.get(attribute).into_iter().flatten();
+        Answer::Values(values.filter(|(_, mark)| mark.present).map(|(value, _)| value.clone()).collect())
+    }
+
+    /// The answer to what the words of a line say; nothing for a line without words.
+    fn reply(&mut self, words: &[&[u8]]) -> Result<Option<Answer>, Faulty> {
+        let answer = match words {
+            [] => return Ok(None),
+            [b"house", h, n] => {
+                the_house(h)?;
+                self.make_house(node(n)?)
+            }
+            [b"clock", h, time] => {
+                the_house(h)?;
+                self.set_clock(number(time)?)
+            }
+            [b"root", h] => {
+                the_house(h)?;
+                self.make_root()
+            }
+            [b"create", h, d, name] => {
+                the_house(h)?;
+                self.create(directory(d)?, simple_name(name)?)
+            }
+            [command @ (b"add" | b"remove"), h, d, name, a, v] => {
+                the_house(h)?;
+                self.mark(directory(d)?, simple_name(name)?, attribute(a)?, value(v)?, *command == b"add")
+            }
+            [b"read", h, b"low" | b"high", name, a] => {
+                the_house(h)?;
+                self.read(entry_name(name)?, attribute(a)?)
+            }
+            _ => return Err(Faulty),
+        };
+        Ok(Some(answer))
+    }
+}
+
+fn write_answer(out: &mut impl Write, number: u32, answer: &Answer) -> io::Result<()> {
+    match answer {
+        Answer::Done => writeln!(out, "{number} ok"),
+        Answer::Stamped(stamp) => writeln!(out, "{number} ok {}@{:012x}", stamp.time, stamp.node),
+        Answer::Values(values) => {
+            write!(out, "{number} ok {}", values.len())?;
+            for value in values {
+                write!(out, " ")?;
+                for b in value {
+                    write!(out, "{b:02x}")?;
+                }
+            }
+            writeln!(out)
+        }
+        Answer::Refused(reason) => writeln!(out, "{number} refused {reason}"),
+    }
+}
+
+/// The answer to a line with its end; nothing for a line that says nothing.
+fn reply_to(cell: &mut Cell, line: &[u8]) -> Result<Option<Answer>, Faulty> {
+    let text = line.strip_suffix(b"\n").ok_or(Faulty)?;
+    if text.len() > LONGEST || !text.iter().all(|b| matches!(b, b' '..=b'~')) {
+        return Err(Faulty);
+    }
+    if text.trim_ascii_start().starts_with(b"#") {
+        return Ok(None);
+    }
+    let words: Vec<&[u8]> = text.split(|b| *b == b' ').filter(|word| !word.is_empty()).collect();
+    cell.reply(&words)
+}
+
+/// Answers each line; false at the first faulty one.
+fn run(source: impl Read, sink: impl Write) -> io::Result<bool> {
+    let mut source = BufReader::new(source);
+    let mut sink = BufWriter::new(sink);
+    let mut cell = Cell::default();
+    let mut line = Vec::new();
+    let mut number = 0;
+    loop {
+        line.clear();
+        if source.read_until(b'\n', &mut line)? == 0 {
+            sink.flush()?;
+            return Ok(true);
+        }
+        number += 1;
+        let Ok(answer) = reply_to(&mut cell, &line) else {
+            sink.flush()?;
+            return Ok(false);
+        };
+        if let Some(answer) = answer {
+            write_answer(&mut sink, number, &answer)?;
+        }
+    }
+}
+
+fn main() -> ExitCode {
+    match run(io::stdin().lock(), io::stdout().lock()) {
+        Ok(true) => ExitCode::from(0),
+        Ok(false) => ExitCode::from(3),
+        Err(_) => ExitCode::from(5),
+    }
+}
