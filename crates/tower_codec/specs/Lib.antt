@@ -1,0 +1,9 @@
+pub mod Tower
+pub mod Reading
+pub mod FloorView
+pub mod Spelling
+pub mod Rpc
+pub mod RpcReading
+pub mod Binding
+pub mod BindingReading
+pub mod Steps
