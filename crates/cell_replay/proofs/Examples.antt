@@ -25,18 +25,23 @@ apart : words_of (codes "  root   1 ") ≡ codes "root" ∷ codes "1" ∷ []
 apart = refl
 
 zero : number_of (codes "0") ≡ Some 0
+unfolding number_of
 zero = refl
 
 leading_zero : number_of (codes "01") ≡ None
+unfolding number_of
 leading_zero = refl
 
 greatest : number_of (codes "18446744073709551615") ≡ Some 18446744073709551615
+unfolding number_of
 greatest = refl
 
 too_great : number_of (codes "18446744073709551616") ≡ None
+unfolding number_of
 too_great = refl
 
 no_house : number_to 255 (codes "256") ≡ None
+unfolding number_of
 no_house = refl
 
 -- ---- lines
@@ -63,32 +68,39 @@ later = refl
 
 -- the count is that of the words, with the command's name
 too_few : says (codes "clock 1") ≡ Err (WrongCount 2)
+unfolding number_of
 too_few = refl
 
 bad_house : says (codes "root 0") ≡ Err (BadWord 2)
+unfolding number_of
 bad_house = refl
 
 other_house : says (codes "root 2") ≡ Err (NotBuilt 2)
+unfolding number_of
 other_house = refl
 
 other_houses : says (codes "root 1 2") ≡ Err (NotBuilt 3)
+unfolding number_of
 other_houses = refl
 
 root_is : says (codes "root 1") ≡ Ok (Some (line.Cell command.Root))
+unfolding number_of
 root_is = refl
 
 clock_is : says (codes "clock 1 100") ≡ Ok (Some (line.Cell (command.Clock 100)))
+unfolding number_of
 clock_is = refl
 
 house_is : says (codes "house 1 00000000000a") ≡ Ok (Some (line.Cell (command.House 10)))
-unfolding decode_pairs
+unfolding decode_pairs number_of
 house_is = refl
 
 add_is : says (codes "add 1 1 lpr A 5072") ≡ Ok (Some (line.Cell (command.Add (record { 0 = 1 }) (codes "lpr") (codes "A") (80 ∷ 114 ∷ []))))
-unfolding decode_pairs
+unfolding decode_pairs number_of
 add_is = refl
 
 read_is : says (codes "read 1 high /.:/lpr A") ≡ Ok (Some (line.Question (question.Read true (codes "lpr") (codes "A"))))
+unfolding number_of
 read_is = refl
 
 -- ---- texts
@@ -127,11 +139,11 @@ no_form = refl
 -- nothing is due for a comment, and no house is there yet; then the line is at fault, and nothing is due behind it
 three_lines : demanded (Replaying empty_cell) (codes "#" ++ (10 ∷ (codes "root 1" ++ (10 ∷ (codes "rot 1" ++ (10 ∷ (codes "root 1" ++ 10 ∷ [])))))))
     ≡ record { body = codes "2 refused NoHouse" ++ (10 ∷ (codes "3 fault UnknownCommand 1" ++ 10 ∷ [])); end = []; faulty = true }
-unfolding digits fault_at demand is_later
+unfolding digits fault_at demand is_later number_of
 three_lines = refl
 
 -- the input ends within its second line: its fault is due where nothing follows
 open_end : demanded (Replaying empty_cell) (codes "root 1" ++ (10 ∷ codes "root 1"))
     ≡ record { body = codes "1 refused NoHouse" ++ 10 ∷ []; end = codes "2 fault NoLineEnd 7" ++ 10 ∷ []; faulty = true }
-unfolding digits fault_at demand
+unfolding digits fault_at demand number_of
 open_end = refl

@@ -1,4 +1,5 @@
 pub mod Exits
+pub mod Numbers
 pub mod Accepting
 pub mod Accepted
 pub mod Scanning

@@ -81,7 +81,7 @@ asked g d prefer high houses =
 abbrev pub root_replica : Cell → (prefer : ℕ) → (high : Bool) → Option Replica
 root_replica g prefer high = if g.top root_dir == 0 then None else asked g root_dir prefer high (listed_houses (g.present root_dir))
 
--- the values of an attribute of an entry of the root (own)
+-- the values of an attribute of an entry of the root; every entry that is built so far is an object, and no link is followed (own)
 abbrev pub shown_reply : List ℕ → Option Shown → Reply
 shown_reply attr None = NotFound 0
 shown_reply attr (Some e) = Shows (e.values attr)

@@ -1,6 +1,6 @@
 -- The words of a script line, and what each form of word says (own).
-use Rattle.std.specs.Prelude.{ℕ, ◌+◌, ◌-◌, ◌*◌, Bool, true, false, not, ◌&&◌, nat_lt, nat_le, ◌==◌, if◌then◌else◌, List, [], ◌∷◌, length, filter, drop, nat_eq, Some, None, Option, Ok, Err, Result, codes}
-use Rattle.std.specs.List.{slice_split, starts_with}
+use Rattle.std.specs.Prelude.{ℕ, ◌+◌, ◌-◌, ◌*◌, ◌^◌, Bool, true, false, not, ◌&&◌, nat_lt, nat_le, ◌==◌, if◌then◌else◌, List, [], ◌∷◌, length, filter, drop, nat_eq, Some, None, Option, Ok, Err, Result, codes}
+use Rattle.std.specs.List.{list_all, slice_split, starts_with}
 use Rattle.std.specs.Str.{bytes_eq}
 use Rattle.std.specs.Option.{option_and_then, option_map}
 use Rattle.std.specs.Result.{result_ok}
@@ -21,16 +21,20 @@ words_of line = filter (λ w. not (length w == 0)) (slice_split (λ b. b == 32) 
 
 -- ---- numbers
 
--- the number that further decimal digits make of value, below 2^64 (own)
-abbrev pub read_on : ℕ → List ℕ → Option ℕ
-read_on value [] = Some value
-read_on value (c ∷ cs) = if is_ascii_digit c && nat_lt (10 * value + (c - 48)) 18446744073709551616 then read_on (10 * value + (c - 48)) cs else None
+-- what decimal digits say, the first counting most (own)
+abbrev pub value_of : List ℕ → ℕ
+value_of [] = 0
+value_of (c ∷ cs) = (c - 48) * 10 ^ length cs + value_of cs
 
--- a decimal number of 64 bits, with no sign and no leading zero (own)
-abbrev pub number_of : List ℕ → Option ℕ
-number_of [] = None
-number_of (c ∷ []) = read_on 0 (c ∷ [])
-number_of (c ∷ d ∷ cs) = if c == 48 then None else read_on 0 (c ∷ d ∷ cs)
+-- decimal digits, without a leading zero (own)
+abbrev pub is_decimal : List ℕ → Bool
+is_decimal [] = false
+is_decimal (c ∷ []) = is_ascii_digit c
+is_decimal (c ∷ d ∷ cs) = not (c == 48) && list_all is_ascii_digit (c ∷ d ∷ cs)
+
+-- a decimal number of 64 bits (own)
+unfoldable pub number_of : List ℕ → Option ℕ
+number_of w = if is_decimal w && nat_lt (value_of w) 18446744073709551616 then Some (value_of w) else None
 
 -- a number from 1 to this most (own)
 abbrev pub number_to : ℕ → List ℕ → Option ℕ

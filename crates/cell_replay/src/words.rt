@@ -26,6 +26,7 @@ pub(crate) fn split_words(alloc: Global, line: &[u8]) -> Result<Vec<&[u8]>, Allo
 }
 
 // A decimal number of 64 bits, with no sign and no leading zero.
+#[tactic(auto, unfolding(crate::specs::Words::number_of))]
 fn number(word: &[u8]) -> Option<u64>
     ensures { result ≡ number_of word.now }
 {
