@@ -14,6 +14,10 @@ use Rattle.cds_stamps.specs.Octets.{octets_cmp, is_octets}
 use Rattle.cds_stamps.specs.Names.{simple_name_fault, attr_fault}
 use Rattle.cds_stamps.specs.Outcomes.{ok_unless, Answers}
 use Rattle.cds_stamps.specs.Undos.{back_at, put_back}
+use Rattle.cds_stamps.specs.declared.members.MemberKind.{MemberKind}
+use Rattle.cds_stamps.specs.declared.members.MemberKind.TheVariants.{Master, ReadOnly}
+use Rattle.cds_stamps.specs.declared.members.MembersFault.TheVariants.{BadCount, NotAscending, BadMaster}
+use Rattle.cds_stamps.specs.Members.{Member, members_fault, place_of}
 
 -- the stamp of a time and a node
 abbrev at : ℕ → ℕ → Stamp
@@ -109,3 +113,22 @@ made_new = refl
 
 untouched : back_at {U = ℕ} nat_cmp put_back ((2, Some 5) ∷ (3, None) ∷ []) 4 (Some 9) ≡ Some 9
 untouched = refl
+
+-- a member of this number, and lists by their faults
+abbrev listed : ℕ → MemberKind → Member
+listed house kind = record { house = house; since = 1; kind = kind }
+
+lawful_members : members_fault (listed 1 ReadOnly ∷ listed 2 Master ∷ []) ≡ None
+lawful_members = refl
+
+no_members : members_fault [] ≡ Some BadCount
+no_members = refl
+
+house_twice : members_fault (listed 1 Master ∷ listed 1 Master ∷ []) ≡ Some (NotAscending 2)
+house_twice = refl
+
+two_masters : members_fault (listed 1 Master ∷ listed 2 Master ∷ []) ≡ Some BadMaster
+two_masters = refl
+
+second_place : place_of 2 (listed 1 ReadOnly ∷ listed 2 Master ∷ []) ≡ Some 1
+second_place = refl

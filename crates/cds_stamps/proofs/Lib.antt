@@ -4,3 +4,4 @@ pub mod ValidJoins
 pub mod NameLaws
 pub mod OutcomeLaws
 mod Examples
+pub mod MemberLaws

@@ -1,7 +1,12 @@
 -- Member lists of a directory's replica set, in ascending house number (own, after C705, replica sets).
-use Rattle.std.specs.Prelude.{ℕ, Bool, true, false, ◌&&◌, ◌||◌, ◌==◌, List, [], ◌∷◌, if◌then◌else◌}
+use Rattle.std.specs.Prelude.{◌≡◌, ℕ, ◌+◌, ◌<◌, ◌≤◌, Bool, true, false, ◌&&◌, ◌||◌, ◌==◌, nat_lt, List, [], ◌∷◌, length, map, Option, Some, None, if◌then◌else◌}
+use Rattle.std.specs.List.{position_from, count_by}
+use Rattle.std.specs.List.Sorted.{IsStrictlyIncreasing}
+use Rattle.cds_stamps.specs.declared.members.Member as declared
 use Rattle.cds_stamps.specs.declared.members.MemberKind.{MemberKind}
 use Rattle.cds_stamps.specs.declared.members.MemberKind.TheVariants.{Master, ReadOnly}
+use Rattle.cds_stamps.specs.declared.members.MembersFault.{MembersFault}
+use Rattle.cds_stamps.specs.declared.members.MembersFault.TheVariants.{BadCount, NotAscending, BadMaster}
 
 -- a house, the epoch that began its unbroken run of being listed, and what it is (own)
 pub record Member : Type 0 where
@@ -41,3 +46,49 @@ is_accepting x (y ∷ ys) = ((y.house == x) && accepts_updates y.kind) || is_acc
 abbrev pub since_in : List Member → ℕ → ℕ → ℕ
 since_in [] x default = default
 since_in (y ∷ ys) x default = if y.house == x then y.since else since_in ys x default
+
+-- a member of the program, by its numbers (own)
+abbrev pub member_of : declared.Member → Member
+member_of m = record { house = m.house.0; since = m.since.0; kind = m.kind }
+
+abbrev pub members_of : List declared.Member → List Member
+members_of = map member_of
+
+-- the place of a house in the list, from 0 on; none, where it is not listed (own)
+abbrev pub place_of : ℕ → List Member → Option ℕ
+place_of x = position_from (λ m. m.house == x) 0
+
+-- the most members of a directory (own)
+abbrev pub most_members : ℕ
+most_members = 64
+
+-- how many of the list are masters (own)
+abbrev pub masters_in : List Member → ℕ
+masters_in = count_by (λ m. is_master m.kind)
+
+-- a member list: 1 to 64 houses, ascending, of which exactly one is master (own, after C705, replica sets)
+pub record IsMembers (ms : List Member) : Type 0 where
+  pub filled : 0 < length ms
+  pub few : length ms ≤ most_members
+  pub ascending : IsStrictlyIncreasing (map (λ m. m.house) ms)
+  pub one_master : masters_in ms ≡ 1
+
+-- the first place, from this one on, whose house is below the least that may come there (own)
+abbrev pub first_unordered : (place least : ℕ) → List Member → Option ℕ
+first_unordered place least [] = None
+first_unordered place least (y ∷ ys) = if nat_lt y.house least then Some place else first_unordered (place + 1) (y.house + 1) ys
+
+-- the fault of so many masters (own)
+abbrev pub master_fault : ℕ → Option MembersFault
+master_fault masters = if masters == 1 then None else Some BadMaster
+
+-- a place that is out of order, else the other fault (own)
+abbrev pub unordered_or : Option MembersFault → Option ℕ → Option MembersFault
+unordered_or other None = other
+unordered_or other (Some place) = Some (NotAscending place)
+
+-- the first fault of a list that is no member list: their number, their order, the masters (own)
+abbrev pub members_fault : List Member → Option MembersFault
+members_fault ms =
+    if (length ms == 0) || nat_lt most_members (length ms) then Some BadCount
+    else unordered_or (master_fault (masters_in ms)) (first_unordered 1 0 ms)

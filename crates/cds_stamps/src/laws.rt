@@ -1,6 +1,7 @@
 //! Laws of the definitions: functions that do nothing, whose contracts are proved.
 ghost use Rattle.std.specs.Prelude.{◌≡◌, ◌↔◌, ℕ, List, None};
 ghost use Rattle.cds_stamps.specs.Names.{simple_name_fault, IsSimpleName, attr_fault, IsAttrName};
+ghost use Rattle.cds_stamps.specs.Members.{Member, members_fault, IsMembers};
 
 /// No fault is found exactly where the octets are a simple name.
 pub fn simple_names_have_no_fault()
@@ -10,4 +11,9 @@ pub fn simple_names_have_no_fault()
 /// No fault is found exactly where the octets are an attribute name.
 pub fn attribute_names_have_no_fault()
     ensures { (octets : List ℕ) → (attr_fault octets ≡ None) ↔ IsAttrName octets }
+{}
+
+/// No fault is found exactly where the members are 1 to 64, ascend, and have one master.
+pub fn member_lists_have_no_fault()
+    ensures { (ms : List Member) → (members_fault ms ≡ None) ↔ IsMembers ms }
 {}

@@ -14,7 +14,7 @@ mod tests;
 
 pub use alloc_or::AllocOr;
 pub use lattice::Lattice;
-pub use members::MemberKind;
+pub use members::{Member, MemberKind, Members, MembersFault};
 pub use names::{AttrFault, AttrName, NameFault, SimpleName, is_attr_octet, is_name_octet};
 pub use numbers::{DirId, EpochNo, HouseNo};
 pub use octets::Octets;
