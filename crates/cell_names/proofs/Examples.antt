@@ -1,10 +1,14 @@
 -- The definitions at single octets, by computing.
 use Rattle.std.proofs.Common.{◌≡◌, true, [], ◌∷◌, refl}
-use Rattle.std.specs.Prelude.{Some, codes, replicate, ◌++◌}
+use Rattle.std.specs.Prelude.{Some, None, codes, replicate, ◌++◌}
 use Rattle.cds_stamps.specs.declared.names.NameFault.TheVariants.{Empty, BadOctet, ComponentTooLong, NotLocal}
 use Rattle.cell_names.specs.declared.pointer.ChildFault.TheVariants.{BadChild}
-use Rattle.cell_names.specs.FullNames.{spelling, components_of, name_fault, is_full_name}
-use Rattle.cell_names.specs.ChildPointers.{count_in_order, pointer_octets, pointer_fault, pointer_of}
+use Rattle.std.specs.List.{range_with_len}
+use Rattle.cell_names.specs.declared.full_name.SpliceFault.TheVariants.{NameTooLong as SplicedTooLong}
+use Rattle.cell_names.specs.declared.houses.HousesFault.TheVariants.{BadHouses}
+use Rattle.cell_names.specs.FullNames.{spelling, components_of, name_fault, splice_fault, is_full_name}
+use Rattle.cell_names.specs.Houses.{count_in_order, list_fault}
+use Rattle.cell_names.specs.ChildPointers.{pointer_octets, pointer_fault, pointer_of}
 
 -- a name of two components, and the root
 spelled : spelling (codes "sub" ∷ codes "e" ∷ []) ≡ codes "/.:/sub/e"
@@ -59,3 +63,23 @@ one_too_many = refl
 
 no_house : pointer_fault (0 ∷ 0 ∷ 0 ∷ 1 ∷ 0 ∷ []) ≡ Some (BadChild 5)
 no_house = refl
+
+-- four components of 254 octets and their slashes are 1,023 octets with the root, and one octet more is too many
+longest_spliced : splice_fault (replicate 254 97 ∷ replicate 254 97 ∷ replicate 254 97 ∷ replicate 254 97 ∷ []) ≡ None
+longest_spliced = refl
+
+longer_spliced : splice_fault (codes "b" ∷ replicate 254 97 ∷ replicate 254 97 ∷ replicate 254 97 ∷ replicate 254 97 ∷ []) ≡ Some SplicedTooLong
+longer_spliced = refl
+
+-- a second mention of the master, houses that do not ascend, and the 64th beside the master
+master_among_others : list_fault 4 (1 ∷ 3 ∷ 4 ∷ 5 ∷ []) ≡ Some (BadHouses 3)
+master_among_others = refl
+
+others_not_ascending : list_fault 9 (3 ∷ 1 ∷ []) ≡ Some (BadHouses 2)
+others_not_ascending = refl
+
+most_others : list_fault 200 (range_with_len 1 63) ≡ None
+most_others = refl
+
+one_house_more : list_fault 200 (range_with_len 1 64) ≡ Some (BadHouses 64)
+one_house_more = refl

@@ -7,10 +7,10 @@ use Rattle.std.specs.Cmp.Lexicographic.{pointwise}
 use Rattle.std.proofs.lemmas.Bool.Decides.{Decides-eqb}
 use Rattle.std.proofs.lemmas.List.Elements.{All-from_recursion, recursion_from_All, All-weaker}
 use Rattle.std.proofs.lemmas.List.Splits.{slice_split_none, slice_split_at}
-use Rattle.std.proofs.lemmas.Slice.Eq.{bytes_eq-Decides, starts_is}
+use Rattle.std.proofs.lemmas.Slice.Eq.{bytes_eq-Decides, slice_eq-Decides, starts_is}
 use Rattle.cds_stamps.specs.Names.{component_fault, is_name_octet, IsSimpleName}
 use Rattle.cds_stamps.proofs.NameLaws.{no_fault, component_lawful, component_none}
-use Rattle.cell_names.specs.FullNames.{cell_root, slash, spelling, is_local, components_of, components_fault, longest_name, name_fault, IsComponentList, IsFullName}
+use Rattle.cell_names.specs.FullNames.{cell_root, slash, spelling, is_local, components_of, components_fault, longest_name, name_fault, splice_fault, is_name, IsComponentList, IsFullName}
 
 -- the components, each behind its slash
 abbrev tail_of : List (List ℕ) → List ℕ
@@ -103,3 +103,17 @@ name_fault-none octets = (
   λ e. let back = spelling-components octets e in record { components = components_of octets; lawful = back.0; spelled = back.1 },
   λ name. rw name.spelled (name_fault-spelling name.components name.lawful),
 )
+
+-- simple names have no fault together exactly where they spell a full name
+pub splice_fault-none : (cs : List (List ℕ)) → All IsSimpleName cs → (splice_fault cs ≡ None) ↔ IsComponentList cs
+splice_fault-none cs simple = (
+  λ e. let test = no_fault (nat_lt longest_name (length (spelling cs))) _ _ e in record { simple = simple; short = grind (arith, test.0) },
+  λ lawful.
+      let short = lawful.short in
+      let fits : nat_lt longest_name (length (spelling cs)) ≡ false = grind arith in
+      rw fits refl,
+)
+
+-- the test for the same components
+pub is_name-Decides : (a b : List (List ℕ)) → IsTrue (is_name a b) ↔ (a ≡ b)
+is_name-Decides a b = slice_eq-Decides bytes_eq-Decides a b (is_name a b) refl

@@ -1,4 +1,8 @@
 pub mod NameWalks
+pub mod Spellings
+pub mod Rising
+pub mod HouseWalks
+pub mod HouseLaws
 pub mod PointerWalks
 pub mod PointerLaws
 pub mod FullNameLaws

@@ -3,7 +3,8 @@ use Rattle.std.proofs.Common.{suc, ◌≡◌, ◌≢◌, ℕ, ◌+◌, ◌-◌, 
 use Rattle.std.specs.Prelude.{min, nat_lt, ◌==◌, ◌&&◌, ◌||◌, if◌then◌else◌}
 use Rattle.cell_names.specs.declared.pointer.ChildFault.{ChildFault}
 use Rattle.cell_names.specs.declared.pointer.ChildFault.TheVariants.{BadChild}
-use Rattle.cell_names.specs.ChildPointers.{count_in_order, others_fault}
+use Rattle.cell_names.specs.Houses.{count_in_order}
+use Rattle.cell_names.specs.ChildPointers.{others_fault}
 
 -- the first fault of houses from this place on, of which so many are to come, none below this least
 abbrev pub walk_others : (master place count least : ℕ) → List ℕ → Option ChildFault

@@ -2,7 +2,8 @@
 use Rattle.std.specs.Prelude.{◌≡◌, ℕ, ◌+◌, ◌-◌, ◌<◌, ◌^◌, min, Bool, ◌&&◌, ◌||◌, nat_lt, ◌==◌, List, [], ◌∷◌, ◌++◌, Option, Some, None, is_none, length, if◌then◌else◌}
 use Rattle.std.specs.Int.{to_be_bytes, from_be_bytes, w32}
 use Rattle.std.specs.List.{All}
-use Rattle.cell_names.specs.Houses.{IsHouses, most_houses}
+use Rattle.cell_names.specs.Houses.{IsHouses, most_houses, count_in_order}
+use Rattle.cell_names.specs.declared.pointer.ChildPointer.{ChildPointer}
 use Rattle.cell_names.specs.declared.pointer.ChildFault.{ChildFault}
 use Rattle.cell_names.specs.declared.pointer.ChildFault.TheVariants.{BadChild}
 
@@ -11,6 +12,10 @@ pub record Pointer : Type 0 where
   pub dir : ℕ
   pub master : ℕ
   pub others : List ℕ
+
+-- the pointer that a value of the program is (own)
+abbrev pub pointer_in : ChildPointer → Pointer
+pointer_in p = record { dir = p.dir.0; master = p.houses.master; others = p.houses.others }
 
 -- the numbers are in range, and the houses are those of a child pointer (own)
 pub record IsPointer (p : Pointer) : Type 0 where
@@ -22,11 +27,6 @@ pub record IsPointer (p : Pointer) : Type 0 where
 -- the directory in four octets, the highest first; how many houses; the master; the other houses (own)
 abbrev pub pointer_octets : Pointer → List ℕ
 pointer_octets p = to_be_bytes w32 p.dir ++ (1 + length p.others) ∷ p.master ∷ p.others
-
--- how many houses from the front on ascend from this least and leave out the master (own)
-abbrev pub count_in_order : (master least : ℕ) → List ℕ → ℕ
-count_in_order master least [] = 0
-count_in_order master least (h ∷ hs) = if h == master || nat_lt h least then 0 else 1 + count_in_order master (h + 1) hs
 
 -- the fault of the houses beside this master, from this place on: behind those that are in order, or behind as many as
 -- there are to be; none, where all are in order and as many (own)

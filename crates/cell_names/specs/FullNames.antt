@@ -6,6 +6,8 @@ use Rattle.std.specs.Cmp.Lexicographic.{pointwise}
 use Rattle.cds_stamps.specs.declared.names.NameFault.{NameFault}
 use Rattle.cds_stamps.specs.declared.names.NameFault.TheVariants.{Empty, NameTooLong, NotLocal}
 use Rattle.cds_stamps.specs.Names.{component_fault, IsSimpleName}
+use Rattle.cell_names.specs.declared.full_name.SpliceFault.{SpliceFault}
+use Rattle.cell_names.specs.declared.full_name.SpliceFault.TheVariants.{NameTooLong as SplicedTooLong}
 
 -- the octets of `/.:`, the root of the cell (C705, CDS names)
 abbrev pub cell_root : List ℕ
@@ -15,9 +17,13 @@ cell_root = codes "/.:"
 abbrev pub slash : ℕ
 slash = 47
 
+-- the components, each behind its slash (C705, CDS names)
+abbrev pub behind_slashes : List (List ℕ) → List ℕ
+behind_slashes = flat_map (λ c. slash ∷ c)
+
 -- the octets of the full name of these components: the root, and each component behind a slash (C705, CDS names)
 abbrev pub spelling : List (List ℕ) → List ℕ
-spelling components = cell_root ++ flat_map (λ c. slash ∷ c) components
+spelling components = cell_root ++ behind_slashes components
 
 -- the most octets of a full name (own)
 abbrev pub longest_name : ℕ
@@ -58,3 +64,11 @@ name_fault (b ∷ bs) =
 -- the octets are a full name (own)
 abbrev pub is_full_name : List ℕ → Bool
 is_full_name octets = is_none (name_fault octets)
+
+-- the fault of simple names that spell no full name (own)
+abbrev pub splice_fault : List (List ℕ) → Option SpliceFault
+splice_fault components = if nat_lt longest_name (length (spelling components)) then Some SplicedTooLong else None
+
+-- the two are the same components (own, after C705: octet by octet)
+abbrev pub is_name : List (List ℕ) → List (List ℕ) → Bool
+is_name = pointwise (pointwise nat_eq)

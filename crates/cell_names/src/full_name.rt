@@ -1,11 +1,17 @@
 // Full names.
-ghost use Rattle.std.specs.Prelude.{◌≡◌, ◌==◌};
-ghost use Rattle.std.specs.List.{slice_split};
-ghost use Rattle.cds_stamps.specs.Outcomes.{ok_unless};
-ghost use Rattle.cell_names.specs.FullNames.{slash, components_fault, name_fault};
+ghost use Rattle.std.specs.Prelude.{◌≡◌, ◌==◌, ◌↔◌, ◌+◌, ◌-◌, ◌≤◌, ◌<◌, ◌++◌, None, length, slice_get, option_copied, IsSome, SomeIff, OnSome, IfOk, OnOk, IfSome};
+ghost use Rattle.std.specs.List.{All, slice_split};
+ghost use Rattle.std.specs.Cmp.Rules.{comparing};
+ghost use Rattle.std.proofs.Common.{rules};
+ghost use Rattle.cds_stamps.specs.Names.{simple_name_fault, IsSimpleName};
+ghost use Rattle.cds_stamps.specs.Outcomes.{Answers, ok_unless};
+ghost use Rattle.cds_stamps.specs.declared.alloc_or.AllocOr.TheVariants.{Fault};
+ghost use Rattle.cell_names.specs.FullNames.{slash, behind_slashes, spelling, components_of, components_fault, name_fault, splice_fault, is_name, IsComponentList};
 
-use cds_stamps::{NameFault, SimpleName, is_name_octet};
+use cds_stamps::{AllocOr, NameFault, SimpleName, is_name_octet};
+use std::alloc::{AllocError, Global};
 use std::marker::Model;
+use thiserror::Error;
 
 // The root of the cell.
 const ROOT: &[u8] = b"/.:";
@@ -21,6 +27,13 @@ const MOST_OF_COMPONENT: usize = 254;
 
 // The most octets of a full name.
 const MOST_OCTETS: usize = 1023;
+
+/// Why simple names behind a full name make no full name.
+#[derive(Clone, Copy, Debug, PartialEq, Eq, Drop, Error)]
+pub enum SpliceFault {
+    #[error("more than 1,023 octets")]
+    NameTooLong,
+}
 
 /// A full name: the components behind `/.:`, each a simple name, which are none for the root of the cell. It is spelled
 /// in at most 1,023 octets.
@@ -38,6 +51,20 @@ impl Model for FullName {
     ghost view = { λ v. v.components.items };
 
     ghost invariant = { λ v. IsComponentList v.components.items };
+}
+
+impl PartialEq for FullName {
+    ghost eq = { is_name };
+
+    ghost laws = { Prim.search (comparing, rules) };
+
+    fn eq(&self, other: &FullName) -> bool {
+        self.components.as_slice() == other.components.as_slice()
+    }
+}
+
+impl Eq for FullName {
+    ghost laws = { Prim.search (comparing, rules) };
 }
 
 impl FullName {
@@ -62,6 +89,164 @@ impl FullName {
         }
         check_components(&octets[ROOT_SLASH.len()..])
     }
+
+    /// The full name of these octets, or their fault, which is that of `check`. No memory is asked for where there is a
+    /// fault.
+    pub fn parse(alloc: Global, octets: &[u8]) -> Result<FullName, AllocOr<NameFault>>
+        ensures answer { Answers result (ok_unless (name_fault octets.now) (components_of octets.now)) }
+        ensures faulty { IfSome (name_fault octets.now) (λ fault. result ≡ Err (Fault fault)) }
+    {
+        FullName::check(octets).map_err(AllocOr::Fault)?;
+        Ok(FullName {
+            components: components_in(alloc, octets)?,
+        })
+    }
+
+    /// How many components there are.
+    pub fn len(&self) -> usize
+        ensures { result ≡ length self.now }
+    {
+        self.components.len()
+    }
+
+    /// The component at this place, counted from 0.
+    pub fn component(&self, n: usize) -> Option<&SimpleName>
+        ensures value { option_copied result ≡ slice_get self.now n }
+        ensures there { IsSome result ↔ (n < length self.now) }
+    {
+        self.components.get(n)
+    }
+
+    /// The components, from the root on.
+    pub fn components(&self) -> &[SimpleName]
+        ensures value { result.now ≡ self.now }
+        ensures lawful { IsComponentList result.now }
+    {
+        &self.components
+    }
+
+    /// The octets that spell the name.
+    pub fn print(&self, alloc: Global) -> Result<Vec<u8>, AllocError>
+        ensures spelled { IfOk result (λ v. v.items ≡ spelling self.now) }
+        ensures lawful { IfOk result (λ v. name_fault v.items ≡ None) }
+        ensures read { IfOk result (λ v. components_of v.items ≡ self.now) }
+    {
+        let mut octets = Vec::with_capacity(alloc, MOST_OCTETS - self.room())?;
+        octets.extend_from_slice(ROOT)?;
+        let components = self.components();
+        for component in components {
+            octets.push(b'/')?;
+            octets.extend_from_slice(component.octets())?;
+        }
+        Ok(octets)
+    }
+
+    // How many octets more a full name may have.
+    fn room(&self) -> usize
+        ensures value { result + length (spelling self.now) ≡ 1023 }
+        ensures lawful { IsComponentList self.now }
+    {
+        room_behind(MOST_OCTETS - ROOT.len(), &self.components).unwrap()
+    }
+
+    /// The name with these components behind its own.
+    pub fn splice(
+        &self,
+        alloc: Global,
+        rest: &[SimpleName],
+    ) -> Result<FullName, AllocOr<SpliceFault>>
+        ensures answer { let all = self.now ++ rest.now in Answers result (ok_unless (splice_fault all) all) }
+        ensures faulty { IfSome (splice_fault (self.now ++ rest.now)) (λ fault. result ≡ Err (Fault fault)) }
+    {
+        self.check_splice(rest).map_err(AllocOr::Fault)?;
+        Ok(FullName {
+            components: copies_of(alloc, self.components(), rest)?,
+        })
+    }
+
+    // Whether these components may stand behind the name's own.
+    fn check_splice(&self, rest: &[SimpleName]) -> Result<(), SpliceFault>
+        ensures lawful { OnOk result (IsComponentList (self.now ++ rest.now)) }
+        ensures value { result ≡ ok_unless (splice_fault (self.now ++ rest.now)) tt }
+    {
+        match room_behind(self.room(), rest) {
+            Some(_) => Ok(()),
+            None => Err(SpliceFault::NameTooLong),
+        }
+    }
+
+    /// Another full name of the same components.
+    pub fn copy(&self, alloc: Global) -> Result<FullName, AllocError>
+        ensures { IfOk result (λ v. v ≡ self.now) }
+    {
+        Ok(FullName {
+            components: copies_of(alloc, self.components(), &[])?,
+        })
+    }
+}
+
+// The components of octets that are a full name.
+fn components_in(alloc: Global, octets: &[u8]) -> Result<Vec<SimpleName>, AllocError>
+    requires { name_fault octets.now ≡ None }
+    ensures value { IfOk result (λ v. v.items ≡ components_of octets.now) }
+    ensures lawful { OnOk result (IsComponentList (components_of octets.now)) }
+{
+    let behind = &octets[ROOT.len()..];
+    let count = behind.iter().filter(|octet| **octet == b'/').count();
+    let mut components = Vec::with_capacity(alloc, count)?;
+    for component in behind.split(|octet| *octet == b'/').skip(1) {
+        components.push(known_name(alloc, component)?)?;
+    }
+    Ok(components)
+}
+
+// The simple name of octets that are one: only memory can be wanting.
+fn known_name(alloc: Global, octets: &[u8]) -> Result<SimpleName, AllocError>
+    requires { simple_name_fault octets.now ≡ None }
+    ensures { IfOk result (λ v. v ≡ octets.now) }
+{
+    SimpleName::parse(alloc, octets).map_err(|_| AllocError)
+}
+
+// Copies of names, and of others behind them.
+fn copies_of(
+    alloc: Global,
+    names: &[SimpleName],
+    others: &[SimpleName],
+) -> Result<Vec<SimpleName>, AllocError>
+    ensures { IfOk result (λ v. v.items ≡ names.now ++ others.now) }
+{
+    let mut copies = Vec::with_capacity(alloc, names.len() + others.len())?;
+    append_copies(alloc, &mut copies, names)?;
+    append_copies(alloc, &mut copies, others)?;
+    Ok(copies)
+}
+
+// Puts copies of names behind others. After want of memory some of the copies may be there.
+fn append_copies(
+    alloc: Global,
+    names: &mut Vec<SimpleName>,
+    others: &[SimpleName],
+) -> Result<(), AllocError>
+    ensures { OnOk result (names.new.items ≡ names.old.items ++ others.now) }
+{
+    for name in others {
+        names.push(name.copy(alloc)?)?;
+    }
+    Ok(())
+}
+
+#[tactic(auto, using(crate::proofs::Spellings::spelled_more))]
+// What is left of so much room behind these components, each with its slash; none where they don't fit.
+fn room_behind(room: usize, components: &[SimpleName]) -> Option<usize>
+    ensures left { let taken = length (behind_slashes components.now) in SomeIff result (taken ≤ room) (room - taken) }
+    ensures simple { OnSome result (All IsSimpleName components.now) }
+{
+    let mut room = room;
+    for component in components {
+        room = room.checked_sub(component.octets().len() + 1)?;
+    }
+    Some(room)
 }
 
 // Whether octets behind the first slash are components with a slash between any two.

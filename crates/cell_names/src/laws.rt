@@ -1,7 +1,10 @@
 //! Laws of the definitions: functions that do nothing, whose contracts are proved.
-ghost use Rattle.std.specs.Prelude.{◌≡◌, ◌<◌, ◌^◌, ◌↔◌, ℕ, List, Some, None};
+ghost use Rattle.std.specs.Prelude.{◌≡◌, ◌-◌, ◌<◌, ◌≤◌, ◌^◌, ◌↔◌, IsTrue, ℕ, List, length, take, Some, None};
 ghost use Rattle.std.specs.List.{All};
-ghost use Rattle.cell_names.specs.FullNames.{name_fault, spelling, components_of, IsComponentList, IsFullName};
+ghost use Rattle.cds_stamps.specs.Names.{IsSimpleName};
+ghost use Rattle.cell_names.specs.declared.houses.HousesFault.TheVariants.{BadHouses};
+ghost use Rattle.cell_names.specs.FullNames.{name_fault, spelling, components_of, splice_fault, is_name, IsComponentList, IsFullName};
+ghost use Rattle.cell_names.specs.Houses.{Houses, IsHouses, list_fault, is_houses};
 ghost use Rattle.cell_names.specs.ChildPointers.{Pointer, IsPointer, IsChildPointer, pointer_octets, pointer_fault, pointer_of};
 
 /// No fault is found exactly where the octets are the full name of some components.
@@ -14,6 +17,34 @@ pub fn full_names_read_back()
     ensures spelled { (octets : List ℕ) → name_fault octets ≡ None → octets ≡ spelling (components_of octets) }
     ensures lawful { (octets : List ℕ) → name_fault octets ≡ None → IsComponentList (components_of octets) }
     ensures read { (components : List (List ℕ)) → IsComponentList components → components_of (spelling components) ≡ components }
+{}
+
+/// No fault is found exactly where simple names are the components of a full name.
+pub fn spliced_names_have_no_fault()
+    ensures { (components : List (List ℕ)) → All IsSimpleName components → (splice_fault components ≡ None) ↔ IsComponentList components }
+{}
+
+/// Two names are found the same exactly where they have the same components.
+pub fn same_names_are_one()
+    ensures { (a b : List (List ℕ)) → IsTrue (is_name a b) ↔ (a ≡ b) }
+{}
+
+/// No fault is found exactly where houses are those of a directory.
+pub fn houses_have_no_fault()
+    ensures { (master : ℕ) (others : List ℕ) → (list_fault master others ≡ None) ↔ IsHouses (record { master = master; others = others }) }
+{}
+
+/// A fault is at the first place up to which the houses are not those of a directory.
+pub fn bad_houses_are_at_the_first_place()
+    ensures { (master : ℕ) (others : List ℕ) (place : ℕ) → list_fault master others ≡ Some (BadHouses place) →
+        (1 ≤ place) × (place ≤ length others)
+        × IsHouses (record { master = master; others = take (place - 1) others })
+        × ¬ IsHouses (record { master = master; others = take place others }) }
+{}
+
+/// Two lists of houses are found the same exactly where they have the same houses.
+pub fn same_houses_are_one()
+    ensures { (a b : Houses) → IsTrue (is_houses a b) ↔ (a ≡ b) }
 {}
 
 /// No fault is found exactly where the octets are those of a child pointer.

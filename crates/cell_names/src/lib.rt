@@ -2,10 +2,12 @@
 #![tactic(auto)]
 
 mod full_name;
+mod houses;
 pub mod laws;
 mod pointer;
 #[cfg(test)]
 mod tests;
 
-pub use full_name::FullName;
-pub use pointer::{ChildFault, ChildPointer, HouseList};
+pub use full_name::{FullName, SpliceFault};
+pub use houses::{HouseList, HousesFault};
+pub use pointer::{ChildFault, ChildPointer};

@@ -1,10 +1,12 @@
 // Child pointers.
-ghost use Rattle.std.specs.Prelude.{◌≡◌, ◌==◌, ◌||◌, nat_lt};
+ghost use Rattle.std.specs.Prelude.{◌≡◌, Some, None, IfOk, IfErr, IfSome};
 ghost use Rattle.cds_stamps.specs.Outcomes.{ok_unless};
+ghost use Rattle.cds_stamps.specs.declared.alloc_or.AllocOr.TheVariants.{Fault, OutOfMemory};
 ghost use Rattle.cell_names.specs.ChildPointers.{others_fault, pointer_fault};
 
-use cds_stamps::{DirId, HouseNo};
-use std::marker::Model;
+use crate::houses::{HouseList, is_misplaced};
+use cds_stamps::{AllocOr, DirId};
+use std::alloc::{AllocError, Global};
 use thiserror::Error;
 
 // The most houses of a child pointer.
@@ -20,32 +22,16 @@ pub enum ChildFault {
     BadChild(usize),
 }
 
-/// The houses of a directory: that of the master, and the others in ascending order, 1 to 64 in all.
-#[derive(Debug, Drop)]
-pub struct HouseList {
-    master: HouseNo,
-    others: Vec<HouseNo>,
-}
-
-impl Model for HouseList {
-    ghost use Rattle.std.specs.Prelude.{map};
-    ghost use Rattle.cell_names.specs.Houses.{Houses, IsHouses};
-
-    ghost Value = { Houses };
-
-    ghost view = { λ v. record { master = v.master.0; others = map (λ h. h.0) v.others.items } };
-
-    ghost invariant = { λ v. IsHouses (record { master = v.master.0; others = map (λ h. h.0) v.others.items }) };
-}
-
 /// A pointer to the directory of a child: its number, and the houses that have it.
-#[derive(Debug, Drop)]
+#[derive(Debug, PartialEq, Eq, Drop)]
 pub struct ChildPointer {
     pub dir: DirId,
     pub houses: HouseList,
 }
 
 impl ChildPointer {
+    ghost use Rattle.cell_names.specs.ChildPointers.{pointer_in, pointer_octets, pointer_of};
+
     /// Whether octets are a child pointer: the directory (4 octets, the highest first), the number of houses (1),
     /// the master's house (1) and the other houses (1 each), and nothing behind them. Else the place of the first field
     /// that breaks this, of the first octet that is missing, or of the first too many. Takes no memory.
@@ -59,6 +45,57 @@ impl ChildPointer {
             [_, _, _, _, count, master, others @ ..] => check_others(others, *master, *count - 1),
             _ => Err(ChildFault::BadChild(octets.len() + 1)),
         }
+    }
+
+    /// The child pointer of these octets, or their fault, which is that of `check`. No memory is asked for where there
+    /// is a fault.
+    pub fn read(alloc: Global, octets: &[u8]) -> Result<ChildPointer, AllocOr<ChildFault>>
+        ensures read { IfOk result (λ p. pointer_of octets.now ≡ Some (pointer_in p)) }
+        ensures faulty { IfSome (pointer_fault octets.now) (λ fault. result ≡ Err (Fault fault)) }
+        ensures lacking { pointer_fault octets.now ≡ None → IfErr result (λ e. e ≡ OutOfMemory) }
+    {
+        ChildPointer::check(octets).map_err(AllocOr::Fault)?;
+        Ok(ChildPointer::of_octets(alloc, octets)?)
+    }
+
+    // The child pointer of octets that are one.
+    fn of_octets(alloc: Global, octets: &[u8]) -> Result<ChildPointer, AllocError>
+        requires { pointer_fault octets.now ≡ None }
+        ensures { IfOk result (λ p. pointer_of octets.now ≡ Some (pointer_in p)) }
+    {
+        match octets {
+            [a, b, c, d, _, master, others @ ..] => Ok(ChildPointer {
+                dir: DirId(u32::from_be_bytes([*a, *b, *c, *d])),
+                houses: HouseList::of_numbers(alloc, *master, others)?,
+            }),
+            _ => unreachable!(),
+        }
+    }
+
+    /// The octets of the child pointer, as `check` has them.
+    pub fn write(&self, alloc: Global) -> Result<Vec<u8>, AllocError>
+        ensures written { IfOk result (λ v. v.items ≡ pointer_octets (pointer_in self.now)) }
+        ensures readable { IfOk result (λ v. pointer_of v.items ≡ Some (pointer_in self.now)) }
+    {
+        let others = self.houses.others();
+        let mut octets = Vec::with_capacity(alloc, others.len() + 6)?;
+        octets.extend_from_slice(&self.dir.0.to_be_bytes())?;
+        octets.push(others.len() as u8 + 1)?;
+        octets.push(self.houses.master().0)?;
+        for house in others {
+            octets.push(house.0)?;
+        }
+        Ok(octets)
+    }
+
+    /// Another pointer to the same directory at the same houses.
+    pub fn copy(&self, alloc: Global) -> Result<ChildPointer, AllocError>
+        ensures { IfOk result (λ v. v ≡ self.now) }
+    {
+        Ok(ChildPointer {
+            dir: self.dir,
+            houses: self.houses.copy(alloc)?,
+        })
     }
 }
 
@@ -77,11 +114,4 @@ fn check_others(others: &[u8], master: u8, count: u8) -> Result<(), ChildFault>
         return Err(ChildFault::BadChild(OTHERS + others.len()));
     }
     Ok(())
-}
-
-// Whether a house can't come next: it is the master, or below the least that may come.
-fn is_misplaced(house: u8, master: u8, least: u16) -> bool
-    ensures { result ≡ (house == master || nat_lt house least) }
-{
-    house == master || u16::from(house) < least
 }
