@@ -1,5 +1,5 @@
 // Values of an attribute.
-ghost use Rattle.std.specs.Prelude.{◌≡◌, IfOk, IfSome};
+ghost use Rattle.std.specs.Prelude.{◌≡◌, length, None, IfOk, IfSome};
 ghost use Rattle.cds_stamps.specs.Outcomes.{Answers, ok_unless};
 ghost use Rattle.cds_stamps.specs.declared.alloc_or.AllocOr.TheVariants.{Fault};
 ghost use Rattle.attr_sets.specs.Values.{value_fault};
@@ -55,6 +55,14 @@ impl Value {
         ensures { result.now ≡ self.now }
     {
         self.octets.list()
+    }
+
+    /// How many octets it has: 1 to 1,024.
+    pub fn len(&self) -> usize
+        ensures len { result ≡ length self.now }
+        ensures lawful { value_fault self.now ≡ None }
+    {
+        self.octets.list().len()
     }
 
     /// Another value of the same octets.
