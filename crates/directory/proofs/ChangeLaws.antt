@@ -1,30 +1,40 @@
 -- What shows after an accepted update.
-use Rattle.std.proofs.Common.{◌≡◌, ◌≢◌, ℕ, Bool, true, false, List, [], ◌∷◌, ◌++◌, map, Option, Some, None, refl, sym, ap, subst, ◌∙◌, ◌⊎◌, inl, inr, ⊎_elim, ◌↔◌, arith, append-nil}
-use Rattle.std.specs.Prelude.{◌&&◌, ◌||◌, ◌==◌, IsSomeAnd, length, if◌then◌else◌}
+use Rattle.std.proofs.Common.{◌≡◌, ◌≢◌, ℕ, Bool, true, false, List, [], ◌∷◌, ◌++◌, Option, Some, None, IsSome, refl, sym, ap, subst, ◌∙◌, ◌⊎◌, inl, inr, ⊎_elim, ◌↔◌, arith, append-nil}
+use Rattle.std.specs.Prelude.{◌&&◌, ◌||◌, ◌==◌, IsSomeAnd, is_none, not, length, if◌then◌else◌}
+use Rattle.std.specs.declared.cmp.Ordering.{Ordering}
+use Rattle.std.specs.declared.cmp.Ordering.TheVariants.{Less, Equal}
+use Rattle.std.specs.List.Sorted.{IsStrictlySortedBy}
 use Rattle.std.specs.List.{AllByRecursion, Contains, cons_option}
 use Rattle.std.specs.Option.{option_and_then}
-use Rattle.std.specs.Cmp.{eq_by_cmp_equiv}
+use Rattle.std.specs.Cmp.{eq_by_cmp_equiv, tied_itself}
 use Rattle.std.specs.Cmp.Lexicographic.{nat_list_cmp_total}
 use Rattle.std.proofs.lemmas.List.Elements.{filter_map-append}
 use Rattle.cds_stamps.specs.declared.stamp.Stamp.{Stamp}
 use Rattle.cds_stamps.specs.Semilattice.{maybe, greater, join_of-append}
 use Rattle.cds_stamps.specs.Keyed.{tied}
 use Rattle.cds_stamps.specs.Stamps.{is_earlier, is_stamp, earlier_stamp}
-use Rattle.cds_stamps.specs.Octets.{octets_exact, is_octets}
+use Rattle.cds_stamps.specs.Octets.{octets_cmp, octets_exact, is_octets}
+use Rattle.cell_names.specs.FullNames.{is_full_name, spelling, IsComponentList}
+use Rattle.cell_names.specs.Houses.{IsHouses}
+use Rattle.cell_names.specs.ChildPointers.{Pointer, is_child_pointer, pointer_octets}
+use Rattle.cell_names.proofs.FullNameLaws.{name_fault-spelling}
+use Rattle.cell_names.proofs.PointerLaws.{written_read}
+use Rattle.attr_sets.proofs.ShownLaws.{shown_values-ascending}
 use Rattle.attr_sets.specs.Cells.{AttrMark, Cleared, Marked, attr_stamp, shown_values}
 use Rattle.attr_sets.specs.ShownValues as attr
 use Rattle.attr_sets.proofs.Greatest.{Contains-head, Contains-tail, Contains-none, Contains-cases}
 use Rattle.attr_sets.proofs.UpdateLaws.{shown_values-added, shown_values-removed, shown_values-put, shown_values-cleared}
 use Rattle.directory.specs.declared.entry.Kind.{Kind}
 use Rattle.directory.specs.declared.entry.Kind.TheVariants.{Object, Link, Child}
-use Rattle.directory.specs.Kinds.{link_target, replicas}
-use Rattle.directory.specs.Updates.{Change, Create, Delete, Add, Remove, Put, Clear, changed_name}
+use Rattle.directory.specs.Kinds.{is_child, link_target, replicas}
+use Rattle.directory.specs.Updates.{Change, Create, MakeLink, MakeChild, Delete, Add, Remove, Put, Clear, Repoint, changed_name}
 use Rattle.directory.specs.Histories.{Mark, Birth, Death, Attr, Born, name_in, birth_in, birth_cmp, attr_mark_in, birth_of, death_of, attr_history, IsHistory, IsBefore}
-use Rattle.directory.specs.Shown.{Shown, leads, targets, pointers, shown_if_live, shown_born, shown, is_reserved, live_refusal, refusal_of, marks_of, ChangesValues}
+use Rattle.directory.specs.Shown.{Shown, leads, targets, pointers, only_one, lead_of, value_mark, shown_dir, shown_if_live, shown_born, shown, is_reserved, live_refusal, refusal_of, marks_of, ChangesValues}
 use Rattle.directory.proofs.HistoryLaws.{births, death_joined, before, no_birth, no_death, no_attrs}
-use Rattle.directory.proofs.FragmentLaws.{same_octets, same_stamp, one_birth}
+use Rattle.directory.proofs.FragmentLaws.{same_octets, one_birth, one_death, changes, birth_of-changes, death_of-changes, attr_history-changes}
 use Rattle.directory.proofs.ShownLaws.{shown_values-nil}
 use Rattle.directory.proofs.TableLaws.{birth_of-other}
+use Rattle.directory.proofs.Leads.{one_reads, leads_somewhere}
 use Rattle.directory.proofs.SeenLaws.{birth_among, IsSeen, seen}
 use Rattle.directory.proofs.UpdateLaws.{marks_of-names}
 
@@ -89,48 +99,129 @@ newest : (x : Option Born) (b : Born) → before x b.at ≡ true → maybe (grea
 newest None b e = refl
 newest (Some x) b e = ap Some (grind (arith, e))
 
+module _ (h : List Mark) (n : List ℕ) (s : Stamp) (known : IsHistory h) (earlier : IsBefore h s) (k : Kind) (a : List ℕ) (xs : List AttrMark) where
+  abbrev new_born : Born
+  new_born = record { at = s; kind = k }
+
+  abbrev pub new_marks : List Mark
+  new_marks = Birth n k s ∷ changes n s a xs
+
+  -- the values of an attribute d of the new entry
+  abbrev pub new_values : List ℕ → List (List ℕ)
+  new_values d = shown_values (if is_octets d a then xs else [])
+
+  unborn : before (birth_of h n) s ≡ true
+  unborn = births_before h n s earlier
+
+  birth_new : birth_of (h ++ new_marks) n ≡ Some new_born
+  birth_new =
+      join_of-append births (birth_in n) h new_marks
+      ∙ ap (maybe (greater birth_cmp) (birth_of h n)) (ap (maybe (greater birth_cmp) (if is_octets n n then Some new_born else None)) (birth_of-changes n s a xs) ∙ one_birth n new_born)
+      ∙ newest (birth_of h n) new_born unborn
+
+  death_new : death_of (h ++ new_marks) n s ≡ None
+  death_new = sym (death_joined h new_marks n s) ∙ ap (λ d. maybe earlier_stamp d (death_of new_marks n s)) (no_death h h n s known.births (no_birth h n s unborn)) ∙ death_of-changes n s a xs
+
+  history_new : (d : List ℕ) → attr_history (h ++ new_marks) n s d ≡ (if is_octets d a then xs else [])
+  history_new d =
+      filter_map-append (attr_mark_in n s d) h new_marks ∙ ap (λ l. l ++ attr_history new_marks n s d) (no_attrs h h n s d known.births (no_birth h n s unborn))
+      ∙ attr_history-changes n s a d (is_octets d a) refl xs
+
+  -- a new entry shows, where it leads on
+  pub shown-born : leads k new_values ≡ true → shown (h ++ new_marks) n ≡ Some (record { birth = s; kind = k; values = new_values })
+  shown-born leading =
+      ap (option_and_then (shown_born (h ++ new_marks) n)) birth_new ∙ (λ i. shown_if_live (death_new i) (record { birth = s; kind = k; values = λ d. shown_values (history_new d i) }))
+      ∙ ap (λ t. if t then Some (record { birth = s; kind = k; values = new_values }) else None) leading
+
 -- a created object shows, with no values
 pub shown-created : (h : List Mark) (n : List ℕ) (s : Stamp) → IsHistory h → IsBefore h s → shown (h ++ Birth n Object s ∷ []) n ≡ Some (record { birth = s; kind = Object; values = λ _. [] })
-shown-created h n s known earlier = ap (option_and_then (shown_born (h ++ ms) n)) birth ∙ (λ i. shown_if_live (death i) (record { birth = s; kind = Object; values = λ a. values a i }))
+shown-created h n s known earlier = shown-born h n s known earlier Object [] [] refl ∙ (λ i. Some (record { birth = s; kind = Object; values = λ d. nothing (is_octets d []) i }))
   where
-    ms : List Mark
-    ms = Birth n Object s ∷ []
+    nothing : (t : Bool) → shown_values (if t then [] else []) ≡ []
+    nothing true = shown_values-nil
+    nothing false = shown_values-nil
 
-    birth : birth_of (h ++ Birth n Object s ∷ []) n ≡ Some (record { at = s; kind = Object })
-    birth = join_of-append births (birth_in n) h (Birth n Object s ∷ []) ∙ ap (maybe (greater birth_cmp) (birth_of h n)) (one_birth n (record { at = s; kind = Object }))
-        ∙ newest (birth_of h n) (record { at = s; kind = Object }) (births_before h n s earlier)
+-- ---- a new link and a new child
 
-    death : death_of (h ++ Birth n Object s ∷ []) n s ≡ None
-    death = sym (death_joined h (Birth n Object s ∷ []) n s) ∙ ap (λ d. maybe earlier_stamp d None) (no_death h h n s known.births (no_birth h n s (births_before h n s earlier)))
+-- a list in strict order whose only item is v
+one_item : (xs : List (List ℕ)) (v : List ℕ) → IsStrictlySortedBy octets_cmp xs → ((w : List ℕ) → Contains xs w ↔ (w ≡ v)) → xs ≡ v ∷ []
+unfolding IsStrictlySortedBy
+one_item [] v up only = absurd (Contains-none v ((only v).1 refl))
+one_item (x ∷ []) v up only = ap (λ w. w ∷ []) ((only x).0 (Contains-head x []))
+one_item (x ∷ y ∷ xs) v up only =
+    let first : x ≡ v = (only x).0 (Contains-head x (y ∷ xs)) in
+    let second : y ≡ v = (only y).0 (Contains-tail x (y ∷ xs) y (Contains-head y xs)) in
+    absurd (not_less ((λ i. octets_cmp (sym first i) (sym second i)) ∙ up.0.0) (tied_itself nat_list_cmp_total v))
+  where
+    not_less : {r : Ordering} → r ≡ Less → r ≡ Equal → ⊥
+    not_less p q = cc (p, q)
 
-    values : (a : List ℕ) → shown_values (attr_history (h ++ Birth n Object s ∷ []) n s a) ≡ []
-    values a =
-        ap shown_values (filter_map-append (attr_mark_in n s a) h (Birth n Object s ∷ []) ∙ ap (λ l. l ++ []) (no_attrs h h n s a known.births (no_birth h n s (births_before h n s earlier))))
-        ∙ shown_values-nil
+one_value : (h : List AttrMark) (v : List ℕ) → ((w : List ℕ) → Contains (shown_values h) w ↔ (w ≡ v)) → shown_values h ≡ v ∷ []
+one_value h v only = one_item (shown_values h) v (shown_values-ascending h) only
+
+-- of one present mark its value shows
+one_shows : (v : List ℕ) (s : Stamp) → shown_values (Marked v (record { present = true; stamp = s }) ∷ []) ≡ v ∷ []
+one_shows v s =
+    one_value (Marked v (record { present = true; stamp = s }) ∷ []) v (λ w.
+    let law = shown_values-added [] v s (λ m found. absurd (Contains-none m found)) w in
+    (λ c. ⊎_elim (λ is. is) (λ old. absurd (Contains-none w (subst (λ l. Contains l w) shown_values-nil old))) (law.0 c), λ is. law.1 (inl is)))
+
+module _ (h : List Mark) (n : List ℕ) (s : Stamp) (known : IsHistory h) (earlier : IsBefore h s) (k : Kind) (a v : List ℕ) where
+  -- the values of a new entry that has one
+  abbrev pub only_value : List ℕ → List (List ℕ)
+  only_value d = if is_octets d a then v ∷ [] else []
+
+  first_values : (d : List ℕ) → new_values h n s known earlier k a (Marked v (record { present = true; stamp = s }) ∷ []) d ≡ only_value d
+  first_values d = at (is_octets d a)
+    where
+      at : (t : Bool) → shown_values (if t then Marked v (record { present = true; stamp = s }) ∷ [] else []) ≡ (if t then v ∷ [] else [])
+      at true = one_shows v s
+      at false = shown_values-nil
+
+  pub shown-led : leads k only_value ≡ true → shown (h ++ Birth n k s ∷ value_mark n s a v true s ∷ []) n ≡ Some (record { birth = s; kind = k; values = only_value })
+  shown-led leading =
+      let values : new_values h n s known earlier k a (Marked v (record { present = true; stamp = s }) ∷ []) ≡ only_value = λ i d. first_values d i in
+      shown-born h n s known earlier k a (Marked v (record { present = true; stamp = s }) ∷ []) (ap (leads k) values ∙ leading) ∙ ap (λ (f : List ℕ → List (List ℕ)). Some (record { birth = s; kind = k; values = f })) values
+
+-- the octets of a pointer to lawful houses read as one, whatever the directory
+pointer_reads : (p : Pointer) → IsHouses (record { master = p.master; others = p.others }) → is_child_pointer (pointer_octets p) ≡ true
+pointer_reads p lawful =
+    let q : Pointer = record { dir = 0; master = p.master; others = p.others } in
+    reads_where (is_child_pointer (pointer_octets q)) q q (written_read q (omega arith) lawful)
+  where
+    reads_where : (t : Bool) (x y : Pointer) → (if t then Some x else None) ≡ Some y → t ≡ true
+    reads_where true x y e = refl
+    reads_where false x y e = cc (e)
+
+-- the one value of an attribute that has it alone
+alone_at : (a v : List ℕ) → (if is_octets a a then v ∷ [] else []) ≡ v ∷ []
+alone_at a v = ap (λ t. if t then v ∷ [] else []) (same_octets a)
+
+-- the one value by which a new link and a new child lead
+one_target : (target : List (List ℕ)) → IsComponentList target → targets (if is_octets link_target link_target then spelling target ∷ [] else []) ≡ spelling target ∷ []
+one_target target lawful = one_reads is_full_name (spelling target) _ (alone_at link_target (spelling target)) (ap is_none (name_fault-spelling target lawful))
+
+one_pointer : (p : Pointer) → IsHouses (record { master = p.master; others = p.others }) → pointers (if is_octets replicas replicas then pointer_octets p ∷ [] else []) ≡ pointer_octets p ∷ []
+one_pointer p lawful = one_reads is_child_pointer (pointer_octets p) _ (alone_at replicas (pointer_octets p)) (pointer_reads p lawful)
+
+counts_one : (vs : List (List ℕ)) (v : List ℕ) → vs ≡ v ∷ [] → (length vs == 1) ≡ true
+counts_one vs v is = ap (λ (ws : List (List ℕ)). length ws == 1) is
+
+module _ (h : List Mark) (n : List ℕ) (target : List (List ℕ)) (s : Stamp) (known : IsHistory h) (earlier : IsBefore h s) (lawful : IsComponentList target) where
+  pub shown-linked : shown (h ++ marks_of (shown h n) (MakeLink n target) s) n ≡ Some (record { birth = s; kind = Link; values = λ a. if is_octets a link_target then spelling target ∷ [] else [] })
+  shown-linked = shown-led h n s known earlier Link link_target (spelling target) (counts_one _ (spelling target) (one_target target lawful))
+
+  pub lead-linked : IsSomeAnd (shown (h ++ marks_of (shown h n) (MakeLink n target) s) n) (λ e. lead_of e ≡ Some (spelling target))
+  lead-linked = subst (λ x. IsSomeAnd x (λ e. lead_of e ≡ Some (spelling target))) (sym shown-linked) (ap only_one (one_target target lawful))
+
+module _ (h : List Mark) (n : List ℕ) (p : Pointer) (s : Stamp) (known : IsHistory h) (earlier : IsBefore h s) (lawful : IsHouses (record { master = p.master; others = p.others })) where
+  pub shown-child : shown (h ++ marks_of (shown h n) (MakeChild n p) s) n ≡ Some (record { birth = s; kind = Child; values = λ a. if is_octets a replicas then pointer_octets p ∷ [] else [] })
+  shown-child = shown-led h n s known earlier Child replicas (pointer_octets p) (counts_one _ (pointer_octets p) (one_pointer p lawful))
+
+  pub lead-child : IsSomeAnd (shown (h ++ marks_of (shown h n) (MakeChild n p) s) n) (λ e. lead_of e ≡ Some (pointer_octets p))
+  lead-child = subst (λ x. IsSomeAnd x (λ e. lead_of e ≡ Some (pointer_octets p))) (sym shown-child) (ap only_one (one_pointer p lawful))
 
 -- ---- a change of one attribute of an entry that shows
-
-abbrev changes : List ℕ → Stamp → List ℕ → List AttrMark → List Mark
-changes n c a xs = map (Attr n c a) xs
-
-birth_of-changes : (n : List ℕ) (c : Stamp) (a : List ℕ) (xs : List AttrMark) → birth_of (changes n c a xs) n ≡ None
-birth_of-changes n c a [] = refl
-birth_of-changes n c a (x ∷ xs) = birth_of-changes n c a xs
-
-death_of-changes : (n : List ℕ) (c : Stamp) (a : List ℕ) (xs : List AttrMark) → death_of (changes n c a xs) n c ≡ None
-death_of-changes n c a [] = refl
-death_of-changes n c a (x ∷ xs) = death_of-changes n c a xs
-
-about_both : (n : List ℕ) (c : Stamp) (r : Bool) → (is_octets n n && is_stamp c c && r) ≡ r
-about_both n c r = ap (λ t. t && is_stamp c c && r) (same_octets n) ∙ ap (λ t. t && r) (same_stamp c)
-
-attr_history-changes : (n : List ℕ) (c : Stamp) (a d : List ℕ) (t : Bool) → is_octets d a ≡ t → (xs : List AttrMark) → attr_history (changes n c a xs) n c d ≡ (if t then xs else [])
-attr_history-changes n c a d true e [] = refl
-attr_history-changes n c a d false e [] = refl
-attr_history-changes n c a d true e (x ∷ xs) =
-    ap (λ r. cons_option (if r then Some x else None) (attr_history (changes n c a xs) n c d)) (about_both n c (is_octets d a) ∙ e) ∙ ap (λ l. x ∷ l) (attr_history-changes n c a d true e xs)
-attr_history-changes n c a d false e (x ∷ xs) =
-    ap (λ r. cons_option (if r then Some x else None) (attr_history (changes n c a xs) n c d)) (about_both n c (is_octets d a) ∙ e) ∙ attr_history-changes n c a d false e xs
 
 -- an attribute that is not reserved is neither of the two
 not_reserved : (a : List ℕ) → is_reserved a ≡ false → (is_octets link_target a ≡ false) × (is_octets replicas a ≡ false)
@@ -175,12 +266,16 @@ module _ (h : List Mark) (n : List ℕ) (e : Shown) (s : IsSeen h n e) (a : List
   pub values_stay : (d : List ℕ) → is_octets d a ≡ false → values_after d ≡ e.values d
   values_stay d apart = ap (λ t. shown_values (attr_history h n e.birth d ++ (if t then xs else []))) apart ∙ ap shown_values (append-nil (attr_history h n e.birth d)) ∙ sym (s.values d)
 
-  pub shown-changed : is_reserved a ≡ false → shown (h ++ marks) n ≡ Some (record { birth = e.birth; kind = e.kind; values = values_after })
-  shown-changed free =
+  -- it still shows, where it still leads on
+  pub shown-if_led : leads e.kind values_after ≡ true → shown (h ++ marks) n ≡ Some (record { birth = e.birth; kind = e.kind; values = values_after })
+  shown-if_led leading =
       ap (option_and_then (shown_born (h ++ marks) n)) birth_stays
       ∙ (λ i. shown_if_live (death_stays i) (record { birth = e.birth; kind = e.kind; values = λ d. shown_values (history_after d i) }))
-      ∙ ap (λ t. if t then Some (record { birth = e.birth; kind = e.kind; values = values_after }) else None)
-      (leads-same e.kind values_after e.values (values_stay link_target (not_reserved a free).0) (values_stay replicas (not_reserved a free).1) ∙ s.leading)
+      ∙ ap (λ t. if t then Some (record { birth = e.birth; kind = e.kind; values = values_after }) else None) leading
+
+  pub shown-changed : is_reserved a ≡ false → shown (h ++ marks) n ≡ Some (record { birth = e.birth; kind = e.kind; values = values_after })
+  shown-changed free =
+      shown-if_led (leads-same e.kind values_after e.values (values_stay link_target (not_reserved a free).0) (values_stay replicas (not_reserved a free).1) ∙ s.leading)
 
   -- and so the change is of that attribute alone
   pub changes-values : (P : List ℕ → Type 0) → ((w : List ℕ) → Contains (shown_values (attr_history h n e.birth a ++ xs)) w ↔ P w) → ChangesValues e a P (record { birth = e.birth; kind = e.kind; values = values_after })
@@ -230,6 +325,12 @@ module _ (h : List Mark) (n : List ℕ) (e : Shown) (s : IsSeen h n e) (a v : Li
   pub cleared : ChangesValues e a (λ _. ⊥) (record { birth = e.birth; kind = e.kind; values = values_after h n e s a (Cleared t ∷ []) })
   cleared = changes-values h n e s a (Cleared t ∷ []) (λ _. ⊥) (λ w. (shown_values-cleared known_marks v t (attrs_before h n e.birth a t earlier) w, λ c. absurd c))
 
+  -- the only value of the attribute
+  pub replaced_value : values_after h n e s a (Cleared t ∷ mark true ∷ []) a ≡ v ∷ []
+  replaced_value =
+      ap (λ r. shown_values (known_marks ++ (if r then Cleared t ∷ mark true ∷ [] else []))) (same_octets a)
+      ∙ one_value (known_marks ++ Cleared t ∷ mark true ∷ []) v (λ w. shown_values-put known_marks v t (attrs_before h n e.birth a t earlier) w)
+
 -- a deleted entry no longer shows
 pub shown-deleted : (h : List Mark) (n : List ℕ) (e : Shown) (t : Stamp) → IsSeen h n e → shown (h ++ Birth n e.kind e.birth ∷ Death n e.birth t ∷ []) n ≡ None
 shown-deleted h n e t s =
@@ -237,7 +338,7 @@ shown-deleted h n e t s =
     let b : Born = record { at = e.birth; kind = e.kind } in
     let birth : birth_of (h ++ ms) n ≡ Some b =
     join_of-append births (birth_in n) h ms ∙ ap (λ x. maybe (greater birth_cmp) x (birth_of ms n)) s.born ∙ ap (maybe (greater birth_cmp) (Some b)) (one_birth n b) ∙ ap Some (births.idem b) in
-    let this : death_of ms n e.birth ≡ Some t = ap (λ r. maybe earlier_stamp (if r then Some t else None) None) (ap (λ r. r && is_stamp e.birth e.birth) (same_octets n) ∙ same_stamp e.birth) in
+    let this : death_of ms n e.birth ≡ Some t = one_death n e.birth t in
     let death : death_of (h ++ ms) n e.birth ≡ Some t = sym (death_joined h ms n e.birth) ∙ ap (λ d. maybe earlier_stamp d (death_of ms n e.birth)) s.alive ∙ this in
     ap (option_and_then (shown_born (h ++ ms) n)) birth ∙ ap (λ d. shown_if_live d (record { birth = e.birth; kind = e.kind; values = λ a. shown_values (attr_history (h ++ ms) n e.birth a) })) death
 
@@ -273,6 +374,48 @@ module _ (h : List Mark) (n : List ℕ) (e : Shown) (is : shown h n ≡ Some e) 
 
   pub shown-delete : shown (h ++ marks_of (shown h n) (Delete n) t) n ≡ None
   shown-delete = ap (λ x. shown (h ++ marks_of x (Delete n) t) n) is ∙ shown-deleted h n e t (seen h n e is)
+
+-- only a child is repointed
+repointed_kind : (k : Kind) → live_refusal (not (is_child k)) ≡ None → k ≡ Child
+repointed_kind Object e = cc (e)
+repointed_kind Link e = cc (e)
+repointed_kind Child e = refl
+
+lead-by_kind : (e : Shown) → e.kind ≡ Child → lead_of e ≡ only_one (pointers (e.values replicas))
+lead-by_kind e is = ap (λ k. lead_of (record { birth = e.birth; kind = k; values = e.values })) is
+
+module _ (h : List Mark) (n : List ℕ) (e : Shown) (is : shown h n ≡ Some e) (s : Stamp) (master : ℕ) (others : List ℕ) (earlier : IsBefore h s) (accepted : live_refusal (not (is_child e.kind)) ≡ None)
+    (lawful : IsHouses (record { master = master; others = others })) where
+  abbrev new_pointer : List ℕ
+  new_pointer = pointer_octets (record { dir = shown_dir e; master = master; others = others })
+
+  abbrev is_seen : IsSeen h n e
+  is_seen = seen h n e is
+
+  abbrev repointed_values : List ℕ → List (List ℕ)
+  repointed_values = values_after h n e is_seen replicas (Cleared s ∷ Marked new_pointer (record { present = true; stamp = s }) ∷ [])
+
+  repointed_alone : pointers (repointed_values replicas) ≡ new_pointer ∷ []
+  repointed_alone =
+      one_reads is_child_pointer new_pointer (repointed_values replicas) (replaced_value h n e is_seen replicas new_pointer s earlier)
+      (pointer_reads (record { dir = shown_dir e; master = master; others = others }) lawful)
+
+  repointed : shown (h ++ marks_of (Some e) (Repoint n master others) s) n ≡ Some (record { birth = e.birth; kind = e.kind; values = repointed_values })
+  repointed =
+      shown-if_led h n e is_seen replicas (Cleared s ∷ Marked new_pointer (record { present = true; stamp = s }) ∷ [])
+      (ap (λ k. leads k repointed_values) (repointed_kind e.kind accepted) ∙ counts_one _ new_pointer repointed_alone)
+
+  pub shown-repoint : IsSomeAnd (shown (h ++ marks_of (shown h n) (Repoint n master others) s) n) (ChangesValues e replicas (λ w. w ≡ new_pointer))
+  shown-repoint = after h n e is s (Repoint n master others) _ _ repointed (replaced h n e is_seen replicas new_pointer s earlier)
+
+  pub lead-repoint : IsSomeAnd (shown (h ++ marks_of (shown h n) (Repoint n master others) s) n) (λ f. lead_of f ≡ Some new_pointer)
+  lead-repoint =
+      after h n e is s (Repoint n master others) (λ f. lead_of f ≡ Some new_pointer) _ repointed
+      (lead-by_kind (record { birth = e.birth; kind = e.kind; values = repointed_values }) (repointed_kind e.kind accepted) ∙ ap only_one repointed_alone)
+
+-- what shows leads somewhere
+pub shown-leads : (h : List Mark) (n : List ℕ) (e : Shown) → shown h n ≡ Some e → e.kind ≢ Object → IsSome (lead_of e)
+shown-leads h n e is = leads_somewhere e (seen h n e is).leading
 
 pub shown-create : (h : List Mark) (n : List ℕ) (s : Stamp) → IsHistory h → IsBefore h s → shown (h ++ marks_of (shown h n) (Create n) s) n ≡ Some (record { birth = s; kind = Object; values = λ _. [] })
 shown-create = shown-created

@@ -1,30 +1,32 @@
 -- The entry that the marks of one update make.
-use Rattle.std.proofs.Common.{◌≡◌, ℕ, Bool, true, false, cond, List, [], ◌∷◌, Option, Some, None, Result, Ok, Err, IfOk, IsSome, refl, sym, ap, subst, ◌∙◌, is_eq}
+use Rattle.std.proofs.Common.{◌≡◌, ℕ, Bool, true, false, cond, List, [], ◌∷◌, map, Option, Some, None, Result, Ok, Err, IfOk, IsSome, refl, sym, ap, subst, ◌∙◌, is_eq}
 use Rattle.std.specs.Prelude.{◌&&◌, if◌then◌else◌, IfSome}
 use Rattle.std.specs.declared.alloc.AllocError.{AllocError}
-use Rattle.std.specs.FinMap.{same_map, empty, insert, get-empty, get-insert}
+use Rattle.std.specs.FinMap.{FinMap, same_map, empty, insert, get-empty, get-insert}
 use Rattle.std.specs.List.{cons_option}
 use Rattle.std.specs.Option.{option_map}
 use Rattle.std.specs.Cmp.{tied_itself}
 use Rattle.std.specs.Cmp.Lexicographic.{nat_list_cmp_total}
 use Rattle.cds_stamps.specs.declared.stamp.Stamp.{Stamp}
 use Rattle.cds_stamps.specs.Semilattice.{maybe, greater}
-use Rattle.cds_stamps.specs.Stamps.{stamp_total, is_stamp}
+use Rattle.cds_stamps.specs.Stamps.{stamp_total, is_stamp, earlier_stamp}
 use Rattle.cds_stamps.specs.Octets.{octets_cmp, octets_exact, is_octets}
 use Rattle.attr_sets.specs.declared.cell.AttrCell.{AttrCell}
-use Rattle.attr_sets.specs.Cells.{AttrMark, Marked, cell_of, join_cells, IsValidCell}
+use Rattle.attr_sets.specs.Cells.{AttrMark, Cleared, Marked, cell_of, join_cells, IsValidCell}
 use Rattle.attr_sets.specs.CellLaws.{join_cells-cell_of, cell_of-valid}
 use Rattle.directory.specs.declared.entry.Kind.{Kind}
 use Rattle.directory.specs.declared.entry.Fragment.{Fragment}
-use Rattle.directory.specs.Updates.{Add, Remove}
-use Rattle.directory.specs.Histories.{Mark, Birth, Attr, Born, birth_cmp, cell_of_some, attrs_of, entry_at, entry_of}
-use Rattle.directory.specs.Shown.{Shown, refusal_of, value_mark, with_birth}
+use Rattle.directory.specs.declared.entry.EntryCell.{EntryCell}
+use Rattle.directory.specs.declared.update.UpdateRefusal.{UpdateRefusal}
+use Rattle.directory.specs.declared.update.UpdateRefusal.TheVariants.{NoSuchEntry}
+use Rattle.directory.specs.Histories.{Mark, Birth, Death, Attr, Born, birth_cmp, birth_of, death_of, attr_history, cell_of_some, attrs_of, entry_at, entry_of}
+use Rattle.directory.specs.Shown.{Shown, put_marks, with_birth}
 use Rattle.directory.proofs.HistoryLaws.{get-attrs_of}
 
--- a mark joined into a new cell
-pub first_mark : (m : AttrMark) (a b : AttrCell) → a ≡ cell_of [] → (IsValidCell a → b ≡ join_cells a (cell_of (m ∷ []))) → b ≡ cell_of (m ∷ [])
-first_mark m a b new joins =
-    joins (subst IsValidCell (sym new) (cell_of-valid [])) ∙ ap (λ a. join_cells a (cell_of (m ∷ []))) new ∙ join_cells-cell_of [] (m ∷ [])
+-- marks joined into a new cell
+pub first_marks : (ms : List AttrMark) (a b : AttrCell) → a ≡ cell_of [] → (IsValidCell a → b ≡ join_cells a (cell_of ms)) → b ≡ cell_of ms
+first_marks ms a b new joins =
+    joins (subst IsValidCell (sym new) (cell_of-valid [])) ∙ ap (λ a. join_cells a (cell_of ms)) new ∙ join_cells-cell_of [] ms
 
 pub same_octets : (n : List ℕ) → is_octets n n ≡ true
 same_octets n = ap is_eq (tied_itself nat_list_cmp_total n)
@@ -43,46 +45,111 @@ entry_of-born n k s =
     let attrs : attrs_of h n s ≡ empty = same_map nat_list_cmp_total octets_exact (attrs_of h n s) empty (λ a. get-attrs_of h n s a ∙ sym (get-empty octets_cmp a)) in
     ap (option_map (entry_at h n)) (one_birth n (record { at = s; kind = k })) ∙ (λ i. Some (record { birth = s; kind = k; death = None; attrs = attrs i }))
 
--- the attributes of one mark
-one_attr : (n : List ℕ) (k : Kind) (c : Stamp) (a : List ℕ) (x : AttrMark) → attrs_of (Birth n k c ∷ Attr n c a x ∷ []) n c ≡ insert empty a (cell_of (x ∷ []))
-one_attr n k c a x =
-    same_map nat_list_cmp_total octets_exact (attrs_of (Birth n k c ∷ Attr n c a x ∷ []) n c) (insert empty a (cell_of (x ∷ []))) (λ b.
-    get-attrs_of (Birth n k c ∷ Attr n c a x ∷ []) n c b
-    ∙ at (is_octets n n) (is_stamp c c) (is_octets b a) (same_octets n) (same_stamp c)
-    ∙ sym (get-insert nat_list_cmp_total empty a (cell_of (x ∷ [])) b ∙ ap (cond (is_octets b a) (Some (cell_of (x ∷ [])))) (get-empty octets_cmp b)))
-  where
-    at : (t u v : Bool) → t ≡ true → u ≡ true → cell_of_some (cons_option (if t && u && v then Some x else None) []) ≡ cond v (Some (cell_of (x ∷ []))) None
-    at t u true p q = ap (λ t. cell_of_some (cons_option (if t && u && true then Some x else None) [])) p ∙ ap (λ u. cell_of_some (cons_option (if u && true then Some x else None) [])) q
-    at t u false p q = ap (λ t. cell_of_some (cons_option (if t && u && false then Some x else None) [])) p ∙ ap (λ u. cell_of_some (cons_option (if u && false then Some x else None) [])) q
+-- a birth and a death
+pub one_death : (n : List ℕ) (c s : Stamp) → maybe earlier_stamp (if is_octets n n && is_stamp c c then Some s else None) None ≡ Some s
+one_death n c s = ap (λ t. maybe earlier_stamp (if t then Some s else None) None) (ap (λ t. t && is_stamp c c) (same_octets n) ∙ same_stamp c)
 
--- a birth and a mark of one attribute
-pub entry_of-marked : (n : List ℕ) (k : Kind) (c : Stamp) (a : List ℕ) (x : AttrMark)
-    → entry_of (Birth n k c ∷ Attr n c a x ∷ []) n ≡ Some (record { birth = c; kind = k; death = None; attrs = insert empty a (cell_of (x ∷ [])) })
-entry_of-marked n k c a x =
-    ap (option_map (entry_at (Birth n k c ∷ Attr n c a x ∷ []) n)) (one_birth n (record { at = c; kind = k }))
-    ∙ (λ i. Some (record { birth = c; kind = k; death = None; attrs = one_attr n k c a x i }))
+pub entry_of-deleted : (n : List ℕ) (k : Kind) (c s : Stamp) → entry_of (Birth n k c ∷ Death n c s ∷ []) n ≡ Some (record { birth = c; kind = k; death = Some s; attrs = empty })
+entry_of-deleted n k c s =
+    let h : List Mark = Birth n k c ∷ Death n c s ∷ [] in
+    let attrs : attrs_of h n c ≡ empty = same_map nat_list_cmp_total octets_exact (attrs_of h n c) empty (λ a. get-attrs_of h n c a ∙ sym (get-empty octets_cmp a)) in
+    ap (option_map (entry_at h n)) (one_birth n (record { at = c; kind = k })) ∙ (λ i. Some (record { birth = c; kind = k; death = one_death n c s i; attrs = attrs i }))
 
--- what the makers of fragments promise is the entry of the marks
-pub born_fragment : (r : Result Fragment AllocError) (n : List ℕ) (k : Kind) (s : Stamp) → IfOk r (λ f. f.name ≡ n) → IfOk r (λ f. f.entry ≡ record { birth = s; kind = k; death = None; attrs = empty })
-    → IfOk r (λ f. entry_of (Birth n k s ∷ []) f.name ≡ Some f.entry)
-born_fragment (Ok f) n k s name entry = ap (entry_of (Birth n k s ∷ [])) name ∙ entry_of-born n k s ∙ ap Some (sym entry)
-born_fragment (Err e) n k s name entry = tt
+-- ---- marks of one attribute
 
--- a change of an attribute is accepted of what shows
-pub added_shows : (e : Option Shown) (n a v : List ℕ) → refusal_of e (Add n a v) ≡ None → IsSome e
-added_shows None n a v accepted = cc
-added_shows (Some e) n a v accepted = refl
+abbrev pub changes : List ℕ → Stamp → List ℕ → List AttrMark → List Mark
+changes n c a xs = map (Attr n c a) xs
 
-pub removed_shows : (e : Option Shown) (n a v : List ℕ) → refusal_of e (Remove n a v) ≡ None → IsSome e
-removed_shows None n a v accepted = cc
-removed_shows (Some e) n a v accepted = refl
+pub birth_of-changes : (n : List ℕ) (c : Stamp) (a : List ℕ) (xs : List AttrMark) → birth_of (changes n c a xs) n ≡ None
+birth_of-changes n c a [] = refl
+birth_of-changes n c a (x ∷ xs) = birth_of-changes n c a xs
 
-pub marked_fragment : (r : Result Fragment AllocError) (e : Option Shown) (n a v : List ℕ) (present : Bool) (s : Stamp) (cell : AttrCell)
-    → IsSome e → cell ≡ cell_of (Marked v (record { present = present; stamp = s }) ∷ [])
-    → IfOk r (λ f. f.name ≡ n) → IfOk r (λ f. IfSome e (λ e. f.entry ≡ record { birth = e.birth; kind = e.kind; death = None; attrs = insert empty a cell }))
-    → IfOk r (λ f. entry_of (with_birth n e (λ x. value_mark n x.birth a v present s ∷ [])) f.name ≡ Some f.entry)
-marked_fragment (Ok f) None n a v present s cell live made name entry = cc (live)
-marked_fragment (Ok f) (Some e) n a v present s cell live made name entry =
-    ap (entry_of (with_birth n (Some e) (λ x. value_mark n x.birth a v present s ∷ []))) name ∙ entry_of-marked n e.kind e.birth a (Marked v (record { present = present; stamp = s }))
-    ∙ sym (ap Some (entry ∙ (λ i. record { birth = e.birth; kind = e.kind; death = None; attrs = insert empty a (made i) })))
-marked_fragment (Err x) e n a v present s cell live made name entry = tt
+pub death_of-changes : (n : List ℕ) (c : Stamp) (a : List ℕ) (xs : List AttrMark) → death_of (changes n c a xs) n c ≡ None
+death_of-changes n c a [] = refl
+death_of-changes n c a (x ∷ xs) = death_of-changes n c a xs
+
+about_both : (n : List ℕ) (c : Stamp) (r : Bool) → (is_octets n n && is_stamp c c && r) ≡ r
+about_both n c r = ap (λ t. t && is_stamp c c && r) (same_octets n) ∙ ap (λ t. t && r) (same_stamp c)
+
+pub attr_history-changes : (n : List ℕ) (c : Stamp) (a d : List ℕ) (t : Bool) → is_octets d a ≡ t → (xs : List AttrMark) → attr_history (changes n c a xs) n c d ≡ (if t then xs else [])
+attr_history-changes n c a d true e [] = refl
+attr_history-changes n c a d false e [] = refl
+attr_history-changes n c a d true e (x ∷ xs) =
+    ap (λ r. cons_option (if r then Some x else None) (attr_history (changes n c a xs) n c d)) (about_both n c (is_octets d a) ∙ e) ∙ ap (λ l. x ∷ l) (attr_history-changes n c a d true e xs)
+attr_history-changes n c a d false e (x ∷ xs) =
+    ap (λ r. cons_option (if r then Some x else None) (attr_history (changes n c a xs) n c d)) (about_both n c (is_octets d a) ∙ e) ∙ attr_history-changes n c a d false e xs
+
+module _ (n : List ℕ) (k : Kind) (c : Stamp) (a : List ℕ) (x : AttrMark) (xs : List AttrMark) where
+  -- a birth, and marks of one attribute
+  abbrev pub one_changed : List Mark
+  one_changed = Birth n k c ∷ changes n c a (x ∷ xs)
+
+  changed_birth : birth_of one_changed n ≡ Some (record { at = c; kind = k })
+  changed_birth =
+      ap (maybe (greater birth_cmp) (if is_octets n n then Some (record { at = c; kind = k }) else None)) (birth_of-changes n c a (x ∷ xs)) ∙ one_birth n (record { at = c; kind = k })
+
+  changed_attrs : attrs_of one_changed n c ≡ insert empty a (cell_of (x ∷ xs))
+  changed_attrs = same_map nat_list_cmp_total octets_exact (attrs_of one_changed n c) (insert empty a (cell_of (x ∷ xs))) (λ b.
+      get-attrs_of one_changed n c b ∙ ap cell_of_some (attr_history-changes n c a b (is_octets b a) refl (x ∷ xs)) ∙ at (is_octets b a)
+      ∙ sym (get-insert nat_list_cmp_total empty a (cell_of (x ∷ xs)) b ∙ ap (cond (is_octets b a) (Some (cell_of (x ∷ xs)))) (get-empty octets_cmp b)))
+    where
+      at : (t : Bool) → cell_of_some (if t then x ∷ xs else []) ≡ cond t (Some (cell_of (x ∷ xs))) None
+      at true = refl
+      at false = refl
+
+  pub entry_of-changed : entry_of one_changed n ≡ Some (record { birth = c; kind = k; death = None; attrs = insert empty a (cell_of (x ∷ xs)) })
+  entry_of-changed =
+      ap (option_map (entry_at one_changed n)) changed_birth ∙ (λ i. Some (record { birth = c; kind = k; death = death_of-changes n c a (x ∷ xs) i; attrs = changed_attrs i }))
+
+-- ---- what the makers of fragments promise is the entry of the marks
+
+module _ (r : Result Fragment AllocError) (n : List ℕ) (k : Kind) (s : Stamp) (named : IfOk r (λ f. f.name ≡ n)) where
+  new_fragment : (made : EntryCell) (marks : List Mark) → entry_of marks n ≡ Some made → IfOk r (λ f. f.entry ≡ made) → IfOk r (λ f. entry_of marks f.name ≡ Some f.entry)
+  new_fragment made marks is = at r named
+    where
+      at : (r : Result Fragment AllocError) → IfOk r (λ f. f.name ≡ n) → IfOk r (λ f. f.entry ≡ made) → IfOk r (λ f. entry_of marks f.name ≡ Some f.entry)
+      at (Ok f) named entry = ap (entry_of marks) named ∙ is ∙ ap Some (sym entry)
+      at (Err e) named entry = tt
+
+  pub born_fragment : (none : FinMap octets_cmp AttrCell) → none ≡ empty → IfOk r (λ f. f.entry ≡ record { birth = s; kind = k; death = None; attrs = none }) → IfOk r (λ f. entry_of (Birth n k s ∷ []) f.name ≡ Some f.entry)
+  born_fragment none is =
+      new_fragment (record { birth = s; kind = k; death = None; attrs = none }) (Birth n k s ∷ []) (entry_of-born n k s ∙ (λ i. Some (record { birth = s; kind = k; death = None; attrs = sym is i })))
+
+  pub led_fragment : (a : List ℕ) (x : AttrMark) → IfOk r (λ f. f.entry ≡ record { birth = s; kind = k; death = None; attrs = insert empty a (cell_of (x ∷ [])) }) → IfOk r (λ f. entry_of (Birth n k s ∷ Attr n s a x ∷ []) f.name ≡ Some f.entry)
+  led_fragment a x = new_fragment (record { birth = s; kind = k; death = None; attrs = insert empty a (cell_of (x ∷ [])) }) (Birth n k s ∷ Attr n s a x ∷ []) (entry_of-changed n k s a x [])
+
+-- what is accepted of what shows alone, where it is accepted
+pub shows : (e : Option Shown) (refused : Option Shown → Option UpdateRefusal) → refused None ≡ Some NoSuchEntry → refused e ≡ None → IsSome e
+shows None refused none accepted = cc (none, accepted)
+shows (Some e) refused none accepted = refl
+
+-- the fragment of an entry that shows, and the marks that make it
+module _ (r : Result Fragment AllocError) (e : Option Shown) (n : List ℕ) (live : IsSome e) (named : IfOk r (λ f. f.name ≡ n)) where
+  live_fragment : (made : Shown → EntryCell) (marks : Shown → List Mark) → ((x : Shown) → entry_of (Birth n x.kind x.birth ∷ marks x) n ≡ Some (made x))
+      → IfOk r (λ f. IfSome e (λ x. f.entry ≡ made x)) → IfOk r (λ f. entry_of (with_birth n e marks) f.name ≡ Some f.entry)
+  live_fragment made marks is = at r e live named
+    where
+      at : (r : Result Fragment AllocError) (e : Option Shown) → IsSome e → IfOk r (λ f. f.name ≡ n) → IfOk r (λ f. IfSome e (λ x. f.entry ≡ made x)) → IfOk r (λ f. entry_of (with_birth n e marks) f.name ≡ Some f.entry)
+      at (Ok f) None live named entry = cc (live)
+      at (Ok f) (Some x) live named entry = ap (entry_of (Birth n x.kind x.birth ∷ marks x)) named ∙ is x ∙ ap Some (sym entry)
+      at (Err y) e live named entry = tt
+
+  pub deleted_fragment : (s : Stamp) (none : FinMap octets_cmp AttrCell) → none ≡ empty → IfOk r (λ f. IfSome e (λ e. f.entry ≡ record { birth = e.birth; kind = e.kind; death = Some s; attrs = none }))
+      → IfOk r (λ f. entry_of (with_birth n e (λ x. Death n x.birth s ∷ [])) f.name ≡ Some f.entry)
+  deleted_fragment s none is =
+      live_fragment (λ x. record { birth = x.birth; kind = x.kind; death = Some s; attrs = none }) (λ x. Death n x.birth s ∷ [])
+      (λ x. entry_of-deleted n x.kind x.birth s ∙ (λ i. Some (record { birth = x.birth; kind = x.kind; death = Some s; attrs = sym is i })))
+
+  pub changed_fragment : (a : List ℕ) (x : AttrMark) (xs : List AttrMark) (cell : AttrCell) → cell ≡ cell_of (x ∷ xs)
+      → IfOk r (λ f. IfSome e (λ e. f.entry ≡ record { birth = e.birth; kind = e.kind; death = None; attrs = insert empty a cell })) → IfOk r (λ f. entry_of (with_birth n e (λ y. changes n y.birth a (x ∷ xs))) f.name ≡ Some f.entry)
+  changed_fragment a x xs cell is =
+      live_fragment (λ y. record { birth = y.birth; kind = y.kind; death = None; attrs = insert empty a cell }) (λ y. changes n y.birth a (x ∷ xs))
+      (λ y. entry_of-changed n y.kind y.birth a x xs ∙ (λ i. Some (record { birth = y.birth; kind = y.kind; death = None; attrs = insert empty a (sym is i) })))
+
+  -- where the value is one of what shows
+  pub replaced_fragment : (a : List ℕ) (v : Shown → List ℕ) (s : Stamp)
+      → IfOk r (λ f. IfSome e (λ e. f.entry ≡ record { birth = e.birth; kind = e.kind; death = None; attrs = insert empty a (cell_of (Cleared s ∷ Marked (v e) (record { present = true; stamp = s }) ∷ [])) }))
+      → IfOk r (λ f. entry_of (with_birth n e (λ x. put_marks n x.birth a (v x) s)) f.name ≡ Some f.entry)
+  replaced_fragment a v s =
+      live_fragment (λ y. record { birth = y.birth; kind = y.kind; death = None; attrs = insert empty a (cell_of (Cleared s ∷ Marked (v y) (record { present = true; stamp = s }) ∷ [])) })
+      (λ y. put_marks n y.birth a (v y) s) (λ y. entry_of-changed n y.kind y.birth a (Cleared s) (Marked (v y) (record { present = true; stamp = s }) ∷ []))

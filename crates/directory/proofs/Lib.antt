@@ -8,3 +8,4 @@ pub mod UpdateLaws
 pub mod ChangeLaws
 pub mod Lookups
 pub mod FragmentLaws
+pub mod Leads

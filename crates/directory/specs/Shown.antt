@@ -43,6 +43,21 @@ leads Object values = true
 leads Link values = length (targets (values link_target)) == 1
 leads Child values = length (pointers (values replicas)) == 1
 
+-- the item of a list that has one (own)
+abbrev pub only_one : {X : Type 0} → List X → Option X
+only_one [] = None
+only_one (x ∷ []) = Some x
+only_one (x ∷ y ∷ xs) = None
+
+-- where a link or a child leads: its one readable value; none, where there is not exactly one, and for an object (own)
+abbrev pub lead_of : Shown → Option (List ℕ)
+lead_of e = lead_by e.kind e.values
+  where
+    lead_by : Kind → (List ℕ → List (List ℕ)) → Option (List ℕ)
+    lead_by Object values = None
+    lead_by Link values = only_one (targets (values link_target))
+    lead_by Child values = only_one (pointers (values replicas))
+
 -- an entry shows where no death of it is known and it leads on (own)
 abbrev pub shown_if_live : Option Stamp → Shown → Option Shown
 shown_if_live death e = if is_none death && leads e.kind e.values then Some e else None
@@ -119,11 +134,7 @@ with_birth n (Some e) marks = Birth n e.kind e.birth ∷ marks e
 
 -- the directory of the pointer that shows (own)
 abbrev pub shown_dir : Shown → ℕ
-shown_dir e = first_dir (pointers (e.values replicas))
-  where
-    first_dir : List (List ℕ) → ℕ
-    first_dir [] = 0
-    first_dir (v ∷ vs) = option_map_or (λ p. p.dir) (pointer_of v) 0
+shown_dir e = option_map_or (λ p. p.dir) (option_and_then pointer_of (lead_of e)) 0
 
 -- the marks of an update with stamp s, by what shows of its name (own)
 abbrev pub marks_of : Option Shown → Change → Stamp → List Mark

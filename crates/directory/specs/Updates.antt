@@ -1,6 +1,6 @@
 -- The nine updates of a directory (own, after C705, updates to replicas).
 use Rattle.std.specs.Prelude.{ℕ, List}
-use Rattle.cell_names.specs.ChildPointers.{Pointer}
+use Rattle.cell_names.specs.ChildPointers.{Pointer, pointer_in}
 use Rattle.directory.specs.declared.update.Update.{Update}
 use Rattle.directory.specs.declared.update.Update.TheVariants as update
 
@@ -31,5 +31,11 @@ changed_name (Repoint n master others) = n
 -- what an update of the program is (own)
 abbrev pub change_of : Update → Change
 change_of (update.Create n) = Create n
+change_of (update.MakeLink n target) = MakeLink n target
+change_of (update.MakeChild n pointer) = MakeChild n (pointer_in pointer)
+change_of (update.Delete n) = Delete n
 change_of (update.Add n a v) = Add n a v
 change_of (update.Remove n a v) = Remove n a v
+change_of (update.Put n a v) = Put n a v
+change_of (update.Clear n a) = Clear n a
+change_of (update.Repoint n houses) = Repoint n houses.master houses.others

@@ -1,18 +1,18 @@
 // Entries.
-ghost use Rattle.std.specs.Prelude.{◌≡◌, ◌==◌, Some, None, IfOk, OnOk, OnErr, if◌then◌else◌, filter, is_some, length, option_copied};
+ghost use Rattle.std.specs.Prelude.{◌≡◌, true, Some, None, IsSome, IfOk, OnOk, OnErr, if◌then◌else◌, filter, is_some, option_copied};
 ghost use Rattle.cds_stamps.specs.Semilattice.{maybe, greater};
 ghost use Rattle.cds_stamps.specs.Stamps.{earlier_stamp};
-ghost use Rattle.directory.specs.Kinds.{kind_cmp};
+ghost use Rattle.directory.specs.Kinds.{kind_cmp, is_child};
 ghost use Rattle.directory.specs.Entries.{join_tied, join_entries, IsValidEntry};
 ghost use Rattle.directory.specs.EntryLaws.{entry_join};
 ghost use Rattle.directory.specs.EntryUndos.{undo_entry};
 ghost use Rattle.attr_sets.specs.Cells.{cell_values};
-ghost use Rattle.directory.specs.Shown.{is_readable, leads, entry_values, shown_entry};
+ghost use Rattle.directory.specs.Shown.{is_readable, leads, only_one, lead_of, entry_values, face_of, shown_entry, shown_dir};
 
 use crate::attr_map::{AttrMap, CellLog};
 use crate::undo::EntryUndo;
 use attr_sets::{AttrCell, Value};
-use cds_stamps::{AttrName, Lattice, SimpleName, Stamp};
+use cds_stamps::{AllocOr, AttrName, DirId, Lattice, SimpleName, Stamp};
 use cell_names::{ChildPointer, FullName};
 use std::alloc::{AllocError, Global};
 use std::cmp::Ordering;
@@ -30,6 +30,15 @@ pub enum Kind {
     Object,
     Link,
     Child,
+}
+
+impl Kind {
+    /// Whether it is that of a child.
+    pub(crate) fn is_child(self) -> bool
+        ensures { result ≡ is_child self }
+    {
+        matches!(self, Kind::Child)
+    }
 }
 
 /// What is known of a name: its greatest birth, the least death of that birth, and its attributes.
@@ -94,24 +103,49 @@ impl EntryCell {
         }
     }
 
+    /// Where it leads: for a link the value that spells its target, for a child the value of its pointer. None for an
+    /// object, and where not exactly one value that is present reads so, whether the entry is dead or not. Takes no memory.
+    pub fn lead(&self) -> Option<&Value>
+        ensures { option_copied result ≡ lead_of (face_of self.now) }
+    {
+        match self.kind {
+            Kind::Object => None,
+            Kind::Link => self.only_readable(LINK_TARGET),
+            Kind::Child => self.only_readable(REPLICAS),
+        }
+    }
+
+    /// The directory of the pointer of a child that shows.
+    pub(crate) fn child_dir(&self, alloc: Global) -> Result<DirId, AllocError>
+        requires child { is_child self.now.kind ≡ true }
+        requires shown { IsSome (shown_entry self.now) }
+        ensures { IfOk result (λ dir. dir.0 ≡ shown_dir (face_of self.now)) }
+    {
+        let value = self.lead().unwrap();
+        match ChildPointer::read(alloc, value.octets()) {
+            Ok(pointer) => Ok(pointer.dir),
+            Err(AllocOr::OutOfMemory) => Err(AllocError),
+            Err(AllocOr::Fault(_)) => unreachable!(),
+        }
+    }
+
     /// Whether there is what an entry of its kind leads to.
     fn leads(&self) -> bool
         ensures { result ≡ leads self.now.kind (entry_values self.now) }
     {
         match self.kind {
             Kind::Object => true,
-            Kind::Link => self.has_one_readable(LINK_TARGET),
-            Kind::Child => self.has_one_readable(REPLICAS),
+            Kind::Link | Kind::Child => self.lead().is_some(),
         }
     }
 
-    /// Whether exactly one value that is present in an attribute reads by the entry's kind.
-    fn has_one_readable(&self, attr: &[u8]) -> bool
-        ensures { result ≡ (length (filter (is_readable self.now.kind) (entry_values self.now attr.now)) == 1) }
+    /// The value that is present in an attribute and reads by the entry's kind, if it is the only one.
+    fn only_readable(&self, attr: &[u8]) -> Option<&Value>
+        ensures { option_copied result ≡ only_one (filter (is_readable self.now.kind) (entry_values self.now attr.now)) }
     {
         match self.attrs.find(attr) {
-            Some(cell) => has_one_readable(self.kind, cell),
-            None => false,
+            Some(cell) => only_readable(self.kind, cell),
+            None => None,
         }
     }
 
@@ -238,17 +272,17 @@ fn is_readable(kind: Kind, octets: &[u8]) -> bool
     }
 }
 
-/// Whether exactly one value that is present in the cell reads by this kind.
-fn has_one_readable(kind: Kind, cell: &AttrCell) -> bool
-    ensures { result ≡ (length (filter (is_readable kind) (cell_values cell.now)) == 1) }
+/// The value that is present in the cell and reads by this kind, if it is the only one.
+fn only_readable(kind: Kind, cell: &AttrCell) -> Option<&Value>
+    ensures { option_copied result ≡ only_one (filter (is_readable kind) (cell_values cell.now)) }
 {
-    let mut found = false;
+    let mut found = None;
     for (value, mark) in cell.values.iter() {
         if mark.present && is_readable(kind, value.octets()) {
-            if found {
-                return false;
+            if found.is_some() {
+                return None;
             }
-            found = true;
+            found = Some(value);
         }
     }
     found

@@ -1,16 +1,21 @@
 // The laws of histories, tables and updates, each the contract of a function that does nothing.
-ghost use Rattle.std.specs.Prelude.{◌≡◌, ◌≢◌, ◌⊎◌, ℕ, List, [], ◌++◌, Some, None, IfSome, IsSomeAnd};
+ghost use Rattle.std.specs.Prelude.{◌≡◌, ◌≢◌, ◌⊎◌, ℕ, List, [], ◌∷◌, ◌++◌, if◌then◌else◌, true, Some, None, IsSome, IfSome, IsSomeAnd};
 ghost use Rattle.std.specs.FinMap as map;
 ghost use Rattle.std.specs.List.{AllByRecursion, Contains};
+ghost use Rattle.cds_stamps.specs.Octets.{is_octets};
 ghost use Rattle.cds_stamps.specs.Undos.{RaisesAt};
+ghost use Rattle.cell_names.specs.FullNames.{spelling, IsComponentList};
+ghost use Rattle.cell_names.specs.ChildPointers.{Pointer, pointer_octets};
+ghost use Rattle.cell_names.specs.Houses.{IsHouses};
 ghost use Rattle.cds_stamps.specs.declared.stamp.Stamp.{Stamp};
 ghost use Rattle.directory.specs.declared.entry.EntryCell.{EntryCell};
 ghost use Rattle.directory.specs.declared.entry.Fragment.{Fragment};
 ghost use Rattle.directory.specs.Entries.{Entries, join_entries, join_tables, IsValidEntry, IsValidTable};
-ghost use Rattle.directory.specs.declared.entry.Kind.TheVariants.{Object};
-ghost use Rattle.directory.specs.Updates.{Change, Create, Delete, Add, Remove, Put, Clear, changed_name};
+ghost use Rattle.directory.specs.declared.entry.Kind.TheVariants.{Object, Link, Child};
+ghost use Rattle.directory.specs.Kinds.{link_target, replicas};
+ghost use Rattle.directory.specs.Updates.{Change, Create, MakeLink, MakeChild, Delete, Add, Remove, Put, Clear, Repoint, changed_name};
 ghost use Rattle.directory.specs.Histories.{Mark, name_in, entry_of, table_of, HasBirths, IsHistory, IsBefore, SameMarks};
-ghost use Rattle.directory.specs.Shown.{shown, shown_in, refusal_of, marks_of, Shown, ChangesValues};
+ghost use Rattle.directory.specs.Shown.{is_readable, lead_of, shown, shown_in, shown_dir, refusal_of, marks_of, Shown, ChangesValues};
 
 /// The table of two histories together is the join of their tables.
 pub fn joins_are_unions()
@@ -56,13 +61,36 @@ pub fn accepted_tables_stand()
 {}
 
 /// An accepted update, stamped later than the history, shows at once, and changes what shows of its name alone: a created
-/// object shows with no values, a deleted entry no longer shows, and of a live entry one attribute is changed alone.
+/// object shows with no values, a new link and a new child show with their one value, a deleted entry no longer shows, and
+/// of a live entry one attribute is changed alone. A repointed child is still a child of the same birth, and its pointer
+/// is the new one alone, to the same directory.
 pub fn accepted_updates_show()
     ensures others { (h : List Mark) (u : Change) (s : Stamp) → IsHistory h → IsBefore h s → refusal_of (shown h (changed_name u)) u ≡ None → (q : List ℕ) → q ≢ changed_name u → shown (h ++ marks_of (shown h (changed_name u)) u s) q ≡ shown h q }
     ensures created { (h : List Mark) (n : List ℕ) (s : Stamp) → IsHistory h → IsBefore h s → shown (h ++ marks_of (shown h n) (Create n) s) n ≡ Some (record { birth = s; kind = Object; values = λ _. [] }) }
+    ensures linked { (h : List Mark) (n : List ℕ) (target : List (List ℕ)) (s : Stamp) → IsHistory h → IsBefore h s → IsComponentList target →
+        shown (h ++ marks_of (shown h n) (MakeLink n target) s) n ≡ Some (record { birth = s; kind = Link; values = λ a. if is_octets a link_target then spelling target ∷ [] else [] }) }
+    ensures child_made { (h : List Mark) (n : List ℕ) (p : Pointer) (s : Stamp) → IsHistory h → IsBefore h s → IsHouses (record { master = p.master; others = p.others }) →
+        shown (h ++ marks_of (shown h n) (MakeChild n p) s) n ≡ Some (record { birth = s; kind = Child; values = λ a. if is_octets a replicas then pointer_octets p ∷ [] else [] }) }
     ensures added { (h : List Mark) (n : List ℕ) (e : Shown) → shown h n ≡ Some e → (s : Stamp) (a v : List ℕ) → IsBefore h s → refusal_of (Some e) (Add n a v) ≡ None → IsSomeAnd (shown (h ++ marks_of (shown h n) (Add n a v) s) n) (ChangesValues e a (λ w. (w ≡ v) ⊎ Contains (e.values a) w)) }
     ensures removed { (h : List Mark) (n : List ℕ) (e : Shown) → shown h n ≡ Some e → (s : Stamp) (a v : List ℕ) → IsBefore h s → refusal_of (Some e) (Remove n a v) ≡ None → IsSomeAnd (shown (h ++ marks_of (shown h n) (Remove n a v) s) n) (ChangesValues e a (λ w. (w ≢ v) × Contains (e.values a) w)) }
     ensures put { (h : List Mark) (n : List ℕ) (e : Shown) → shown h n ≡ Some e → (s : Stamp) (a v : List ℕ) → IsBefore h s → refusal_of (Some e) (Put n a v) ≡ None → IsSomeAnd (shown (h ++ marks_of (shown h n) (Put n a v) s) n) (ChangesValues e a (λ w. w ≡ v)) }
     ensures cleared { (h : List Mark) (n : List ℕ) (e : Shown) → shown h n ≡ Some e → (s : Stamp) (a : List ℕ) → IsBefore h s → refusal_of (Some e) (Clear n a) ≡ None → IsSomeAnd (shown (h ++ marks_of (shown h n) (Clear n a) s) n) (ChangesValues e a (λ _. ⊥)) }
+    ensures repointed { (h : List Mark) (n : List ℕ) (e : Shown) → shown h n ≡ Some e → (s : Stamp) (master : ℕ) (others : List ℕ) → IsBefore h s → refusal_of (Some e) (Repoint n master others) ≡ None →
+        let p : Pointer = record { dir = shown_dir e; master = master; others = others } in
+        IsHouses (record { master = master; others = others }) → IsSomeAnd (shown (h ++ marks_of (shown h n) (Repoint n master others) s) n) (ChangesValues e replicas (λ w. w ≡ pointer_octets p)) }
     ensures deleted { (h : List Mark) (n : List ℕ) (e : Shown) → shown h n ≡ Some e → (s : Stamp) → shown (h ++ marks_of (shown h n) (Delete n) s) n ≡ None }
+{}
+
+/// A new link leads to its target, and a new or repointed child by its new pointer. An entry that shows leads somewhere,
+/// unless it is an object, and where one leads reads as what its kind needs.
+pub fn accepted_updates_lead()
+    ensures linked { (h : List Mark) (n : List ℕ) (target : List (List ℕ)) (s : Stamp) → IsHistory h → IsBefore h s → IsComponentList target →
+        IsSomeAnd (shown (h ++ marks_of (shown h n) (MakeLink n target) s) n) (λ e. lead_of e ≡ Some (spelling target)) }
+    ensures child_made { (h : List Mark) (n : List ℕ) (p : Pointer) (s : Stamp) → IsHistory h → IsBefore h s → IsHouses (record { master = p.master; others = p.others }) →
+        IsSomeAnd (shown (h ++ marks_of (shown h n) (MakeChild n p) s) n) (λ e. lead_of e ≡ Some (pointer_octets p)) }
+    ensures repointed { (h : List Mark) (n : List ℕ) (e : Shown) → shown h n ≡ Some e → (s : Stamp) (master : ℕ) (others : List ℕ) → IsBefore h s → refusal_of (Some e) (Repoint n master others) ≡ None →
+        let p : Pointer = record { dir = shown_dir e; master = master; others = others } in
+        IsHouses (record { master = master; others = others }) → IsSomeAnd (shown (h ++ marks_of (shown h n) (Repoint n master others) s) n) (λ f. lead_of f ≡ Some (pointer_octets p)) }
+    ensures led { (h : List Mark) (n : List ℕ) (e : Shown) → shown h n ≡ Some e → e.kind ≢ Object → IsSome (lead_of e) }
+    ensures read { (e : Shown) (v : List ℕ) → lead_of e ≡ Some v → is_readable e.kind v ≡ true }
 {}

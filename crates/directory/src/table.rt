@@ -5,20 +5,26 @@ ghost use Rattle.std.specs.Option.{option_map};
 ghost use Rattle.cds_stamps.specs.Octets.{octets_cmp, is_octets};
 ghost use Rattle.cds_stamps.specs.Outcomes.{ok_unless};
 ghost use Rattle.cds_stamps.specs.Undos.{RaisesAt, TakesBack, LogsChange, MendsAt, back_at};
-ghost use Rattle.attr_sets.specs.Cells.{Marked, cell_of};
+ghost use Rattle.cds_stamps.specs.Names.{attr_fault};
+ghost use Rattle.cell_names.specs.FullNames.{spelling};
+ghost use Rattle.cell_names.specs.ChildPointers.{pointer_in, pointer_octets};
+ghost use Rattle.attr_sets.specs.Values.{value_fault};
+ghost use Rattle.attr_sets.specs.Cells.{Cleared, Marked, cell_of};
+ghost use Rattle.directory.specs.Kinds.{replicas};
 ghost use Rattle.directory.specs.Entries.{join_entries, join_tables, IsValidEntry, IsValidTable};
 ghost use Rattle.directory.specs.EntryLaws.{table_join};
 ghost use Rattle.directory.specs.EntryUndos.{undo_entry};
-ghost use Rattle.directory.specs.Updates.{Create, Clear, changed_name, change_of};
+ghost use Rattle.directory.specs.Updates.{Delete, Clear, Repoint, changed_name, change_of};
 ghost use Rattle.directory.specs.Histories.{entry_of};
-ghost use Rattle.directory.specs.Shown.{face_of, shown_in, live_count, is_reserved, live_refusal, refusal_of, marks_of};
+ghost use Rattle.directory.specs.Shown.{face_of, shown_in, live_count, is_reserved, new_refusal, live_refusal, refusal_of, marks_of, shown_dir};
 
 use crate::attr_map::AttrMap;
 use crate::entry::{EntryCell, Fragment, Kind, LINK_TARGET, REPLICAS};
 use crate::undo::EntryUndo;
 use crate::update::{Update, UpdateRefusal};
 use attr_sets::{AttrCell, Value};
-use cds_stamps::{AttrName, Lattice, SimpleName, Stamp};
+use cds_stamps::{AllocOr, AttrName, Lattice, SimpleName, Stamp};
+use cell_names::{ChildPointer, FullName, HouseList};
 use std::alloc::{AllocError, Global};
 use std::collections::BTreeMap;
 use std::collections::btree_map::Iter;
@@ -133,14 +139,20 @@ impl Table {
     {
         match update {
             Update::Create(name) => self.check_new(name),
+            Update::MakeLink(name, _) => self.check_new(name),
+            Update::MakeChild(name, _) => self.check_new(name),
+            Update::Delete(name) => self.check_delete(name),
             Update::Add(name, attr, _) => self.check_change(name, attr),
             Update::Remove(name, attr, _) => self.check_change(name, attr),
+            Update::Put(name, attr, _) => self.check_change(name, attr),
+            Update::Clear(name, attr) => self.check_change(name, attr),
+            Update::Repoint(name, _) => self.check_repoint(name),
         }
     }
 
     /// Whether a new entry of this name is accepted.
     fn check_new(&self, name: &SimpleName) -> Result<(), UpdateRefusal>
-        ensures { result ≡ ok_unless (refusal_of (shown_in self.now name.now) (Create name.now)) tt }
+        ensures { result ≡ ok_unless (new_refusal (shown_in self.now name.now)) tt }
     {
         match self.live(name) {
             Some(_) => Err(UpdateRefusal::EntryExists),
@@ -152,9 +164,29 @@ impl Table {
     fn check_change(&self, name: &SimpleName, attr: &AttrName) -> Result<(), UpdateRefusal>
         ensures { result ≡ ok_unless (refusal_of (shown_in self.now name.now) (Clear name.now attr.now)) tt }
     {
+        if self.live(name).is_none() {
+            return Err(UpdateRefusal::NoSuchEntry);
+        }
+        refuse_if(is_reserved(attr))
+    }
+
+    /// Whether the deletion of this name is accepted.
+    fn check_delete(&self, name: &SimpleName) -> Result<(), UpdateRefusal>
+        ensures { result ≡ ok_unless (refusal_of (shown_in self.now name.now) (Delete name.now)) tt }
+    {
         match self.live(name) {
             None => Err(UpdateRefusal::NoSuchEntry),
-            Some(_) => check_attr(attr),
+            Some(entry) => refuse_if(entry.kind.is_child()),
+        }
+    }
+
+    /// Whether other houses of this name are accepted, whichever they are.
+    fn check_repoint(&self, name: &SimpleName) -> Result<(), UpdateRefusal>
+        ensures { (master : ℕ) (others : List ℕ) → result ≡ ok_unless (refusal_of (shown_in self.now name.now) (Repoint name.now master others)) tt }
+    {
+        match self.live(name) {
+            None => Err(UpdateRefusal::NoSuchEntry),
+            Some(entry) => refuse_if(!entry.kind.is_child()),
         }
     }
 
@@ -170,20 +202,65 @@ impl Table {
         ensures entry { IfOk result (λ f. entry_of (marks_of (shown_in self.now (changed_name (change_of update.now))) (change_of update.now) stamp) f.name ≡ Some f.entry) }
     {
         match update {
-            Update::Create(name) => born(alloc, name, Kind::Object, stamp),
+            Update::Create(name) => { born(alloc, name, Kind::Object, AttrMap::new(alloc), stamp) }
+            Update::MakeLink(name, target) => {
+                let value = target_value(alloc, target)?;
+                born_with(alloc, name, Kind::Link, LINK_TARGET, &value, stamp)
+            }
+            Update::MakeChild(name, pointer) => {
+                let value = pointer_value(alloc, pointer)?;
+                born_with(alloc, name, Kind::Child, REPLICAS, &value, stamp)
+            }
+            Update::Delete(name) => {
+                self.live_fragment(alloc, name, Some(stamp), AttrMap::new(alloc))
+            }
             Update::Add(name, attr, value) => {
                 let cell = present_mark(alloc, value, stamp)?;
-                self.value_fragment(alloc, name, attr, cell)
+                self.cell_fragment(alloc, name, attr, cell)
             }
             Update::Remove(name, attr, value) => {
                 let cell = absent_mark(alloc, value, stamp)?;
-                self.value_fragment(alloc, name, attr, cell)
+                self.cell_fragment(alloc, name, attr, cell)
             }
+            Update::Put(name, attr, value) => {
+                let cell = put_marks(alloc, value, stamp)?;
+                self.cell_fragment(alloc, name, attr, cell)
+            }
+            Update::Clear(name, attr) => {
+                self.cell_fragment(alloc, name, attr, clear_mark(alloc, stamp))
+            }
+            Update::Repoint(name, houses) => self.repoint_fragment(alloc, name, houses, stamp),
         }
     }
 
+    /// The fragment of a live child with a pointer to the same directory at these houses.
+    fn repoint_fragment(
+        &self,
+        alloc: Global,
+        name: &SimpleName,
+        houses: &HouseList,
+        stamp: Stamp,
+    ) -> Result<Fragment, AllocError>
+        requires { refusal_of (shown_in self.now name.now) (Repoint name.now houses.now.master houses.now.others) ≡ None }
+        ensures name { IfOk result (λ f. f.name ≡ name.now) }
+        ensures entry { IfOk result (λ f. IfSome (shown_in self.now name.now) (λ e.
+            let v = pointer_octets (record { dir = shown_dir e; master = houses.now.master; others = houses.now.others }) in
+            let cell = cell_of (Cleared stamp ∷ Marked v (record { present = true; stamp = stamp }) ∷ []) in
+            f.entry ≡ record { birth = e.birth; kind = e.kind; death = None; attrs = map.insert map.empty replicas cell })) }
+    {
+        let own = self.live(name).unwrap();
+        let pointer = ChildPointer {
+            dir: own.child_dir(alloc)?,
+            houses: houses.copy(alloc)?,
+        };
+        let value = pointer_value(alloc, &pointer)?;
+        let cell = put_marks(alloc, &value, stamp)?;
+        let attr = known_attr(alloc, REPLICAS)?;
+        self.cell_fragment(alloc, name, &attr, cell)
+    }
+
     /// The fragment of a live entry with one cell.
-    fn value_fragment(
+    fn cell_fragment(
         &self,
         alloc: Global,
         name: &SimpleName,
@@ -194,15 +271,29 @@ impl Table {
         ensures name { IfOk result (λ f. f.name ≡ name.now) }
         ensures entry { IfOk result (λ f. IfSome (shown_in self.now name.now) (λ e. f.entry ≡ record { birth = e.birth; kind = e.kind; death = None; attrs = map.insert map.empty attr.now cell })) }
     {
+        let attrs = one_attr(alloc, attr.copy(alloc)?, cell)?;
+        self.live_fragment(alloc, name, None, attrs)
+    }
+
+    /// The fragment of a live entry with this death and these cells.
+    fn live_fragment(
+        &self,
+        alloc: Global,
+        name: &SimpleName,
+        death: Option<Stamp>,
+        attrs: AttrMap,
+    ) -> Result<Fragment, AllocError>
+        requires { IsSome (shown_in self.now name.now) }
+        ensures name { IfOk result (λ f. f.name ≡ name.now) }
+        ensures entry { IfOk result (λ f. IfSome (shown_in self.now name.now) (λ e. f.entry ≡ record { birth = e.birth; kind = e.kind; death = death; attrs = attrs })) }
+    {
         let own = self.live(name).unwrap();
-        let mut attrs = AttrMap::new(alloc);
-        attrs.insert(attr.copy(alloc)?, cell)?;
         Ok(Fragment {
             name: name.copy(alloc)?,
             entry: EntryCell {
                 birth: own.birth,
                 kind: own.kind,
-                death: None,
+                death,
                 attrs,
             },
         })
@@ -399,11 +490,11 @@ impl Lattice for Table {
     }
 }
 
-/// Whether the attribute changes by updates of values.
-fn check_attr(attr: &AttrName) -> Result<(), UpdateRefusal>
-    ensures { result ≡ ok_unless (live_refusal (is_reserved attr.now)) tt }
+/// Refuses an update of what shows where the kind of the entry or of the attribute is wrong.
+fn refuse_if(wrong: bool) -> Result<(), UpdateRefusal>
+    ensures { result ≡ ok_unless (live_refusal wrong) tt }
 {
-    if is_reserved(attr) {
+    if wrong {
         Err(UpdateRefusal::WrongKind)
     } else {
         Ok(())
@@ -417,10 +508,16 @@ fn is_reserved(attr: &AttrName) -> bool
     attr.octets() == LINK_TARGET || attr.octets() == REPLICAS
 }
 
-/// The fragment of a new entry.
-fn born(alloc: Global, name: &SimpleName, kind: Kind, stamp: Stamp) -> Result<Fragment, AllocError>
+/// The fragment of a new entry with these cells.
+fn born(
+    alloc: Global,
+    name: &SimpleName,
+    kind: Kind,
+    attrs: AttrMap,
+    stamp: Stamp,
+) -> Result<Fragment, AllocError>
     ensures name { IfOk result (λ f. f.name ≡ name.now) }
-    ensures entry { IfOk result (λ f. f.entry ≡ record { birth = stamp; kind = kind; death = None; attrs = map.empty }) }
+    ensures entry { IfOk result (λ f. f.entry ≡ record { birth = stamp; kind = kind; death = None; attrs = attrs }) }
 {
     Ok(Fragment {
         name: name.copy(alloc)?,
@@ -428,9 +525,70 @@ fn born(alloc: Global, name: &SimpleName, kind: Kind, stamp: Stamp) -> Result<Fr
             birth: stamp,
             kind,
             death: None,
-            attrs: AttrMap::new(alloc),
+            attrs,
         },
     })
+}
+
+/// The fragment of a new entry with one value of one attribute.
+fn born_with(
+    alloc: Global,
+    name: &SimpleName,
+    kind: Kind,
+    attr: &[u8],
+    value: &Value,
+    stamp: Stamp,
+) -> Result<Fragment, AllocError>
+    requires { attr_fault attr.now ≡ None }
+    ensures name { IfOk result (λ f. f.name ≡ name.now) }
+    ensures entry { IfOk result (λ f.
+        let cell = cell_of (Marked value.now (record { present = true; stamp = stamp }) ∷ []) in
+        f.entry ≡ record { birth = stamp; kind = kind; death = None; attrs = map.insert map.empty attr.now cell }) }
+{
+    let stamp = &stamp;
+    let cell = present_mark(alloc, value, *stamp)?;
+    let attrs = one_attr(alloc, known_attr(alloc, attr)?, cell)?;
+    born(alloc, name, kind, attrs, *stamp)
+}
+
+/// The value that spells the target of a link.
+fn target_value(alloc: Global, target: &FullName) -> Result<Value, AllocError>
+    ensures { IfOk result (λ v. v ≡ spelling target.now) }
+{
+    let octets = target.print(alloc)?;
+    known_value(alloc, &octets)
+}
+
+/// The value that is the pointer of a child.
+fn pointer_value(alloc: Global, pointer: &ChildPointer) -> Result<Value, AllocError>
+    ensures { IfOk result (λ v. v ≡ pointer_octets (pointer_in pointer.now)) }
+{
+    let octets = pointer.write(alloc)?;
+    known_value(alloc, &octets)
+}
+
+/// The value of octets that are not too few or too many for one: only memory can be wanting.
+fn known_value(alloc: Global, octets: &[u8]) -> Result<Value, AllocError>
+    requires { value_fault octets.now ≡ None }
+    ensures { IfOk result (λ v. v ≡ octets.now) }
+{
+    match Value::new(alloc, octets) {
+        Ok(value) => Ok(value),
+        Err(AllocOr::OutOfMemory) => Err(AllocError),
+        Err(AllocOr::Fault(_)) => unreachable!(),
+    }
+}
+
+/// The attribute name of octets that are one: only memory can be wanting.
+fn known_attr(alloc: Global, octets: &[u8]) -> Result<AttrName, AllocError>
+    requires { attr_fault octets.now ≡ None }
+    ensures { IfOk result (λ a. a ≡ octets.now) }
+{
+    match AttrName::parse(alloc, octets) {
+        Ok(attr) => Ok(attr),
+        Err(AllocOr::OutOfMemory) => Err(AllocError),
+        Err(AllocOr::Fault(_)) => unreachable!(),
+    }
 }
 
 /// The cell of one present mark of a value.
@@ -449,4 +607,31 @@ fn absent_mark(alloc: Global, value: &Value, stamp: Stamp) -> Result<AttrCell, A
     let mut cell = AttrCell::new(alloc);
     cell.remove(alloc, value, stamp)?;
     Ok(cell)
+}
+
+/// The cell of a clear and a present mark of a value, both with this stamp.
+fn put_marks(alloc: Global, value: &Value, stamp: Stamp) -> Result<AttrCell, AllocError>
+    ensures { IfOk result (λ c. c ≡ cell_of (Cleared stamp ∷ Marked value.now (record { present = true; stamp = stamp }) ∷ [])) }
+{
+    let mut cell = AttrCell::new(alloc);
+    cell.put(alloc, value, stamp)?;
+    Ok(cell)
+}
+
+/// The cell of a clear.
+fn clear_mark(alloc: Global, stamp: Stamp) -> AttrCell
+    ensures { result ≡ cell_of (Cleared stamp ∷ []) }
+{
+    let mut cell = AttrCell::new(alloc);
+    cell.clear(stamp);
+    cell
+}
+
+/// The cells of one attribute.
+fn one_attr(alloc: Global, attr: AttrName, cell: AttrCell) -> Result<AttrMap, AllocError>
+    ensures { IfOk result (λ m. m ≡ map.insert map.empty attr cell) }
+{
+    let mut attrs = AttrMap::new(alloc);
+    attrs.insert(attr, cell)?;
+    Ok(attrs)
 }

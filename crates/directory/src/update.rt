@@ -4,6 +4,7 @@ ghost use Rattle.directory.specs.Updates.{change_of, changed_name};
 
 use attr_sets::Value;
 use cds_stamps::{AttrName, SimpleName};
+use cell_names::{ChildPointer, FullName, HouseList};
 use std::alloc::{AllocError, Global};
 use thiserror::Error;
 
@@ -12,10 +13,22 @@ use thiserror::Error;
 pub enum Update {
     /// Makes an object.
     Create(SimpleName),
+    /// Makes a link to a full name.
+    MakeLink(SimpleName, FullName),
+    /// Makes a child with a pointer to its directory.
+    MakeChild(SimpleName, ChildPointer),
+    /// Deletes an object or a link.
+    Delete(SimpleName),
     /// Makes a value of an attribute present.
     Add(SimpleName, AttrName, Value),
     /// Makes a value of an attribute absent, whether it is there or not.
     Remove(SimpleName, AttrName, Value),
+    /// Leaves one value of an attribute, which it makes present, in place of all that were there.
+    Put(SimpleName, AttrName, Value),
+    /// Leaves no value of an attribute.
+    Clear(SimpleName, AttrName),
+    /// Sets the houses of a child, whose directory stays.
+    Repoint(SimpleName, HouseList),
 }
 
 impl Update {
@@ -25,22 +38,42 @@ impl Update {
     {
         match self {
             Update::Create(name) => name,
+            Update::MakeLink(name, _) => name,
+            Update::MakeChild(name, _) => name,
+            Update::Delete(name) => name,
             Update::Add(name, _, _) => name,
             Update::Remove(name, _, _) => name,
+            Update::Put(name, _, _) => name,
+            Update::Clear(name, _) => name,
+            Update::Repoint(name, _) => name,
         }
     }
 
-    /// The same update of the same name, attribute and value.
+    /// An equal update.
     pub fn copy(&self, alloc: Global) -> Result<Update, AllocError>
         ensures { IfOk result (λ u. u ≡ self.now) }
     {
         Ok(match self {
             Update::Create(name) => Update::Create(name.copy(alloc)?),
+            Update::MakeLink(name, target) => {
+                Update::MakeLink(name.copy(alloc)?, target.copy(alloc)?)
+            }
+            Update::MakeChild(name, pointer) => {
+                Update::MakeChild(name.copy(alloc)?, pointer.copy(alloc)?)
+            }
+            Update::Delete(name) => Update::Delete(name.copy(alloc)?),
             Update::Add(name, attr, value) => {
                 Update::Add(name.copy(alloc)?, attr.copy(alloc)?, value.copy(alloc)?)
             }
             Update::Remove(name, attr, value) => {
                 Update::Remove(name.copy(alloc)?, attr.copy(alloc)?, value.copy(alloc)?)
+            }
+            Update::Put(name, attr, value) => {
+                Update::Put(name.copy(alloc)?, attr.copy(alloc)?, value.copy(alloc)?)
+            }
+            Update::Clear(name, attr) => Update::Clear(name.copy(alloc)?, attr.copy(alloc)?),
+            Update::Repoint(name, houses) => {
+                Update::Repoint(name.copy(alloc)?, houses.copy(alloc)?)
             }
         })
     }

@@ -1,5 +1,5 @@
 use Rattle.std.proofs.Common.{[]}
-use Rattle.directory.proofs.ChangeLaws.{shown-others, shown-create, shown-add, shown-remove, shown-put, shown-clear, shown-delete}
+use Rattle.directory.proofs.ChangeLaws.{shown-others, shown-create, shown-linked, shown-child, shown-repoint, shown-add, shown-remove, shown-put, shown-clear, shown-delete}
 use Rattle.directory.proofs.laws.accepted_updates_show.Goals as goal
 
 pub returns-clause-others : goal.returns-clause-others
@@ -7,6 +7,15 @@ returns-clause-others c = shown-others
 
 pub returns-clause-created : goal.returns-clause-created
 returns-clause-created c = shown-create
+
+pub returns-clause-linked : goal.returns-clause-linked
+returns-clause-linked c = shown-linked
+
+pub returns-clause-child_made : goal.returns-clause-child_made
+returns-clause-child_made c = shown-child
+
+pub returns-clause-repointed : goal.returns-clause-repointed
+returns-clause-repointed c = shown-repoint
 
 pub returns-clause-added : goal.returns-clause-added
 returns-clause-added c = shown-add
