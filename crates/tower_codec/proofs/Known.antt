@@ -1,5 +1,5 @@
 -- Floors that are known to stand there are found again by their lengths.
-use Rattle.std.proofs.Common.{◌≡◌, ℕ, zero, suc, ◌+◌, ◌-◌, ◌<◌, List, [], ◌∷◌, length, drop, Some, refl, sym, ap, subst, ◌∙◌, arith}
+use Rattle.std.proofs.Common.{◌≡◌, ◌≢◌, ℕ, zero, suc, ◌+◌, ◌-◌, ◌<◌, List, [], ◌∷◌, length, drop, Some, refl, sym, ap, subst, ◌∙◌, arith}
 use Rattle.std.specs.Prelude.{slice_get}
 use Rattle.std.proofs.lemmas.List.{take_at, drop_at, drop-drop}
 use Rattle.tower_codec.specs.Tower.{Floor, IsPart, IsFloor, AreFloors}
@@ -70,3 +70,27 @@ found_ahead count i x all within floors =
     let k : count - i ≡ suc (count - (i + 1)) = omega arith in
     let parts : known_floor x ∷ known_floors (count - (i + 1)) (after_known_floor x) ≡ drop i all = rw k at floors in
     ap (λ (fs : List Floor). slice_get fs 0) parts ∙ sym (slice_get-drop i all)
+
+-- no floors stand in front of nothing
+pub none_ahead : (count : ℕ) (x : List ℕ) → count ≡ 0 → known_floors count x ≡ []
+unfolding known_floors
+none_ahead zero x none = refl
+none_ahead (suc count) x none = absurd (omega arith)
+
+-- the first of some floors, and those behind it
+pub record StandsFirst (count : ℕ) (x : List ℕ) : Type 0 where
+  pub stands : IsFloor x (known_floor x) (after_known_floor x)
+  pub behind : AreFloors (after_known_floor x) (known_floors (count - 1) (after_known_floor x)) []
+  pub floors : known_floors count x ≡ known_floor x ∷ known_floors (count - 1) (after_known_floor x)
+
+pub first_ahead : (count : ℕ) (x : List ℕ) → count ≢ 0 → AreFloors x (known_floors count x) [] → StandsFirst count x
+unfolding known_floors
+first_ahead count x some known =
+    let whole : count ≡ count - 0 = omega arith in
+    let next : count ≡ suc (count - 1) = omega arith in
+    let ahead = floor_ahead count 0 x (omega arith) (subst (λ (n : ℕ). AreFloors x (known_floors n x) []) whole known) in
+    record {
+      stands = ahead.0;
+      behind = ahead.1;
+      floors = ap (λ (n : ℕ). known_floors n x) next;
+    }

@@ -33,8 +33,8 @@ pub fn read_uuid(octets: &[u8]) -> Option<Uuid>
     Uuid::try_parse_ascii(octets).ok()
 }
 
-// What stands before the first mark, and what behind it.
-fn split_at_mark(text: &[u8], mark: u8) -> Option<(&[u8], &[u8])>
+/// What stands before the first mark, and what behind it.
+pub fn split_at_mark(text: &[u8], mark: u8) -> Option<(&[u8], &[u8])>
     ensures cut { option_map (λ p. (p.0.now, p.1.now)) result ≡ cut mark text.now }
     ensures within { IfSome result (λ p. length p.0.now ≤ length text.now) }
 {

@@ -12,7 +12,7 @@ mod rpc;
 mod view;
 mod writer;
 
-pub use binding::{StringBinding, read_uuid};
+pub use binding::{StringBinding, read_uuid, split_at_mark};
 pub use fault::{BindingFault, TowerFault};
 pub use rpc::{Interface, Protseq, RpcTower};
 pub use view::{FloorView, TowerView};

@@ -1,4 +1,4 @@
-ghost use Rattle.std.specs.Prelude.{◌≡◌, ℕ, ◌+◌, ◌-◌, ◌≤◌, ◌<◌, List, [], ◌∷◌, ◌++◌, length, take, drop, Some, Ok, Err, IfOk, IfErr, IsOkAnd, IsErrOf, slice_get};
+ghost use Rattle.std.specs.Prelude.{◌≡◌, ℕ, ◌+◌, ◌-◌, ◌≤◌, ◌<◌, List, [], ◌∷◌, ◌++◌, length, take, drop, Some, Ok, Err, IfOk, IfErr, IsOkAnd, IsErrOf, MatchOption, slice_get};
 ghost use Rattle.std.specs.Option.{option_map};
 ghost use Rattle.tower_codec.specs.Tower.{Floor, IsPart, IsFloor, AreFloors, IsTower, IsFault};
 ghost use Rattle.tower_codec.specs.Steps.{Gives};
@@ -178,5 +178,17 @@ impl<'a> TowerView<'a> {
         } else {
             None
         }
+    }
+
+    /// The first floor, and the tower of those behind it.
+    pub fn split_first(&self) -> Option<(FloorView<'a>, TowerView<'a>)>
+        ensures { MatchOption result (self.now ≡ []) (λ r. self.now ≡ floor_of r.0 ∷ r.1) }
+    {
+        if self.count == 0 {
+            return None;
+        }
+        let (floor, body) = take_floor(self.body);
+        let count = self.count - 1;
+        Some((floor, TowerView { count, body }))
     }
 }

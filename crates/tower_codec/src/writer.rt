@@ -99,6 +99,15 @@ impl TowerWriter {
         Ok(())
     }
 
+    /// Takes all floors off. The memory is kept for the next ones.
+    pub fn clear(&mut self)
+        ensures { self.new ≡ [] }
+    {
+        self.octets.truncate(2);
+        self.count = 0;
+        write_count(&mut self.octets, 0);
+    }
+
     /// The octets of the tower of the floors so far.
     pub fn octets(&self) -> &[u8]
         ensures tower { IsTower self.now result.now }
