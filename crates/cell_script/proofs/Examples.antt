@@ -1,0 +1,139 @@
+-- The definitions at single words, lines and answers, by computing.
+use Rattle.std.proofs.Common.{◌≡◌, true, [], ◌∷◌, ◌++◌, refl, List, ℕ}
+use Rattle.std.specs.Prelude.{Some, None, Ok, Err, Result, Option, codes}
+use Rattle.std.specs.Fmt.{digits}
+use Rattle.hex.specs.Hex.{decode_pairs, encode_with}
+use Rattle.cell_script.specs.declared.command.ScriptLine.{ScriptLine}
+use Rattle.cell_script.specs.declared.command.ScriptLine.TheVariants as line
+use Rattle.cell_script.specs.declared.command.Command.TheVariants as command
+use Rattle.cell_script.specs.declared.command.Question.TheVariants as question
+use Rattle.cell_script.specs.declared.answer.Answer.TheVariants as answer
+use Rattle.cell_script.specs.declared.answer.ScriptRefusal.TheVariants as why
+use Rattle.cell_script.specs.declared.fault.ParseFault.{ParseFault}
+use Rattle.cell_script.specs.declared.fault.ParseFault.TheVariants.{UnknownCommand, WrongCount, BadWord, NotBuilt}
+use Rattle.cell_script.specs.Words.{words_of, number_of, number_to}
+use Rattle.cell_script.specs.Forms.{counted, taken}
+use Rattle.cell_script.specs.Commands.{said_in, said_by, is_later}
+use Rattle.cell_script.specs.Texts.{answer_text, line_text, parse_fault_text}
+
+-- ---- words
+
+apart : words_of (codes "  root   1 ") ≡ codes "root" ∷ codes "1" ∷ []
+apart = refl
+
+zero : number_of (codes "0") ≡ Some 0
+unfolding number_of
+zero = refl
+
+leading_zero : number_of (codes "01") ≡ None
+unfolding number_of
+leading_zero = refl
+
+greatest : number_of (codes "18446744073709551615") ≡ Some 18446744073709551615
+unfolding number_of
+greatest = refl
+
+too_great : number_of (codes "18446744073709551616") ≡ None
+unfolding number_of
+too_great = refl
+
+no_house : number_to 255 (codes "256") ≡ None
+unfolding number_of
+no_house = refl
+
+-- ---- lines
+
+abbrev Said : Type 0
+Said = Result (Option ScriptLine) ParseFault
+
+abbrev says : List ℕ → Said
+says octets = said_in (words_of octets)
+
+blank : says (codes "   ") ≡ Ok None
+blank = refl
+
+comment : says (codes " # root 1") ≡ Ok None
+comment = refl
+
+unknown : says (codes "hous 1") ≡ Err (UnknownCommand 1)
+unfolding said_by is_later
+unknown = refl
+
+later : says (codes "skulk") ≡ Err (NotBuilt 1)
+unfolding said_by is_later
+later = refl
+
+-- the count is that of all words, and comes before what they say
+too_few : says (codes "clock 0") ≡ Err (WrongCount 2)
+unfolding said_by counted
+too_few = refl
+
+-- the first bad word from the left
+bad_words : says (codes "clock 0 x") ≡ Err (BadWord 2)
+unfolding said_by counted taken number_of
+bad_words = refl
+
+bad_house : says (codes "root 1 0") ≡ Err (BadWord 3)
+unfolding said_by counted taken number_of
+bad_house = refl
+
+other_house : says (codes "root 2 1") ≡ Err (NotBuilt 3)
+unfolding said_by counted taken number_of
+other_house = refl
+
+root_is : says (codes "root 2") ≡ Ok (Some (line.Cell (command.Root (record { 0 = 2 }) [])))
+unfolding said_by counted taken number_of
+root_is = refl
+
+repoint_is : says (codes "repoint 1 2 s 3 4 5") ≡ Ok (Some (line.Cell (command.Repoint (record { 0 = 1 }) (record { 0 = 2 }) (codes "s") (record { 0 = 3 }) (record { 0 = 4 } ∷ record { 0 = 5 } ∷ []))))
+unfolding said_by counted taken number_of
+repoint_is = refl
+
+house_is : says (codes "house 1 00000000000a") ≡ Ok (Some (line.Cell (command.House (record { 0 = 1 }) 10)))
+unfolding said_by counted taken number_of decode_pairs
+house_is = refl
+
+add_is : says (codes "add 1 1 lpr A 5072") ≡ Ok (Some (line.Cell (command.Add (record { 0 = 1 }) (record { 0 = 1 }) (codes "lpr") (codes "A") (80 ∷ 114 ∷ []))))
+unfolding said_by counted taken number_of decode_pairs
+add_is = refl
+
+link_is : says (codes "link 1 1 up /.:") ≡ Ok (Some (line.Cell (command.Link (record { 0 = 1 }) (record { 0 = 1 }) (codes "up") [])))
+unfolding said_by counted taken number_of
+link_is = refl
+
+read_is : says (codes "read 1 high /.:/sub/lpr A") ≡ Ok (Some (line.Question (question.Read (record { 0 = 1 }) true (codes "sub" ∷ codes "lpr" ∷ []) (codes "A"))))
+unfolding said_by counted taken number_of
+read_is = refl
+
+-- ---- texts
+
+posted : answer_text (answer.Posted (1 ∷ 2 ∷ [])) ≡ codes "ok posted 1 2"
+unfolding digits
+posted = refl
+
+made : answer_text (answer.Made (record { 0 = 2 }) (record { time = 100; node = 10 }) (7 ∷ [])) ≡ codes "ok 2 100@00000000000a posted 7"
+unfolding digits encode_with
+made = refl
+
+shown : answer_text (answer.Values ((80 ∷ 114 ∷ []) ∷ (0 ∷ []) ∷ [])) ≡ codes "ok 2 5072 00"
+unfolding digits encode_with
+shown = refl
+
+target : answer_text (answer.Target (codes "sub" ∷ codes "lpr" ∷ [])) ≡ codes "ok /.:/sub/lpr"
+target = refl
+
+refused : answer_text (answer.Refused (why.NoSuchName 1)) ≡ codes "refused NoSuchName 1"
+unfolding digits
+refused = refl
+
+spent : answer_text (answer.Refused (why.StampsSpent (Some 2) (5 ∷ []))) ≡ codes "refused StampsSpent 2 posted 5"
+unfolding digits
+spent = refl
+
+a_line : line_text 12 (codes "ok") ≡ codes "12 ok" ++ 10 ∷ []
+unfolding digits
+a_line = refl
+
+a_fault : parse_fault_text 3 (BadWord 2) ≡ codes "3 fault BadWord 2" ++ 10 ∷ []
+unfolding digits
+a_fault = refl

@@ -1,0 +1,140 @@
+-- The forms of words, and how a line is read word by word (own).
+use Rattle.std.specs.Prelude.{◌≡◌, ℕ, ◌+◌, Bool, true, false, nat_le, ◌==◌, if◌then◌else◌, List, [], ◌∷◌, length, Some, None, Option, Ok, Err, Result}
+use Rattle.cds_stamps.specs.declared.numbers.HouseNo.{HouseNo}
+use Rattle.cds_stamps.specs.declared.numbers.DirId.{DirId}
+use Rattle.cds_stamps.specs.declared.alloc_or.AllocOr.{AllocOr}
+use Rattle.cds_stamps.specs.declared.alloc_or.AllocOr.TheVariants.{Fault, OutOfMemory}
+use Rattle.cell_script.specs.declared.fault.ParseFault.{ParseFault}
+use Rattle.cell_script.specs.declared.fault.ParseFault.TheVariants.{WrongCount, BadWord, NotBuilt}
+use Rattle.cell_script.specs.Words.{number_of, house_of, directory_of, node_of, simple_name_of, full_name_of, attr_name_of, octets_value_of, confidence_of}
+
+-- the forms of words; the last two stand for any number of words (own)
+pub data Form : Type 0 where
+  House : Form
+  Directory : Form
+  Time : Form
+  Node : Form
+  SimpleName : Form
+  FullName : Form
+  AttrName : Form
+  Value : Form
+  Confidence : Form
+  Houses : Form
+  -- the same, as long as commands with such words are not built
+  NoHouses : Form
+
+-- what words of a form say (own)
+abbrev pub Said : Form → Type 0
+Said House = HouseNo
+Said Directory = DirId
+Said Time = ℕ
+Said Node = ℕ
+Said SimpleName = List ℕ
+Said FullName = List (List ℕ)
+Said AttrName = List ℕ
+Said Value = List ℕ
+Said Confidence = Bool
+Said Houses = List HouseNo
+Said NoHouses = List HouseNo
+
+-- the words of a line that are still to be read, and how many were read before them (own)
+pub record Words : Type 0 where
+  pub read : ℕ
+  pub rest : List (List ℕ)
+
+-- a step of a line, and then the next one (own)
+infixl 10 ◌>>=◌
+abbrev pub ◌>>=◌ : {A B : Type 0} → Result A ParseFault → (A → Result B ParseFault) → Result B ParseFault
+Ok x >>= f = f x
+Err e >>= f = Err e
+
+-- the word of this number has to say something (own)
+abbrev pub said_at : {A : Type 0} → ℕ → Option A → Result A ParseFault
+said_at number None = Err (BadWord number)
+said_at number (Some x) = Ok x
+
+-- the next word, and those behind it; so many were read before (own)
+abbrev pub next_word : {A : Type 0} → (List ℕ → Option A) → ℕ → List (List ℕ) → Result (A × Words) ParseFault
+next_word says read [] = Err (WrongCount read)
+next_word says read (w ∷ ws) = do
+  x ← said_at (read + 1) (says w)
+  Ok (x, record { read = read + 1; rest = ws })
+
+-- houses, a word each, as many as there are (own)
+abbrev pub houses_in : ℕ → List (List ℕ) → Result (List HouseNo) ParseFault
+houses_in read [] = Ok []
+houses_in read (w ∷ ws) = do
+  h ← said_at (read + 1) (house_of w)
+  hs ← houses_in (read + 1) ws
+  Ok (h ∷ hs)
+
+abbrev pub all_houses : ℕ → List (List ℕ) → Result (List HouseNo × Words) ParseFault
+all_houses read ws = do
+  hs ← houses_in read ws
+  Ok (hs, record { read = read + length ws; rest = [] })
+
+-- the same where no such word is built: the first is at fault either way (own)
+abbrev pub no_houses : ℕ → List (List ℕ) → Result (List HouseNo × Words) ParseFault
+no_houses read [] = Ok ([], record { read = read; rest = [] })
+no_houses read (w ∷ ws) = do
+  h ← said_at (read + 1) (house_of w)
+  Err (NotBuilt (read + 1))
+
+-- the words of a form, and those behind them (own)
+unfoldable pub taken : (f : Form) → Words → Result (Said f × Words) ParseFault
+taken House s = next_word house_of s.read s.rest
+taken Directory s = next_word directory_of s.read s.rest
+taken Time s = next_word number_of s.read s.rest
+taken Node s = next_word node_of s.read s.rest
+taken SimpleName s = next_word simple_name_of s.read s.rest
+taken FullName s = next_word full_name_of s.read s.rest
+taken AttrName s = next_word attr_name_of s.read s.rest
+taken Value s = next_word octets_value_of s.read s.rest
+taken Confidence s = next_word confidence_of s.read s.rest
+taken Houses s = all_houses s.read s.rest
+taken NoHouses s = no_houses s.read s.rest
+
+-- ---- lines of several forms
+
+-- how many words these forms stand for at least, and whether for more of them too (own)
+abbrev pub least_of : List Form → ℕ
+least_of [] = 0
+least_of (Houses ∷ fs) = least_of fs
+least_of (NoHouses ∷ fs) = least_of fs
+least_of (f ∷ fs) = least_of fs + 1
+
+abbrev pub is_open : List Form → Bool
+is_open [] = false
+is_open (Houses ∷ fs) = true
+is_open (NoHouses ∷ fs) = true
+is_open (f ∷ fs) = is_open fs
+
+-- there are as many words as wanted, or at least so many (own)
+unfoldable pub counted : Bool → ℕ → Words → Result (Unit {0}) ParseFault
+counted more least s =
+    if (if more then nat_le least (length s.rest) else length s.rest == least) then Ok tt else Err (WrongCount (s.read + length s.rest))
+
+-- what builds an A of what words of these forms say (own)
+abbrev pub Builds : List Form → Type 0 → Type 0
+Builds [] A = A
+Builds (f ∷ fs) A = Said f → Builds fs A
+
+-- the same, with a last step (own)
+abbrev pub followed_by : {A B : Type 0} → (A → B) → (fs : List Form) → Builds fs A → Builds fs B
+followed_by last [] a = last a
+followed_by last (f ∷ fs) build = λ x. followed_by last fs (build x)
+
+-- from left to right, each form says something, or the first word at fault is told (own)
+abbrev pub built : {A : Type 0} → (fs : List Form) → Builds fs A → Words → Result A ParseFault
+built [] a s = Ok a
+built (f ∷ fs) build s = taken f s >>= λ t. built fs (build t.0) t.1
+
+-- the number of words comes first (own)
+abbrev pub read_as : {A : Type 0} → (fs : List Form) → Builds fs A → Words → Result A ParseFault
+read_as fs build s = counted (is_open fs) (least_of fs) s >>= λ _. built fs build s
+
+-- what reading some words answered, and the words it left, are these, or there was no memory (own)
+abbrev pub Takes : {A : Type 0} → Result A (AllocOr ParseFault) → Words → Result (A × Words) ParseFault → Type 0
+Takes (Ok x) left expected = expected ≡ Ok (x, left)
+Takes (Err (Fault fault)) left expected = expected ≡ Err fault
+Takes (Err OutOfMemory) left expected = Unit {0}

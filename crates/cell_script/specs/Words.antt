@@ -1,0 +1,75 @@
+-- The words of a script line, and what a single word says (own).
+use Rattle.std.specs.Prelude.{ℕ, ◌+◌, ◌-◌, ◌*◌, ◌^◌, Bool, true, false, not, ◌&&◌, nat_lt, nat_le, ◌==◌, if◌then◌else◌, List, [], ◌∷◌, length, filter, Some, None, Option, codes}
+use Rattle.std.specs.List.{list_all, slice_split}
+use Rattle.std.specs.Str.{bytes_eq}
+use Rattle.std.specs.Option.{option_and_then, option_map}
+use Rattle.std.specs.Result.{result_ok}
+use Rattle.std.specs.Char.{is_ascii_digit}
+use Rattle.std.specs.Int.{from_be_bytes, w64}
+use Rattle.hex.specs.Hex.{decode_of, decode_sized}
+use Rattle.cds_stamps.specs.declared.numbers.HouseNo.{HouseNo}
+use Rattle.cds_stamps.specs.declared.numbers.DirId.{DirId}
+use Rattle.cds_stamps.specs.Names.{simple_name_fault, attr_fault}
+use Rattle.cds_stamps.specs.Outcomes.{ok_unless}
+use Rattle.cell_names.specs.FullNames.{name_fault, components_of}
+use Rattle.attr_sets.specs.Values.{value_fault}
+
+-- the words of a line, between its spaces (own)
+abbrev pub words_of : List ℕ → List (List ℕ)
+words_of line = filter (λ w. not (length w == 0)) (slice_split (λ b. b == 32) line)
+
+-- ---- numbers
+
+-- what decimal digits say, the first counting most (own)
+abbrev pub value_of : List ℕ → ℕ
+value_of [] = 0
+value_of (c ∷ cs) = (c - 48) * 10 ^ length cs + value_of cs
+
+-- decimal digits, without a leading zero (own)
+abbrev pub is_decimal : List ℕ → Bool
+is_decimal [] = false
+is_decimal (c ∷ []) = is_ascii_digit c
+is_decimal (c ∷ d ∷ cs) = not (c == 48) && list_all is_ascii_digit (c ∷ d ∷ cs)
+
+-- a decimal number of 64 bits (own)
+unfoldable pub number_of : List ℕ → Option ℕ
+number_of w = if is_decimal w && nat_lt (value_of w) 18446744073709551616 then Some (value_of w) else None
+
+-- a number from 1 to this most (own)
+abbrev pub number_to : ℕ → List ℕ → Option ℕ
+number_to most w = option_and_then (λ n. if nat_le 1 n && nat_le n most then Some n else None) (number_of w)
+
+-- ---- what a word of each form says
+
+-- the number of a house, 1 to 255 (own)
+abbrev pub house_of : List ℕ → Option HouseNo
+house_of w = option_map (λ n. record { 0 = n }) (number_to 255 w)
+
+-- the number of a directory, 1 to 4,294,967,295 (own)
+abbrev pub directory_of : List ℕ → Option DirId
+directory_of w = option_map (λ n. record { 0 = n }) (number_to 4294967295 w)
+
+-- a node of 48 bits, in twelve hexadecimal digits of either case (own)
+abbrev pub node_of : List ℕ → Option ℕ
+node_of w = option_map (λ octets. from_be_bytes w64 (0 ∷ 0 ∷ octets)) (result_ok (decode_sized w 6))
+
+-- names: a simple one, a full one by its components, and that of an attribute (C705, CDS names)
+abbrev pub simple_name_of : List ℕ → Option (List ℕ)
+simple_name_of w = result_ok (ok_unless (simple_name_fault w) w)
+
+abbrev pub full_name_of : List ℕ → Option (List (List ℕ))
+full_name_of w = result_ok (ok_unless (name_fault w) (components_of w))
+
+abbrev pub attr_name_of : List ℕ → Option (List ℕ)
+attr_name_of w = result_ok (ok_unless (attr_fault w) w)
+
+-- a value of 1 to 1,024 octets, in hexadecimal digits of either case (own)
+abbrev pub value_in : List ℕ → Option (List ℕ)
+value_in octets = result_ok (ok_unless (value_fault octets) octets)
+
+abbrev pub octets_value_of : List ℕ → Option (List ℕ)
+octets_value_of w = option_and_then value_in (result_ok (decode_of w))
+
+-- how much the answer of a replica is trusted: `high` is true (C705, confidence of a clerk's lookups)
+abbrev pub confidence_of : List ℕ → Option Bool
+confidence_of w = if bytes_eq w (codes "low") then Some false else (if bytes_eq w (codes "high") then Some true else None)

@@ -1,0 +1,50 @@
+// What the cell answers to a line.
+use crate::lists::{Serials, Values};
+use cds_stamps::{DirId, Stamp};
+use cell_names::FullName;
+
+/// What the cell answers to a line.
+#[derive(Debug, Drop)]
+pub enum Answer {
+    /// Nothing but that it is done.
+    Done,
+    /// The messages that were posted.
+    Posted(Serials),
+    /// A new directory, the stamp of its entry, and the messages that were posted.
+    Made(DirId, Stamp, Serials),
+    /// The stamp of an update, and the messages that were posted.
+    Stamped(Stamp, Serials),
+    /// The values that show, in ascending order.
+    Values(Values),
+    /// The name that a link leads to.
+    Target(FullName),
+    Refused(ScriptRefusal),
+}
+
+/// Why a command is refused.
+#[derive(Debug, Drop)]
+pub enum ScriptRefusal {
+    HouseExists,
+    NoHouse,
+    NoDirectory,
+    DirectoryExists,
+    BadMembers,
+    Down,
+    NoReplica,
+    NotMaster,
+    NoSuchEntry,
+    EntryExists,
+    WrongKind,
+    /// Of a command that makes several updates: how many were accepted before, and the messages that they posted.
+    StampsSpent(Option<u64>, Serials),
+    /// How many components of the name were found.
+    NoSuchName(u32),
+    /// The number of the component that is no directory.
+    NotDirectory(u32),
+    Unreachable(DirId),
+    LinkCycle,
+    TooManyLinks,
+    NameTooLong,
+    RootName,
+    NotLink,
+}

@@ -1,0 +1,37 @@
+// The commands of a script.
+use crate::lists::HouseNos;
+use attr_sets::Value;
+use cds_stamps::{AttrName, DirId, HouseNo, Node, SimpleName};
+use cell_names::FullName;
+
+/// A command that is a step of the cell. Its fields stand in the order of its words, and all further houses of a
+/// replica set are one list.
+#[derive(Debug, Drop)]
+pub enum Command {
+    House(HouseNo, Node),
+    Clock(HouseNo, u64),
+    Root(HouseNo, HouseNos),
+    Mkdir(HouseNo, DirId, SimpleName, HouseNo, HouseNos),
+    Repoint(HouseNo, DirId, SimpleName, HouseNo, HouseNos),
+    Create(HouseNo, DirId, SimpleName),
+    Link(HouseNo, DirId, SimpleName, FullName),
+    Delete(HouseNo, DirId, SimpleName),
+    Add(HouseNo, DirId, SimpleName, AttrName, Value),
+    Remove(HouseNo, DirId, SimpleName, AttrName, Value),
+    Put(HouseNo, DirId, SimpleName, AttrName, Value),
+    Clear(HouseNo, DirId, SimpleName, AttrName),
+}
+
+/// A command that asks and changes nothing. The `bool` is the confidence, true for high.
+#[derive(Debug, Drop)]
+pub enum Question {
+    Read(HouseNo, bool, FullName, AttrName),
+    Readlink(HouseNo, bool, FullName),
+}
+
+/// What a line says.
+#[derive(Debug, Drop)]
+pub enum ScriptLine {
+    Cell(Command),
+    Question(Question),
+}

@@ -1,0 +1,21 @@
+//! Scripts over a cell: lines to commands, and answers to text.
+#![tactic(auto)]
+
+mod answer;
+mod command;
+mod commands;
+mod fault;
+mod lists;
+mod parse;
+mod print;
+#[cfg(test)]
+mod tests;
+mod word;
+mod words;
+
+pub use answer::{Answer, ScriptRefusal};
+pub use command::{Command, Question, ScriptLine};
+pub use fault::ParseFault;
+pub use lists::{HouseNos, Serials, Values};
+pub use parse::parse_line;
+pub use print::{print_answer, print_fault, print_parse_fault};

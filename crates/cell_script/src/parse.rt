@@ -1,0 +1,101 @@
+// Lines to commands.
+ghost use Rattle.std.specs.Prelude.{◌≡◌, ◌∷◌, Ok, None};
+ghost use Rattle.cds_stamps.specs.Outcomes.{Answers};
+ghost use Rattle.cell_script.specs.Words.{words_of};
+ghost use Rattle.cell_script.specs.Commands.{is_later, said_by, said_in};
+
+use crate::command::ScriptLine;
+use crate::commands;
+use crate::fault::ParseFault;
+use crate::words::{Parsed, Words};
+use cds_stamps::AllocOr;
+use std::alloc::Global;
+
+// The commands that are not built yet.
+const LATER: &[u8] =
+    b"epoch skulk deliver lose crash start export unexport groupadd groupdel profadd profdel import dump octets decode";
+
+fn comes_later(word: &[u8]) -> bool
+    ensures { result ≡ is_later word.now }
+{
+    LATER.split(|b| *b == b' ').any(|later| later == word)
+}
+
+// What the words behind the first one say.
+#[tactic(auto, unfolding(crate::specs::Commands::said_by))]
+fn said(alloc: Global, word: &[u8], words: &mut Words<'_>) -> Parsed<ScriptLine>
+    ensures { Answers result (said_by word.now words.old) }
+{
+    if word == b"house".as_slice() {
+        return commands::house(words);
+    }
+    if word == b"clock".as_slice() {
+        return commands::clock(words);
+    }
+    if word == b"root".as_slice() {
+        return commands::root(alloc, words);
+    }
+    if word == b"mkdir".as_slice() {
+        return commands::mkdir(alloc, words);
+    }
+    if word == b"repoint".as_slice() {
+        return commands::repoint(alloc, words);
+    }
+    if word == b"create".as_slice() {
+        return commands::create(alloc, words);
+    }
+    if word == b"link".as_slice() {
+        return commands::link(alloc, words);
+    }
+    if word == b"delete".as_slice() {
+        return commands::delete(alloc, words);
+    }
+    if word == b"add".as_slice() {
+        return commands::add(alloc, words);
+    }
+    if word == b"remove".as_slice() {
+        return commands::remove(alloc, words);
+    }
+    if word == b"put".as_slice() {
+        return commands::put(alloc, words);
+    }
+    if word == b"clear".as_slice() {
+        return commands::clear(alloc, words);
+    }
+    if word == b"read".as_slice() {
+        return commands::read(alloc, words);
+    }
+    if word == b"readlink".as_slice() {
+        return commands::readlink(alloc, words);
+    }
+    if comes_later(word) {
+        return Err(AllocOr::Fault(ParseFault::NotBuilt(1)));
+    }
+    Err(AllocOr::Fault(ParseFault::UnknownCommand(1)))
+}
+
+/// What a line says: a command, or nothing where it has no words or is a comment, which takes no memory. A fault tells the first word of no
+/// command; or else that there are too few or too many words; or else the first word that is not of its form.
+pub fn parse_line(alloc: Global, line: &[u8]) -> Result<Option<ScriptLine>, AllocOr<ParseFault>>
+    ensures answer { Answers result (said_in (words_of line.now)) }
+    ensures passed_over { said_in (words_of line.now) ≡ Ok None → result ≡ Ok None }
+{
+    let mut words = Words::of(line);
+    match words.next() {
+        None => Ok(None),
+        Some(word) => said_behind(alloc, word, &mut words),
+    }
+}
+
+// What a line of this first word says.
+#[tactic(auto, using(crate::proofs::Reading::some_line_says))]
+fn said_behind(alloc: Global, word: &[u8], words: &mut Words<'_>) -> Parsed<Option<ScriptLine>>
+    requires { words.old.read ≡ 1 }
+    ensures answer { Answers result (said_in (word.now ∷ words.old.rest)) }
+    ensures passed_over { said_in (word.now ∷ words.old.rest) ≡ Ok None → result ≡ Ok None }
+{
+    if word.starts_with(b"#") {
+        return Ok(None);
+    }
+    Ok(Some(said(alloc, word, words)?))
+}

@@ -1,0 +1,218 @@
+// Answers and faults to text.
+ghost use Rattle.std.specs.Prelude.{◌≡◌, ◌++◌, ◌∷◌, IfOk, OnOk, codes, decimal};
+ghost use Rattle.hex.specs.Hex.{encode_lower};
+ghost use Rattle.cell_names.specs.FullNames.{spelling};
+ghost use Rattle.cell_script.specs.Texts.{line_text, spaced, stamp_text, posted_text, values_text, accepted_text, refusal_name, refusal_numbers, answer_text, fault_text, parse_fault_text};
+
+use crate::answer::{Answer, ScriptRefusal};
+use crate::fault::ParseFault;
+use attr_sets::Value;
+use cds_stamps::Stamp;
+use itoa::Buffer;
+use std::alloc::{AllocError, Global};
+
+// Room for the line of an answer with few numbers.
+const USUAL_LINE: usize = 80;
+
+// A number, in decimal digits.
+fn push_number(line: &mut Vec<u8>, number: u64) -> Result<(), AllocError>
+    ensures { OnOk result (line.new.items ≡ line.old.items ++ decimal number) }
+{
+    let mut digits = Buffer::new();
+    line.extend_from_slice(digits.format(number).as_bytes())
+}
+
+// The same behind a space.
+fn push_spaced(line: &mut Vec<u8>, number: u64) -> Result<(), AllocError>
+    ensures { OnOk result (line.new.items ≡ line.old.items ++ 32 ∷ decimal number) }
+{
+    line.push(b' ')?;
+    push_number(line, number)
+}
+
+// Octets, each in two hexadecimal digits.
+fn push_hex(line: &mut Vec<u8>, octets: &[u8]) -> Result<(), AllocError>
+    ensures { OnOk result (line.new.items ≡ line.old.items ++ encode_lower octets.now) }
+{
+    let start = line.len();
+    let end = start.checked_add(2 * octets.len()).ok_or(AllocError)?;
+    line.resize(end, 0)?;
+    match hex::encode_to_slice(octets, &mut line[start..]) {
+        Ok(()) => Ok(()),
+        Err(_) => unreachable!(),
+    }
+}
+
+// A stamp: its time, `@` and its node.
+fn push_stamp(line: &mut Vec<u8>, stamp: &Stamp) -> Result<(), AllocError>
+    ensures { OnOk result (line.new.items ≡ line.old.items ++ stamp_text stamp.now) }
+{
+    push_number(line, stamp.time)?;
+    line.push(b'@')?;
+    push_hex(line, &stamp.node.number().to_be_bytes()[2..])
+}
+
+// The serial numbers of the messages that were posted, if any.
+fn push_posted(line: &mut Vec<u8>, serials: &[u64]) -> Result<(), AllocError>
+    ensures { OnOk result (line.new.items ≡ line.old.items ++ posted_text serials.now) }
+{
+    if serials.is_empty() {
+        return Ok(());
+    }
+    line.extend_from_slice(b" posted")?;
+    for serial in serials {
+        push_spaced(line, *serial)?;
+    }
+    Ok(())
+}
+
+// How many values, and each in hexadecimal digits.
+fn push_values(line: &mut Vec<u8>, values: &[Value]) -> Result<(), AllocError>
+    ensures { OnOk result (line.new.items ≡ line.old.items ++ values_text values.now) }
+{
+    push_number(line, values.len() as u64)?;
+    for value in values {
+        line.push(b' ')?;
+        push_hex(line, value.octets())?;
+    }
+    Ok(())
+}
+
+// The name of a refusal.
+fn name_of(refusal: &ScriptRefusal) -> &'static [u8]
+    ensures { result.now ≡ refusal_name refusal.now }
+{
+    match refusal {
+        ScriptRefusal::HouseExists => b"HouseExists",
+        ScriptRefusal::NoHouse => b"NoHouse",
+        ScriptRefusal::NoDirectory => b"NoDirectory",
+        ScriptRefusal::DirectoryExists => b"DirectoryExists",
+        ScriptRefusal::BadMembers => b"BadMembers",
+        ScriptRefusal::Down => b"Down",
+        ScriptRefusal::NoReplica => b"NoReplica",
+        ScriptRefusal::NotMaster => b"NotMaster",
+        ScriptRefusal::NoSuchEntry => b"NoSuchEntry",
+        ScriptRefusal::EntryExists => b"EntryExists",
+        ScriptRefusal::WrongKind => b"WrongKind",
+        ScriptRefusal::StampsSpent(_, _) => b"StampsSpent",
+        ScriptRefusal::NoSuchName(_) => b"NoSuchName",
+        ScriptRefusal::NotDirectory(_) => b"NotDirectory",
+        ScriptRefusal::Unreachable(_) => b"Unreachable",
+        ScriptRefusal::LinkCycle => b"LinkCycle",
+        ScriptRefusal::TooManyLinks => b"TooManyLinks",
+        ScriptRefusal::NameTooLong => b"NameTooLong",
+        ScriptRefusal::RootName => b"RootName",
+        ScriptRefusal::NotLink => b"NotLink",
+    }
+}
+
+// The numbers of a refusal.
+fn push_numbers(line: &mut Vec<u8>, refusal: &ScriptRefusal) -> Result<(), AllocError>
+    ensures { OnOk result (line.new.items ≡ line.old.items ++ refusal_numbers refusal.now) }
+{
+    match refusal {
+        ScriptRefusal::StampsSpent(accepted, serials) => {
+            push_accepted(line, *accepted)?;
+            push_posted(line, serials.list())
+        }
+        ScriptRefusal::NoSuchName(done) => push_spaced(line, u64::from(*done)),
+        ScriptRefusal::NotDirectory(number) => push_spaced(line, u64::from(*number)),
+        ScriptRefusal::Unreachable(dir) => push_spaced(line, u64::from(dir.0)),
+        _ => Ok(()),
+    }
+}
+
+// How many updates were accepted, if that is said.
+fn push_accepted(line: &mut Vec<u8>, accepted: Option<u64>) -> Result<(), AllocError>
+    ensures { OnOk result (line.new.items ≡ line.old.items ++ accepted_text accepted) }
+{
+    match accepted {
+        None => Ok(()),
+        Some(count) => push_spaced(line, count),
+    }
+}
+
+// What an answer says.
+fn push_answer(alloc: Global, line: &mut Vec<u8>, answer: &Answer) -> Result<(), AllocError>
+    ensures { OnOk result (line.new.items ≡ line.old.items ++ answer_text answer.now) }
+{
+    match answer {
+        Answer::Done => line.extend_from_slice(b"ok"),
+        Answer::Posted(serials) => {
+            line.extend_from_slice(b"ok")?;
+            push_posted(line, serials.list())
+        }
+        Answer::Made(dir, stamp, serials) => {
+            line.extend_from_slice(b"ok")?;
+            push_spaced(line, u64::from(dir.0))?;
+            line.push(b' ')?;
+            push_stamp(line, stamp)?;
+            push_posted(line, serials.list())
+        }
+        Answer::Stamped(stamp, serials) => {
+            line.extend_from_slice(b"ok ")?;
+            push_stamp(line, stamp)?;
+            push_posted(line, serials.list())
+        }
+        Answer::Values(values) => {
+            line.extend_from_slice(b"ok ")?;
+            push_values(line, values.list())
+        }
+        Answer::Target(name) => {
+            line.extend_from_slice(b"ok ")?;
+            line.extend_from_slice(&name.print(alloc)?)
+        }
+        Answer::Refused(refusal) => {
+            line.extend_from_slice(b"refused ")?;
+            line.extend_from_slice(name_of(refusal))?;
+            push_numbers(line, refusal)
+        }
+    }
+}
+
+/// The line of an answer.
+pub fn print_answer(alloc: Global, number: u32, answer: &Answer) -> Result<Vec<u8>, AllocError>
+    ensures { IfOk result (λ line. line.items ≡ line_text number (answer_text answer.now)) }
+{
+    let mut line = Vec::with_capacity(alloc, USUAL_LINE)?;
+    push_number(&mut line, u64::from(number))?;
+    line.push(b' ')?;
+    push_answer(alloc, &mut line, answer)?;
+    line.push(b'\n')?;
+    Ok(line)
+}
+
+/// The line of a fault: its name and its place.
+pub fn print_fault(
+    alloc: Global,
+    number: u32,
+    name: &str,
+    place: usize,
+) -> Result<Vec<u8>, AllocError>
+    ensures { IfOk result (λ line. line.items ≡ fault_text number name.now place) }
+{
+    let mut line = Vec::with_capacity(alloc, USUAL_LINE)?;
+    push_number(&mut line, u64::from(number))?;
+    line.extend_from_slice(b" fault ")?;
+    line.extend_from_slice(name.as_bytes())?;
+    line.push(b' ')?;
+    push_number(&mut line, place as u64)?;
+    line.push(b'\n')?;
+    Ok(line)
+}
+
+/// The line of a fault of words.
+pub fn print_parse_fault(
+    alloc: Global,
+    number: u32,
+    fault: ParseFault,
+) -> Result<Vec<u8>, AllocError>
+    ensures { IfOk result (λ line. line.items ≡ parse_fault_text number fault) }
+{
+    match fault {
+        ParseFault::UnknownCommand(word) => print_fault(alloc, number, "UnknownCommand", word),
+        ParseFault::WrongCount(words) => print_fault(alloc, number, "WrongCount", words),
+        ParseFault::BadWord(word) => print_fault(alloc, number, "BadWord", word),
+        ParseFault::NotBuilt(word) => print_fault(alloc, number, "NotBuilt", word),
+    }
+}

@@ -1,0 +1,133 @@
+// What a single word says.
+ghost use Rattle.std.specs.Prelude.{◌≡◌, ◌*◌, ◌∷◌, length, IfOk};
+ghost use Rattle.std.specs.Int.{from_be_bytes, w64};
+ghost use Rattle.cell_script.specs.Words.{number_of, number_to, house_of, directory_of, node_of, octets_value_of, confidence_of};
+
+use attr_sets::Value;
+use cds_stamps::{AllocOr, DirId, HouseNo, Node};
+use std::alloc::{AllocError, Global};
+
+const LOW: &[u8] = b"low";
+
+const HIGH: &[u8] = b"high";
+
+// The most digits of a value.
+const MOST_DIGITS: usize = 2048;
+
+/// A decimal number of 64 bits, with no sign and no leading zero.
+#[tactic(auto, unfolding(crate::specs::Words::number_of))]
+pub(crate) fn number(word: &[u8]) -> Option<u64>
+    ensures { result ≡ number_of word.now }
+{
+    if word.is_empty() || (word[0] == b'0' && word.len() > 1) {
+        return None;
+    }
+    let mut value: u64 = 0;
+    for b in word {
+        if !b.is_ascii_digit() {
+            return None;
+        }
+        let digit = u64::from(*b - b'0');
+        if value > u64::MAX / 10 || digit > u64::MAX - 10 * value {
+            return None;
+        }
+        value = 10 * value + digit;
+    }
+    Some(value)
+}
+
+// A number from 1 to this most.
+fn number_up_to(word: &[u8], most: u64) -> Option<u64>
+    ensures { result ≡ number_to most word.now }
+{
+    let value = number(word)?;
+    if 1 <= value && value <= most {
+        Some(value)
+    } else {
+        None
+    }
+}
+
+/// The number of a house.
+pub(crate) fn house(word: &[u8]) -> Option<HouseNo>
+    ensures { result ≡ house_of word.now }
+{
+    match number_up_to(word, 255) {
+        Some(number) => Some(HouseNo(number as u8)),
+        None => None,
+    }
+}
+
+/// The number of a directory.
+pub(crate) fn directory(word: &[u8]) -> Option<DirId>
+    ensures { result ≡ directory_of word.now }
+{
+    match number_up_to(word, 4_294_967_295) {
+        Some(number) => Some(DirId(number as u32)),
+        None => None,
+    }
+}
+
+/// A node, in twelve hexadecimal digits.
+pub(crate) fn node(word: &[u8]) -> Option<Node>
+    ensures { result ≡ node_of word.now }
+{
+    let mut octets = [0; 6];
+    if hex::decode_to_slice(word, &mut octets).is_err() {
+        return None;
+    }
+    Some(node_in(&octets))
+}
+
+// The node whose number these octets are, the highest first.
+fn node_in(octets: &[u8]) -> Node
+    requires { length octets.now ≡ 6 }
+    ensures { result ≡ from_be_bytes w64 (0 ∷ 0 ∷ octets.now) }
+{
+    let [a, b, c, d, e, f] = octets else {
+        unreachable!()
+    };
+    match Node::new(u64::from_be_bytes([0, 0, *a, *b, *c, *d, *e, *f])) {
+        Some(node) => node,
+        None => unreachable!(),
+    }
+}
+
+/// How much the answer of a replica is trusted: true for `high`.
+pub(crate) fn confidence(word: &[u8]) -> Option<bool>
+    ensures { result ≡ confidence_of word.now }
+{
+    if word == LOW {
+        Some(false)
+    } else if word == HIGH {
+        Some(true)
+    } else {
+        None
+    }
+}
+
+/// A value, in hexadecimal digits.
+pub(crate) fn value(alloc: Global, word: &[u8]) -> Result<Option<Value>, AllocError>
+    ensures { IfOk result (λ v. v ≡ octets_value_of word.now) }
+{
+    if word.len() % 2 == 1 || word.len() > MOST_DIGITS {
+        return Ok(None);
+    }
+    let mut octets = [0; MOST_DIGITS / 2];
+    value_in(alloc, word, &mut octets[..word.len() / 2])
+}
+
+// The value of digits, which are decoded into this room.
+fn value_in(alloc: Global, word: &[u8], room: &mut [u8]) -> Result<Option<Value>, AllocError>
+    requires { length word.now ≡ 2 * length room.old }
+    ensures { IfOk result (λ v. v ≡ octets_value_of word.now) }
+{
+    if hex::decode_to_slice(word, room).is_err() {
+        return Ok(None);
+    }
+    match Value::new(alloc, room) {
+        Ok(value) => Ok(Some(value)),
+        Err(AllocOr::Fault(_)) => Ok(None),
+        Err(AllocOr::OutOfMemory) => Err(AllocError),
+    }
+}

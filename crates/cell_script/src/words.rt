@@ -1,0 +1,268 @@
+// The words of a line, read one after another.
+#![tactic(auto, unfolding(crate::specs::Forms::taken, crate::specs::Forms::counted))]
+
+ghost use Rattle.std.specs.Prelude.{◌≡◌, ◌≢◌, ◌+◌, ◌^◌, ◌<◌, ◌≤◌, ◌==◌, not, true, false, [], ◌∷◌, length, get_or, Result, Ok, IfOk, IfErr, IfSome, IfNone};
+ghost use Rattle.std.specs.Result.{result_ok};
+ghost use Rattle.std.specs.List.{prefix_len};
+ghost use Rattle.cds_stamps.specs.Outcomes.{Answers};
+ghost use Rattle.cds_stamps.specs.declared.alloc_or.AllocOr.TheVariants.{Fault};
+ghost use Rattle.cell_script.specs.declared.fault.ParseFault.TheVariants.{WrongCount};
+ghost use Rattle.cell_script.specs.Words.{words_of};
+ghost use Rattle.cell_script.specs.Forms as form;
+ghost use Rattle.cell_script.specs.Forms.{Takes, taken, counted, said_at};
+
+use crate::fault::ParseFault;
+use crate::lists::HouseNos;
+use crate::word;
+use attr_sets::Value;
+use cds_stamps::{AllocOr, AttrName, DirId, HouseNo, Node, SimpleName};
+use cell_names::FullName;
+use std::alloc::Global;
+use std::marker::Model;
+
+pub(crate) type Parsed<T> = Result<T, AllocOr<ParseFault>>;
+
+/// The words of a line that are still to be read.
+#[derive(Drop)]
+pub(crate) struct Words<'a> {
+    // How many words were read before them.
+    read: usize,
+    rest: &'a [u8],
+}
+
+impl<'a> Model for Words<'a> {
+    ghost use Rattle.std.specs.Prelude.{◌+◌, ◌<◌, ◌^◌, length};
+    ghost use Rattle.cell_script.specs.Words.{words_of};
+    ghost use Rattle.cell_script.specs.Forms.{Words as Words'};
+
+    ghost Value = { Words' };
+
+    ghost view = { λ v. record { read = v.read; rest = words_of v.rest.now } };
+
+    ghost invariant = { λ v. v.read + length v.rest.now < 2 ^ 64 };
+}
+
+// What stands behind the spaces at the front.
+fn skip_spaces(octets: &[u8]) -> &[u8]
+    ensures words { words_of result.now ≡ words_of octets.now }
+    ensures word { 0 < length result.now → get_or result.now 0 0 ≢ 32 }
+    ensures shorter { length result.now ≤ length octets.now }
+{
+    for (i, octet) in octets.iter().enumerate() {
+        if *octet != b' ' {
+            return &octets[i..];
+        }
+    }
+    &[]
+}
+
+// How many octets stand before the first space.
+fn word_len(octets: &[u8]) -> usize
+    ensures len { result ≡ prefix_len (λ b. not (b == 32)) octets.now }
+    ensures within { result ≤ length octets.now }
+{
+    for (i, octet) in octets.iter().enumerate() {
+        if *octet == b' ' {
+            return i;
+        }
+    }
+    octets.len()
+}
+
+impl<'a> Words<'a> {
+    /// The words of a line.
+    pub(crate) fn of(line: &'a [u8]) -> Words<'a>
+        ensures { result ≡ record { read = 0; rest = words_of line.now } }
+    {
+        Words {
+            read: 0,
+            rest: line,
+        }
+    }
+
+    /// The next word.
+    pub(crate) fn next(&mut self) -> Option<&'a [u8]>
+        ensures some { IfSome result (λ w. self.old.rest ≡ w.now ∷ self.new.rest) }
+        ensures read { IfSome result (λ w. self.new.read ≡ self.old.read + 1) }
+        ensures none { IfNone result (self.old.rest ≡ []) }
+        ensures same { IfNone result (self.new ≡ self.old) }
+    {
+        let rest = skip_spaces(self.rest);
+        let len = word_len(rest);
+        if len == 0 {
+            return None;
+        }
+        let (word, after) = rest.split_at(len);
+        self.rest = after;
+        self.read += 1;
+        Some(word)
+    }
+
+    // How many words there are.
+    fn count(&self) -> usize
+        ensures counted { result ≡ length self.now.rest }
+        ensures within { self.now.read + result < 2 ^ 64 }
+    {
+        let mut left = Words {
+            read: self.read,
+            rest: self.rest,
+        };
+        while left.next().is_some() {}
+        left.read - self.read
+    }
+
+    /// There have to be so many words.
+    pub(crate) fn exactly(&self, wanted: usize) -> Parsed<()>
+        ensures { Answers result (counted false wanted self.now) }
+    {
+        let count = self.count();
+        if count == wanted {
+            Ok(())
+        } else {
+            Err(AllocOr::Fault(ParseFault::WrongCount(self.read + count)))
+        }
+    }
+
+    /// There have to be so many words, or more.
+    pub(crate) fn at_least(&self, wanted: usize) -> Parsed<()>
+        ensures { Answers result (counted true wanted self.now) }
+    {
+        let count = self.count();
+        if count >= wanted {
+            Ok(())
+        } else {
+            Err(AllocOr::Fault(ParseFault::WrongCount(self.read + count)))
+        }
+    }
+
+    // The next word of a line that has to have one.
+    fn needed(&mut self) -> Parsed<&'a [u8]>
+        ensures word { IfOk result (λ w. self.old.rest ≡ w.now ∷ self.new.rest) }
+        ensures read { IfOk result (λ w. self.new.read ≡ self.old.read + 1) }
+        ensures none { IfErr result (λ e. e ≡ Fault (WrongCount self.old.read)) }
+        ensures ends { IfErr result (λ e. self.old.rest ≡ []) }
+    {
+        match self.next() {
+            Some(word) => Ok(word),
+            None => Err(AllocOr::Fault(ParseFault::WrongCount(self.read))),
+        }
+    }
+
+    // What the last word says; it has to say something.
+    fn said<T>(&self, value: Option<T>) -> Parsed<T>
+        ensures { Answers result (said_at self.now.read value) }
+    {
+        match value {
+            Some(value) => Ok(value),
+            None => Err(AllocOr::Fault(ParseFault::BadWord(self.read))),
+        }
+    }
+
+    // The same of a form whose values are kept in memory.
+    fn kept<T, E: Drop>(&self, value: Result<T, AllocOr<E>>) -> Parsed<T>
+        ensures { (expected : Result T E) → Answers value expected → Answers result (said_at self.now.read (result_ok expected)) }
+    {
+        match value {
+            Ok(value) => Ok(value),
+            Err(AllocOr::Fault(_)) => Err(AllocOr::Fault(ParseFault::BadWord(self.read))),
+            Err(AllocOr::OutOfMemory) => Err(AllocOr::OutOfMemory),
+        }
+    }
+
+    /// The number of a house, 1 to 255.
+    pub(crate) fn house(&mut self) -> Parsed<HouseNo>
+        ensures { Takes result self.new (taken form.House self.old) }
+    {
+        let word = self.needed()?;
+        self.said(word::house(word))
+    }
+
+    /// The number of a directory, 1 to 4,294,967,295.
+    pub(crate) fn directory(&mut self) -> Parsed<DirId>
+        ensures { Takes result self.new (taken form.Directory self.old) }
+    {
+        let word = self.needed()?;
+        self.said(word::directory(word))
+    }
+
+    /// A time.
+    pub(crate) fn time(&mut self) -> Parsed<u64>
+        ensures { Takes result self.new (taken form.Time self.old) }
+    {
+        let word = self.needed()?;
+        self.said(word::number(word))
+    }
+
+    /// A node, in twelve hexadecimal digits.
+    pub(crate) fn node(&mut self) -> Parsed<Node>
+        ensures { Takes result self.new (taken form.Node self.old) }
+    {
+        let word = self.needed()?;
+        self.said(word::node(word))
+    }
+
+    /// How much the answer of a replica is trusted: true for `high`.
+    pub(crate) fn confidence(&mut self) -> Parsed<bool>
+        ensures { Takes result self.new (taken form.Confidence self.old) }
+    {
+        let word = self.needed()?;
+        self.said(word::confidence(word))
+    }
+
+    /// A simple name.
+    pub(crate) fn simple_name(&mut self, alloc: Global) -> Parsed<SimpleName>
+        ensures { Takes result self.new (taken form.SimpleName self.old) }
+    {
+        let word = self.needed()?;
+        self.kept(SimpleName::parse(alloc, word))
+    }
+
+    /// A full name.
+    pub(crate) fn full_name(&mut self, alloc: Global) -> Parsed<FullName>
+        ensures { Takes result self.new (taken form.FullName self.old) }
+    {
+        let word = self.needed()?;
+        self.kept(FullName::parse(alloc, word))
+    }
+
+    /// The name of an attribute.
+    pub(crate) fn attr_name(&mut self, alloc: Global) -> Parsed<AttrName>
+        ensures { Takes result self.new (taken form.AttrName self.old) }
+    {
+        let word = self.needed()?;
+        self.kept(AttrName::parse(alloc, word))
+    }
+
+    /// A value, in hexadecimal digits.
+    pub(crate) fn value(&mut self, alloc: Global) -> Parsed<Value>
+        ensures { Takes result self.new (taken form.Value self.old) }
+    {
+        let word = self.needed()?;
+        let value = word::value(alloc, word)?;
+        self.said(value)
+    }
+
+    /// Numbers of houses, as many as there are words.
+    pub(crate) fn houses(&mut self, alloc: Global) -> Parsed<HouseNos>
+        ensures { Takes result self.new (taken form.Houses self.old) }
+    {
+        let mut houses = HouseNos::new(alloc);
+        while let Some(word) = self.next() {
+            houses.push(self.said(word::house(word))?)?;
+        }
+        Ok(houses)
+    }
+
+    /// No further house: one that is there is not built yet.
+    pub(crate) fn no_houses(&mut self, alloc: Global) -> Parsed<HouseNos>
+        ensures { Takes result self.new (taken form.NoHouses self.old) }
+    {
+        match self.next() {
+            None => Ok(HouseNos::new(alloc)),
+            Some(word) => {
+                self.said(word::house(word))?;
+                Err(AllocOr::Fault(ParseFault::NotBuilt(self.read)))
+            }
+        }
+    }
+}

@@ -1,0 +1,30 @@
+-- What a reader of a cell tells (own, after C705, clerks and clearinghouses).
+use Rattle.std.specs.Prelude.{ℕ, List, Option}
+use Rattle.cell_names.specs.ChildPointers.{Pointer, pointer_in}
+use Rattle.resolver.specs.declared.seen.Seen.{Seen}
+use Rattle.resolver.specs.declared.seen.Seen.TheVariants as seen
+use Rattle.resolver.specs.declared.seen.Found.{Found}
+
+-- what is seen of a name in a directory: none of its houses answers; the house that was asked shows no entry of this
+-- name; or it shows an object, a link to a full name, or a child (C705, object entries, soft links and child pointers)
+pub data Sight : Type 0 where
+  Unreachable : Sight
+  Absent : (house : ℕ) → Sight
+  Object : (house : ℕ) → Sight
+  Link : (house : ℕ) → (target : List (List ℕ)) → Sight
+  Child : (house : ℕ) → (child : Pointer) → Sight
+
+-- what a reader tells: where the root directory is, if there is one; what is seen of a simple name in a directory; and
+-- the values of an attribute that show of an entry, ascending (own)
+pub record Reader : Type 0 where
+  pub root : Option Pointer
+  pub sees : Pointer → List ℕ → Sight
+  pub values : Found → List ℕ → List (List ℕ)
+
+-- what is seen, as the program tells it (own)
+abbrev pub sight_of : Seen → Sight
+sight_of seen.Unreachable = Unreachable
+sight_of (seen.Absent house) = Absent house.0
+sight_of (seen.Object house) = Object house.0
+sight_of (seen.Link house target) = Link house.0 target
+sight_of (seen.Child house child) = Child house.0 (pointer_in child)

@@ -1,0 +1,17 @@
+//! Resolution: where a full name leads, over any reader of a cell.
+#![tactic(auto)]
+
+mod component;
+pub mod laws;
+mod reader;
+mod refusal;
+mod resolution;
+mod seen;
+#[cfg(test)]
+mod tests;
+mod walk;
+
+pub use reader::EntryReader;
+pub use refusal::Refusal;
+pub use resolution::{place, resolve};
+pub use seen::{Found, Place, Seen};

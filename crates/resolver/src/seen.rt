@@ -1,0 +1,35 @@
+// What a reader sees of a name, and where a name leads.
+
+use cds_stamps::{DirId, HouseNo, SimpleName};
+use cell_names::{ChildPointer, FullName};
+use directory::Kind;
+
+/// What is seen of a simple name in a directory: that no house of the directory answers, that the house which was asked
+/// shows no entry of this name, or what it shows.
+#[derive(Debug, Drop)]
+pub enum Seen {
+    Unreachable,
+    Absent(HouseNo),
+    Object(HouseNo),
+    Link(HouseNo, FullName),
+    Child(HouseNo, ChildPointer),
+}
+
+/// An entry: its directory, the house that showed it, its simple name and its kind.
+#[derive(Debug, Drop)]
+pub struct Found {
+    pub dir: DirId,
+    pub house: HouseNo,
+    pub name: SimpleName,
+    pub kind: Kind,
+}
+
+/// Where an entry of a simple name is, or could be: the directory, the house that was asked, and the kind of the entry
+/// that it shows, if it shows one.
+#[derive(Debug, Drop)]
+pub struct Place {
+    pub dir: DirId,
+    pub house: HouseNo,
+    pub name: SimpleName,
+    pub kind: Option<Kind>,
+}
