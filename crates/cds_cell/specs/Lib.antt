@@ -1,0 +1,5 @@
+pub mod Asking
+pub mod Readings
+pub mod Scripted
+pub mod Standing
+pub mod Telling

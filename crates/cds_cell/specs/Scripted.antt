@@ -1,0 +1,88 @@
+-- The commands and answers of the script, as steps and answers of a cell of the model (own).
+use Rattle.std.specs.Prelude.{◌≡◌, ℕ, List, [], map, None}
+use Rattle.cds_stamps.specs.declared.numbers.HouseNo.{HouseNo}
+use Rattle.directory.specs.declared.update.UpdateRefusal.{UpdateRefusal}
+use Rattle.directory.specs.declared.update.UpdateRefusal.TheVariants as update
+use Rattle.directory.specs.Updates as updates
+use Rattle.cell_model.specs.Commands as model
+use Rattle.cell_script.specs.declared.command.Command.{Command}
+use Rattle.cell_script.specs.declared.command.Command.TheVariants as command
+use Rattle.cell_script.specs.declared.answer.Answer.{Answer}
+use Rattle.cell_script.specs.declared.answer.Answer.TheVariants as answer
+use Rattle.cell_script.specs.declared.answer.ScriptRefusal.{ScriptRefusal}
+use Rattle.cell_script.specs.declared.answer.ScriptRefusal.TheVariants as why
+
+-- the numbers of houses (own)
+abbrev pub numbers : List HouseNo → List ℕ
+numbers hs = map (λ h. h.0) hs
+
+-- the step of the cell that a command is (own)
+abbrev pub step_of : Command → model.Command
+step_of (command.House h node) = model.House h.0 node
+step_of (command.Clock h time) = model.Clock h.0 time
+step_of (command.Root m rs) = model.Root m.0 (numbers rs)
+step_of (command.Mkdir h d n m rs) = model.Mkdir h.0 d.0 n m.0 (numbers rs)
+step_of (command.Repoint h d n m rs) = model.Repoint h.0 d.0 n m.0 (numbers rs)
+step_of (command.Create h d n) = model.Accept h.0 d.0 (updates.Create n)
+step_of (command.Link h d n target) = model.Accept h.0 d.0 (updates.MakeLink n target)
+step_of (command.Delete h d n) = model.Accept h.0 d.0 (updates.Delete n)
+step_of (command.Add h d n a v) = model.Accept h.0 d.0 (updates.Add n a v)
+step_of (command.Remove h d n a v) = model.Accept h.0 d.0 (updates.Remove n a v)
+step_of (command.Put h d n a v) = model.Accept h.0 d.0 (updates.Put n a v)
+step_of (command.Clear h d n a) = model.Accept h.0 d.0 (updates.Clear n a)
+
+-- why the script says that an update is refused (own)
+abbrev pub update_refusal_of : UpdateRefusal → ScriptRefusal
+update_refusal_of update.NoReplica = why.NoReplica
+update_refusal_of update.NotMaster = why.NotMaster
+update_refusal_of update.NoSuchEntry = why.NoSuchEntry
+update_refusal_of update.EntryExists = why.EntryExists
+update_refusal_of update.WrongKind = why.WrongKind
+update_refusal_of update.StampsSpent = why.StampsSpent None []
+
+-- why the script says that a command is refused. NotMember, Up, NoMessage and NotJoined belong to commands that are not
+-- built yet (own)
+abbrev pub refusal_of : model.Refusal → ScriptRefusal
+refusal_of model.HouseExists = why.HouseExists
+refusal_of model.NoHouse = why.NoHouse
+refusal_of model.NoDirectory = why.NoDirectory
+refusal_of model.DirectoryExists = why.DirectoryExists
+refusal_of model.BadMembers = why.BadMembers
+refusal_of model.Down = why.Down
+refusal_of (model.Update r) = update_refusal_of r
+refusal_of model.NotMember = why.NoReplica
+refusal_of model.Up = why.NoReplica
+refusal_of model.NoMessage = why.NoReplica
+refusal_of (model.NotJoined held since) = why.NoReplica
+
+-- the answer of the script to a command; the answers to messages, skulks and new epochs belong to commands that are not
+-- built yet (own)
+abbrev pub answer_of : model.Answer → Answer
+answer_of model.Done = answer.Done
+answer_of (model.Posted ns) = answer.Posted ns
+answer_of (model.Made d s ns) = answer.Made (record { 0 = d }) s ns
+answer_of (model.Stamped s ns) = answer.Stamped s ns
+answer_of (model.Refused r) = answer.Refused (refusal_of r)
+answer_of (model.NewEpoch e ns) = answer.Done
+answer_of (model.Taken ns) = answer.Done
+answer_of (model.Late k e) = answer.Done
+answer_of (model.Early k e) = answer.Done
+answer_of (model.Stale t r) = answer.Done
+answer_of model.NoReplica = answer.Done
+answer_of model.Foreign = answer.Done
+answer_of (model.Complete t ns) = answer.Done
+
+-- `root` and `mkdir` name the master alone: replicas at other houses are not built yet (own)
+abbrev pub NamesOneHouse : Command → Type 0
+NamesOneHouse (command.House h node) = Unit {0}
+NamesOneHouse (command.Clock h time) = Unit {0}
+NamesOneHouse (command.Root m rs) = rs ≡ []
+NamesOneHouse (command.Mkdir h d n m rs) = rs ≡ []
+NamesOneHouse (command.Repoint h d n m rs) = Unit {0}
+NamesOneHouse (command.Create h d n) = Unit {0}
+NamesOneHouse (command.Link h d n target) = Unit {0}
+NamesOneHouse (command.Delete h d n) = Unit {0}
+NamesOneHouse (command.Add h d n a v) = Unit {0}
+NamesOneHouse (command.Remove h d n a v) = Unit {0}
+NamesOneHouse (command.Put h d n a v) = Unit {0}
+NamesOneHouse (command.Clear h d n a) = Unit {0}

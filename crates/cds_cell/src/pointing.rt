@@ -1,0 +1,44 @@
+// The houses of a child pointer, as a command names them: in any order.
+ghost use Rattle.std.specs.Prelude.{◌≡◌, ◌∷◌, [], true, false, IfOk, MatchOption};
+ghost use Rattle.cell_model.specs.Steps.{ascending, is_bad_list};
+ghost use Rattle.cds_cell.specs.Scripted.{numbers};
+
+use cds_stamps::{AllocOr, HouseNo};
+use cell_names::HouseList;
+use std::alloc::{AllocError, Global};
+
+/// The houses of a directory that this one has alone.
+pub(crate) fn alone(alloc: Global, master: HouseNo) -> Result<HouseList, AllocError>
+    ensures { IfOk result (λ h. h ≡ record { master = master.0; others = [] }) }
+{
+    match HouseList::new(alloc, master, &[]) {
+        Ok(houses) => Ok(houses),
+        Err(AllocOr::Fault(_)) => unreachable!(),
+        Err(AllocOr::OutOfMemory) => Err(AllocError),
+    }
+}
+
+/// The houses of a directory; none, where one stands twice or they are more than 64.
+pub(crate) fn house_list(
+    alloc: Global,
+    master: HouseNo,
+    others: &[HouseNo],
+) -> Result<Option<HouseList>, AllocError>
+    ensures { IfOk result (λ o. MatchOption o (is_bad_list (master.0 ∷ numbers others.now) ≡ true) (λ h. (is_bad_list (master.0 ∷ numbers others.now) ≡ false) × (h ≡ record { master = master.0; others = ascending (numbers others.now) }))) }
+{
+    let others = in_order(alloc, others)?;
+    match HouseList::new(alloc, master, &others) {
+        Ok(houses) => Ok(Some(houses)),
+        Err(AllocOr::Fault(_)) => Ok(None),
+        Err(AllocOr::OutOfMemory) => Err(AllocError),
+    }
+}
+
+// The houses in ascending order.
+fn in_order(alloc: Global, houses: &[HouseNo]) -> Result<Vec<HouseNo>, AllocError>
+    ensures { IfOk result (λ v. numbers v.items ≡ ascending (numbers houses.now)) }
+{
+    let mut sorted = Vec::from_slice(alloc, houses)?;
+    sorted.sort_unstable();
+    Ok(sorted)
+}
