@@ -3,9 +3,9 @@ use crate::{
     AttrMap, EntryCell, Fragment, Kind, LINK_TARGET, REPLICAS, Table, Update, UpdateRefusal,
 };
 use attr_sets::{AttrCell, Value};
-use cds_stamps::{AttrName, HouseNo, Lattice, Node, SimpleName, Stamp};
-use cell_names::{ChildPointer, FullName, HouseList};
-use std::alloc::Global;
+use cds_stamps::{AttrName, Lattice, Node, SimpleName, Stamp};
+use cell_names::{ChildPointer, FullName};
+use std::alloc::{AllocError, Global};
 use std::test::Fail;
 
 // What a row of a test does.
@@ -27,46 +27,75 @@ fn stamp(time: u64) -> Result<Stamp, Fail> {
     Ok(Stamp { time, node })
 }
 
-// The value is the target of a link, the pointer of a child, or the houses of a repointed one, the master's first.
-fn update(alloc: Global, verb: Verb, n: &[u8], a: &[u8], v: &[u8]) -> Result<Update, Fail> {
-    let name = SimpleName::parse(alloc, n)?;
-    match verb {
-        Verb::Create => Ok(Update::Create(name)),
-        Verb::MakeLink => Ok(Update::MakeLink(name, FullName::parse(alloc, v)?)),
-        Verb::MakeChild => Ok(Update::MakeChild(name, ChildPointer::read(alloc, v)?)),
-        Verb::Delete => Ok(Update::Delete(name)),
-        Verb::Repoint => Ok(Update::Repoint(name, houses(alloc, v)?)),
-        _ => value_update(alloc, verb, name, a, v),
-    }
+fn deletion(alloc: Global, n: &[u8]) -> Result<Update, Fail> {
+    Ok(Update::Delete(SimpleName::parse(alloc, n)?))
 }
 
-// An update of an attribute.
-fn value_update(
+fn creation(alloc: Global, n: &[u8]) -> Result<Update, Fail> {
+    Ok(Update::Create(SimpleName::parse(alloc, n)?))
+}
+
+fn link(alloc: Global, n: &[u8], target: &[u8]) -> Result<Update, Fail> {
+    let name = SimpleName::parse(alloc, n)?;
+    Ok(Update::MakeLink(name, FullName::parse(alloc, target)?))
+}
+
+fn child(alloc: Global, n: &[u8], pointer: &[u8]) -> Result<Update, Fail> {
+    let name = SimpleName::parse(alloc, n)?;
+    Ok(Update::MakeChild(name, ChildPointer::read(alloc, pointer)?))
+}
+
+// The houses of a pointer.
+fn repointing(alloc: Global, n: &[u8], pointer: &[u8]) -> Result<Update, Fail> {
+    let name = SimpleName::parse(alloc, n)?;
+    let ChildPointer { houses, .. } = ChildPointer::read(alloc, pointer)?;
+    Ok(Update::Repoint(name, houses))
+}
+
+fn named(
     alloc: Global,
-    verb: Verb,
-    name: SimpleName,
+    n: &[u8],
     a: &[u8],
     v: &[u8],
-) -> Result<Update, Fail> {
+) -> Result<(SimpleName, AttrName, Value), Fail> {
+    let name = SimpleName::parse(alloc, n)?;
     let attr = AttrName::parse(alloc, a)?;
-    if let Verb::Clear = verb {
-        return Ok(Update::Clear(name, attr));
-    }
-    let value = Value::new(alloc, v)?;
-    match verb {
-        Verb::Add => Ok(Update::Add(name, attr, value)),
-        Verb::Put => Ok(Update::Put(name, attr, value)),
-        _ => Ok(Update::Remove(name, attr, value)),
-    }
+    Ok((name, attr, Value::new(alloc, v)?))
 }
 
-fn houses(alloc: Global, numbers: &[u8]) -> Result<HouseList, Fail> {
-    let (master, others) = numbers.split_first().ok_or("no master")?;
-    let mut list = Vec::new(alloc);
-    for house in others {
-        list.push(HouseNo(*house))?;
+fn addition(alloc: Global, n: &[u8], a: &[u8], v: &[u8]) -> Result<Update, Fail> {
+    let (name, attr, value) = named(alloc, n, a, v)?;
+    Ok(Update::Add(name, attr, value))
+}
+
+fn removal(alloc: Global, n: &[u8], a: &[u8], v: &[u8]) -> Result<Update, Fail> {
+    let (name, attr, value) = named(alloc, n, a, v)?;
+    Ok(Update::Remove(name, attr, value))
+}
+
+fn put(alloc: Global, n: &[u8], a: &[u8], v: &[u8]) -> Result<Update, Fail> {
+    let (name, attr, value) = named(alloc, n, a, v)?;
+    Ok(Update::Put(name, attr, value))
+}
+
+fn clear(alloc: Global, n: &[u8], a: &[u8]) -> Result<Update, Fail> {
+    let name = SimpleName::parse(alloc, n)?;
+    Ok(Update::Clear(name, AttrName::parse(alloc, a)?))
+}
+
+// The value is the target of a link, or the pointer of a child or of a repointed one.
+fn update(alloc: Global, verb: Verb, n: &[u8], a: &[u8], v: &[u8]) -> Result<Update, Fail> {
+    match verb {
+        Verb::Create => creation(alloc, n),
+        Verb::MakeLink => link(alloc, n, v),
+        Verb::MakeChild => child(alloc, n, v),
+        Verb::Delete => deletion(alloc, n),
+        Verb::Add => addition(alloc, n, a, v),
+        Verb::Remove => removal(alloc, n, a, v),
+        Verb::Put => put(alloc, n, a, v),
+        Verb::Clear => clear(alloc, n, a),
+        Verb::Repoint => repointing(alloc, n, v),
     }
-    Ok(HouseList::new(alloc, HouseNo(*master), &list)?)
 }
 
 // What an accepted update adds, as a copy.
@@ -78,20 +107,64 @@ fn fragment(alloc: Global, table: &Table, update: &Update, time: u64) -> Result<
     Ok(fragment.copy(alloc)?)
 }
 
-// A copy of an update is checked, and joined in with this time if it is accepted. Why it is refused.
-fn take(
+// What an update adds, or why it is refused.
+fn answer(
     alloc: Global,
-    table: &mut Table,
+    table: &Table,
     update: &Update,
     time: u64,
-) -> Result<Option<UpdateRefusal>, Fail> {
-    let update = update.copy(alloc)?;
-    if let Err(refusal) = table.check(&update) {
-        return Ok(Some(refusal));
+) -> Result<Result<Fragment, UpdateRefusal>, Fail> {
+    match table.check(update) {
+        Ok(()) => Ok(Ok(fragment(alloc, table, update, time)?)),
+        Err(refusal) => Ok(Err(refusal)),
     }
-    let fragment = fragment(alloc, table, &update, time)?;
-    table.join_entry(alloc, &fragment)?;
-    Ok(None)
+}
+
+// Only these two let an update go: a proof of that is long, and there are nine of them.
+fn answered(
+    alloc: Global,
+    table: &Table,
+    update: Update,
+    time: u64,
+) -> Result<Result<Fragment, UpdateRefusal>, Fail> {
+    answer(alloc, table, &update, time)
+}
+
+fn copied(alloc: Global, update: Update) -> Result<Update, AllocError> {
+    update.copy(alloc)
+}
+
+// What a copy of the update of these octets adds, or why it is refused.
+fn tried(
+    alloc: Global,
+    table: &Table,
+    verb: Verb,
+    name: &[u8],
+    attr: &[u8],
+    value: &[u8],
+    time: u64,
+) -> Result<Result<Fragment, UpdateRefusal>, Fail> {
+    let update = copied(alloc, update(alloc, verb, name, attr, value)?)?;
+    answered(alloc, table, update, time)
+}
+
+// An update is checked, and joined in with this time if it is accepted. Why it is refused.
+fn taken(
+    alloc: Global,
+    table: &mut Table,
+    verb: Verb,
+    name: &[u8],
+    attr: &[u8],
+    value: &[u8],
+    time: u64,
+) -> Result<Option<UpdateRefusal>, Fail> {
+    match tried(alloc, table, verb, name, attr, value, time)? {
+        Ok(fragment) => {
+            table.join_entry(alloc, &fragment)?;
+            Ok(None)
+        }
+        Err(refusal) => Ok(Some(refusal)),
+    }
 }
 
 // How many values of this attribute show of the entry e; 9, where no entry shows.
@@ -118,81 +191,134 @@ const WRONG_KIND: Option<UpdateRefusal> = Some(UpdateRefusal::WrongKind);
 // An update of the entry e, why it is refused, and how many values of A show then.
 type Row<'a> = (Verb, &'a [u8], &'a [u8], Option<UpdateRefusal>, usize);
 
-// The first row that ends otherwise, if there is one. The times of the rows ascend.
-fn first_wrong(alloc: Global, table: &mut Table, rows: &[Row]) -> Result<Option<usize>, Fail> {
-    for (i, (verb, attr, value, refusal, values)) in rows.iter().enumerate() {
-        let update = update(alloc, *verb, b"e", attr, value)?;
-        let taken = take(alloc, table, &update, i as u64)?;
-        if taken != *refusal || shown(alloc, table, b"A")? != *values {
-            return Ok(Some(i));
-        }
-    }
-    Ok(None)
+// Whether a row ends as it says.
+fn ends_so(alloc: Global, table: &mut Table, time: u64, row: Row) -> Result<bool, Fail> {
+    let (verb, attr, value, refusal, values) = row;
+    let taken = taken(alloc, table, verb, b"e", attr, value, time)?;
+    Ok(taken == refusal && shown(alloc, table, b"A")? == values)
 }
 
-const OF_OBJECTS: [Row<'static>; 28] = [
-    (Verb::Delete, b"", b"", NO_ENTRY, 9),
-    (Verb::Add, b"A", b"1", NO_ENTRY, 9),
-    (Verb::Remove, REPLICAS, b"1", NO_ENTRY, 9),
-    (Verb::Put, b"A", b"1", NO_ENTRY, 9),
-    (Verb::Clear, LINK_TARGET, b"", NO_ENTRY, 9),
-    (Verb::Repoint, b"", b"\x04", NO_ENTRY, 9),
-    (Verb::Create, b"", b"", None, 0),
-    (Verb::Create, b"", b"", EXISTS, 0),
-    (Verb::MakeLink, b"", b"/.:/x", EXISTS, 0),
-    (Verb::MakeChild, b"", AT_FOUR, EXISTS, 0),
-    (Verb::Add, b"A", b"1", None, 1),
-    (Verb::Add, b"A", b"2", None, 2),
-    (Verb::Remove, b"A", b"1", None, 1),
-    (Verb::Remove, b"B", b"9", None, 1),
-    (Verb::Add, b"A", b"3", None, 2),
-    (Verb::Put, b"A", b"4", None, 1),
-    (Verb::Add, b"A", b"2", None, 2),
-    (Verb::Clear, b"A", b"", None, 0),
-    (Verb::Put, b"A", b"2", None, 1),
-    (Verb::Add, LINK_TARGET, b"/.:", WRONG_KIND, 1),
-    (Verb::Remove, REPLICAS, b"1", WRONG_KIND, 1),
-    (Verb::Put, REPLICAS, AT_FOUR, WRONG_KIND, 1),
-    (Verb::Clear, LINK_TARGET, b"", WRONG_KIND, 1),
-    (Verb::Repoint, b"", b"\x04", WRONG_KIND, 1),
-    (Verb::Delete, b"", b"", None, 9),
-    (Verb::Delete, b"", b"", NO_ENTRY, 9),
-    // A later birth has none of the values.
-    (Verb::Create, b"", b"", None, 0),
-    (Verb::Delete, b"", b"", None, 9),
-];
+// Whether all rows end as they say, at ascending times. The entries that show then.
+fn entries_after(alloc: Global, rows: &[Row]) -> Result<u64, Fail> {
+    let mut table = Table::new(alloc);
+    for (time, row) in rows.iter().enumerate() {
+        if !ends_so(alloc, &mut table, time as u64, *row)? {
+            return Err(Fail::new(time));
+        }
+    }
+    Ok(table.live_entries())
+}
 
 #[test]
-fn updates_are_checked_by_what_shows(rt: HostRuntime) -> Result<(), Fail> {
-    let alloc = rt.alloc();
-    let mut table = Table::new(alloc);
-    assert!(rt; first_wrong(alloc, &mut table, &OF_OBJECTS)?.is_none());
-    assert!(rt; table.live_entries() == 0);
+fn absent_entries_take_no_changes(rt: HostRuntime) -> Result<(), Fail> {
+    let rows: [Row; 6] = [
+        (Verb::Delete, b"", b"", NO_ENTRY, 9),
+        (Verb::Add, b"A", b"1", NO_ENTRY, 9),
+        (Verb::Remove, REPLICAS, b"1", NO_ENTRY, 9),
+        (Verb::Put, b"A", b"1", NO_ENTRY, 9),
+        (Verb::Clear, LINK_TARGET, b"", NO_ENTRY, 9),
+        (Verb::Repoint, b"", AT_FOUR, NO_ENTRY, 9),
+    ];
+    assert!(rt; entries_after(rt.alloc(), &rows)? == 0);
     Ok(())
 }
 
-const OF_LEADS: [Row<'static>; 13] = [
-    (Verb::MakeLink, b"", b"/.:/x", None, 0),
-    (Verb::Create, b"", b"", EXISTS, 0),
-    (Verb::Put, LINK_TARGET, b"/.:/y", WRONG_KIND, 0),
-    (Verb::Add, b"A", b"1", None, 1),
-    (Verb::Repoint, b"", b"\x04", WRONG_KIND, 1),
-    (Verb::Delete, b"", b"", None, 9),
-    (Verb::MakeChild, b"", AT_FOUR, None, 0),
-    (Verb::MakeChild, b"", AT_FOUR, EXISTS, 0),
-    (Verb::Delete, b"", b"", WRONG_KIND, 0),
-    (Verb::Put, b"A", b"1", None, 1),
-    (Verb::Clear, REPLICAS, b"", WRONG_KIND, 1),
-    (Verb::Repoint, b"", b"\x02\x01\x03", None, 1),
-    (Verb::Delete, b"", b"", WRONG_KIND, 1),
-];
+#[test]
+fn entries_that_show_are_not_made_again(rt: HostRuntime) -> Result<(), Fail> {
+    let rows: [Row; 4] = [
+        (Verb::Create, b"", b"", None, 0),
+        (Verb::Create, b"", b"", EXISTS, 0),
+        (Verb::MakeLink, b"", b"/.:/x", EXISTS, 0),
+        (Verb::MakeChild, b"", AT_FOUR, EXISTS, 0),
+    ];
+    assert!(rt; entries_after(rt.alloc(), &rows)? == 1);
+    Ok(())
+}
 
 #[test]
-fn links_and_children_are_checked_too(rt: HostRuntime) -> Result<(), Fail> {
-    let alloc = rt.alloc();
-    let mut table = Table::new(alloc);
-    assert!(rt; first_wrong(alloc, &mut table, &OF_LEADS)?.is_none());
-    assert!(rt; table.live_entries() == 1);
+fn values_are_added_and_removed(rt: HostRuntime) -> Result<(), Fail> {
+    let rows: [Row; 6] = [
+        (Verb::Create, b"", b"", None, 0),
+        (Verb::Add, b"A", b"1", None, 1),
+        (Verb::Add, b"A", b"2", None, 2),
+        (Verb::Remove, b"A", b"1", None, 1),
+        (Verb::Remove, b"B", b"9", None, 1),
+        (Verb::Add, b"A", b"3", None, 2),
+    ];
+    assert!(rt; entries_after(rt.alloc(), &rows)? == 1);
+    Ok(())
+}
+
+#[test]
+fn values_are_put_and_cleared(rt: HostRuntime) -> Result<(), Fail> {
+    let rows: [Row; 7] = [
+        (Verb::Create, b"", b"", None, 0),
+        (Verb::Add, b"A", b"2", None, 1),
+        (Verb::Add, b"A", b"3", None, 2),
+        (Verb::Put, b"A", b"4", None, 1),
+        (Verb::Add, b"A", b"2", None, 2),
+        (Verb::Clear, b"A", b"", None, 0),
+        (Verb::Put, b"A", b"2", None, 1),
+    ];
+    assert!(rt; entries_after(rt.alloc(), &rows)? == 1);
+    Ok(())
+}
+
+#[test]
+fn objects_lead_nowhere(rt: HostRuntime) -> Result<(), Fail> {
+    let rows: [Row; 7] = [
+        (Verb::Create, b"", b"", None, 0),
+        (Verb::Put, b"A", b"2", None, 1),
+        (Verb::Add, LINK_TARGET, b"/.:", WRONG_KIND, 1),
+        (Verb::Remove, REPLICAS, b"1", WRONG_KIND, 1),
+        (Verb::Put, REPLICAS, AT_FOUR, WRONG_KIND, 1),
+        (Verb::Clear, LINK_TARGET, b"", WRONG_KIND, 1),
+        (Verb::Repoint, b"", AT_FOUR, WRONG_KIND, 1),
+    ];
+    assert!(rt; entries_after(rt.alloc(), &rows)? == 1);
+    Ok(())
+}
+
+#[test]
+fn later_births_have_no_values(rt: HostRuntime) -> Result<(), Fail> {
+    let rows: [Row; 6] = [
+        (Verb::Create, b"", b"", None, 0),
+        (Verb::Put, b"A", b"2", None, 1),
+        (Verb::Delete, b"", b"", None, 9),
+        (Verb::Delete, b"", b"", NO_ENTRY, 9),
+        (Verb::Create, b"", b"", None, 0),
+        (Verb::Delete, b"", b"", None, 9),
+    ];
+    assert!(rt; entries_after(rt.alloc(), &rows)? == 0);
+    Ok(())
+}
+
+#[test]
+fn links_are_checked_too(rt: HostRuntime) -> Result<(), Fail> {
+    let rows: [Row; 6] = [
+        (Verb::MakeLink, b"", b"/.:/x", None, 0),
+        (Verb::Create, b"", b"", EXISTS, 0),
+        (Verb::Put, LINK_TARGET, b"/.:/y", WRONG_KIND, 0),
+        (Verb::Add, b"A", b"1", None, 1),
+        (Verb::Repoint, b"", AT_FOUR, WRONG_KIND, 1),
+        (Verb::Delete, b"", b"", None, 9),
+    ];
+    assert!(rt; entries_after(rt.alloc(), &rows)? == 0);
+    Ok(())
+}
+
+#[test]
+fn children_are_checked_too(rt: HostRuntime) -> Result<(), Fail> {
+    let rows: [Row; 7] = [
+        (Verb::MakeChild, b"", AT_FOUR, None, 0),
+        (Verb::MakeChild, b"", AT_FOUR, EXISTS, 0),
+        (Verb::Delete, b"", b"", WRONG_KIND, 0),
+        (Verb::Put, b"A", b"1", None, 1),
+        (Verb::Clear, REPLICAS, b"", WRONG_KIND, 1),
+        (Verb::Repoint, b"", AT_THREE, None, 1),
+        (Verb::Delete, b"", b"", WRONG_KIND, 1),
+    ];
+    assert!(rt; entries_after(rt.alloc(), &rows)? == 1);
     Ok(())
 }
 
@@ -215,10 +341,8 @@ fn leads_to(
 
 // Takes an update of the entry e; what shows is deleted before, unless it is a child.
 fn led(alloc: Global, table: &mut Table, verb: Verb, value: &[u8], time: u64) -> Result<(), Fail> {
-    let deletion = update(alloc, Verb::Delete, b"e", b"", b"")?;
-    take(alloc, table, &deletion, time)?;
-    let update = update(alloc, verb, b"e", b"A", value)?;
-    take(alloc, table, &update, time)?;
+    taken(alloc, table, Verb::Delete, b"e", b"", b"", time)?;
+    taken(alloc, table, verb, b"e", b"A", value, time)?;
     Ok(())
 }
 
@@ -230,14 +354,14 @@ fn updates_lead_on(rt: HostRuntime) -> Result<(), Fail> {
         (Verb::MakeLink, b"/.:/sub/up", 1, Kind::Link, b"/.:/sub/up"),
         (Verb::MakeLink, b"/.:", 2, Kind::Link, b"/.:"),
         (Verb::MakeChild, AT_THREE, 3, Kind::Child, AT_THREE),
-        (Verb::Repoint, b"\x04", 3, Kind::Child, AT_FOUR),
-        (Verb::Repoint, b"\x02\x01\x03", 3, Kind::Child, AT_THREE),
+        (Verb::Repoint, AT_FOUR, 3, Kind::Child, AT_FOUR),
+        (Verb::Repoint, AT_THREE, 3, Kind::Child, AT_THREE),
         (Verb::Put, b"9", 3, Kind::Child, AT_THREE),
     ];
     let mut table = Table::new(alloc);
-    for (time, (verb, value, birth, kind, lead)) in rows.iter().enumerate() {
-        led(alloc, &mut table, *verb, value, time as u64)?;
-        assert!(rt; leads_to(alloc, &table, *birth, *kind, lead)?);
+    for (time, (verb, value, birth, kind, lead)) in rows.into_iter().enumerate() {
+        led(alloc, &mut table, verb, value, time as u64)?;
+        assert!(rt; leads_to(alloc, &table, birth, kind, lead)?);
     }
     Ok(())
 }
@@ -260,22 +384,26 @@ fn longest_pointer(alloc: Global) -> Result<Vec<u8>, Fail> {
     Ok(octets)
 }
 
+// Whether an update that makes the entry e is accepted, and leads to its octets.
+fn leads_whole(alloc: Global, verb: Verb, kind: Kind, octets: &[u8]) -> Result<bool, Fail> {
+    let mut table = Table::new(alloc);
+    let refusal = taken(alloc, &mut table, verb, b"e", b"", octets, 5)?;
+    Ok(refusal.is_none() && leads_to(alloc, &table, 5, kind, octets)?)
+}
+
 #[test]
-fn the_longest_names_and_pointers_are_led_to(rt: HostRuntime) -> Result<(), Fail> {
-    let alloc = rt.alloc();
-    let name = longest_name(alloc)?;
-    let pointer = longest_pointer(alloc)?;
-    let rows = [
-        (Verb::MakeLink, Kind::Link, name.as_slice()),
-        (Verb::MakeChild, Kind::Child, pointer.as_slice()),
-    ];
-    for (verb, kind, value) in rows {
-        let mut table = Table::new(alloc);
-        let update = update(alloc, verb, b"e", b"", value)?;
-        assert!(rt; take(alloc, &mut table, &update, 5)?.is_none());
-        assert!(rt; leads_to(alloc, &table, 5, kind, value)?);
-    }
-    assert!(rt; name.len() == 1023 && pointer.len() == 69);
+fn the_longest_name_is_led_to(rt: HostRuntime) -> Result<(), Fail> {
+    let name = longest_name(rt.alloc())?;
+    assert!(rt; name.len() == 1023);
+    assert!(rt; leads_whole(rt.alloc(), Verb::MakeLink, Kind::Link, &name)?);
+    Ok(())
+}
+
+#[test]
+fn the_longest_pointer_is_led_to(rt: HostRuntime) -> Result<(), Fail> {
+    let pointer = longest_pointer(rt.alloc())?;
+    assert!(rt; pointer.len() == 69);
+    assert!(rt; leads_whole(rt.alloc(), Verb::MakeChild, Kind::Child, &pointer)?);
     Ok(())
 }
 
@@ -292,16 +420,35 @@ fn cell(alloc: Global, first: &[u8], second: &[u8]) -> Result<AttrCell, Fail> {
 }
 
 // A copy of an entry of this kind, born at 1, with a copy of one cell.
-fn entry(alloc: Global, kind: Kind, attr: &[u8], cell: AttrCell) -> Result<EntryCell, Fail> {
+fn entry(
+    alloc: Global,
+    kind: Kind,
+    attr: &[u8],
+    cell: AttrCell,
+    death: Option<Stamp>,
+) -> Result<EntryCell, Fail> {
     let mut attrs = AttrMap::new(alloc);
     attrs.insert(AttrName::parse(alloc, attr)?, cell)?;
     let entry = EntryCell {
         birth: stamp(1)?,
         kind,
-        death: None,
+        death,
         attrs: attrs.copy(alloc)?,
     };
     Ok(entry.copy(alloc)?)
+}
+
+// Whether an entry with a cell of these values shows.
+fn shows(
+    alloc: Global,
+    kind: Kind,
+    attr: &[u8],
+    first: &[u8],
+    second: &[u8],
+    death: Option<Stamp>,
+) -> Result<bool, Fail> {
+    let cell = cell(alloc, first, second)?;
+    Ok(entry(alloc, kind, attr, cell, death)?.is_live())
 }
 
 #[test]
@@ -317,11 +464,10 @@ fn links_and_children_lead_on(rt: HostRuntime) -> Result<(), Fail> {
         (Kind::Child, REPLICAS, b"\0\0\0\x02\x01\x01", b"", true),
         (Kind::Child, REPLICAS, b"\0\0\0\x02\x01", b"", false),
     ];
+    let death = Some(stamp(3)?);
     for (kind, attr, first, second, live) in rows {
-        let mut entry = entry(alloc, kind, attr, cell(alloc, first, second)?)?;
-        assert!(rt; entry.is_live() == live);
-        entry.death = Some(stamp(3)?);
-        assert!(rt; !entry.is_live());
+        assert!(rt; shows(alloc, kind, attr, first, second, None)? == live);
+        assert!(rt; !shows(alloc, kind, attr, first, second, death)?);
     }
     Ok(())
 }
@@ -375,8 +521,7 @@ fn mixed_table(table: &Table) -> u64 {
 fn table_of(alloc: Global, rows: &[(Verb, &[u8], &[u8], &[u8], u64)]) -> Result<Table, Fail> {
     let mut table = Table::new(alloc);
     for (verb, name, attr, value, time) in rows {
-        let update = update(alloc, *verb, name, attr, value)?;
-        take(alloc, &mut table, &update, *time)?;
+        taken(alloc, &mut table, *verb, name, attr, value, *time)?;
     }
     Ok(table)
 }
@@ -400,7 +545,7 @@ fn put_fragment(alloc: Global) -> Result<Fragment, Fail> {
     cell.add(alloc, &Value::new(alloc, b"6")?, stamp(13)?)?;
     Ok(Fragment {
         name: SimpleName::parse(alloc, b"e")?,
-        entry: entry(alloc, Kind::Object, b"B", cell)?,
+        entry: entry(alloc, Kind::Object, b"B", cell, None)?,
     })
 }
 
@@ -457,28 +602,52 @@ fn tables_join_or_stay(rt: HostRuntime) -> Result<(), Fail> {
     Ok(())
 }
 
+// What an accepted update of the octets adds is joined in, or fails.
+fn join_update(
+    alloc: Global,
+    table: &mut Table,
+    verb: Verb,
+    name: &[u8],
+    attr: &[u8],
+    value: &[u8],
+    time: u64,
+) -> Result<(), Fail> {
+    let fragment = tried(alloc, table, verb, name, attr, value, time)??;
+    join_entry(alloc, table, &fragment)
+}
+
 #[test]
-fn fragments_join_or_stay(rt: HostRuntime) -> Result<(), Fail> {
+fn fragments_of_values_join_or_stay(rt: HostRuntime) -> Result<(), Fail> {
     let alloc = rt.alloc();
-    let mut table = own_table(alloc)?;
-    let rows: [(Verb, &[u8], &[u8], &[u8]); 9] = [
-        (Verb::Add, b"e", b"A", b"6"),
-        (Verb::Add, b"e", b"D", b"6"),
-        (Verb::Put, b"e", b"A", b"7"),
-        (Verb::Clear, b"e", b"B", b""),
-        (Verb::Create, b"d", b"", b""),
-        (Verb::MakeLink, b"l", b"", b"/.:/x"),
-        (Verb::MakeChild, b"c", b"", AT_THREE),
-        (Verb::Repoint, b"c", b"", b"\x04"),
-        (Verb::Delete, b"z", b"", b""),
+    let rows: [(Verb, &[u8], &[u8], u64); 4] = [
+        (Verb::Add, b"A", b"6", 20),
+        (Verb::Add, b"D", b"6", 21),
+        (Verb::Put, b"A", b"7", 22),
+        (Verb::Clear, b"B", b"", 23),
     ];
-    for (time, (verb, name, attr, value)) in rows.into_iter().enumerate() {
-        let update = update(alloc, verb, name, attr, value)?;
-        let fragment = fragment(alloc, &table, &update, time as u64 + 20)?;
-        join_entry(alloc, &mut table, &fragment)?;
+    let mut table = own_table(alloc)?;
+    for (verb, attr, value, time) in rows {
+        join_update(alloc, &mut table, verb, b"e", attr, value, time)?;
     }
     assert!(rt; shown(alloc, &table, b"A")? == 1);
     assert!(rt; shown(alloc, &table, b"B")? == 0);
+    Ok(())
+}
+
+#[test]
+fn fragments_of_entries_join_or_stay(rt: HostRuntime) -> Result<(), Fail> {
+    let alloc = rt.alloc();
+    let rows: [(Verb, &[u8], &[u8], u64); 5] = [
+        (Verb::Create, b"d", b"", 24),
+        (Verb::MakeLink, b"l", b"/.:/x", 25),
+        (Verb::MakeChild, b"c", AT_THREE, 26),
+        (Verb::Repoint, b"c", AT_FOUR, 27),
+        (Verb::Delete, b"z", b"", 28),
+    ];
+    let mut table = own_table(alloc)?;
+    for (verb, name, value, time) in rows {
+        join_update(alloc, &mut table, verb, name, b"", value, time)?;
+    }
     assert!(rt; table.live_entries() == 4);
     Ok(())
 }
