@@ -1,11 +1,13 @@
 #!/usr/bin/env python3
-"""Writes a script of one kind and size to standard output:
+"""Writes an input of one kind and size to standard output:
 
     generate.py comments N   N comment lines of 60 octets
     generate.py adds N       one entry, and N `add` and `remove` commands over eight values of it, and a `read`
     generate.py creates N    N `create` commands, and then a `read` of each entry
+    generate.py towers N     the octets of N RPC towers of five floors, 75 octets each, for the form `towers`
+    generate.py untowers N   the text of the same towers, a line each, for the form `untowers`
 
-The same kind and size is the same script, always.
+The same kind and size is the same input, always.
 """
 
 import sys
@@ -43,22 +45,53 @@ def coprime(a, b):
     return a == 1
 
 
-KINDS = {"comments": comments, "adds": adds, "creates": creates}
+def floors(count):
+    """The floors of towers: an interface, NDR, connections, a TCP port and an address, which differ from tower to tower."""
+    ndr = bytes.fromhex("0d045d888aeb1cc9119fe808002b1048600200")
+    for i in range(count):
+        interface = b"\x0d" + (i * 2654435761 % 2**128).to_bytes(16, "little") + b"\x03\x00"
+        port, host = (i % 65536).to_bytes(2, "big"), (i * 40503 % 2**32).to_bytes(4, "big")
+        yield (interface, b"\0\0"), (ndr, b"\0\0"), (b"\x0b", b"\0\0"), (b"\x07", port), (b"\x09", host)
+
+
+def towers(count):
+    for tower in floors(count):
+        yield b"\x05\0" + b"".join(len(part).to_bytes(2, "little") + part for floor in tower for part in floor)
+
+
+def untowers(count):
+    for tower in floors(count):
+        yield (" ".join(f"{left.hex()}:{right.hex()}" for left, right in tower) + "\n").encode()
+
+
+def encoded(texts):
+    return (text.encode() for text in texts)
+
+
+KINDS = {
+    "comments": lambda count: encoded(comments(count)),
+    "adds": lambda count: encoded(adds(count)),
+    "creates": lambda count: encoded(creates(count)),
+    "towers": towers,
+    "untowers": untowers,
+}
 
 
 def write(kind, count, out):
-    """Writes the script, in pieces, and gives the number of its lines."""
-    piece, lines = [], 0
+    """Writes the input, in pieces, and gives the number of its lines or towers."""
+    piece, items = [], 0
     for text in KINDS[kind](count):
         piece.append(text)
         if len(piece) == 65536:
-            text = "".join(piece)
-            lines += text.count("\n")
-            out.write(text.encode())
+            items += items_in(kind, piece)
+            out.write(b"".join(piece))
             piece = []
-    text = "".join(piece)
-    out.write(text.encode())
-    return lines + text.count("\n")
+    out.write(b"".join(piece))
+    return items + items_in(kind, piece)
+
+
+def items_in(kind, piece):
+    return len(piece) if kind == "towers" else sum(text.count(b"\n") for text in piece)
 
 
 def main():

@@ -1,12 +1,13 @@
 #!/usr/bin/env python3
-"""Measures a program over scripts of generate.py:
+"""Measures a program over inputs of generate.py:
 
     measure.py [--runs K] [--divide D] [--kinds KIND,KIND] NAME=PROGRAM [NAME=PROGRAM ..]
 
-Each PROGRAM is run as `PROGRAM run`, with the script on its standard input, K times (3); one run at a time. For each script
-and each program one line tells the number of lines of the script, the seconds of the fastest run, the lines it took in one
-second, the processor time of that run, and the greatest peak of memory of its runs in KiB. The programs have to give the
-same answers and status 0; if not, it says so and ends with status 1. D divides the sizes of the scripts.
+Each PROGRAM is run as `PROGRAM FORM`, with the input on its standard input, K times (3); one run at a time. The form is
+`run`, or `towers` or `untowers` for the kinds of these names. For each input and each program one line tells the number of
+lines or towers of the input, the seconds of the fastest run, the lines or towers and the MB that it took in one second, the
+processor time of that run, and the greatest peak of memory of its runs in KiB. The programs have to give the same answers
+and status 0; if not, it says so and ends with status 1. D divides the sizes of the inputs.
 """
 
 import argparse
@@ -22,15 +23,16 @@ import time
 sys.dont_write_bytecode = True
 import generate
 
-SIZES = {"comments": 10_000_000, "adds": 1_000_000, "creates": 100_000}
+SIZES = {"comments": 10_000_000, "adds": 1_000_000, "creates": 100_000, "towers": 700_000, "untowers": 700_000}
+FORMS = {"towers": "towers", "untowers": "untowers"}
 # GNU time has a small peak of its own; this process would lend its children a greater one.
 TIME = shutil.which("time")
 
 
-def run_once(program, script, answers):
+def run_once(program, form, script, answers):
     """Seconds, processor seconds and peak KiB of one run, and its status."""
     with tempfile.NamedTemporaryFile("r") as peak, open(script, "rb") as source, open(answers, "wb") as sink:
-        command = [program, "run"]
+        command = [program, form]
         if TIME:
             command = [TIME, "-q", "-f", "%M", "-o", peak.name] + command
         before, start = resource.getrusage(resource.RUSAGE_CHILDREN), time.perf_counter()
@@ -42,16 +44,17 @@ def run_once(program, script, answers):
 
 def measure(kind, size, programs, runs, folder):
     """Prints the line of each program; true where they agree."""
-    script = os.path.join(folder, "script")
+    script = os.path.join(folder, "input")
     with open(script, "wb") as out:
-        lines = generate.write(kind, size, out)
+        items = generate.write(kind, size, out)
+    megabytes = os.path.getsize(script) / 1e6
     agreed, first = True, None
     for name, program in programs:
         answers = os.path.join(folder, f"answers-{name}")
-        results = [run_once(program, script, answers) for _ in range(runs)]
+        results = [run_once(program, FORMS.get(kind, "run"), script, answers) for _ in range(runs)]
         seconds, processor = min(results)[:2]
         peak = max(result[2] for result in results)
-        print(f"{kind:<10}{name:<12}{lines:>12,}{seconds:>10.2f}{lines / seconds:>14,.0f}{processor:>11.2f}{peak:>11,}", flush=True)
+        print(f"{kind:<10}{name:<12}{items:>12,}{seconds:>10.2f}{items / seconds:>14,.0f}{megabytes / seconds:>8,.0f}{processor:>11.2f}{peak:>11,}", flush=True)
         if any(result[3] != 0 for result in results):
             print(f"{name} ended with a status other than 0")
             agreed = False
@@ -75,7 +78,7 @@ def main():
         if not mark:
             name, path = os.path.basename(word), word
         programs.append((name, os.path.abspath(path)))
-    print(f"{'script':<10}{'program':<12}{'lines':>12}{'seconds':>10}{'lines/second':>14}{'processor':>11}{'peak KiB':>11}")
+    print(f"{'input':<10}{'program':<12}{'items':>12}{'seconds':>10}{'items/second':>14}{'MB/s':>8}{'processor':>11}{'peak KiB':>11}")
     agreed = True
     with tempfile.TemporaryDirectory() as folder:
         for kind in args.kinds.split(","):
