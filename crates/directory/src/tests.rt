@@ -120,7 +120,7 @@ fn answer(
     }
 }
 
-// Only these two let an update go: a proof of that is long, and there are nine of them.
+// The same of an update that goes: this function and the next are small, since the drop of an update is long to prove.
 fn answered(
     alloc: Global,
     table: &Table,
@@ -346,10 +346,29 @@ fn led(alloc: Global, table: &mut Table, verb: Verb, value: &[u8], time: u64) ->
     Ok(())
 }
 
+// An update of the entry e, and its birth, its kind and where it leads then.
+type Lead<'a> = (Verb, &'a [u8], u64, Kind, &'a [u8]);
+
+// Whether the entry e leads as a row says after its update.
+fn leads_so(alloc: Global, table: &mut Table, time: u64, row: Lead) -> Result<bool, Fail> {
+    let (verb, value, birth, kind, lead) = row;
+    led(alloc, table, verb, value, time)?;
+    leads_to(alloc, table, birth, kind, lead)
+}
+
+fn all_lead_so(alloc: Global, rows: &[Lead]) -> Result<(), Fail> {
+    let mut table = Table::new(alloc);
+    for (time, row) in rows.iter().enumerate() {
+        if !leads_so(alloc, &mut table, time as u64, *row)? {
+            return Err(Fail::new(time));
+        }
+    }
+    Ok(())
+}
+
 #[test]
 fn updates_lead_on(rt: HostRuntime) -> Result<(), Fail> {
-    let alloc = rt.alloc();
-    let rows: [(Verb, &[u8], u64, Kind, &[u8]); 7] = [
+    let rows: [Lead; 7] = [
         (Verb::Create, b"", 0, Kind::Object, b""),
         (Verb::MakeLink, b"/.:/sub/up", 1, Kind::Link, b"/.:/sub/up"),
         (Verb::MakeLink, b"/.:", 2, Kind::Link, b"/.:"),
@@ -358,12 +377,7 @@ fn updates_lead_on(rt: HostRuntime) -> Result<(), Fail> {
         (Verb::Repoint, AT_THREE, 3, Kind::Child, AT_THREE),
         (Verb::Put, b"9", 3, Kind::Child, AT_THREE),
     ];
-    let mut table = Table::new(alloc);
-    for (time, (verb, value, birth, kind, lead)) in rows.into_iter().enumerate() {
-        led(alloc, &mut table, verb, value, time as u64)?;
-        assert!(rt; leads_to(alloc, &table, birth, kind, lead)?);
-    }
-    Ok(())
+    all_lead_so(rt.alloc(), &rows)
 }
 
 // A full name of 1,023 octets, and a pointer to directory 7 at 64 houses.
@@ -407,14 +421,24 @@ fn the_longest_pointer_is_led_to(rt: HostRuntime) -> Result<(), Fail> {
     Ok(())
 }
 
+fn add_to(alloc: Global, cell: &mut AttrCell, value: &[u8], time: u64) -> Result<(), Fail> {
+    let value = Value::new(alloc, value)?;
+    Ok(cell.add(alloc, &value, stamp(time)?)?)
+}
+
+fn put_to(alloc: Global, cell: &mut AttrCell, value: &[u8], time: u64) -> Result<(), Fail> {
+    let value = Value::new(alloc, value)?;
+    Ok(cell.put(alloc, &value, stamp(time)?)?)
+}
+
 // A cell of two values, added at 2; one of no octets is left out.
 fn cell(alloc: Global, first: &[u8], second: &[u8]) -> Result<AttrCell, Fail> {
     let mut cell = AttrCell::new(alloc);
     if !first.is_empty() {
-        cell.add(alloc, &Value::new(alloc, first)?, stamp(2)?)?;
+        add_to(alloc, &mut cell, first, 2)?;
     }
     if !second.is_empty() {
-        cell.add(alloc, &Value::new(alloc, second)?, stamp(2)?)?;
+        add_to(alloc, &mut cell, second, 2)?;
     }
     Ok(cell)
 }
@@ -517,8 +541,11 @@ fn mixed_table(table: &Table) -> u64 {
     sum
 }
 
+// An update of an entry, and its time.
+type Step<'a> = (Verb, &'a [u8], &'a [u8], &'a [u8], u64);
+
 // A table of accepted updates, each with its time.
-fn table_of(alloc: Global, rows: &[(Verb, &[u8], &[u8], &[u8], u64)]) -> Result<Table, Fail> {
+fn table_of(alloc: Global, rows: &[Step]) -> Result<Table, Fail> {
     let mut table = Table::new(alloc);
     for (verb, name, attr, value, time) in rows {
         taken(alloc, &mut table, *verb, name, attr, value, *time)?;
@@ -528,7 +555,7 @@ fn table_of(alloc: Global, rows: &[(Verb, &[u8], &[u8], &[u8], u64)]) -> Result<
 
 // An object e with two values of A and one of B, and an object z.
 fn own_table(alloc: Global) -> Result<Table, Fail> {
-    let rows: [(Verb, &[u8], &[u8], &[u8], u64); 5] = [
+    let rows: [Step; 5] = [
         (Verb::Create, b"e", b"", b"", 1),
         (Verb::Create, b"z", b"", b"", 2),
         (Verb::Add, b"e", b"A", b"1", 3),
@@ -538,21 +565,25 @@ fn own_table(alloc: Global) -> Result<Table, Fail> {
     table_of(alloc, &rows)
 }
 
-// A later clear of the attribute B of the object e, and two values: a join of it into the first table copies a cell.
-fn put_fragment(alloc: Global) -> Result<Fragment, Fail> {
+// A later clear, and two values.
+fn put_cell(alloc: Global) -> Result<AttrCell, Fail> {
     let mut cell = AttrCell::new(alloc);
-    cell.put(alloc, &Value::new(alloc, b"5")?, stamp(12)?)?;
-    cell.add(alloc, &Value::new(alloc, b"6")?, stamp(13)?)?;
-    Ok(Fragment {
-        name: SimpleName::parse(alloc, b"e")?,
-        entry: entry(alloc, Kind::Object, b"B", cell, None)?,
-    })
+    put_to(alloc, &mut cell, b"5", 12)?;
+    add_to(alloc, &mut cell, b"6", 13)?;
+    Ok(cell)
+}
+
+// That cell as the attribute B of the object e: a join of it into the first table copies a cell.
+fn put_fragment(alloc: Global) -> Result<Fragment, Fail> {
+    let name = SimpleName::parse(alloc, b"e")?;
+    let entry = entry(alloc, Kind::Object, b"B", put_cell(alloc)?, None)?;
+    Ok(Fragment { name, entry })
 }
 
 // A copy of a table with the same object e, but with a removal, a new value, a later clear and a new attribute, with
 // objects a and y, and with a later z.
 fn other_table(alloc: Global) -> Result<Table, Fail> {
-    let rows: [(Verb, &[u8], &[u8], &[u8], u64); 7] = [
+    let rows: [Step; 7] = [
         (Verb::Create, b"e", b"", b"", 1),
         (Verb::Create, b"a", b"", b"", 6),
         (Verb::Create, b"y", b"", b"", 7),
@@ -616,38 +647,38 @@ fn join_update(
     join_entry(alloc, table, &fragment)
 }
 
+// The first table after these updates.
+fn joined(alloc: Global, rows: &[Step]) -> Result<Table, Fail> {
+    let mut table = own_table(alloc)?;
+    for (verb, name, attr, value, time) in rows {
+        join_update(alloc, &mut table, *verb, name, attr, value, *time)?;
+    }
+    Ok(table)
+}
+
 #[test]
 fn fragments_of_values_join_or_stay(rt: HostRuntime) -> Result<(), Fail> {
-    let alloc = rt.alloc();
-    let rows: [(Verb, &[u8], &[u8], u64); 4] = [
-        (Verb::Add, b"A", b"6", 20),
-        (Verb::Add, b"D", b"6", 21),
-        (Verb::Put, b"A", b"7", 22),
-        (Verb::Clear, b"B", b"", 23),
+    let rows: [Step; 4] = [
+        (Verb::Add, b"e", b"A", b"6", 20),
+        (Verb::Add, b"e", b"D", b"6", 21),
+        (Verb::Put, b"e", b"A", b"7", 22),
+        (Verb::Clear, b"e", b"B", b"", 23),
     ];
-    let mut table = own_table(alloc)?;
-    for (verb, attr, value, time) in rows {
-        join_update(alloc, &mut table, verb, b"e", attr, value, time)?;
-    }
-    assert!(rt; shown(alloc, &table, b"A")? == 1);
-    assert!(rt; shown(alloc, &table, b"B")? == 0);
+    let table = joined(rt.alloc(), &rows)?;
+    assert!(rt; shown(rt.alloc(), &table, b"A")? == 1);
+    assert!(rt; shown(rt.alloc(), &table, b"B")? == 0);
     Ok(())
 }
 
 #[test]
 fn fragments_of_entries_join_or_stay(rt: HostRuntime) -> Result<(), Fail> {
-    let alloc = rt.alloc();
-    let rows: [(Verb, &[u8], &[u8], u64); 5] = [
-        (Verb::Create, b"d", b"", 24),
-        (Verb::MakeLink, b"l", b"/.:/x", 25),
-        (Verb::MakeChild, b"c", AT_THREE, 26),
-        (Verb::Repoint, b"c", AT_FOUR, 27),
-        (Verb::Delete, b"z", b"", 28),
+    let rows: [Step; 5] = [
+        (Verb::Create, b"d", b"", b"", 24),
+        (Verb::MakeLink, b"l", b"", b"/.:/x", 25),
+        (Verb::MakeChild, b"c", b"", AT_THREE, 26),
+        (Verb::Repoint, b"c", b"", AT_FOUR, 27),
+        (Verb::Delete, b"z", b"", b"", 28),
     ];
-    let mut table = own_table(alloc)?;
-    for (verb, name, value, time) in rows {
-        join_update(alloc, &mut table, verb, name, b"", value, time)?;
-    }
-    assert!(rt; table.live_entries() == 4);
+    assert!(rt; joined(rt.alloc(), &rows)?.live_entries() == 4);
     Ok(())
 }
