@@ -1,4 +1,4 @@
-//! `cdsreplay`: replays the script of a cell that is read from standard input, and answers on standard output.
+//! `cdsreplay`: runs one form of the program, which its words name, from standard input to standard output.
 #![tactic(auto)]
 
 use cds_base::{StdSink, StdSource};

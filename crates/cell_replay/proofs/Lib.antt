@@ -1,10 +1,15 @@
-pub mod Exits
-pub mod Numbers
-pub mod Accepting
-pub mod Accepted
+pub mod Runnable
+pub mod Walked
 pub mod Scanning
 pub mod Demands
 pub mod Progress
 pub mod Turns
+pub mod FaultyLines
+pub mod TowerLines
+pub mod Streams
+pub mod TowerTurns
+pub mod TowerLaws
+pub mod AllForms
+pub mod RoundTrip
 pub mod Scripts
 mod Examples

@@ -1,22 +1,16 @@
--- How a run goes on line by line, and how it ends.
-use Rattle.std.proofs.Common.{◌≡◌, ◌≢◌, ◌⊎◌, inl, inr, ⊎_elim, ℕ, ◌+◌, ◌≤◌, ◌<◌, Bool, true, List, [], ◌∷◌, ◌++◌, length, take, drop, refl, sym, ◌∙◌, ap, subst, arith, append_assoc, append-nil, length-append, take-append-drop, length-take}
-use Rattle.std.specs.Prelude.{Option, None, Some, IfSome, IsTrue, codes}
-use Rattle.std.specs.Fmt.{decimal}
-use Rattle.std.specs.Io.KnownBytes.{Consumes, Appends, IsAtEnd}
+-- How a run goes on step by step, a line or a tower at a time, and how it ends.
+use Rattle.std.proofs.Common.{◌≡◌, ◌⊎◌, inl, inr, ⊎_elim, ℕ, ◌+◌, ◌≤◌, ◌<◌, Bool, List, [], ◌++◌, length, take, drop, refl, sym, ◌∙◌, ap, subst, arith, append_assoc, append-nil, length-append, take-append-drop, length-take}
+use Rattle.std.specs.Prelude.{Option, None, Some, IfSome, IsTrue}
+use Rattle.std.specs.Io.KnownBytes.{Consumes, Appends}
 use Rattle.cds_base.specs.Counts.{Rose}
 use Rattle.cds_base.specs.Reading.{GrowsByReading}
-use Rattle.cds_base.specs.declared.scan.LineFault.{LineFault}
-use Rattle.cds_base.specs.declared.scan.LineFault.TheVariants.{NoLineEnd}
-use Rattle.cds_base.specs.LineFaults.{AreClean, IsLine, ShowsFault}
 use Rattle.cds_base.proofs.KnownOctets.{appends_none, appends_more, consumes_self, consumes_more}
-use Rattle.cell_replay.specs.Texts.{line_fault_text, fault_text}
-use Rattle.cell_replay.specs.Demand.{FormState, Demand, GoesOn, Stops, response, demanded, at_end, then_rest, faulty_with, with_front}
-use Rattle.cell_replay.specs.declared.replay.Status.{Status}
-use Rattle.cell_replay.specs.declared.replay.Status.TheVariants.{Ok as AllRead, Usage, BadInput, ReadFault, WriteFault, OutOfMemory}
+use Rattle.cell_replay.specs.Demand.{Demand, with_front}
+use Rattle.cell_replay.specs.Forms.{FormState, Demands}
+use Rattle.cell_replay.specs.declared.endings.Status.{Status}
+use Rattle.cell_replay.specs.declared.endings.Status.TheVariants.{Ok as AllRead, Usage, BadInput, ReadFault, WriteFault, OutOfMemory}
 use Rattle.cell_replay.specs.Waiting.{Flushes}
-use Rattle.cell_replay.specs.Runs.{IsFront, Wrote, IsWhole, IsFaulty, IsBody, IsPart, WroteSoon, IsDue, Finishes, Ended}
-use Rattle.cell_replay.proofs.Scanning.{scanned, demanded_scanned}
-use Rattle.cell_replay.proofs.Demands.{demand_line, demand_broken, demand_part}
+use Rattle.cell_replay.specs.Runs.{IsFront, Wrote, IsWhole, IsFaulty, IsCutOff, IsPart, IsTakenAtOnce, read_ahead, WroteSoon, IsDue, IsQueued, Finishes, StopsWith, Ended}
 
 -- ---- fronts
 
@@ -48,26 +42,15 @@ short_of left d xs ys less (inr part) =
     let size = ap length part.1.1 in
     omega (arith, less, size, length-append ys part.1.0)
 
--- some text is due at the end of an input that ends within a line
-pub end_text : (number place : ℕ) → fault_text number (codes "NoLineEnd") place ≢ []
-end_text number place none =
-    let size = ap length none in
-    omega (arith, size, length-append (decimal number) (codes " fault " ++ (codes "NoLineEnd" ++ (32 ∷ (decimal place ++ 10 ∷ [])))))
-
 -- what is due in full is due in part
 due_part : (left : Option (List ℕ)) (status : Status) (d : Demand) (text : List ℕ) → IsDue left status d text → IsPart left d text
 due_part left AllRead d text due = inr (due.0, subst (IsFront text) due.1.1 (front_self text))
-due_part left BadInput d text due =
-    ⊎_elim (λ none. inl (subst (IsFront text) (due.1 ∙ ap (λ (l : List ℕ). d.body ++ l) none ∙ append-nil d.body) (front_self text)))
-    (λ ended. inr (ended, subst (IsFront text) due.1 (front_self text))) due.2
+due_part left BadInput d text (inl due) = inl (subst (IsFront text) due.1 (front_self text))
+due_part left BadInput d text (inr due) = inr (due.1, subst (IsFront text) due.2 (front_self text))
 due_part left OutOfMemory d text due = due
 due_part left Usage d text due = absurd due
 due_part left ReadFault d text due = absurd due
 due_part left WriteFault d text due = absurd due
-
--- nothing is read and nothing written
-pub unread : (state : FormState) (left old : Option (List ℕ)) → Wrote state left left old old (IsPart left)
-unread state left old = record { read = []; text = []; taken = consumes_self left; written = appends_none old; due = inl ((demanded state []).body, refl) }
 
 -- ---- octets read
 
@@ -102,208 +85,202 @@ told P None left xs taken p = tt
 told P (Some a) None xs taken p = absurd taken
 told P (Some a) (Some b) xs taken p = p
 
--- ---- the lines whose replies wait
+-- ---- what is taken, and waits for its text to be written
 
--- a whole line stands first, and behind it are at most 8,192 octets with those held, where the source tells
-pub record Leads (first : Option (List ℕ)) (since held : List ℕ) : Type 0 where
-  pub number : ℕ
-  pub octets : List ℕ
+-- one line or tower stands first, and not much behind it with what is held, where the source tells
+pub record Leads (state : FormState) (first : Option (List ℕ)) (since held : List ℕ) : Type 0 where
+  pub one : List ℕ
   pub more : List ℕ
-  pub line : IsLine number octets
-  pub split : since ≡ (octets ++ 10 ∷ []) ++ more
-  pub close : IfSome first (λ _. length more + length held ≤ 8192)
+  pub at_once : IsTakenAtOnce state one
+  pub split : since ≡ one ++ more
+  pub close : IfSome first (λ _. length more + length held ≤ read_ahead state)
 
-abbrev pub IsNear : Option (List ℕ) → (since held : List ℕ) → Type 0
-IsNear first since held = (since ≡ []) ⊎ Leads first since held
+abbrev pub IsNear : FormState → Option (List ℕ) → (since held : List ℕ) → Type 0
+IsNear state first since held = (since ≡ []) ⊎ Leads state first since held
 
--- What was read and what was written: to the lines in front all replies went out
+-- What was read and what was written: all that the octets in front demand went out
 pub record Pending (state : FormState) (first left old new : Option (List ℕ)) (held : List ℕ) : Type 0 where
   pub front : List ℕ
   pub since : List ℕ
   pub out : List ℕ
+  pub demand : Demand
   pub taken : Consumes first left ((front ++ since) ++ held)
   pub written : Appends old new out
-  pub answered : IsFront (demanded state front).body out
-  pub near : IsNear first since held
-  pub few : length held ≤ 8192
+  pub demands : Demands state front demand
+  pub answered : IsFront demand.body out
+  pub near : IsNear state first since held
+  pub few : length held ≤ read_ahead state
 
--- the lines so far, and what they demand in front of whatever follows
-pub record Reached (state : FormState) (first left old new : Option (List ℕ)) (held waits : List ℕ) (count : ℕ) (at : FormState) : Type 0 where
+-- what was taken so far, and what it demands in front of what follows; Behind says what that demands
+pub record Reached (state : FormState) (first left old new : Option (List ℕ)) (held waits : List ℕ) (Behind : List ℕ → Demand → Type 0) : Type 0 where
   pub pending : Pending state first left old new held
-  pub so_far : (r : List ℕ) → demanded state ((pending.front ++ pending.since) ++ r) ≡ with_front (pending.out ++ waits) (scanned (count + 1) at [] r)
+  pub so_far : (r : List ℕ) (d : Demand) → Behind r d → Demands state ((pending.front ++ pending.since) ++ r) (with_front (pending.out ++ waits) d)
 
-pub started : (state : FormState) (first old : Option (List ℕ)) (held waits : List ℕ) (count : ℕ) → held ≡ [] → waits ≡ [] → count ≡ 0 → Reached state first first old old held waits count state
-started state first old held waits count none nothing zero_count = record {
+-- where nothing follows, no text is due whatever follows
+pub record StopsHere (Behind : List ℕ → Demand → Type 0) : Type 0 where
+  pub demand : Demand
+  pub behind : Behind [] demand
+  pub none : demand.body ≡ []
+
+moved : (state : FormState) (xs ys : List ℕ) (d e : Demand) → xs ≡ ys → d ≡ e → Demands state xs d → Demands state ys e
+moved state xs ys d e octets same demands = subst (λ (l : List ℕ). Demands state l e) octets (subst (Demands state xs) same demands)
+
+front_front : (xs ys : List ℕ) (d : Demand) → with_front xs (with_front ys d) ≡ with_front (xs ++ ys) d
+front_front xs ys d = λ i. record { body = sym (append_assoc xs ys d.body) i; end = d.end; verdict = d.verdict }
+
+pub started : (state : FormState) (first old : Option (List ℕ)) (held waits : List ℕ) (Behind : List ℕ → Demand → Type 0) → held ≡ [] → waits ≡ []
+    → ((r : List ℕ) (d : Demand) → Behind r d → Demands state r d) → StopsHere Behind → Reached state first first old old held waits Behind
+started state first old held waits Behind none nothing whole stop = record {
   pending = record {
     front = [];
     since = [];
     out = [];
+    demand = stop.demand;
     taken = subst (Consumes first first) (sym none) (consumes_self first);
     written = appends_none old;
-    answered = ([], sym (append-nil (demanded state []).body ∙ ap (λ (d : Demand). d.body) (demanded_scanned state [] ∙ demand_part 1 state [] tt)));
+    demands = whole [] stop.demand stop.behind;
+    answered = ([], sym (append-nil stop.demand.body ∙ stop.none));
     near = inl refl;
     few = let size = ap length none in omega (arith, size);
   };
-  so_far = λ r. demanded_scanned state r ∙ ap (λ (n : ℕ). scanned (n + 1) state [] r) (sym zero_count) ∙ ap (λ (w : List ℕ). with_front w (scanned (count + 1) state [] r)) (sym nothing);
+  so_far = λ r d behind. moved state r r d (with_front waits d) refl (ap (λ (w : List ℕ). with_front w d) (sym nothing)) (whole r d behind);
 }
 
--- what waits is nothing, and so are the lines that it answers; or the next line is there
-pub record Turn (state : FormState) (first left old new : Option (List ℕ)) (held waits : List ℕ) (count : ℕ) (at : FormState) (Ready : Type 0) : Type 0 where
-  pub reached : Reached state first left old new held waits count at
+-- what waits is nothing, and so is what was taken for it; or the next line is there
+pub record Turn (state : FormState) (first left old new : Option (List ℕ)) (held waits : List ℕ) (Behind : List ℕ → Demand → Type 0) (Ready : Type 0) : Type 0 where
+  pub reached : Reached state first left old new held waits Behind
   pub turn : ((reached.pending.since ≡ []) × (waits ≡ [])) ⊎ Ready
 
-front_front : (xs ys : List ℕ) (d : Demand) → with_front xs (with_front ys d) ≡ with_front (xs ++ ys) d
-front_front xs ys d = λ i. record { body = sym (append_assoc xs ys d.body) i; end = d.end; faulty = d.faulty }
-
-module _ (state : FormState) (first left old new : Option (List ℕ)) (held waits : List ℕ) (count : ℕ) (at : FormState) (reached : Reached state first left old new held waits count at) where
+module _ (state : FormState) (first left old new : Option (List ℕ)) (held waits : List ℕ) (Behind : List ℕ → Demand → Type 0) (reached : Reached state first left old new held waits Behind) where
   abbrev now : Pending state first left old new held
   now = reached.pending
 
   abbrev consumed : List ℕ
   consumed = now.front ++ now.since
 
-  -- ---- replies go out
+  -- ---- texts go out
 
-  -- all that waited went out, so that no line waits for its reply
-  all_out : (new' : Option (List ℕ)) (sent : List ℕ) (Ready : Type 0) → Appends new new' sent → waits ≡ sent → Turn state first left old new' held [] count at Ready
-  all_out new' sent Ready went same = record {
+  -- all that waited went out, so that nothing waits for its text
+  pub all_out : (new' : Option (List ℕ)) (sent : List ℕ) (Ready : Type 0) → Appends new new' sent → waits ≡ sent → StopsHere Behind → Turn state first left old new' held [] Behind Ready
+  all_out new' sent Ready went same stop = record {
     reached = record {
       pending = record {
         front = consumed;
         since = [];
         out = now.out ++ sent;
+        demand = with_front (now.out ++ waits) stop.demand;
         taken = subst (λ (c : List ℕ). Consumes first left (c ++ held)) (sym (append-nil consumed)) now.taken;
         written = appends_more old new new' now.out sent now.written went;
-        answered = ([], sent_body ∙ sym (append-nil (demanded state consumed).body));
+        demands = moved state (consumed ++ []) consumed (with_front (now.out ++ waits) stop.demand) (with_front (now.out ++ waits) stop.demand) (append-nil consumed) refl (reached.so_far [] stop.demand stop.behind);
+        answered = ([], sent_body ∙ sym (append-nil ((now.out ++ waits) ++ stop.demand.body)));
         near = inl refl;
         few = now.few;
       };
-      so_far = λ r.
-          ap (λ (c : List ℕ). demanded state (c ++ r)) (append-nil consumed) ∙ reached.so_far r
-          ∙ ap (λ (w : List ℕ). with_front (now.out ++ w) (scanned (count + 1) at [] r)) same
-          ∙ ap (λ (w : List ℕ). with_front w (scanned (count + 1) at [] r)) (sym (append-nil (now.out ++ sent)));
+      so_far = λ r d behind.
+          moved state (consumed ++ r) ((consumed ++ []) ++ r) (with_front (now.out ++ waits) d) (with_front ((now.out ++ sent) ++ []) d)
+          (ap (λ (c : List ℕ). c ++ r) (sym (append-nil consumed)))
+          (ap (λ (w : List ℕ). with_front (now.out ++ w) d) same ∙ ap (λ (w : List ℕ). with_front w d) (sym (append-nil (now.out ++ sent))))
+          (reached.so_far r d behind);
     };
     turn = inl (refl, refl);
   }
     where
-      sent_body : now.out ++ sent ≡ (demanded state consumed).body
-      sent_body =
-          ap (λ (w : List ℕ). now.out ++ w) (sym same) ∙ sym (append-nil (now.out ++ waits))
-          ∙ ap (λ (d : Demand). (now.out ++ waits) ++ d.body) (sym (demand_part (count + 1) at [] tt))
-          ∙ ap (λ (d : Demand). d.body) (sym (reached.so_far [])) ∙ ap (λ (c : List ℕ). (demanded state c).body) (append-nil consumed)
+      sent_body : now.out ++ sent ≡ (now.out ++ waits) ++ stop.demand.body
+      sent_body = ap (λ (w : List ℕ). now.out ++ w) (sym same) ∙ sym (append-nil (now.out ++ waits)) ∙ ap (λ (w : List ℕ). (now.out ++ waits) ++ w) (sym stop.none)
 
   -- a part of what waited went out
-  some_out : (new' : Option (List ℕ)) (sent waits' : List ℕ) → Appends new new' sent → waits ≡ sent ++ waits' → Reached state first left old new' held waits' count at
+  some_out : (new' : Option (List ℕ)) (sent waits' : List ℕ) → Appends new new' sent → waits ≡ sent ++ waits' → Reached state first left old new' held waits' Behind
   some_out new' sent waits' went split = record {
     pending = record {
       front = now.front;
       since = now.since;
       out = now.out ++ sent;
+      demand = now.demand;
       taken = now.taken;
       written = appends_more old new new' now.out sent now.written went;
-      answered = front_more (demanded state now.front).body now.out sent now.answered;
+      demands = now.demands;
+      answered = front_more now.demand.body now.out sent now.answered;
       near = now.near;
       few = now.few;
     };
-    so_far = λ r. reached.so_far r ∙ ap (λ (w : List ℕ). with_front w (scanned (count + 1) at [] r)) (ap (λ (w : List ℕ). now.out ++ w) split ∙ sym (append_assoc now.out sent waits'));
+    so_far = λ r d behind.
+        moved state (consumed ++ r) (consumed ++ r) (with_front (now.out ++ waits) d) (with_front ((now.out ++ sent) ++ waits') d) refl
+        (ap (λ (w : List ℕ). with_front w d) (ap (λ (w : List ℕ). now.out ++ w) split ∙ sym (append_assoc now.out sent waits')))
+        (reached.so_far r d behind);
   }
 
-  -- ---- a line is taken
+  -- ---- one more line or tower is taken
 
-  -- whatever follows a line that was taken
-  with_line : (line r : List ℕ) → IsLine (count + 1) line
-      → demanded state ((consumed ++ (line ++ 10 ∷ [])) ++ r) ≡ with_front (now.out ++ waits) (then_rest (response (count + 1) at line) (λ next. scanned (count + 1 + 1) next [] r))
-  with_line line r is =
-      ap (demanded state) (append_assoc consumed (line ++ 10 ∷ []) r) ∙ reached.so_far ((line ++ 10 ∷ []) ++ r)
-      ∙ ap (with_front (now.out ++ waits)) (demand_line (count + 1) at line r is)
-
-  module _ (left' : Option (List ℕ)) (held' line : List ℕ) (is : IsLine (count + 1) line) (grows : GrowsByReading left left' held ((line ++ 10 ∷ []) ++ held')) (few : length held' ≤ 8192) (turn : (now.since ≡ []) ⊎ (left' ≡ left)) where
-    -- the line is the first whose reply waits, or one more behind that one
-    leads_alone : now.since ≡ [] → Leads first (now.since ++ (line ++ 10 ∷ [])) held'
+  module _ (left' : Option (List ℕ)) (held' one : List ℕ) (at_once : IsTakenAtOnce state one) (grows : GrowsByReading left left' held (one ++ held')) (few : length held' ≤ read_ahead state) (turn : (now.since ≡ []) ⊎ (left' ≡ left)) where
+    -- it is the first that waits, or one more behind that one
+    leads_alone : now.since ≡ [] → Leads state first (now.since ++ one) held'
     leads_alone none = record {
-      number = count + 1;
-      octets = line;
+      one = one;
       more = [];
-      line = is;
-      split = ap (λ (s : List ℕ). s ++ (line ++ 10 ∷ [])) none ∙ sym (append-nil (line ++ 10 ∷ []));
+      at_once = at_once;
+      split = ap (λ (s : List ℕ). s ++ one) none ∙ sym (append-nil one);
       close = if_told first few;
     }
       where
-        if_told : {X : Type 0} (o : Option X) → length held' ≤ 8192 → IfSome o (λ _. 0 + length held' ≤ 8192)
+        if_told : {X : Type 0} (o : Option X) → length held' ≤ read_ahead state → IfSome o (λ _. 0 + length held' ≤ read_ahead state)
         if_told None le = tt
         if_told (Some x) le = omega (arith, le)
 
-    leads_on : Leads first now.since held → left' ≡ left → Leads first (now.since ++ (line ++ 10 ∷ [])) held'
+    leads_on : Leads state first now.since held → left' ≡ left → Leads state first (now.since ++ one) held'
     leads_on leads same = record {
-      number = leads.number;
-      octets = leads.octets;
-      more = leads.more ++ (line ++ 10 ∷ []);
-      line = leads.line;
-      split = ap (λ (s : List ℕ). s ++ (line ++ 10 ∷ [])) leads.split ∙ append_assoc (leads.octets ++ 10 ∷ []) leads.more (line ++ 10 ∷ []);
-      close = if_both first leads.close (told (length ((line ++ 10 ∷ []) ++ held') ≡ length held) first left (consumed ++ held) now.taken (untouched left left' held ((line ++ 10 ∷ []) ++ held') same grows)) (λ close size.
-          omega (arith, close, size, length-append leads.more (line ++ 10 ∷ []), length-append (line ++ 10 ∷ []) held'));
+      one = leads.one;
+      more = leads.more ++ one;
+      at_once = leads.at_once;
+      split = ap (λ (s : List ℕ). s ++ one) leads.split ∙ append_assoc leads.one leads.more one;
+      close = if_both first leads.close (told (length (one ++ held') ≡ length held) first left (consumed ++ held) now.taken (untouched left left' held (one ++ held') same grows)) (λ close size.
+          omega (arith, close, size, length-append leads.more one, length-append one held'));
     }
 
-    pub near_line : IsNear first (now.since ++ (line ++ 10 ∷ [])) held'
-    near_line = inr (⊎_elim leads_alone (λ same. ⊎_elim leads_alone (λ leads. leads_on leads same) now.near) turn)
+    pub near_one : IsNear state first (now.since ++ one) held'
+    near_one = inr (⊎_elim leads_alone (λ same. ⊎_elim leads_alone (λ leads. leads_on leads same) now.near) turn)
 
-    -- what was read and written, with the line
-    abbrev pub line_taken : Pending state first left' old new held'
-    line_taken = record {
+    -- what was read and written, with it
+    abbrev pub one_taken : Pending state first left' old new held'
+    one_taken = record {
       front = now.front;
-      since = now.since ++ (line ++ 10 ∷ []);
+      since = now.since ++ one;
       out = now.out;
+      demand = now.demand;
       taken =
-          subst (λ (c : List ℕ). Consumes first left' (c ++ held')) (append_assoc now.front now.since (line ++ 10 ∷ []))
-          (subst (Consumes first left') (sym (append_assoc consumed (line ++ 10 ∷ []) held')) (reads_on first left left' consumed held ((line ++ 10 ∷ []) ++ held') now.taken grows));
+          subst (λ (c : List ℕ). Consumes first left' (c ++ held')) (append_assoc now.front now.since one)
+          (subst (Consumes first left') (sym (append_assoc consumed one held')) (reads_on first left left' consumed held (one ++ held') now.taken grows));
       written = now.written;
+      demands = now.demands;
       answered = now.answered;
-      near = near_line;
+      near = near_one;
       few = few;
     }
 
-    demand_with : (r : List ℕ) → demanded state ((line_taken.front ++ line_taken.since) ++ r) ≡ with_front (now.out ++ waits) (then_rest (response (count + 1) at line) (λ next. scanned (count + 1 + 1) next [] r))
-    demand_with r = ap (λ (c : List ℕ). demanded state (c ++ r)) (sym (append_assoc now.front now.since (line ++ 10 ∷ []))) ∙ with_line line r is
+    -- what it and all behind it demand
+    pub demands_with : (r : List ℕ) (d : Demand) → Behind (one ++ r) d → Demands state ((one_taken.front ++ one_taken.since) ++ r) (with_front (now.out ++ waits) d)
+    demands_with r d behind =
+        moved state (consumed ++ (one ++ r)) ((now.front ++ (now.since ++ one)) ++ r) (with_front (now.out ++ waits) d) (with_front (now.out ++ waits) d)
+        (sym (append_assoc consumed one r) ∙ ap (λ (c : List ℕ). c ++ r) (append_assoc now.front now.since one)) refl (reached.so_far (one ++ r) d behind)
 
-    -- the run goes on behind the line
-    pub goes_on : (text waits' : List ℕ) (next : FormState) (count' : ℕ) → response (count + 1) at line ≡ GoesOn text next → waits' ≡ waits ++ text → count' ≡ count + 1 → Reached state first left' old new held' waits' count' next
-    goes_on text waits' next count' responds waiting number = record {
-      pending = line_taken;
-      so_far = λ r.
-          demand_with r
-          ∙ ap (λ e. with_front (now.out ++ waits) (then_rest e (λ next. scanned (count + 1 + 1) next [] r))) responds
-          ∙ front_front (now.out ++ waits) text (scanned (count + 1 + 1) next [] r)
-          ∙ ap (λ (w : List ℕ). with_front w (scanned (count + 1 + 1) next [] r)) (append_assoc now.out waits text ∙ ap (λ (w : List ℕ). now.out ++ w) (sym waiting))
-          ∙ ap (λ (n : ℕ). with_front (now.out ++ waits') (scanned (n + 1) next [] r)) (sym number);
+    -- the run goes on behind it
+    pub goes_on : (text waits' : List ℕ) (Behind' : List ℕ → Demand → Type 0) → ((r : List ℕ) (d : Demand) → Behind' r d → Behind (one ++ r) (with_front text d)) → waits' ≡ waits ++ text → Reached state first left' old new held' waits' Behind'
+    goes_on text waits' Behind' step waiting = record {
+      pending = one_taken;
+      so_far = λ r d behind.
+          moved state ((one_taken.front ++ one_taken.since) ++ r) ((one_taken.front ++ one_taken.since) ++ r) (with_front (now.out ++ waits) (with_front text d)) (with_front (now.out ++ waits') d) refl
+          (front_front (now.out ++ waits) text d ∙ ap (λ (w : List ℕ). with_front w d) (append_assoc now.out waits text ∙ ap (λ (w : List ℕ). now.out ++ w) (sym waiting)))
+          (demands_with r (with_front text d) (step r d behind));
     }
-
-    -- the line is faulty
-    pub line_due : (text waits' : List ℕ) → response (count + 1) at line ≡ Stops text → waits' ≡ waits ++ text → IsDue left' BadInput (demanded state ((line_taken.front ++ line_taken.since) ++ held')) (now.out ++ waits')
-    line_due text waits' responds waiting =
-        let is_demand : demanded state ((line_taken.front ++ line_taken.since) ++ held') ≡ with_front (now.out ++ waits) (faulty_with text) =
-        demand_with held' ∙ ap (λ e. with_front (now.out ++ waits) (then_rest e (λ next. scanned (count + 1 + 1) next [] held'))) responds in
-        subst (λ (d : Demand). IsDue left' BadInput d (now.out ++ waits')) (sym is_demand)
-        (refl, ap (λ (w : List ℕ). now.out ++ w) waiting ∙ sym (append_assoc now.out waits text) ∙ sym (append-nil ((now.out ++ waits) ++ text)), inl refl)
-
-    -- there was no memory for its reply
-    pub line_part : (waits' : List ℕ) → waits' ≡ waits → IsDue left' OutOfMemory (demanded state ((line_taken.front ++ line_taken.since) ++ held')) (now.out ++ waits')
-    line_part waits' same =
-        subst (λ (d : Demand). IsDue left' OutOfMemory d (now.out ++ waits')) (sym (demand_with held'))
-        (inl (subst (λ (w : List ℕ). IsFront (now.out ++ w) ((now.out ++ waits) ++ rest)) (sym same) (front_of (now.out ++ waits) rest)))
-      where
-        rest : List ℕ
-        rest = (then_rest (response (count + 1) at line) (λ next. scanned (count + 1 + 1) next [] held')).body
 
   -- ---- nothing more is taken
 
-  module _ (left' : Option (List ℕ)) (held' : List ℕ) (grows : GrowsByReading left left' held held') (few : length held' ≤ 8192) (turn : (now.since ≡ []) ⊎ (left' ≡ left)) where
-    pub near_more : IsNear first now.since held'
+  module _ (left' : Option (List ℕ)) (held' : List ℕ) (grows : GrowsByReading left left' held held') (few : length held' ≤ read_ahead state) (turn : (now.since ≡ []) ⊎ (left' ≡ left)) where
+    pub near_more : IsNear state first now.since held'
     near_more =
         ⊎_elim inl (λ same. ⊎_elim inl (λ leads. inr (record {
-          number = leads.number;
-          octets = leads.octets;
+          one = leads.one;
           more = leads.more;
-          line = leads.line;
+          at_once = leads.at_once;
           split = leads.split;
           close = if_both first leads.close (told (length held' ≡ length held) first left (consumed ++ held) now.taken (untouched left left' held held' same grows)) (λ close size. omega (arith, close, size));
         })) now.near) turn
@@ -313,82 +290,28 @@ module _ (state : FormState) (first left old new : Option (List ℕ)) (held wait
       front = now.front;
       since = now.since;
       out = now.out;
+      demand = now.demand;
       taken = reads_on first left left' consumed held held' now.taken grows;
       written = now.written;
+      demands = now.demands;
       answered = now.answered;
       near = near_more;
       few = few;
     }
 
-    -- the input ends
-    pub all_due : held' ≡ [] → IsAtEnd left' → IsDue left' AllRead (demanded state (consumed ++ held')) (now.out ++ waits)
-    all_due none ended =
-        let is_demand : demanded state (consumed ++ held') ≡ with_front (now.out ++ waits) (at_end (count + 1) []) =
-        reached.so_far held' ∙ ap (λ (l : List ℕ). with_front (now.out ++ waits) (scanned (count + 1) at [] l)) none ∙ ap (with_front (now.out ++ waits)) (demand_part (count + 1) at [] tt) in
-        subst (λ (d : Demand). IsDue left' AllRead d (now.out ++ waits)) (sym is_demand)
-        (ended, (refl, sym (append-nil ((now.out ++ waits) ++ []) ∙ append-nil (now.out ++ waits))))
-
-    -- a read failed: all that is due whatever follows was written
-    pub body_due : AreClean (count + 1) 1 held' → waits ≡ [] → IsBody (demanded state (consumed ++ held')) now.out
-    body_due clean none =
-        let is_demand : demanded state (consumed ++ held') ≡ with_front (now.out ++ waits) (at_end (count + 1) held') =
-        reached.so_far held' ∙ ap (with_front (now.out ++ waits)) (demand_part (count + 1) at held' clean) in
-        subst (λ (d : Demand). IsBody d now.out) (sym is_demand)
-        (sym (ap (λ (l : List ℕ). (now.out ++ waits) ++ l) (no_body held') ∙ append-nil (now.out ++ waits) ∙ ap (λ (w : List ℕ). now.out ++ w) none ∙ append-nil now.out), unshown held')
-      where
-        unshown : (l : List ℕ) → (at_end (count + 1) l).faulty ≡ true → (at_end (count + 1) l).end ≢ []
-        unshown [] faulty is = cc (faulty)
-        unshown (b ∷ bs) faulty is = end_text (count + 1) (length (b ∷ bs) + 1) is
-
-        no_body : (l : List ℕ) → (at_end (count + 1) l).body ≡ []
-        no_body [] = refl
-        no_body (b ∷ bs) = refl
-
-    -- the octets held show a fault, or the input ends within the line
-    pub fault_due : (fault : LineFault) (waits' : List ℕ) → ShowsFault (count + 1) fault held' ⊎ (IsAtEnd left' × AreClean (count + 1) 1 held' × (0 < length held') × (fault ≡ NoLineEnd (count + 1) (length held' + 1)))
-        → waits' ≡ waits ++ line_fault_text fault → IsDue left' BadInput (demanded state (consumed ++ held')) (now.out ++ waits')
-    fault_due fault waits' (inl shows) waiting =
-        let is_demand : demanded state (consumed ++ held') ≡ with_front (now.out ++ waits) (faulty_with (line_fault_text fault)) =
-        reached.so_far held' ∙ ap (λ (l : List ℕ). with_front (now.out ++ waits) (scanned (count + 1) at [] l)) (sym (append-nil held'))
-        ∙ ap (with_front (now.out ++ waits)) (demand_broken (count + 1) at fault held' shows []) in
-        subst (λ (d : Demand). IsDue left' BadInput d (now.out ++ waits')) (sym is_demand)
-        (refl, ap (λ (w : List ℕ). now.out ++ w) waiting ∙ sym (append_assoc now.out waits (line_fault_text fault)) ∙ sym (append-nil ((now.out ++ waits) ++ line_fault_text fault)), inl refl)
-    fault_due fault waits' (inr ended) waiting =
-        let is_demand : demanded state (consumed ++ held') ≡ with_front (now.out ++ waits) (at_end (count + 1) held') =
-        reached.so_far held' ∙ ap (with_front (now.out ++ waits)) (demand_part (count + 1) at held' ended.1) in
-        subst (λ (d : Demand). IsDue left' BadInput d (now.out ++ waits')) (sym (is_demand ∙ ap (with_front (now.out ++ waits)) (no_line_end held' ended.2))) (
-          refl,
-          ap (λ (w : List ℕ). now.out ++ w) (waiting ∙ ap (λ (e : LineFault). waits ++ line_fault_text e) ended.3)
-              ∙ sym (append_assoc now.out waits (line_fault_text (NoLineEnd (count + 1) (length held' + 1))))
-              ∙ ap (λ (l : List ℕ). l ++ line_fault_text (NoLineEnd (count + 1) (length held' + 1))) (sym (append-nil (now.out ++ waits))),
-          inr ended.0,
-        )
-      where
-        no_line_end : (l : List ℕ) → 0 < length l → at_end (count + 1) l ≡ record { body = []; end = line_fault_text (NoLineEnd (count + 1) (length l + 1)); faulty = true }
-        no_line_end [] some = absurd (omega arith)
-        no_line_end (b ∷ bs) some = refl
-
-    -- there was no memory for the fault's line
-    pub fault_part : (waits' : List ℕ) → waits' ≡ waits → IsDue left' OutOfMemory (demanded state (consumed ++ held')) (now.out ++ waits')
-    fault_part waits' same =
-        subst (λ (d : Demand). IsDue left' OutOfMemory d (now.out ++ waits')) (sym (reached.so_far held'))
-        (inl (subst (λ (w : List ℕ). IsFront (now.out ++ w) ((now.out ++ waits) ++ (scanned (count + 1) at [] held').body)) (sym same) (front_of (now.out ++ waits) (scanned (count + 1) at [] held').body)))
+    pub reached_more : Reached state first left' old new held' waits Behind
+    reached_more = record { pending = more_read; so_far = reached.so_far }
 
 -- ---- the ending
 
 module _ (state : FormState) (first left' old new : Option (List ℕ)) (held : List ℕ) (now : Pending state first left' old new held) where
-  abbrev all_read : List ℕ
+  abbrev pub all_read : List ℕ
   all_read = (now.front ++ now.since) ++ held
 
-  -- where the source tells nothing, nothing is said to be read ahead
-  ahead : (l : Option (List ℕ)) → List ℕ → List ℕ
-  ahead None behind = []
-  ahead (Some xs) behind = behind
-
-  soon_of : (l : Option (List ℕ)) (new' : Option (List ℕ)) (line behind text : List ℕ) → Consumes l left' (now.front ++ (line ++ behind)) → Appends old new' text → IsFront (demanded state now.front).body text
-      → (line ≡ []) ⊎ ((number : ℕ) × (octets : List ℕ) × IsLine number octets × (line ≡ octets ++ 10 ∷ [])) → IfSome l (λ _. length behind ≤ 8192) → WroteSoon state l left' old new'
-  soon_of None new' line behind text taken written answered one close = record { front = now.front; line = line; behind = []; text = text; taken = tt; written = written; answered = answered; one = one; soon = omega arith }
-  soon_of (Some xs) new' line behind text taken written answered one close = record { front = now.front; line = line; behind = behind; text = text; taken = taken; written = written; answered = answered; one = one; soon = close }
+  soon_of : (l : Option (List ℕ)) (new' : Option (List ℕ)) (one behind text : List ℕ) → Consumes l left' (now.front ++ (one ++ behind)) → Appends old new' text → IsFront now.demand.body text
+      → (one ≡ []) ⊎ IsTakenAtOnce state one → IfSome l (λ _. length behind ≤ read_ahead state) → WroteSoon state l left' old new'
+  soon_of None new' one behind text taken written answered at_once close = record { front = now.front; one = one; behind = []; text = text; demand = now.demand; taken = tt; written = written; demands = now.demands; answered = answered; at_once = at_once; soon = omega arith }
+  soon_of (Some xs) new' one behind text taken written answered at_once close = record { front = now.front; one = one; behind = behind; text = text; demand = now.demand; taken = taken; written = written; demands = now.demands; answered = answered; at_once = at_once; soon = close }
 
   soon : (new' : Option (List ℕ)) (sent : List ℕ) → Appends new new' sent → WroteSoon state first left' old new'
   soon new' sent went = near_soon now.near
@@ -399,10 +322,10 @@ module _ (state : FormState) (first left' old new : Option (List ℕ)) (held : L
       written : Appends old new' (now.out ++ sent)
       written = appends_more old new new' now.out sent now.written went
 
-      answered : IsFront (demanded state now.front).body (now.out ++ sent)
-      answered = front_more (demanded state now.front).body now.out sent now.answered
+      answered : IsFront now.demand.body (now.out ++ sent)
+      answered = front_more now.demand.body now.out sent now.answered
 
-      near_soon : IsNear first now.since held → WroteSoon state first left' old new'
+      near_soon : IsNear state first now.since held → WroteSoon state first left' old new'
       near_soon (inl none) =
           soon_of first new' [] held (now.out ++ sent)
           (subst (λ (c : List ℕ). Consumes first left' (c ++ held)) (ap (λ (s : List ℕ). now.front ++ s) none ∙ append-nil now.front) now.taken)
@@ -412,72 +335,95 @@ module _ (state : FormState) (first left' old new : Option (List ℕ)) (held : L
           always None p = tt
           always (Some x) p = p
       near_soon (inr leads) =
-          let first_line : List ℕ = leads.octets ++ 10 ∷ [] in
-          soon_of first new' first_line (leads.more ++ held) (now.out ++ sent)
+          soon_of first new' leads.one (leads.more ++ held) (now.out ++ sent)
           (subst (Consumes first left')
-          (ap (λ (s : List ℕ). (now.front ++ s) ++ held) leads.split ∙ append_assoc now.front (first_line ++ leads.more) held ∙ ap (λ (l : List ℕ). now.front ++ l) (append_assoc first_line leads.more held))
+          (ap (λ (s : List ℕ). (now.front ++ s) ++ held) leads.split ∙ append_assoc now.front (leads.one ++ leads.more) held ∙ ap (λ (l : List ℕ). now.front ++ l) (append_assoc leads.one leads.more held))
           now.taken)
-          written answered (inr (leads.number, leads.octets, leads.line, refl))
+          written answered (inr leads.at_once)
           (if_some first leads.close (λ close. omega (arith, close, length-append leads.more held)))
 
-  -- a write failed, with what waited
-  pub write_failed : (new' : Option (List ℕ)) (waits : List ℕ) (k : ℕ) (writes writes' : ℕ) (reads reads' : ℕ) → (k < length waits) × Appends new new' (take k waits) → IsPart left' (demanded state all_read) (now.out ++ waits) → Rose writes writes' → reads' ≡ reads
-      → Ended state first left' old new' reads reads' writes writes' WriteFault
-  write_failed new' waits k writes writes' reads reads' (few, went) part rose calm = (
-    record {
+  module _ (d : Demand) (demands : Demands state all_read d) where
+    -- a write failed, with what waited
+    pub write_failed : (new' : Option (List ℕ)) (waits : List ℕ) (k : ℕ) (writes writes' : ℕ) (reads reads' : ℕ) → (k < length waits) × Appends new new' (take k waits) → IsPart left' d (now.out ++ waits) → Rose writes writes' → reads' ≡ reads
+        → Ended state first left' old new' reads reads' writes writes' WriteFault
+    write_failed new' waits k writes writes' reads reads' (few, went) part rose calm = (
+      record {
+        read = all_read;
+        text = now.out ++ take k waits;
+        demand = d;
+        taken = now.taken;
+        written = appends_more old new new' now.out (take k waits) now.written went;
+        demands = demands;
+        due = (
+          part_of left' d (now.out ++ take k waits) (now.out ++ waits) (taken_front now.out waits k) part,
+          short_of left' d (now.out ++ take k waits) (now.out ++ waits) (omega (arith, few, length-append now.out (take k waits), length-append now.out waits, length-take k waits)) part,
+        );
+      },
+      soon new' (take k waits) went,
+      rose,
+      calm,
+    )
+
+    wrote : (new' : Option (List ℕ)) (waits : List ℕ) (P : Demand → List ℕ → Type 0) → Appends new new' waits → P d (now.out ++ waits) → Wrote state first left' old new' P
+    wrote new' waits P went due = record {
       read = all_read;
-      text = now.out ++ take k waits;
+      text = now.out ++ waits;
+      demand = d;
       taken = now.taken;
-      written = appends_more old new new' now.out (take k waits) now.written went;
-      due = (
-        part_of left' (demanded state all_read) (now.out ++ take k waits) (now.out ++ waits) (taken_front now.out waits k) part,
-        short_of left' (demanded state all_read) (now.out ++ take k waits) (now.out ++ waits) (omega (arith, few, length-append now.out (take k waits), length-append now.out waits, length-take k waits)) part,
-      );
-    },
-    soon new' (take k waits) went,
-    rose,
-    calm,
-  )
+      written = appends_more old new new' now.out waits now.written went;
+      demands = demands;
+      due = due;
+    }
 
-  wrote : (new' : Option (List ℕ)) (waits : List ℕ) (P : Demand → List ℕ → Type 0) → Appends new new' waits → P (demanded state all_read) (now.out ++ waits) → Wrote state first left' old new' P
-  wrote new' waits P went due = record {
-    read = all_read;
-    text = now.out ++ waits;
-    taken = now.taken;
-    written = appends_more old new new' now.out waits now.written went;
-    due = due;
-  }
+    rose_from : (a b c : ℕ) → b ≡ a → Rose b c → Rose a c
+    rose_from a b c same rose = omega (arith, same, rose)
 
-  rose_from : (a b c : ℕ) → b ≡ a → Rose b c → Rose a c
-  rose_from a b c same rose = omega (arith, same, rose)
+    -- what waits goes out, and the run ends
+    pub finishes : (new' : Option (List ℕ)) (waits : List ℕ) (status result : Status) (reads reads' writes mid writes' : ℕ) → IsDue left' status d (now.out ++ waits)
+        → Finishes new new' mid writes' waits status result → reads' ≡ reads → mid ≡ writes → Ended state first left' old new' reads reads' writes writes' result
+    finishes new' waits status result reads reads' writes mid writes' due (inr failed) calm same =
+        subst (Ended state first left' old new' reads reads' writes writes') (sym failed.0)
+        (write_failed new' waits failed.1.0 writes writes' reads reads' (failed.1.1, failed.1.2) (due_part left' status d (now.out ++ waits) due) (rose_from writes mid writes' same failed.2) calm)
+    finishes new' waits status result reads reads' writes mid writes' due (inl done) calm same =
+        subst (Ended state first left' old new' reads reads' writes writes') (sym done.0) (by_status status due)
+      where
+        by_status : (s : Status) → IsDue left' s d (now.out ++ waits) → Ended state first left' old new' reads reads' writes writes' s
+        by_status AllRead due = (due.0, wrote new' waits IsWhole done.1 due.1, calm, done.2 ∙ same)
+        by_status BadInput due = (wrote new' waits (IsFaulty left') done.1 due, calm, done.2 ∙ same)
+        by_status OutOfMemory due = wrote new' waits (IsPart left') done.1 due
+        by_status Usage due = absurd due
+        by_status ReadFault due = absurd due
+        by_status WriteFault due = absurd due
 
-  -- what waits goes out, and the run ends
-  pub finishes : (new' : Option (List ℕ)) (waits : List ℕ) (status result : Status) (reads reads' writes mid writes' : ℕ) → IsDue left' status (demanded state all_read) (now.out ++ waits)
-      → Finishes new new' mid writes' waits status result → reads' ≡ reads → mid ≡ writes → Ended state first left' old new' reads reads' writes writes' result
-  finishes new' waits status result reads reads' writes mid writes' due (inr failed) calm same =
-      subst (Ended state first left' old new' reads reads' writes writes') (sym failed.0)
-      (write_failed new' waits failed.1.0 writes writes' reads reads' (failed.1.1, failed.1.2) (due_part left' status (demanded state all_read) (now.out ++ waits) due) (rose_from writes mid writes' same failed.2) calm)
-  finishes new' waits status result reads reads' writes mid writes' due (inl done) calm same =
-      subst (Ended state first left' old new' reads reads' writes writes') (sym done.0) (by_status status due)
-    where
-      by_status : (s : Status) → IsDue left' s (demanded state all_read) (now.out ++ waits) → Ended state first left' old new' reads reads' writes writes' s
-      by_status AllRead due = (due.0, wrote new' waits IsWhole done.1 due.1, calm, done.2 ∙ same)
-      by_status BadInput due = (wrote new' waits (IsFaulty left') done.1 due, calm, done.2 ∙ same)
-      by_status OutOfMemory due = wrote new' waits (IsPart left') done.1 due
-      by_status Usage due = absurd due
-      by_status ReadFault due = absurd due
-      by_status WriteFault due = absurd due
+    -- the same with a last text, where there was memory for it
+    pub stops_with : (new' : Option (List ℕ)) (text waits : List ℕ) (status result : Status) (reads reads' writes mid writes' : ℕ) → IsDue left' status d (now.out ++ (waits ++ text))
+        → StopsWith new new' mid writes' status text waits result → reads' ≡ reads → mid ≡ writes → Ended state first left' old new' reads reads' writes writes' result
+    stops_with new' text waits status result reads reads' writes mid writes' due stops calm same = by_memory stops.2
+      where
+        by_memory : IsQueued status text waits stops.1 stops.0 → Ended state first left' old new' reads reads' writes writes' result
+        by_memory (inl is) =
+            finishes new' stops.1 stops.0 result reads reads' writes mid writes'
+            (subst (λ (s : Status). IsDue left' s d (now.out ++ stops.1)) (sym is.0) (subst (λ (w : List ℕ). IsDue left' status d (now.out ++ w)) (sym is.1) due)) stops.3 calm same
+        by_memory (inr is) =
+            finishes new' stops.1 stops.0 result reads reads' writes mid writes'
+            (subst (λ (s : Status). IsDue left' s d (now.out ++ stops.1)) (sym is.0) (subst (λ (w : List ℕ). IsPart left' d (now.out ++ w)) (sym is.1)
+            (part_of left' d (now.out ++ waits) (now.out ++ (waits ++ text)) (text, sym (append_assoc now.out waits text)) (due_part left' status d (now.out ++ (waits ++ text)) due)))) stops.3 calm same
 
-  -- a read failed, where nothing waited
-  pub read_failed : IsBody (demanded state all_read) now.out → Wrote state first left' old new IsBody
-  read_failed due = record { read = all_read; text = now.out; taken = now.taken; written = now.written; due = due }
+    -- a read failed, where nothing waited
+    pub read_failed : (reads reads' writes writes' : ℕ) → IsCutOff state d now.out → Rose reads reads' → writes' ≡ writes → Ended state first left' old new reads reads' writes writes' ReadFault
+    read_failed reads reads' writes writes' due rose quiet = (
+      record { read = all_read; text = now.out; demand = d; taken = now.taken; written = now.written; demands = demands; due = due },
+      soon new [] (appends_none new),
+      rose,
+      quiet,
+    )
 
-pub flushed_before : (state : FormState) (first left old new new' : Option (List ℕ)) (held waits waits' : List ℕ) (count : ℕ) (at : FormState) (ready : Bool) (Ready : Type 0)
-    → Reached state first left old new held waits count at → Flushes new new' waits waits' ready → (IsTrue ready → Ready) → Turn state first left old new' held waits' count at Ready
-flushed_before state first left old new new' held waits waits' count at ready Ready reached writes means = by_whole writes.whole
+pub flushed_before : (state : FormState) (first left old new new' : Option (List ℕ)) (held waits waits' : List ℕ) (Behind : List ℕ → Demand → Type 0) (ready : Bool) (Ready : Type 0)
+    → Reached state first left old new held waits Behind → StopsHere Behind → Flushes new new' waits waits' ready → (IsTrue ready → Ready) → Turn state first left old new' held waits' Behind Ready
+flushed_before state first left old new new' held waits waits' Behind ready Ready reached stop writes means = by_whole writes.whole
   where
-    by_whole : (waits' ≡ []) ⊎ (IsTrue ready × (length waits' < 65536)) → Turn state first left old new' held waits' count at Ready
+    by_whole : (waits' ≡ []) ⊎ (IsTrue ready × (length waits' < 65536)) → Turn state first left old new' held waits' Behind Ready
     by_whole (inl none) =
         let sent_all : waits ≡ writes.sent = writes.split ∙ ap (λ (w : List ℕ). writes.sent ++ w) none ∙ append-nil writes.sent in
-        subst (λ (w : List ℕ). Turn state first left old new' held w count at Ready) (sym none) (all_out state first left old new held waits count at reached new' writes.sent Ready writes.written sent_all)
-    by_whole (inr there) = record { reached = some_out state first left old new held waits count at reached new' writes.sent waits' writes.written writes.split; turn = inr (means there.0) }
+        subst (λ (w : List ℕ). Turn state first left old new' held w Behind Ready) (sym none) (all_out state first left old new held waits Behind reached new' writes.sent Ready writes.written sent_all stop)
+    by_whole (inr there) = record { reached = some_out state first left old new held waits Behind reached new' writes.sent waits' writes.written writes.split; turn = inr (means there.0) }

@@ -1,31 +1,58 @@
--- What a whole input demands of a form of the program: the text that is due, the text at its end, and whether it is faulty (own).
-use Rattle.std.specs.Prelude.{ℕ, ◌+◌, Bool, true, false, ◌==◌, if◌then◌else◌, List, [], ◌∷◌, ◌++◌, length, codes, Some, None, Option, Ok, Err, Result}
+-- What a whole input demands of a form of the program that reads lines (own).
+use Rattle.std.specs.Prelude.{ℕ, ◌+◌, ◌==◌, List, [], ◌∷◌, ◌++◌, length, codes, Some, None, Option, Ok, Err, Result}
 use Rattle.std.specs.List.{slice_split}
 use Rattle.std.specs.Option.{option_or}
-use Rattle.std.specs.Str.{bytes_eq}
+use Rattle.std.specs.Fmt.{decimal}
 use Rattle.cds_base.specs.declared.scan.LineFault.{LineFault}
 use Rattle.cds_base.specs.declared.scan.LineFault.TheVariants.{NoLineEnd}
 use Rattle.cds_base.specs.LineFaults.{fault_at}
-use Rattle.cell_model.specs.Cells.{Cell, empty_cell}
-use Rattle.cell_replay.specs.declared.commands.ScriptLine.{ScriptLine}
-use Rattle.cell_replay.specs.declared.commands.ParseFault.{ParseFault}
-use Rattle.cell_replay.specs.Words.{words_of}
-use Rattle.cell_replay.specs.Lines.{said_in}
-use Rattle.cell_replay.specs.Texts.{line_fault_text, parse_fault_text}
+use Rattle.cell_model.specs.Cells.{Cell}
+use Rattle.tower_codec.specs.Spelling.{tower_octets}
+use Rattle.cell_script.specs.declared.command.ScriptLine.{ScriptLine}
+use Rattle.cell_script.specs.declared.fault.ParseFault.{ParseFault}
+use Rattle.cell_script.specs.Words.{words_of}
+use Rattle.cell_script.specs.Commands.{said_in}
+use Rattle.cell_replay.specs.Texts.{line_fault_text}
+use Rattle.cell_script.specs.Texts.{parse_fault_text}
 use Rattle.cell_replay.specs.Replies.{reply_text, cell_after}
+use Rattle.cell_replay.specs.TowerTexts.{TowerLine, SaysNothing, SaysTower, NoTower, tower_said}
 
--- the state of a form of the program between two lines: `run` replays a cell (own)
-pub data FormState : Type 0 where
-  Replaying : (g : Cell) → FormState
+-- the text that is due whatever follows, the further text where nothing follows, and whether anything is faulty: nothing;
+-- the octets show a fault, whatever follows; or it is a fault that they end here (own)
+pub data Verdict : Type 0 where
+  Sound : Verdict
+  Faulty : Verdict
+  CutShort : Verdict
 
--- the form that the words of the command line name, at its start (own)
-abbrev pub form_of : List (List ℕ) → Option FormState
-form_of (word ∷ []) = if bytes_eq word (codes "run") then Some (Replaying empty_cell) else None
-form_of words = None
+pub record Demand : Type 0 where
+  pub body : List ℕ
+  pub end : List ℕ
+  pub verdict : Verdict
+
+-- nothing is due behind a fault (own)
+abbrev pub faulty_with : List ℕ → Demand
+faulty_with text = record { body = text; end = []; verdict = Faulty }
+
+-- where the input ends: this is due, and nothing is faulty; or this is due of the fault that it ends there (own)
+abbrev pub ends_with : List ℕ → Demand
+ends_with text = record { body = []; end = text; verdict = Sound }
+
+abbrev pub cut_short_with : List ℕ → Demand
+cut_short_with text = record { body = []; end = text; verdict = CutShort }
+
+abbrev pub with_front : List ℕ → Demand → Demand
+with_front text rest = record { body = text ++ rest.body; end = rest.end; verdict = rest.verdict }
+
+-- the state of a form that reads lines, between two of them: `run` replays a cell, `check` has seen this many lines and
+-- commands, and `untowers` keeps nothing (own)
+pub data LineState : Type 0 where
+  Replaying : (g : Cell) → LineState
+  Checking : (lines commands : ℕ) → LineState
+  Spelling : LineState
 
 -- what a form makes of a whole line: a text, and what it is at then; or the text of a fault, which ends it (own)
 pub data Response : Type 0 where
-  GoesOn : (text : List ℕ) → (next : FormState) → Response
+  GoesOn : (text : List ℕ) → (next : LineState) → Response
   Stops : (text : List ℕ) → Response
 
 abbrev pub replayed : ℕ → Cell → Result (Option ScriptLine) ParseFault → Response
@@ -33,34 +60,47 @@ replayed number g (Ok None) = GoesOn [] (Replaying g)
 replayed number g (Ok (Some l)) = GoesOn (reply_text number g l) (Replaying (cell_after g l))
 replayed number g (Err fault) = Stops (parse_fault_text number fault)
 
-abbrev pub response : ℕ → FormState → List ℕ → Response
+-- a line is counted, and a command too (own)
+abbrev pub checked : ℕ → (commands : ℕ) → Result (Option ScriptLine) ParseFault → Response
+checked number commands (Ok None) = GoesOn [] (Checking number commands)
+checked number commands (Ok (Some l)) = GoesOn [] (Checking number (commands + 1))
+checked number commands (Err fault) = Stops (parse_fault_text number fault)
+
+-- the octets of the tower that a line says; a line at fault has no text (own)
+abbrev pub spelled : TowerLine → Response
+spelled SaysNothing = GoesOn [] Spelling
+spelled (SaysTower floors) = GoesOn (tower_octets floors) Spelling
+spelled NoTower = Stops []
+
+abbrev pub response : ℕ → LineState → List ℕ → Response
 response number (Replaying g) line = replayed number g (said_in (words_of line))
+response number (Checking lines commands) line = checked number commands (said_in (words_of line))
+response number Spelling line = spelled (tower_said (words_of line))
 
--- the text that is due whatever follows, the further text where nothing follows, and whether a line is faulty (own)
-pub record Demand : Type 0 where
-  pub body : List ℕ
-  pub end : List ℕ
-  pub faulty : Bool
+-- the line of a fault of octets; `untowers` writes none (own)
+abbrev pub told_fault : LineState → LineFault → List ℕ
+told_fault (Replaying g) fault = line_fault_text fault
+told_fault (Checking lines commands) fault = line_fault_text fault
+told_fault Spelling fault = []
 
--- nothing is due behind a fault (own)
-abbrev pub faulty_with : List ℕ → Demand
-faulty_with text = record { body = text; end = []; faulty = true }
+-- what is said at the end of a whole input: `check` tells how many lines and commands there were (own)
+abbrev pub end_text : LineState → List ℕ
+end_text (Replaying g) = []
+end_text (Checking lines commands) = codes "ok " ++ (decimal lines ++ (32 ∷ (decimal commands ++ 10 ∷ [])))
+end_text Spelling = []
 
-abbrev pub with_front : List ℕ → Demand → Demand
-with_front text rest = record { body = text ++ rest.body; end = rest.end; faulty = rest.faulty }
-
--- where the input ends: nothing more is due, or the fault of a line without its end (own)
-abbrev pub at_end : ℕ → List ℕ → Demand
-at_end number [] = record { body = []; end = []; faulty = false }
-at_end number (b ∷ bs) = record { body = []; end = line_fault_text (NoLineEnd number (length (b ∷ bs) + 1)); faulty = true }
+-- where the input ends: behind a whole line, or with a line without its end, which is a fault (own)
+abbrev pub at_end : ℕ → LineState → List ℕ → Demand
+at_end number state [] = ends_with (end_text state)
+at_end number state (b ∷ bs) = cut_short_with (told_fault state (NoLineEnd number (length (b ∷ bs) + 1)))
 
 -- nothing more where this is at fault (own)
-abbrev pub unless_fault : Option LineFault → Demand → Demand
-unless_fault None rest = rest
-unless_fault (Some fault) rest = faulty_with (line_fault_text fault)
+abbrev pub unless_fault : LineState → Option LineFault → Demand → Demand
+unless_fault state None rest = rest
+unless_fault state (Some fault) rest = faulty_with (told_fault state fault)
 
 -- behind a whole line: its text, and what the lines behind it demand (own)
-abbrev pub then_rest : Response → (FormState → Demand) → Demand
+abbrev pub then_rest : Response → (LineState → Demand) → Demand
 then_rest (GoesOn text next) rest = with_front text (rest next)
 then_rest (Stops text) rest = faulty_with text
 
@@ -74,13 +114,13 @@ abbrev pub pieces_of : List ℕ → List (List ℕ)
 pieces_of = slice_split (λ b. b == 10)
 
 -- piece by piece, from line number on: a line with its end, and those behind it; or the end of the input (own)
-unfoldable pub demand : ℕ → FormState → List (List ℕ) → Demand
-demand number state [] = at_end number []
-demand number state (rest ∷ []) = unless_fault (first_fault number 1 rest) (at_end number rest)
+unfoldable pub demand : ℕ → LineState → List (List ℕ) → Demand
+demand number state [] = at_end number state []
+demand number state (rest ∷ []) = unless_fault state (first_fault number 1 rest) (at_end number state rest)
 demand number state (line ∷ piece ∷ pieces) =
-    unless_fault (first_fault number 1 (line ++ 10 ∷ []))
+    unless_fault state (first_fault number 1 (line ++ 10 ∷ []))
     (then_rest (response number state line) (λ next. demand (number + 1) next (piece ∷ pieces)))
 
--- what an input demands of a form, from its start (own)
-abbrev pub demanded : FormState → List ℕ → Demand
+-- what an input demands of a form that reads lines, from its start (own)
+abbrev pub demanded : LineState → List ℕ → Demand
 demanded state octets = demand 1 state (pieces_of octets)

@@ -1,8 +1,10 @@
-pub mod Words
-pub mod Lines
 pub mod Texts
 pub mod Replies
+pub mod TowerTexts
 pub mod Demand
+pub mod TowerDemand
+pub mod Sights
+pub mod Forms
 pub mod Standing
 pub mod Waiting
 pub mod Runs

@@ -1,103 +1,78 @@
 -- What a cell replies to a line of the script (own, after C705, lookups of clerks).
-use Rattle.std.specs.Prelude.{ℕ, Bool, ◌==◌, if◌then◌else◌, List, [], ◌∷◌, ◌++◌, codes, Option, Some, None}
-use Rattle.std.specs.Option.{option_or, option_and_then, option_map_or}
-use Rattle.std.specs.Fmt.{decimal}
-use Rattle.cds_stamps.specs.Members.{Member, master_of, others_of}
-use Rattle.directory.specs.Shown.{Shown, shown}
-use Rattle.directory.specs.Updates as updates
-use Rattle.cell_model.specs.Cells.{Cell, Replica, Slot, Absent, Gone, Held}
-use Rattle.cell_model.specs.Commands as model
-use Rattle.cell_model.specs.Commands.{Answer}
+use Rattle.std.specs.Prelude.{ℕ, Bool, true, false, if◌then◌else◌, List, [], ◌∷◌, ◌++◌, Some, Result, Ok, Err}
+use Rattle.cell_names.specs.FullNames.{components_of}
+use Rattle.directory.specs.declared.entry.Kind.{Kind}
+use Rattle.directory.specs.declared.entry.Kind.TheVariants as kind
+use Rattle.directory.specs.Kinds.{link_target}
+use Rattle.directory.specs.Shown.{targets}
+use Rattle.cell_model.specs.Cells.{Cell}
 use Rattle.cell_model.specs.Steps.{outcome, has}
-use Rattle.cell_replay.specs.declared.commands.Command.{Command}
-use Rattle.cell_replay.specs.declared.commands.Command.TheVariants as command
-use Rattle.cell_replay.specs.declared.commands.Question.TheVariants as question
-use Rattle.cell_replay.specs.declared.commands.ScriptLine.{ScriptLine}
-use Rattle.cell_replay.specs.declared.commands.ScriptLine.TheVariants as line
-use Rattle.cell_replay.specs.declared.answers.ScriptRefusal.{ScriptRefusal}
-use Rattle.cell_replay.specs.declared.answers.ScriptRefusal.TheVariants as why
-use Rattle.cell_replay.specs.declared.answers.Answer.{Answer as Answer'}
-use Rattle.cell_replay.specs.declared.answers.Answer.TheVariants as answer
-use Rattle.cell_replay.specs.Texts.{line_text, answer_text, values_text}
+use Rattle.resolver.specs.declared.refusal.Refusal.{Refusal}
+use Rattle.resolver.specs.declared.refusal.Refusal.TheVariants as refusal
+use Rattle.resolver.specs.declared.seen.Found.{Found}
+use Rattle.resolver.specs.Readers.{Reader}
+use Rattle.resolver.specs.Walks.{found_of}
+use Rattle.resolver.specs.WalkEnds.{end_of}
+use Rattle.cell_script.specs.declared.command.Question.{Question}
+use Rattle.cell_script.specs.declared.command.Question.TheVariants as question
+use Rattle.cell_script.specs.declared.command.ScriptLine.{ScriptLine}
+use Rattle.cell_script.specs.declared.command.ScriptLine.TheVariants as line
+use Rattle.cell_script.specs.declared.answer.Answer.{Answer}
+use Rattle.cell_script.specs.declared.answer.Answer.TheVariants as answer
+use Rattle.cell_script.specs.declared.answer.ScriptRefusal.{ScriptRefusal}
+use Rattle.cell_script.specs.declared.answer.ScriptRefusal.TheVariants as why
+use Rattle.cell_script.specs.Texts.{line_text, answer_text}
+use Rattle.cds_cell.specs.Readings.{reading}
+use Rattle.cds_cell.specs.Scripted.{step_of, answer_of}
 
--- the only house, and the root directory (own)
-abbrev pub first_house : ℕ
-first_house = 1
+-- what the walk of a full name finds, or why it finds nothing (own)
+abbrev pub walked : Reader → (follow_last : Bool) → List (List ℕ) → Result Found Refusal
+walked reader follow_last name = found_of (end_of reader follow_last name)
 
-abbrev pub root_dir : ℕ
-root_dir = 1
+-- why the script says that a walk finds nothing (own)
+abbrev pub refusal_of_walk : Refusal → ScriptRefusal
+refusal_of_walk (refusal.NoSuchName done) = why.NoSuchName done
+refusal_of_walk (refusal.NotDirectory n) = why.NotDirectory n
+refusal_of_walk (refusal.Unreachable d) = why.Unreachable d
+refusal_of_walk refusal.LinkCycle = why.LinkCycle
+refusal_of_walk refusal.TooManyLinks = why.TooManyLinks
+refusal_of_walk refusal.NameTooLong = why.NameTooLong
+refusal_of_walk refusal.RootName = why.RootName
 
--- the step of the cell that a command is (own)
-abbrev pub step_of : Command → model.Command
-step_of (command.House node) = model.House first_house node
-step_of (command.Clock time) = model.Clock first_house time
-step_of command.Root = model.Root first_house []
-step_of (command.Create dir name) = model.Accept first_house dir.0 (updates.Create name)
-step_of (command.Add dir name attr value) = model.Accept first_house dir.0 (updates.Add name attr value)
-step_of (command.Remove dir name attr value) = model.Accept first_house dir.0 (updates.Remove name attr value)
+-- the values of an attribute of the entry that is found (own)
+abbrev pub values_read : Reader → (attr : List ℕ) → Result Found Refusal → Answer
+values_read reader attr (Ok found) = answer.Values (reader.values found attr)
+values_read reader attr (Err r) = answer.Refused (refusal_of_walk r)
 
--- what is replied: a step's answer, the values that show, or why none is read (own)
-pub data Reply : Type 0 where
-  Steps : (answer : Answer) → Reply
-  Shows : (values : List (List ℕ)) → Reply
-  NotReached : (dir : ℕ) → Reply
-  NotFound : (done : ℕ) → Reply
+-- where the entry that is found leads, if it is a link: the name that its value reads as (C705, soft links)
+abbrev pub first_target : List (List ℕ) → Answer
+first_target [] = answer.Refused why.NotLink
+first_target (v ∷ vs) = answer.Target (components_of v)
 
-abbrev pub said_of : Reply → List ℕ
-said_of (Steps answer) = answer_text answer
-said_of (Shows values) = values_text values
-said_of (NotReached dir) = codes "refused Unreachable " ++ decimal dir
-said_of (NotFound done) = codes "refused NoSuchName " ++ decimal done
+abbrev pub target_of : Kind → List (List ℕ) → Answer
+target_of kind.Object values = answer.Refused why.NotLink
+target_of kind.Link values = first_target (targets values)
+target_of kind.Child values = answer.Refused why.NotLink
 
--- the replica of a house that can be read: the house is up, and holds one (own)
-abbrev pub held_in : Slot → Option Replica
-held_in Absent = None
-held_in (Gone e) = None
-held_in (Held r) = Some r
+abbrev pub target_read : Reader → Result Found Refusal → Answer
+target_read reader (Ok found) = target_of found.kind (reader.values found link_target)
+target_read reader (Err r) = answer.Refused (refusal_of_walk r)
 
-abbrev pub readable_at : Cell → (d : ℕ) → ℕ → Option Replica
-readable_at g d x = if (g.house x).up then held_in ((g.house x).slots d) else None
+-- the answers to questions, which name a house that is preferred and how far a replica is trusted. `read` follows links to
+-- the last, `readlink` looks at the last itself (own, after C705, lookups of clerks)
+abbrev pub asked_of : Cell → (house : ℕ) → Answer → Answer
+asked_of g house said = if has house g.made then said else answer.Refused why.NoHouse
 
--- the same, where the house is the master of its replica (own)
-abbrev pub readable_at_master : Cell → (d : ℕ) → ℕ → Option Replica
-readable_at_master g d x = option_and_then (λ r. if master_of r.members == x then Some r else None) (readable_at g d x)
-
-abbrev pub first_some : {A B : Type 0} → (A → Option B) → List A → Option B
-first_some f [] = None
-first_some f (x ∷ xs) = option_or (f x) (first_some f xs)
-
--- the houses of a directory, in the order in which they are asked (own)
-abbrev pub listed_houses : List Member → List ℕ
-listed_houses ms = master_of ms ∷ others_of (master_of ms) ms
-
--- the replica that is read: at high confidence that of the first listed house that is the master, at low confidence
--- that of the preferred house where it is listed, and else that of the first listed one (own, after C705, confidence)
-abbrev pub asked : Cell → (d prefer : ℕ) → (high : Bool) → List ℕ → Option Replica
-asked g d prefer high houses =
-    if high then first_some (readable_at_master g d) houses
-    else first_some (readable_at g d) (if has prefer houses then prefer ∷ houses else houses)
-
--- the root's replica, where there is a root directory (own)
-abbrev pub root_replica : Cell → (prefer : ℕ) → (high : Bool) → Option Replica
-root_replica g prefer high = if g.top root_dir == 0 then None else asked g root_dir prefer high (listed_houses (g.present root_dir))
-
--- the values of an attribute of an entry of the root; every entry that is built so far is an object, and no link is followed (own)
-abbrev pub shown_reply : List ℕ → Option Shown → Reply
-shown_reply attr None = NotFound 0
-shown_reply attr (Some e) = Shows (e.values attr)
-
-abbrev pub values_read : List ℕ → List ℕ → Replica → Reply
-values_read name attr r = shown_reply attr (shown r.history name)
-
-abbrev pub read_reply : Cell → (prefer : ℕ) → (high : Bool) → List ℕ → List ℕ → Reply
-read_reply g prefer high name attr =
-    if has prefer g.made then option_map_or (values_read name attr) (root_replica g prefer high) (NotReached root_dir)
-    else Steps (model.Refused model.NoHouse)
+abbrev pub question_answer : Cell → Question → Answer
+question_answer g (question.Read h high name attr) =
+    asked_of g h.0 (values_read (reading g (Some h.0) high) attr (walked (reading g (Some h.0) high) true name))
+question_answer g (question.Readlink h high name) =
+    asked_of g h.0 (target_read (reading g (Some h.0) high) (walked (reading g (Some h.0) high) false name))
 
 -- what a cell replies to a line, and the cell after it (own)
-abbrev pub reply_to : Cell → ScriptLine → Reply
-reply_to g (line.Cell c) = Steps (outcome g (step_of c)).answer
-reply_to g (line.Question (question.Read high name attr)) = read_reply g first_house high name attr
+abbrev pub reply_to : Cell → ScriptLine → Answer
+reply_to g (line.Cell c) = answer_of (outcome g (step_of c)).answer
+reply_to g (line.Question q) = question_answer g q
 
 abbrev pub cell_after : Cell → ScriptLine → Cell
 cell_after g (line.Cell c) = (outcome g (step_of c)).cell
@@ -105,7 +80,7 @@ cell_after g (line.Question q) = g
 
 -- the text of a line of the transcript (own)
 abbrev pub reply_text : ℕ → Cell → ScriptLine → List ℕ
-reply_text number g l = line_text number (said_of (reply_to g l))
+reply_text number g l = line_text number (answer_text (reply_to g l))
 
 -- a line of the script, by its number
 pub record Numbered : Type 0 where
@@ -116,20 +91,3 @@ pub record Numbered : Type 0 where
 abbrev pub transcript : Cell → List Numbered → List ℕ
 transcript g [] = []
 transcript g (l ∷ ls) = reply_text l.number g l.says ++ transcript (cell_after g l.says) ls
-
--- the answers of the program, as replies (own)
-abbrev pub refusal_reply : ScriptRefusal → Reply
-refusal_reply why.HouseExists = Steps (model.Refused model.HouseExists)
-refusal_reply why.NoHouse = Steps (model.Refused model.NoHouse)
-refusal_reply why.NoDirectory = Steps (model.Refused model.NoDirectory)
-refusal_reply why.DirectoryExists = Steps (model.Refused model.DirectoryExists)
-refusal_reply (why.Update r) = Steps (model.Refused (model.Update r))
-refusal_reply (why.NoSuchName done) = NotFound done
-refusal_reply (why.Unreachable dir) = NotReached dir.0
-
-abbrev pub reply_of : Answer' → Reply
-reply_of answer.Done = Steps model.Done
-reply_of answer.Posted = Steps (model.Posted [])
-reply_of (answer.Stamped s) = Steps (model.Stamped s [])
-reply_of (answer.Values vs) = Shows vs
-reply_of (answer.Refused r) = refusal_reply r

@@ -1,14 +1,14 @@
 -- Scripts and their transcripts (own).
-use Rattle.std.specs.Prelude.{◌≡◌, ℕ, ◌+◌, false, List, [], ◌∷◌, ◌++◌, Option, Some, None, Ok, Err, Result}
+use Rattle.std.specs.Prelude.{◌≡◌, ℕ, ◌+◌, List, [], ◌∷◌, ◌++◌, Option, Some, None, Ok, Err, Result}
 use Rattle.std.specs.Io.KnownBytes.{Consumes, Appends}
 use Rattle.cds_base.specs.LineFaults.{IsLine}
 use Rattle.cell_model.specs.Cells.{Cell}
-use Rattle.cell_replay.specs.declared.commands.ScriptLine.{ScriptLine}
-use Rattle.cell_replay.specs.declared.commands.ParseFault.{ParseFault}
-use Rattle.cell_replay.specs.Words.{words_of}
-use Rattle.cell_replay.specs.Lines.{said_in}
+use Rattle.cell_script.specs.declared.command.ScriptLine.{ScriptLine}
+use Rattle.cell_script.specs.declared.fault.ParseFault.{ParseFault}
+use Rattle.cell_script.specs.Words.{words_of}
+use Rattle.cell_script.specs.Commands.{said_in}
 use Rattle.cell_replay.specs.Replies.{Numbered, transcript}
-use Rattle.cell_replay.specs.Demand.{Demand}
+use Rattle.cell_replay.specs.Demand.{Demand, Sound}
 
 -- lines, each with its end (own)
 abbrev pub text_of : List (List ℕ) → List ℕ
@@ -28,7 +28,7 @@ IsScript number (l ∷ ls) said = IsLine number l × Says number (said_in (words
 
 -- a text is due, and nothing is faulty (own)
 abbrev pub whole : List ℕ → Demand
-whole text = record { body = text; end = []; faulty = false }
+whole text = record { body = text; end = []; verdict = Sound }
 
 -- a script was read, and its transcript by the model was written, from this cell on (own)
 pub record IsReplay (g : Cell) (left left' old new : Option (List ℕ)) : Type 0 where

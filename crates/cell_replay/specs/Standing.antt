@@ -1,103 +1,69 @@
--- Which history cell the program's cell of one house stands for (own).
-use Rattle.std.specs.Prelude.{◌≡◌, ◌≢◌, ℕ, ◌≤◌, true, List, [], ◌∷◌, ◌++◌, Option, Some, None}
-use Rattle.std.specs.FinMap.{FinMap}
-use Rattle.cds_stamps.specs.declared.stamp.Stamp.{Stamp}
-use Rattle.cds_stamps.specs.Octets.{octets_cmp}
-use Rattle.cds_stamps.specs.Members.{Member}
-use Rattle.directory.specs.declared.entry.EntryCell.{EntryCell}
-use Rattle.directory.specs.declared.update.UpdateRefusal.{UpdateRefusal}
-use Rattle.directory.specs.declared.update.UpdateRefusal.TheVariants as update
-use Rattle.std.specs.List.{Contains}
-use Rattle.directory.specs.Histories.{Mark, IsHistory, stamp_in, table_of}
-use Rattle.directory.specs.Shown.{shown, marks_of}
-use Rattle.directory.specs.Updates.{Change, changed_name}
-use Rattle.cell_model.specs.Cells.{Cell, Replica, Slot, Held}
-use Rattle.cell_model.specs.Cells as cells
-use Rattle.cell_model.specs.Steps.{Outcome, listing}
-use Rattle.cell_replay.specs.declared.cell.LocalCell.{LocalCell}
-use Rattle.cell_replay.specs.declared.cell.LocalHouse.{LocalHouse}
-use Rattle.cell_replay.specs.declared.answers.Answer.{Answer}
-use Rattle.cell_replay.specs.declared.answers.Answer.TheVariants as answer
-use Rattle.cell_replay.specs.declared.answers.ScriptRefusal.TheVariants as why
-use Rattle.cell_replay.specs.Replies.{Steps, reply_of, first_house, root_dir}
-use Rattle.cell_replay.specs.Demand.{FormState, Replaying, Response, GoesOn, Stops}
+-- What a form of the program is at, and what it makes of a line (own).
+use Rattle.std.specs.Prelude.{◌≡◌, ℕ, ◌≤◌, ◌<◌, Bool, true, false, length, List, [], ◌∷◌, ◌++◌, Option, Some, None}
+use Rattle.cell_model.specs.Cells as model
+use Rattle.cell_script.specs.declared.command.ScriptLine.{ScriptLine}
+use Rattle.cell_script.specs.declared.command.ScriptLine.TheVariants as said
+use Rattle.cell_script.specs.declared.answer.Answer.{Answer}
+use Rattle.cds_cell.specs.Scripted.{NamesOneHouse}
+use Rattle.cds_cell.specs.declared.cell.Cell.{Cell}
+use Rattle.cds_cell.specs.Standing.{Stands}
+use Rattle.tower_codec.specs.Tower.{Floor}
+use Rattle.tower_codec.specs.Spelling.{tower_octets}
+use Rattle.cell_replay.specs.Replies.{reply_to, cell_after}
+use Rattle.cell_replay.specs.Demand.{LineState, Replaying, Checking, Spelling, Response, GoesOn, Stops}
+use Rattle.cell_replay.specs.TowerTexts.{TowerLine, SaysTower, NoTower}
+use Rattle.cell_replay.specs.Forms.{FormState, ByLines, ByTowers}
+use Rattle.cell_replay.specs.declared.check.Tally.{Tally}
 use Rattle.cell_replay.specs.declared.forms.Form.{Form}
-use Rattle.cell_replay.specs.declared.forms.Form.TheVariants as form
-use Rattle.cell_replay.specs.declared.forms.LineEnd.{LineEnd}
-use Rattle.cell_replay.specs.declared.forms.LineEnd.TheVariants as line
+use Rattle.cell_replay.specs.declared.forms.Form.TheVariants as chosen
+use Rattle.cell_replay.specs.declared.forms.LineForm.{LineForm}
+use Rattle.cell_replay.specs.declared.forms.LineForm.TheVariants as form
+use Rattle.cell_replay.specs.declared.replies.LineEnd.{LineEnd}
+use Rattle.cell_replay.specs.declared.replies.LineEnd.TheVariants as line
 
--- the member list of a directory that the first house has alone
-abbrev pub alone : List Member
-alone = listing [] 1 first_house []
+-- a line that a cell of one house a directory can run
+abbrev pub IsRunnable : ScriptLine → Type 0
+IsRunnable (said.Cell c) = NamesOneHouse c
+IsRunnable (said.Question q) = Unit {0}
 
--- no mark is later than the floor
-abbrev pub IsBelow : List Mark → ℕ → Type 0
-IsBelow h floor = (m : Mark) → Contains h m → (stamp_in m).time ≤ floor
-
--- the table of the root is that of the history that the model's house holds; without a root, no directory was made
-pub record StandsRoot (t : FinMap octets_cmp EntryCell) (g : Cell) : Type 0 where
-  pub replica : Replica
-  pub held : (g.house first_house).slots root_dir ≡ Held replica
-  pub members : replica.members ≡ alone
-  pub table : t ≡ table_of replica.history
-  pub history : IsHistory replica.history
-  pub below : IsBelow replica.history (g.house first_house).floor
-  pub top : g.top root_dir ≡ 1
-  pub present : g.present root_dir ≡ alone
-  pub others : (d : ℕ) → d ≢ root_dir → g.top d ≡ 0
-
-abbrev pub MaybeStandsRoot : Option (FinMap octets_cmp EntryCell) → Cell → Type 0
-MaybeStandsRoot None g = (d : ℕ) → g.top d ≡ 0
-MaybeStandsRoot (Some table) g = StandsRoot table g
-
--- the one house, up, with its node, clock and floor
-pub record StandsHouse (h : LocalHouse) (g : Cell) : Type 0 where
-  pub made : g.made ≡ first_house ∷ []
-  pub up : (g.house first_house).up ≡ true
-  pub node : (g.house first_house).node ≡ h.node
-  pub clock : (g.house first_house).clock ≡ h.clock
-  pub floor : (g.house first_house).floor ≡ h.floor.time
-  pub root : MaybeStandsRoot h.root g
-
-abbrev pub MaybeStandsHouse : Option LocalHouse → Cell → Type 0
-MaybeStandsHouse None g = g ≡ cells.empty_cell
-MaybeStandsHouse (Some h) g = StandsHouse h g
-
-abbrev pub Stands : LocalCell → Cell → Type 0
-Stands c g = MaybeStandsHouse c.house g
-
--- an answer and a cell are those of a step of the model
-pub record IsStep (a : Answer) (c : LocalCell) (o : Outcome) : Type 0 where
-  pub answer : reply_of a ≡ Steps o.answer
-  pub stands : Stands c o.cell
-
--- the same, where there is a house
-pub record IsHouseStep (a : Answer) (h : LocalHouse) (o : Outcome) : Type 0 where
-  pub answer : reply_of a ≡ Steps o.answer
-  pub stands : StandsHouse h o.cell
-
--- an update of a table: refused, or taken with the stamp that is issued; the floor and the table after it
-pub record Took (h : List Mark) (time : ℕ) (expected : Answer) (marks : List Mark) (a : Answer) (t : FinMap octets_cmp EntryCell) (time' : ℕ) : Type 0 where
-  pub answer : a ≡ expected
-  pub table : t ≡ table_of (h ++ marks)
-  pub floor : time' ≡ time
-
-abbrev pub Updates : List Mark → Change → (floor : ℕ) → Option UpdateRefusal → Option Stamp → Answer → FinMap octets_cmp EntryCell → ℕ → Type 0
-Updates h u floor (Some r) stamp a table' floor' = Took h floor (answer.Refused (why.Update r)) [] a table' floor'
-Updates h u floor None None a table' floor' = Took h floor (answer.Refused (why.Update update.StampsSpent)) [] a table' floor'
-Updates h u floor None (Some s) a table' floor' = Took h s.time (answer.Stamped s) (marks_of (shown h (changed_name u)) u s) a table' floor'
+-- a reply and a cell are those of the model
+pub record IsReply (a : Answer) (c : Cell) (g : model.Cell) (l : ScriptLine) : Type 0 where
+  pub answer : a ≡ reply_to g l
+  pub stands : Stands c (cell_after g l)
 
 -- ---- forms
 
--- what the cell of `run` is at, and what a form is at
-abbrev pub StandsAt : LocalCell → FormState → Type 0
-StandsAt c (Replaying g) = Stands c g
+-- a form at its start
+abbrev pub start_of : Form → FormState
+start_of chosen.Run = ByLines (Replaying model.empty_cell)
+start_of chosen.Check = ByLines (Checking 0 0)
+start_of chosen.Towers = ByTowers
+start_of chosen.Untowers = ByLines Spelling
 
-abbrev pub IsAt : Form → FormState → Type 0
+-- what the cell of `run` is at, what is counted by `check`, and what a form that reads lines is at
+abbrev pub StandsAt : Cell → LineState → Type 0
+StandsAt c (Replaying g) = Stands c g
+StandsAt c (Checking lines commands) = ⊥
+StandsAt c Spelling = ⊥
+
+abbrev pub CountsTo : Tally → LineState → Type 0
+CountsTo t (Replaying g) = ⊥
+CountsTo t (Checking lines commands) = (t.lines ≡ lines) × (t.commands ≡ commands)
+CountsTo t Spelling = ⊥
+
+abbrev pub IsAt : LineForm → LineState → Type 0
 IsAt (form.Run cell) state = StandsAt cell state
+IsAt (form.Check tally) state = CountsTo tally state
+IsAt (form.Untowers speller) state = state ≡ Spelling
+
+-- the number of the last line that a form has counted
+abbrev pub counted : LineForm → ℕ
+counted (form.Run cell) = 0
+counted (form.Check tally) = tally.lines
+counted (form.Untowers speller) = 0
 
 -- how the work on a line ended: the reply waits behind the others, or there was no memory; Then says what follows
-abbrev pub Ends : LineEnd → Response → (waited waits : List ℕ) → (FormState → Type 0) → Type 0
+abbrev pub Ends : LineEnd → Response → (waited waits : List ℕ) → (LineState → Type 0) → Type 0
 Ends line.GoesOn (GoesOn text next) waited waits Then = (waits ≡ waited ++ text) × Then next
 Ends line.GoesOn (Stops text) waited waits Then = ⊥
 Ends line.Stops (GoesOn text next) waited waits Then = ⊥
@@ -105,9 +71,32 @@ Ends line.Stops (Stops text) waited waits Then = waits ≡ waited ++ text
 Ends line.NoMemory r waited waits Then = waits ≡ waited
 
 -- the form goes on with the state behind the line
-abbrev pub Replies : LineEnd → Response → (waited waits : List ℕ) → Form → Type 0
+abbrev pub Replies : LineEnd → Response → (waited waits : List ℕ) → LineForm → Type 0
 Replies end r waited waits f = Ends end r waited waits (IsAt f)
 
--- and so does the cell of `run`
-abbrev pub Replays : LineEnd → Response → (waited waits : List ℕ) → LocalCell → Type 0
+-- and so do the cell of `run` and the counts of `check`
+abbrev pub Replays : LineEnd → Response → (waited waits : List ℕ) → Cell → Type 0
 Replays end r waited waits c = Ends end r waited waits (StandsAt c)
+
+abbrev pub Counts : LineEnd → Response → (waited waits : List ℕ) → Tally → Type 0
+Counts end r waited waits t = Ends end r waited waits (CountsTo t)
+
+-- the line of a fault waits; nothing follows
+abbrev pub Faults : LineEnd → (text waited waits : List ℕ) → Type 0
+Faults end text waited waits = Ends end (Stops text) waited waits (λ next. Unit {0})
+
+-- the octets of the tower of a line wait; nothing is kept
+abbrev pub Spells : LineEnd → Response → (waited waits : List ℕ) → Type 0
+Spells end r waited waits = Ends end r waited waits (λ next. next ≡ Spelling)
+
+-- whether a word said a floor: it stands behind the others, and the tower is not too long; or the tower would be
+abbrev pub AddsFloor : Bool → Option Floor → (old new : List Floor) → Type 0
+AddsFloor true None old new = ⊥
+AddsFloor true (Some floor) old new = (new ≡ old ++ floor ∷ []) × (length (tower_octets new) ≤ 1024)
+AddsFloor false None old new = Unit {0}
+AddsFloor false (Some floor) old new = 1024 < length (tower_octets (old ++ floor ∷ []))
+
+-- whether a line said a tower
+abbrev pub ReadsTower : Bool → TowerLine → List Floor → Type 0
+ReadsTower true said floors = said ≡ SaysTower floors
+ReadsTower false said floors = said ≡ NoTower

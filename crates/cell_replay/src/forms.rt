@@ -1,56 +1,68 @@
-// The forms of the program that read lines, and what each makes of a line.
-ghost use Rattle.std.specs.Prelude.{◌≡◌, [], ◌∷◌, ◌++◌, MatchOption, OnOk, OnErr, map, string_bytes};
-ghost use Rattle.cell_model.specs.Cells.{Cell};
-ghost use Rattle.cell_replay.specs.Words.{words_of};
-ghost use Rattle.cell_replay.specs.Lines.{said_in};
-ghost use Rattle.cell_replay.specs.Texts.{parse_fault_text};
-ghost use Rattle.cell_replay.specs.Replies.{reply_text, cell_after};
-ghost use Rattle.cell_replay.specs.Demand.{FormState, form_of, response, replayed};
-ghost use Rattle.cell_replay.specs.Standing.{Stands, IsAt, Replies, Replays};
-ghost use Rattle.cell_replay.specs.declared.cell.LocalCell.{LocalCell};
+// The forms of the program, and what those that read lines make of a line.
+ghost use Rattle.std.specs.Prelude.{◌≡◌, ◌<◌, ◌≤◌, ℕ, [], ◌∷◌, ◌++◌, MatchOption, IfOk, OnOk, OnErr, map, string_bytes};
+ghost use Rattle.cell_model.specs.Cells as model;
+ghost use Rattle.cell_script.specs.Words.{words_of};
+ghost use Rattle.cell_script.specs.Commands.{said_in};
+ghost use Rattle.cell_script.specs.Texts.{parse_fault_text};
+ghost use Rattle.cds_cell.specs.Standing.{Stands};
+ghost use Rattle.cds_cell.specs.Scripted.{NamesOneHouse};
+ghost use Rattle.cell_replay.specs.Replies.{reply_text, reply_to, cell_after};
+ghost use Rattle.std.specs.Option.{option_map};
+ghost use Rattle.cell_replay.specs.Demand.{LineState, response, replayed, checked, end_text, told_fault};
+ghost use Rattle.cell_replay.specs.Forms.{form_named, form_of};
+ghost use Rattle.cell_replay.specs.Standing.{IsReply, IsRunnable, Faults, IsAt, Replies, Replays, Counts, counted, start_of};
 
-use crate::answers::{print_answer, print_parse_fault};
-use crate::cell::LocalCell;
-use crate::commands::{ParseFault, ScriptLine, parse_line};
-use crate::replies::Waiting;
+use crate::answers::print_line_fault;
+use crate::check::Tally;
+use crate::questions::answer_question;
+use crate::replies::{LineEnd, Waiting};
+use crate::untowers::Speller;
+use cds_base::LineFault;
+use cds_cell::Cell;
 use cds_stamps::AllocOr;
+use cell_script::{Answer, ParseFault, ScriptLine, parse_line, print_answer, print_parse_fault};
 use std::alloc::{AllocError, Global};
 
-/// A form of the program, in its state between two lines.
-#[derive(Drop)]
+/// A form of the program.
+#[derive(Clone, Copy, Debug, PartialEq, Eq)]
 pub(crate) enum Form {
-    Run(LocalCell),
+    Run,
+    Check,
+    Towers,
+    Untowers,
 }
 
-/// How the work on a line ends.
-#[derive(Clone, Copy)]
-pub(crate) enum LineEnd {
-    GoesOn,
-    Stops,
-    NoMemory,
+/// A form that reads lines, in its state between two of them.
+#[derive(Drop)]
+pub(crate) enum LineForm {
+    Run(Cell),
+    Check(Tally),
+    Untowers(Speller),
 }
 
 /// The form that the words of the command line name.
 pub(crate) fn form_in(words: &[String]) -> Option<Form>
-    ensures { MatchOption result (form_of (map string_bytes words.now) ≡ None) (λ f. (state : FormState) × (form_of (map string_bytes words.now) ≡ Some state) × IsAt f state) }
+    ensures { form_of (map string_bytes words.now) ≡ option_map start_of result }
 {
     match words {
-        [word] => form_named(word),
+        [word] => form_by_name(word),
         _ => None,
     }
 }
 
-fn form_named(word: &String) -> Option<Form>
-    ensures { MatchOption result (form_of (string_bytes word.now ∷ []) ≡ None) (λ f. (state : FormState) × (form_of (string_bytes word.now ∷ []) ≡ Some state) × IsAt f state) }
+fn form_by_name(word: &String) -> Option<Form>
+    ensures { form_named (string_bytes word.now) ≡ option_map start_of result }
 {
-    if word.as_str() == "run" {
-        Some(Form::Run(LocalCell::new()))
-    } else {
-        None
+    match word.as_str() {
+        "run" => Some(Form::Run),
+        "check" => Some(Form::Check),
+        "towers" => Some(Form::Towers),
+        "untowers" => Some(Form::Untowers),
+        _ => None,
     }
 }
 
-impl Form {
+impl LineForm {
     /// What the form makes of a whole line: its reply waits behind the others.
     pub(crate) fn answer(
         &mut self,
@@ -59,23 +71,71 @@ impl Form {
         line: &[u8],
         waiting: &mut Waiting,
     ) -> LineEnd
-        ensures { (state : FormState) → IsAt self.old state → Replies result (response number state line.now) waiting.old waiting.new self.new }
+        requires { counted self.old < number }
+        ensures reply { (state : LineState) → IsAt self.old state → Replies result (response number state line.now) waiting.old waiting.new self.new }
+        ensures counted { counted self.new ≤ number }
     {
         match self {
-            Form::Run(cell) => replay_line(alloc, cell, number, line, waiting),
+            LineForm::Run(cell) => replay_line(alloc, cell, number, line, waiting),
+            LineForm::Check(tally) => check_line(alloc, tally, number, line, waiting),
+            LineForm::Untowers(speller) => speller.spell_line(alloc, line, waiting),
         }
+    }
+
+    /// What is said at the end of the input.
+    pub(crate) fn print_end(&self, alloc: Global) -> Result<Vec<u8>, AllocError>
+        ensures { (state : LineState) → IsAt self.now state → IfOk result (λ text. text.items ≡ end_text state) }
+    {
+        match self {
+            LineForm::Run(_) => Ok(Vec::new(alloc)),
+            LineForm::Check(tally) => tally.print(alloc),
+            LineForm::Untowers(_) => Ok(Vec::new(alloc)),
+        }
+    }
+
+    /// The line of a fault of octets; `untowers` writes none.
+    pub(crate) fn print_fault(&self, alloc: Global, fault: LineFault) -> Result<Vec<u8>, AllocError>
+        ensures { (state : LineState) → IsAt self.now state → IfOk result (λ text. text.items ≡ told_fault state fault) }
+    {
+        match self {
+            LineForm::Run(_) => print_line_fault(alloc, fault),
+            LineForm::Check(_) => print_line_fault(alloc, fault),
+            LineForm::Untowers(_) => Ok(Vec::new(alloc)),
+        }
+    }
+}
+
+// Counts a line, and looks whether it is in order.
+fn check_line(
+    alloc: Global,
+    tally: &mut Tally,
+    number: u32,
+    line: &[u8],
+    waiting: &mut Waiting,
+) -> LineEnd
+    requires { tally.old.lines < number }
+    ensures reply { Counts result (checked number tally.old.commands (said_in (words_of line.now))) waiting.old waiting.new tally.new }
+    ensures counted { tally.new.lines ≤ number }
+{
+    match parse_line(alloc, line) {
+        Ok(said) => {
+            tally.count(number, said.is_some());
+            LineEnd::GoesOn
+        }
+        Err(AllocOr::Fault(fault)) => reply_to_fault(alloc, number, fault, waiting),
+        Err(AllocOr::OutOfMemory) => LineEnd::NoMemory,
     }
 }
 
 // Replays a line on the cell.
 fn replay_line(
     alloc: Global,
-    cell: &mut LocalCell,
+    cell: &mut Cell,
     number: u32,
     line: &[u8],
     waiting: &mut Waiting,
 ) -> LineEnd
-    ensures { (g : Cell) → Stands cell.old g → Replays result (replayed number g (said_in (words_of line.now))) waiting.old waiting.new cell.new }
+    ensures { (g : model.Cell) → Stands cell.old g → Replays result (replayed number g (said_in (words_of line.now))) waiting.old waiting.new cell.new }
 {
     match parse_line(alloc, line) {
         Ok(Some(line)) => reply_to_line(alloc, cell, number, line, waiting),
@@ -87,12 +147,13 @@ fn replay_line(
 
 fn reply_to_line(
     alloc: Global,
-    cell: &mut LocalCell,
+    cell: &mut Cell,
     number: u32,
     line: ScriptLine,
     waiting: &mut Waiting,
 ) -> LineEnd
-    ensures { (g : Cell) → Stands cell.old g → Replays result (replayed number g (Ok (Some line))) waiting.old waiting.new cell.new }
+    requires { IsRunnable line }
+    ensures { (g : model.Cell) → Stands cell.old g → Replays result (replayed number g (Ok (Some line))) waiting.old waiting.new cell.new }
 {
     match answered(alloc, cell, number, line, waiting) {
         Ok(()) => LineEnd::GoesOn,
@@ -103,22 +164,34 @@ fn reply_to_line(
 // The reply to a line waits behind the others.
 fn answered(
     alloc: Global,
-    cell: &mut LocalCell,
+    cell: &mut Cell,
     number: u32,
     line: ScriptLine,
     waiting: &mut Waiting,
 ) -> Result<(), AllocError>
-    ensures ok { (g : Cell) → Stands cell.old g → OnOk result ((waiting.new ≡ waiting.old ++ reply_text number g line) × Stands cell.new (cell_after g line)) }
+    requires { IsRunnable line }
+    ensures ok { (g : model.Cell) → Stands cell.old g → OnOk result ((waiting.new ≡ waiting.old ++ reply_text number g line) × Stands cell.new (cell_after g line)) }
     ensures err { OnErr result (waiting.new ≡ waiting.old) }
 {
-    let answer = cell.reply(alloc, line)?;
+    let answer = reply(alloc, cell, line)?;
     let text = print_answer(alloc, number, &answer)?;
-    waiting.add(text.as_str())?;
+    waiting.add(&text)?;
     Ok(())
 }
 
+// What the cell replies to a line.
+fn reply(alloc: Global, cell: &mut Cell, line: ScriptLine) -> Result<Answer, AllocError>
+    requires { IsRunnable line }
+    ensures { (g : model.Cell) → Stands cell.old g → IfOk result (λ a. IsReply a cell.new g line) }
+{
+    match line {
+        ScriptLine::Cell(command) => cell.step(alloc, command),
+        ScriptLine::Question(question) => answer_question(alloc, cell, &question),
+    }
+}
+
 fn reply_to_fault(alloc: Global, number: u32, fault: ParseFault, waiting: &mut Waiting) -> LineEnd
-    ensures { (c : LocalCell) (g : Cell) → Replays result (replayed number g (Err fault)) waiting.old waiting.new c }
+    ensures { Faults result (parse_fault_text number fault) waiting.old waiting.new }
 {
     match queue_fault(alloc, number, fault, waiting) {
         Ok(()) => LineEnd::Stops,
@@ -137,6 +210,6 @@ fn queue_fault(
     ensures err { OnErr result (waiting.new ≡ waiting.old) }
 {
     let text = print_parse_fault(alloc, number, fault)?;
-    waiting.add(text.as_str())?;
+    waiting.add(&text)?;
     Ok(())
 }

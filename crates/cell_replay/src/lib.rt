@@ -1,15 +1,22 @@
-//! The replay of a script over one cell: lines in, answers out.
+//! The forms of the program: a script replayed over one cell or checked, and towers as octets and as text.
 #![tactic(auto)]
 
 mod answers;
-mod cell;
-mod commands;
+mod check;
+mod endings;
 mod forms;
 pub mod laws;
+mod questions;
 mod replay;
 mod replies;
 #[cfg(test)]
 mod tests;
+#[cfg(test)]
+mod tower_tests;
+mod tower_text;
+mod towers;
+mod untowers;
 mod words;
 
-pub use replay::{Status, run};
+pub use endings::Status;
+pub use replay::run;

@@ -1,28 +1,40 @@
-// Replies that wait to be written: those to lines that the reader's buffer still held, one write for all of them.
-ghost use Rattle.std.specs.Prelude.{◌≡◌, ◌++◌, ◌<◌, [], length, take, OnOk, OnErr, IfErr, string_bytes};
+// Replies that wait to be written: those to lines or towers that were read at once, one write for all of them.
+ghost use Rattle.std.specs.Prelude.{◌≡◌, ◌++◌, ◌<◌, ◌≤◌, [], length, take, OnOk, OnErr, IfErr};
 ghost use Rattle.std.specs.Io.KnownBytes.{Appends};
 ghost use Rattle.cds_base.specs.Counts.{HasCause};
+ghost use Rattle.tower_codec.specs.Spelling.{tower_octets};
+ghost use Rattle.cell_replay.specs.TowerTexts.{tower_text};
 ghost use Rattle.cell_replay.specs.Waiting.{Flushes};
 
+use crate::tower_text::append_tower;
 use cds_base::{PutFault, Sink, put_all};
 use std::alloc::{AllocError, Global};
 use std::marker::Model;
+use tower_codec::TowerView;
 
 /// Replies are written at the latest when this many octets wait.
 const MOST: usize = 65536;
 
-/// The text of replies that are not written yet.
+/// How the work on a line ends.
+#[derive(Clone, Copy)]
+pub(crate) enum LineEnd {
+    GoesOn,
+    Stops,
+    NoMemory,
+}
+
+/// Replies that are not written yet.
 #[derive(Drop)]
 pub(crate) struct Waiting {
-    text: String,
+    octets: Vec<u8>,
 }
 
 impl Model for Waiting {
-    ghost use Rattle.std.specs.Prelude.{ℕ, List, string_bytes};
+    ghost use Rattle.std.specs.Prelude.{ℕ, List};
 
     ghost Value = { List ℕ };
 
-    ghost view = { λ w. string_bytes w.text };
+    ghost view = { λ w. w.octets.items };
 }
 
 impl Waiting {
@@ -30,16 +42,30 @@ impl Waiting {
         ensures { result ≡ [] }
     {
         Waiting {
-            text: String::new(alloc),
+            octets: Vec::new(alloc),
         }
     }
 
     /// One reply more.
-    pub(crate) fn add(&mut self, reply: &str) -> Result<(), AllocError>
+    pub(crate) fn add(&mut self, reply: &[u8]) -> Result<(), AllocError>
         ensures ok { OnOk result (self.new ≡ self.old ++ reply.now) }
         ensures err { OnErr result (self.new ≡ self.old) }
     {
-        self.text.push_str(reply)
+        self.octets.extend_from_slice(reply)
+    }
+
+    /// The line of a tower more.
+    pub(crate) fn add_tower(&mut self, tower: &TowerView<'_>) -> Result<(), AllocError>
+        requires { length (tower_octets tower.now) ≤ 1024 }
+        ensures ok { OnOk result (self.new ≡ self.old ++ tower_text tower.now) }
+        ensures err { OnErr result (self.new ≡ self.old) }
+    {
+        let before = self.octets.len();
+        if let Err(error) = append_tower(&mut self.octets, tower) {
+            self.octets.truncate(before);
+            return Err(error);
+        }
+        Ok(())
     }
 
     /// Flushes all that waits.
@@ -49,9 +75,9 @@ impl Waiting {
         ensures err { IfErr result (λ e. (e.0 < length self.old) × Appends (K.written sink.old) (K.written sink.new) (take e.0 self.old)) }
         ensures cause { HasCause (K.faults sink.old) (K.faults sink.new) result }
     {
-        match put_all(sink, self.text.as_bytes()) {
+        match put_all(sink, &self.octets) {
             Ok(()) => {
-                self.text.clear();
+                self.octets.clear();
                 Ok(())
             }
             Err(fault) => Err(fault),
@@ -68,7 +94,7 @@ impl Waiting {
         ensures err { IfErr result (λ e. (e.0 < length self.old) × Appends (K.written sink.old) (K.written sink.new) (take e.0 self.old)) }
         ensures cause { HasCause (K.faults sink.old) (K.faults sink.new) result }
     {
-        if ready && self.text.len() < MOST {
+        if ready && self.octets.len() < MOST {
             return Ok(());
         }
         self.write_out(sink)

@@ -119,6 +119,102 @@ const REFUSALS_ANSWERS: &str = "1 refused NoHouse\n\
     19 refused WrongKind\n\
     20 ok 2@00000000000a\n";
 
+// Links and children: a link passed twice, a cycle, and a child whose houses change.
+const LINKS: &str = "house 1 00000000000a\n\
+    root 1\n\
+    link 1 1 loop /.:/loop\n\
+    mkdir 1 1 sub 1\n\
+    link 1 2 up /.:\n\
+    create 1 1 obj\n\
+    read 1 low /.:/loop A\n\
+    read 1 low /.:/sub/up/sub/up/obj A\n\
+    read 1 low /.:/sub/up A\n\
+    readlink 1 low /.:/sub/up\n\
+    readlink 1 low /.:/obj\n\
+    read 1 low /.:/obj/x A\n\
+    read 1 low /.:/sub CDS_Replicas\n\
+    house 2 00000000000b\n\
+    repoint 1 1 sub 1 2\n\
+    read 1 low /.:/sub CDS_Replicas\n\
+    add 1 1 obj A 01\n\
+    clear 1 1 obj A\n\
+    read 1 low /.:/obj A\n";
+
+const LINKS_ANSWERS: &str = "1 ok\n\
+    2 ok\n\
+    3 ok 1@00000000000a\n\
+    4 ok 2 2@00000000000a\n\
+    5 ok 3@00000000000a\n\
+    6 ok 4@00000000000a\n\
+    7 refused LinkCycle\n\
+    8 ok 0\n\
+    9 refused RootName\n\
+    10 ok /.:\n\
+    11 refused NotLink\n\
+    12 refused NotDirectory 1\n\
+    13 ok 1 000000020101\n\
+    14 ok\n\
+    15 ok 5@00000000000a\n\
+    16 ok 1 00000002020102\n\
+    17 ok 6@00000000000a\n\
+    18 ok 7@00000000000a\n\
+    19 ok 0\n";
+
+// Two houses, each with a directory, and who holds which.
+const HOUSES: &str = "house 1 00000000000a\n\
+    house 1 00000000000b\n\
+    house 2 00000000000a\n\
+    house 2 00000000000b\n\
+    mkdir 1 1 sub 1\n\
+    root 2\n\
+    root 1\n\
+    create 1 1 e\n\
+    mkdir 1 1 sub 2\n\
+    mkdir 2 1 sub 3\n\
+    mkdir 2 1 sub 1\n\
+    create 2 2 e\n\
+    create 1 2 e\n\
+    put 1 2 e A 02\n\
+    put 1 2 e A 01\n\
+    read 2 high /.:/sub/e A\n\
+    repoint 2 1 sub 2 2\n\
+    repoint 2 1 sub 2 1\n\
+    read 2 high /.:/sub/e A\n\
+    repoint 2 1 sub 2\n\
+    read 1 low /.:/sub/e A\n\
+    delete 2 1 sub\n\
+    delete 1 2 e\n\
+    delete 1 2 e\n\
+    readlink 3 low /.:/e\n\
+    readlink 1 low /.:/e\n";
+
+const HOUSES_ANSWERS: &str = "1 ok\n\
+    2 refused HouseExists\n\
+    3 refused HouseExists\n\
+    4 ok\n\
+    5 refused NoDirectory\n\
+    6 ok\n\
+    7 refused DirectoryExists\n\
+    8 refused NoReplica\n\
+    9 refused NoReplica\n\
+    10 refused NoHouse\n\
+    11 ok 2 1@00000000000b\n\
+    12 refused NoReplica\n\
+    13 ok 1@00000000000a\n\
+    14 ok 2@00000000000a\n\
+    15 ok 3@00000000000a\n\
+    16 ok 1 01\n\
+    17 refused BadMembers\n\
+    18 ok 2@00000000000b\n\
+    19 ok 1 01\n\
+    20 ok 3@00000000000b\n\
+    21 refused Unreachable 2\n\
+    22 refused WrongKind\n\
+    23 ok 4@00000000000a\n\
+    24 refused NoSuchEntry\n\
+    25 refused NoHouse\n\
+    26 refused NoSuchName 0\n";
+
 fn words_of(alloc: Global, texts: &[&str]) -> Result<Vec<String>, AllocError> {
     let mut words = Vec::new(alloc);
     for text in texts {
@@ -147,6 +243,8 @@ fn scripts_are_answered(rt: HostRuntime) -> Result<(), Fail> {
         (LAST_STAMP, LAST_STAMP_ANSWERS, Status::Ok),
         (CLOCK_SET_BACK, CLOCK_SET_BACK_ANSWERS, Status::Ok),
         (REFUSALS, REFUSALS_ANSWERS, Status::Ok),
+        (LINKS, LINKS_ANSWERS, Status::Ok),
+        (HOUSES, HOUSES_ANSWERS, Status::Ok),
         (
             "house 1 00000000000a",
             "1 fault NoLineEnd 21\n",
@@ -211,13 +309,13 @@ static FAULTY: [(&str, &str); 40] = [
     ("remove 1 1 e A 0g", "BadWord 6"),
     ("read 1 medium /.:/e A", "BadWord 3"),
     ("read 1 low /.:/e A-", "BadWord 5"),
-    ("house 2 00000000000b", "NotBuilt 2"),
-    ("house 255 g", "NotBuilt 2"),
-    ("root 2", "NotBuilt 2"),
+    ("house 255 g", "BadWord 3"),
     ("root 1 2", "NotBuilt 3"),
-    ("read 1 low a A", "NotBuilt 4"),
-    ("read 1 low /.:/a/b A-", "NotBuilt 4"),
-    ("put 1 1 s A 01", "NotBuilt 1"),
+    ("mkdir 1 1 s 1 2 0", "NotBuilt 6"),
+    ("repoint 1 1 s 1 0", "BadWord 6"),
+    ("link 1 1 s e", "BadWord 5"),
+    ("read 1 low a A", "BadWord 4"),
+    ("read 1 low /.:/a//b A-", "BadWord 4"),
     ("decode", "NotBuilt 1"),
     ("skulk 0 0 0", "NotBuilt 1"),
     ("clock\t1 1", "NotAscii 6"),
@@ -235,7 +333,7 @@ fn the_first_faulty_line_ends_a_run(rt: HostRuntime) -> Result<(), Fail> {
         assert_eq!(rt; end, Status::BadInput, "at {line}");
     }
     let text = print_line_fault(alloc, LineFault::TooManyLines(16777217, 1))?;
-    assert_eq!(rt; text.as_str(), "16777217 fault TooManyLines 1\n");
+    assert_eq!(rt; text.as_slice(), b"16777217 fault TooManyLines 1\n".as_slice());
     Ok(())
 }
 
@@ -248,7 +346,7 @@ fn other_words_are_usage(rt: HostRuntime) -> Result<(), Fail> {
         &["run", ""],
         &[""],
         &["Run"],
-        &["check"],
+        &["checks"],
         &["load", "1"],
     ];
     for texts in rows {

@@ -1,12 +1,26 @@
-use Rattle.std.proofs.Common.{◌-◌}
-use Rattle.cds_base.specs.Lines.{given}
-use Rattle.cell_replay.specs.Demand.{FormState}
-use Rattle.cell_replay.specs.Standing.{IsAt}
+use Rattle.std.proofs.Common.{◌≡◌, ◌-◌, ◌≤◌}
+use Rattle.std.specs.Prelude.{None}
+use Rattle.cds_base.specs.Lines.{given, kept}
+use Rattle.cds_base.specs.declared.lines.Lines.{Lines}
+use Rattle.cell_replay.specs.declared.forms.LineForm.{LineForm}
+use Rattle.cell_replay.specs.Demand.{LineState}
+use Rattle.cell_replay.specs.Standing.{IsAt, counted}
 use Rattle.cell_replay.proofs.Turns.{IsBetween}
 use Rattle.cell_replay.proofs.replay.answer_lines.Given as goal
 
+-- the run stands between two lines, whatever state it began in; no fault was met, and no line that is to come was counted
+pub record IsGoingOn (Between Starts : LineState → Type 0) (lines : Lines) (form : LineForm) : Type 0 where
+  pub between : (state : LineState) → Starts state → Between state
+  pub unbroken : kept lines ≡ None
+  pub counted : counted form ≤ given lines
+
 abbrev pub invariant-lines : goal.invariant-lines
-invariant-lines g l = (state : FormState) → IsAt l.fn.form state → IsBetween state (g.S.Source.left l.fn.source) (g.S.Source.left l.source) (g.K.Sink.written l.fn.sink) (g.K.Sink.written l.sink) (g.S.Source.faults l.fn.source) (g.S.Source.faults l.source) (g.K.Sink.faults l.fn.sink) (g.K.Sink.faults l.sink) l.lines l.form l.waiting
+invariant-lines g l =
+    IsGoingOn
+    (λ state. IsBetween state (g.S.Source.left l.fn.source) (g.S.Source.left l.source) (g.K.Sink.written l.fn.sink) (g.K.Sink.written l.sink) (g.S.Source.faults l.fn.source) (g.S.Source.faults l.source) (g.K.Sink.faults l.fn.sink) (g.K.Sink.faults l.sink) l.lines l.form l.waiting)
+    (λ state. IsAt l.fn.form state)
+    l.lines
+    l.form
 
 abbrev pub decreases-lines : goal.decreases-lines
 decreases-lines g l = 16777217 - given l.lines

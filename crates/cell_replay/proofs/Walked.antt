@@ -1,0 +1,30 @@
+-- The end of a walk as a question uses it.
+use Rattle.std.proofs.Common.{◌≡◌, List, ℕ, Bool, true, false, subst, ap}
+use Rattle.std.specs.Prelude.{Result, Some}
+use Rattle.cds_stamps.specs.declared.alloc_or.AllocOr.{AllocOr}
+use Rattle.cds_stamps.specs.Outcomes.{Answers}
+use Rattle.cell_model.specs.Cells as model
+use Rattle.resolver.specs.declared.refusal.Refusal.{Refusal}
+use Rattle.resolver.specs.declared.seen.Found.{Found}
+use Rattle.resolver.specs.Readers.{Reader}
+use Rattle.resolver.specs.Walks.{SomeEnd, found_of}
+use Rattle.resolver.specs.WalkEnds.{end_is}
+use Rattle.cds_cell.specs.declared.cell.Cell.{Cell}
+use Rattle.cds_cell.specs.Standing.{Stands}
+use Rattle.cds_cell.specs.Telling.{told}
+use Rattle.cds_cell.specs.Readings.{reading}
+use Rattle.cds_cell.proofs.Told.{told_is_reading}
+use Rattle.cell_replay.specs.Replies.{walked, asked_of, values_read, target_read}
+
+-- what a call answers of some end of a walk, it answers of its end
+pub walk_answers : (reader : Reader) (last : Bool) (name : List (List ℕ)) (r : Result Found (AllocOr Refusal)) → SomeEnd reader last name (λ e. Answers r (found_of e)) → Answers r (walked reader last name)
+walk_answers reader last name r some = subst (λ e. Answers r (found_of e)) (end_is some.1) some.2
+
+-- what the program is told is what the model's cell tells
+pub read_alike : (c : Cell) (g : model.Cell) (s : Stands c g) (h : ℕ) (high : Bool) (name : List (List ℕ)) (attr : List ℕ)
+    → asked_of g h (values_read (told c) attr (walked (told c) true name)) ≡ asked_of g h (values_read (reading g (Some h) high) attr (walked (reading g (Some h) high) true name))
+read_alike c g s h high name attr = ap (λ r. asked_of g h (values_read r attr (walked r true name))) (told_is_reading c g s (Some h) high)
+
+pub target_alike : (c : Cell) (g : model.Cell) (s : Stands c g) (h : ℕ) (high : Bool) (name : List (List ℕ))
+    → asked_of g h (target_read (told c) (walked (told c) false name)) ≡ asked_of g h (target_read (reading g (Some h) high) (walked (reading g (Some h) high) false name))
+target_alike c g s h high name = ap (λ r. asked_of g h (target_read r (walked r false name))) (told_is_reading c g s (Some h) high)

@@ -1,9 +1,0 @@
-use Rattle.std.proofs.Common.{◌≡◌, ◌++◌, ◌∷◌, take, length}
-use Rattle.std.specs.Prelude.{string_bytes, codes}
-use Rattle.std.specs.Fmt.{decimal}
-use Rattle.std.specs.List.{flat_map}
-use Rattle.hex.specs.Hex.{encode_lower}
-use Rattle.cell_replay.proofs.answers.print_values.Given as goal
-
-abbrev pub invariant-loop-value : goal.invariant-loop-value
-invariant-loop-value l = string_bytes l.text ≡ codes "ok " ++ (decimal (length l.values) ++ flat_map (λ v. 32 ∷ encode_lower v) (take l.value-index l.values))

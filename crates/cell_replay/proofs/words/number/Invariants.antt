@@ -1,7 +1,0 @@
-use Rattle.std.proofs.Common.{◌≡◌, drop}
-use Rattle.cell_replay.specs.Words.{number_of}
-use Rattle.cell_replay.proofs.Numbers.{number_on}
-use Rattle.cell_replay.proofs.words.number.Given as goal
-
-abbrev pub invariant-loop-b : goal.invariant-loop-b
-invariant-loop-b l = number_on l.value (drop l.b-index l.word) ≡ number_of l.word

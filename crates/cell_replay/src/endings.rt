@@ -1,0 +1,75 @@
+// How a run ends.
+ghost use Rattle.std.specs.Prelude.{◌≡◌, ◌++◌, ℕ, List, OnOk, OnErr, IfOk};
+ghost use Rattle.cell_replay.specs.Runs.{Finishes, IsQueued, StopsWith, code_of};
+
+use crate::replies::Waiting;
+use cds_base::Sink;
+use std::alloc::AllocError;
+
+/// How a run ends.
+#[derive(Clone, Copy, Debug, PartialEq, Eq)]
+pub enum Status {
+    Ok,
+    Usage,
+    BadInput,
+    ReadFault,
+    WriteFault,
+    OutOfMemory,
+}
+
+impl Status {
+    /// The number that the process ends with.
+    pub fn code(self) -> u8
+        ensures { result ≡ code_of self }
+    {
+        match self {
+            Status::Ok => 0,
+            Status::Usage => 2,
+            Status::BadInput => 3,
+            Status::ReadFault => 4,
+            Status::WriteFault => 5,
+            Status::OutOfMemory => 6,
+        }
+    }
+}
+
+/// Flushes what waits, and ends.
+pub(crate) fn finish<K: Sink>(waiting: &mut Waiting, sink: &mut K, status: Status) -> Status
+    ensures { Finishes (K.written sink.old) (K.written sink.new) (K.faults sink.old) (K.faults sink.new) waiting.old status result }
+{
+    match waiting.write_out(sink) {
+        Ok(()) => status,
+        Err(_) => Status::WriteFault,
+    }
+}
+
+// A text waits behind the others; the status then.
+fn queue(text: Result<Vec<u8>, AllocError>, waiting: &mut Waiting, status: Status) -> Status
+    ensures { (octets : List ℕ) → IfOk text (λ t. t.items ≡ octets) → IsQueued status octets waiting.old waiting.new result }
+{
+    match add_text(text, waiting) {
+        Ok(()) => status,
+        Err(AllocError) => Status::OutOfMemory,
+    }
+}
+
+fn add_text(text: Result<Vec<u8>, AllocError>, waiting: &mut Waiting) -> Result<(), AllocError>
+    ensures ok { (octets : List ℕ) → IfOk text (λ t. t.items ≡ octets) → OnOk result (waiting.new ≡ waiting.old ++ octets) }
+    ensures err { OnErr result (waiting.new ≡ waiting.old) }
+{
+    let text = text?;
+    waiting.add(&text)
+}
+
+/// Ends with a last text, where there was memory for it.
+pub(crate) fn stop_with<K: Sink>(
+    text: Result<Vec<u8>, AllocError>,
+    waiting: &mut Waiting,
+    sink: &mut K,
+    status: Status,
+) -> Status
+    ensures { (octets : List ℕ) → IfOk text (λ t. t.items ≡ octets) → StopsWith (K.written sink.old) (K.written sink.new) (K.faults sink.old) (K.faults sink.new) status octets waiting.old result }
+{
+    let status = queue(text, waiting, status);
+    finish(waiting, sink, status)
+}

@@ -1,0 +1,156 @@
+// What a cell answers to questions, which change nothing.
+ghost use Rattle.std.specs.Prelude.{◌≡◌, true, false, IfOk};
+ghost use Rattle.cell_model.specs.Cells as model;
+ghost use Rattle.directory.specs.Kinds.{link_target};
+ghost use Rattle.cds_cell.specs.Standing.{Stands};
+ghost use Rattle.cds_cell.specs.Readings.{reading};
+ghost use Rattle.cds_cell.specs.Telling.{told};
+ghost use Rattle.cell_replay.specs.Replies.{asked_of, first_target, question_answer, refusal_of_walk, target_of, target_read, values_read, walked};
+ghost use Rattle.directory.specs.Shown.{targets};
+
+use attr_sets::Value;
+use cds_cell::{Cell, CellReader};
+use cds_stamps::{AllocOr, AttrName, HouseNo};
+use cell_names::FullName;
+use cell_script::{Answer, Question, ScriptRefusal, Values};
+use directory::Kind;
+use resolver::{EntryReader, Found, Refusal, resolve};
+use std::alloc::{AllocError, Global};
+
+/// The attribute of a link that has its target.
+const LINK_TARGET: &[u8] = b"CDS_LinkTarget";
+
+/// The answer to a question. Each directory stands at one house, so neither the preferred house nor the confidence makes
+/// a difference yet.
+pub(crate) fn answer_question(
+    alloc: Global,
+    cell: &Cell,
+    question: &Question,
+) -> Result<Answer, AllocError>
+    ensures { (g : model.Cell) → Stands cell.now g → IfOk result (λ a. a ≡ question_answer g question.now) }
+{
+    match question {
+        Question::Read(house, _, name, attr) => read(alloc, cell, *house, name, attr),
+        Question::Readlink(house, _, name) => read_link(alloc, cell, *house, name),
+    }
+}
+
+fn read(
+    alloc: Global,
+    cell: &Cell,
+    house: HouseNo,
+    name: &FullName,
+    attr: &AttrName,
+) -> Result<Answer, AllocError>
+    ensures { (g : model.Cell) → Stands cell.now g → IfOk result (λ a. a ≡ asked_of g house.0 (values_read (told cell.now) attr.now (walked (told cell.now) true name.now))) }
+{
+    if cell.has_house(house) {
+        values_at(alloc, &CellReader { cell }, name, attr)
+    } else {
+        Ok(Answer::Refused(ScriptRefusal::NoHouse))
+    }
+}
+
+fn read_link(
+    alloc: Global,
+    cell: &Cell,
+    house: HouseNo,
+    name: &FullName,
+) -> Result<Answer, AllocError>
+    ensures { (g : model.Cell) → Stands cell.now g → IfOk result (λ a. a ≡ asked_of g house.0 (target_read (told cell.now) (walked (told cell.now) false name.now))) }
+{
+    if cell.has_house(house) {
+        target_at(alloc, &CellReader { cell }, name)
+    } else {
+        Ok(Answer::Refused(ScriptRefusal::NoHouse))
+    }
+}
+
+// The values of an attribute of the entry that a name leads to.
+fn values_at<R: EntryReader>(
+    alloc: Global,
+    reader: &R,
+    name: &FullName,
+    attr: &AttrName,
+) -> Result<Answer, AllocError>
+    ensures { IfOk result (λ a. a ≡ values_read (R.tells reader.now) attr.now (walked (R.tells reader.now) true name.now)) }
+{
+    match resolve(alloc, reader, name, true) {
+        Ok(found) => Ok(Answer::Values(Values::of(
+            reader.values(alloc, &found, attr)?,
+        ))),
+        Err(AllocOr::Fault(refusal)) => Ok(Answer::Refused(refusal_in_script(refusal))),
+        Err(AllocOr::OutOfMemory) => Err(AllocError),
+    }
+}
+
+// The target of the link that a name leads to.
+fn target_at<R: EntryReader>(
+    alloc: Global,
+    reader: &R,
+    name: &FullName,
+) -> Result<Answer, AllocError>
+    ensures { IfOk result (λ a. a ≡ target_read (R.tells reader.now) (walked (R.tells reader.now) false name.now)) }
+{
+    match resolve(alloc, reader, name, false) {
+        Ok(found) => target_of_found(alloc, reader, &found),
+        Err(AllocOr::Fault(refusal)) => Ok(Answer::Refused(refusal_in_script(refusal))),
+        Err(AllocOr::OutOfMemory) => Err(AllocError),
+    }
+}
+
+fn target_of_found<R: EntryReader>(
+    alloc: Global,
+    reader: &R,
+    found: &Found,
+) -> Result<Answer, AllocError>
+    ensures { IfOk result (λ a. a ≡ target_of found.now.kind ((R.tells reader.now).values found.now link_target)) }
+{
+    match found.kind {
+        Kind::Link => {
+            let attr = link_attribute(alloc)?;
+            let values = reader.values(alloc, found, &attr)?;
+            first_name(alloc, &values)
+        }
+        Kind::Object => Ok(Answer::Refused(ScriptRefusal::NotLink)),
+        Kind::Child => Ok(Answer::Refused(ScriptRefusal::NotLink)),
+    }
+}
+
+fn link_attribute(alloc: Global) -> Result<AttrName, AllocError>
+    ensures { IfOk result (λ a. a ≡ link_target) }
+{
+    match AttrName::parse(alloc, LINK_TARGET) {
+        Ok(attr) => Ok(attr),
+        Err(AllocOr::Fault(_)) => unreachable!(),
+        Err(AllocOr::OutOfMemory) => Err(AllocError),
+    }
+}
+
+// The first of the values that reads as a full name.
+fn first_name(alloc: Global, values: &[Value]) -> Result<Answer, AllocError>
+    ensures { IfOk result (λ a. a ≡ first_target (targets values.now)) }
+{
+    for value in values {
+        match FullName::parse(alloc, value.octets()) {
+            Ok(target) => return Ok(Answer::Target(target)),
+            Err(AllocOr::Fault(_)) => {}
+            Err(AllocOr::OutOfMemory) => return Err(AllocError),
+        }
+    }
+    Ok(Answer::Refused(ScriptRefusal::NotLink))
+}
+
+fn refusal_in_script(refusal: Refusal) -> ScriptRefusal
+    ensures { result ≡ refusal_of_walk refusal }
+{
+    match refusal {
+        Refusal::NoSuchName(done) => ScriptRefusal::NoSuchName(done),
+        Refusal::NotDirectory(number) => ScriptRefusal::NotDirectory(number),
+        Refusal::Unreachable(dir) => ScriptRefusal::Unreachable(dir),
+        Refusal::LinkCycle => ScriptRefusal::LinkCycle,
+        Refusal::TooManyLinks => ScriptRefusal::TooManyLinks,
+        Refusal::NameTooLong => ScriptRefusal::NameTooLong,
+        Refusal::RootName => ScriptRefusal::RootName,
+    }
+}
