@@ -61,7 +61,7 @@ none_of_both masters None e = (refl, grind (arith, e))
 none_of_both masters (Some place) e = cc
 
 -- no fault: their number, their order and the masters are lawful
-no_members_fault : (ms : List Member) → members_fault ms ≡ None → (0 < length ms) × (length ms ≤ most_members) × (first_unordered 1 0 ms ≡ None) × (masters_in ms ≡ 1)
+pub no_members_fault : (ms : List Member) → members_fault ms ≡ None → (0 < length ms) × (length ms ≤ most_members) × (first_unordered 1 0 ms ≡ None) × (masters_in ms ≡ 1)
 no_members_fault ms e =
     let count = no_fault ((length ms == 0) || nat_lt most_members (length ms)) BadCount _ e in
     let both = none_of_both (masters_in ms) (first_unordered 1 0 ms) count.1 in
