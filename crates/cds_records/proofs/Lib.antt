@@ -1,0 +1,10 @@
+pub mod LayoutLaws
+pub mod NameLaws
+pub mod MapLoops
+pub mod Ahead
+pub mod Valid
+pub mod Listed
+pub mod DecodingLaws
+pub mod WritingLaws
+pub mod WritingMembers
+pub mod WritingBodies

@@ -1,0 +1,15 @@
+-- The numbers of members' kinds: a master is 1, a read-only house 2 (own).
+use Rattle.std.specs.Prelude.{◌≡◌, ℕ, ◌==◌, if◌then◌else◌, refl}
+use Rattle.cds_stamps.specs.declared.members.MemberKind.{MemberKind}
+use Rattle.cds_stamps.specs.declared.members.MemberKind.TheVariants.{Master, ReadOnly}
+
+abbrev pub kind_in : ℕ → MemberKind
+kind_in kind = if kind == 1 then Master else ReadOnly
+
+abbrev pub kind_number : MemberKind → ℕ
+kind_number Master = 1
+kind_number ReadOnly = 2
+
+pub kind_back : (k : MemberKind) → kind_in (kind_number k) ≡ k
+kind_back Master = refl
+kind_back ReadOnly = refl

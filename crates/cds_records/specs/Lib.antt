@@ -1,0 +1,11 @@
+pub mod Layouts
+pub mod Reading
+pub mod Fields
+pub mod Records
+pub mod Decoding
+pub mod Validity
+pub mod Writing
+pub mod Kinds
+pub mod Dirs
+pub mod DirCodes
+pub mod Images

@@ -1,0 +1,149 @@
+-- The records of messages and images (own). Each keyed list ascends strictly by its key.
+use Rattle.std.specs.Prelude.{ℕ, zero, suc, ◌-◌, Bool, false, ◌&&◌, ◌||◌, not, ◌==◌, List, [], ◌∷◌, Option, Some, None, if◌then◌else◌}
+use Rattle.std.specs.FinMap.{FinMap, empty, insert}
+use Rattle.std.specs.Int.{w32, w64}
+use Rattle.std.specs.declared.cmp.Ordering.{Ordering}
+use Rattle.cds_stamps.specs.declared.stamp.Stamp.{Stamp}
+use Rattle.cds_stamps.specs.declared.members.Member.{Member}
+use Rattle.cds_stamps.specs.declared.members.MemberKind.{MemberKind}
+use Rattle.cds_stamps.specs.Members.{is_master}
+use Rattle.attr_sets.specs.declared.mark.ValueMark.{ValueMark}
+use Rattle.attr_sets.specs.declared.cell.AttrCell.{AttrCell}
+use Rattle.directory.specs.declared.entry.Kind.{Kind}
+use Rattle.directory.specs.declared.entry.EntryCell.{EntryCell}
+use Rattle.directory.specs.declared.entry.Fragment.{Fragment}
+use Rattle.directory.specs.Kinds.{kind_of_rank}
+use Rattle.purge_rule.specs.declared.replica.Replica.{Replica}
+use Rattle.cds_records.specs.declared.fault.Rule.{Rule}
+use Rattle.cds_records.specs.declared.fault.Rule.TheVariants.{BadTag, BadLength, BadFlag}
+use Rattle.cds_records.specs.declared.message.Message.{Message}
+use Rattle.cds_records.specs.declared.message.Body.{Body}
+use Rattle.cds_records.specs.declared.message.Body.TheVariants.{Update, Gather, Gathered, Spread, SpreadAck, Advance, Join, Leave}
+use Rattle.cds_records.specs.Kinds.{kind_in}
+use Rattle.cds_records.specs.Layouts.{Layout, done, next, choose}
+use Rattle.cds_records.specs.Fields.{free, outside, number_order, stamp_order, octet, number, stamp, optional_stamp, simple_name, attr_name, value}
+
+-- ---- keyed lists
+
+-- an item: its key, which is read knowing the one before it, and what is said of it (own)
+unfoldable pub item : {K X : Type 0} → (Option K → Layout K) → Layout X → Option K → Layout (K × X)
+item key content before = next (key before) (λ k. next content (λ x. done (k, x)))
+
+-- so many items (own)
+unfoldable pub ascending : {K X : Type 0} → (Option K → Layout K) → Layout X → ℕ → Option K → Layout (List (K × X))
+ascending key content zero before = done []
+ascending key content (suc n) before = next (item key content before) (λ e. next (ascending key content n (Some e.0)) (λ es. done (e ∷ es)))
+
+-- a map with these entries added, one after another (own)
+abbrev pub add_all : {K X : Type 0} {R : K → K → Ordering} → FinMap R X → List (K × X) → FinMap R X
+add_all m [] = m
+add_all m (e ∷ es) = add_all (insert m e.0 e.1) es
+
+-- the map of so many items (own)
+unfoldable pub map_of : {K X : Type 0} {R : K → K → Ordering} → (Option K → Layout K) → Layout X → ℕ → Layout (FinMap R X)
+map_of key content n = next (ascending key content n None) (λ es. done (add_all empty es))
+
+-- ---- replicas
+
+-- the mark of a value, which is not earlier than the clear (own)
+unfoldable pub mark : Option Stamp → Layout ValueMark
+mark cleared = next (octet (outside BadFlag 0 1)) (λ present. next (stamp (stamp_order cleared)) (λ s. done (record { present = present == 1; stamp = s })))
+
+-- where there is no clear, there is a mark (own)
+abbrev pub empty_cell : Option Stamp → ℕ → Option Rule
+empty_cell None n = if n == 0 then Some BadLength else None
+empty_cell (Some cleared) n = None
+
+-- the clear of an attribute, and the marks of its values (own)
+unfoldable pub cell : Layout AttrCell
+cell =
+    next optional_stamp (λ cleared. next (number w64 (empty_cell cleared)) (λ n. next (map_of value (mark cleared) n) (λ marks.
+    done (record { cleared = cleared; values = marks }))))
+
+-- an object is 1, a link 2, a child 3 (own)
+unfoldable pub kind : Layout Kind
+kind = next (octet (outside BadFlag 1 3)) (λ n. done (kind_of_rank (n - 1)))
+
+-- an entry behind its name: its kind, birth, death and attributes (own)
+unfoldable pub entry : Layout EntryCell
+entry =
+    next kind (λ k. next (stamp free) (λ birth. next optional_stamp (λ death. next (number w64 free) (λ n. next (map_of attr_name cell n) (λ attrs.
+    done (record { birth = birth; kind = k; death = death; attrs = attrs }))))))
+
+-- AllUpTo, and the entries of the table (own)
+unfoldable pub replica : Layout Replica
+replica = next optional_stamp (λ t. next (number w64 free) (λ n. next (map_of simple_name entry n) (λ entries. done (record { table = entries; all_up_to = t }))))
+
+-- ---- members
+
+-- a kind that is neither, a second master, or a last member of a list without a master; `left` members follow (own)
+abbrev pub kind_rule : (left : ℕ) → (master : Bool) → ℕ → Option Rule
+kind_rule left master kind =
+    if kind == 1 then (if master then Some BadFlag else None)
+    else (if kind == 2 then (if (left == 0) && not master then Some BadFlag else None) else Some BadFlag)
+
+-- a master is 1, a read-only house 2; `left` members follow, and one before is master or none (own)
+unfoldable pub member_kind : (left : ℕ) → (master : Bool) → Layout MemberKind
+member_kind left master = next (octet (kind_rule left master)) (λ k. done (kind_in k))
+
+-- a member: its house, above the one before it, its since and its kind (own)
+unfoldable pub member : (left : ℕ) → (before : Option ℕ) → (master : Bool) → Layout Member
+member left before master =
+    next (octet (number_order before)) (λ house. next (number w64 free) (λ since. next (member_kind left master) (λ kind.
+    done (record { house = record { 0 = house }; since = record { 0 = since }; kind = kind }))))
+
+-- so many members (own)
+unfoldable pub listed : ℕ → (before : Option ℕ) → (master : Bool) → Layout (List Member)
+listed zero before master = done []
+listed (suc n) before master = next (member n before master) (λ m. next (listed n (Some m.house.0) (master || is_master m.kind)) (λ ms. done (m ∷ ms)))
+
+-- 1 to 64 members, of which one is master (own)
+unfoldable pub members : Layout (List Member)
+members = next (octet (outside BadLength 1 64)) (λ n. listed n None false)
+
+-- ---- messages
+
+-- the marks of an update: the name of its entry, and the entry (own)
+unfoldable pub fragment : Layout Fragment
+fragment = next (simple_name None) (λ n. next entry (λ e. done (record { name = n; entry = e })))
+
+-- the stamp of a skulk, and a replica (own)
+unfoldable pub copied : Layout (Stamp × Replica)
+copied = next (stamp free) (λ t. next replica (λ r. done (t, r)))
+
+-- the members of an epoch, and the master's replica (own)
+unfoldable pub joined : Layout (List Member × Replica)
+joined = next members (λ ms. next replica (λ r. done (ms, r)))
+
+-- what a message of this tag carries behind its head (own)
+unfoldable pub body : ℕ → Layout Body
+body tag =
+    choose (tag == 1) (next fragment (λ f. done (Update f)))
+    (choose (tag == 2) (next (stamp free) (λ t. done (Gather t)))
+    (choose (tag == 3) (next copied (λ c. done (Gathered c.0 c.1)))
+    (choose (tag == 4) (next copied (λ c. done (Spread c.0 c.1)))
+    (choose (tag == 5) (next (stamp free) (λ t. done (SpreadAck t)))
+    (choose (tag == 6) (next (stamp free) (λ t. done (Advance t)))
+    (choose (tag == 7) (next joined (λ j. done (Join j.0 j.1)))
+    (done Leave)))))))
+
+-- the tag of what a message carries (own)
+abbrev pub tag_of : Body → ℕ
+tag_of (Update f) = 1
+tag_of (Gather t) = 2
+tag_of (Gathered t r) = 3
+tag_of (Spread t r) = 4
+tag_of (SpreadAck t) = 5
+tag_of (Advance t) = 6
+tag_of (Join ms r) = 7
+tag_of Leave = 8
+
+-- format and tag, the directory, the sender's house, epoch and floor, and what the message carries (own)
+unfoldable pub message_in : (format : ℕ) → Layout Message
+message_in format =
+    next (octet (outside BadTag format format)) (λ _. next (octet (outside BadTag 1 8)) (λ tag. next (number w32 free) (λ dir. next (octet free) (λ house. next (number w64 free) (λ epoch. next (number w64 free) (λ floor.
+    next (body tag) (λ b. done (record { dir = record { 0 = dir }; from = record { 0 = house }; epoch = record { 0 = epoch }; floor = floor; body = b }))))))))
+
+-- messages of format 1 (own)
+unfoldable pub message : Layout Message
+message = message_in 1

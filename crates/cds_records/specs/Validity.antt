@@ -1,0 +1,31 @@
+-- Messages and images whose entries and tables are valid (own).
+use Rattle.cds_stamps.specs.Joins.{EachValue}
+use Rattle.directory.specs.Entries.{IsValidEntry, IsValidTable}
+use Rattle.cds_records.specs.declared.image.ImageDir.{ImageDir}
+use Rattle.cds_records.specs.declared.image.ImageDir.TheVariants.{Held, Gone}
+use Rattle.cds_records.specs.declared.image.Image.{Image}
+use Rattle.cds_records.specs.declared.message.Message.{Message}
+use Rattle.cds_records.specs.declared.message.Body.{Body}
+use Rattle.cds_records.specs.declared.message.Body.TheVariants.{Update, Gather, Gathered, Spread, SpreadAck, Advance, Join, Leave}
+
+-- what a message carries is valid (own)
+abbrev pub IsValidBody : Body → Type 0
+IsValidBody (Update f) = IsValidEntry f.entry
+IsValidBody (Gather t) = Unit {0}
+IsValidBody (Gathered t r) = IsValidTable r.table
+IsValidBody (Spread t r) = IsValidTable r.table
+IsValidBody (SpreadAck t) = Unit {0}
+IsValidBody (Advance t) = Unit {0}
+IsValidBody (Join ms r) = IsValidTable r.table
+IsValidBody Leave = Unit {0}
+
+abbrev pub IsValidMessage : Message → Type 0
+IsValidMessage m = IsValidBody m.body
+
+abbrev pub IsValidDir : ImageDir → Type 0
+IsValidDir (Held e ms r) = IsValidTable r.table
+IsValidDir (Gone e) = Unit {0}
+
+-- the tables of an image are valid (own)
+abbrev pub IsValidImage : Image → Type 0
+IsValidImage i = EachValue IsValidDir i.dirs

@@ -1,0 +1,108 @@
+// Readers of messages.
+ghost use Rattle.std.specs.Prelude.{◌≡◌, ◌≤◌};
+ghost use Rattle.cds_records.specs.Reading.{Reads};
+ghost use Rattle.cds_records.specs.Records.{fragment, copied, joined, body, message, message_in};
+
+use crate::fault::{ReadError, Rule};
+use crate::fields::{Reader, simple_name_from};
+use crate::message::{Body, Message};
+use cds_stamps::{DirId, EpochNo, HouseNo, Members, Stamp};
+use directory::Fragment;
+use purge_rule::Replica;
+use std::alloc::Global;
+
+// The format of messages and images.
+const FORMAT: u8 = 1;
+
+impl<'a> Reader<'a> {
+    /// The marks of an update.
+    #[tactic(auto, unfolding(crate::specs::Records::fragment))]
+    fn fragment(&mut self, alloc: Global) -> Result<Fragment, ReadError>
+        ensures { Reads (λ x. x) fragment self.old self.new result }
+    {
+        let own = self.simple_name(None)?;
+        let entry = self.entry(alloc)?;
+        let name = simple_name_from(alloc, own)?;
+        Ok(Fragment { name, entry })
+    }
+
+    /// The stamp of a skulk, and a replica.
+    #[tactic(auto, unfolding(crate::specs::Records::copied))]
+    fn copied(&mut self, alloc: Global) -> Result<(Stamp, Replica), ReadError>
+        ensures { Reads (λ x. x) copied self.old self.new result }
+    {
+        let stamp = self.stamp()?;
+        let replica = self.replica(alloc)?;
+        Ok((stamp, replica))
+    }
+
+    /// The members of an epoch, and the master's replica.
+    #[tactic(auto, unfolding(crate::specs::Records::joined))]
+    fn joined(&mut self, alloc: Global) -> Result<(Members, Replica), ReadError>
+        ensures { Reads (λ x. x) joined self.old self.new result }
+    {
+        let members = self.members(alloc)?;
+        let replica = self.replica(alloc)?;
+        Ok((members, replica))
+    }
+
+    /// What a message of this tag carries.
+    #[tactic(auto, unfolding(crate::specs::Records::body))]
+    fn body(&mut self, alloc: Global, tag: u8) -> Result<Body, ReadError>
+        requires { tag ≤ 8 }
+        ensures { Reads (λ x. x) (body tag) self.old self.new result }
+    {
+        match tag {
+            1 => {
+                let fragment = self.fragment(alloc)?;
+                Ok(Body::Update(fragment))
+            }
+            2 => {
+                let stamp = self.stamp()?;
+                Ok(Body::Gather(stamp))
+            }
+            3 => {
+                let (stamp, replica) = self.copied(alloc)?;
+                Ok(Body::Gathered(stamp, replica))
+            }
+            4 => {
+                let (stamp, replica) = self.copied(alloc)?;
+                Ok(Body::Spread(stamp, replica))
+            }
+            5 => {
+                let stamp = self.stamp()?;
+                Ok(Body::SpreadAck(stamp))
+            }
+            6 => {
+                let stamp = self.stamp()?;
+                Ok(Body::Advance(stamp))
+            }
+            7 => {
+                let (members, replica) = self.joined(alloc)?;
+                Ok(Body::Join(members, replica))
+            }
+            _ => Ok(Body::Leave),
+        }
+    }
+
+    /// A message.
+    #[tactic(auto, unfolding(crate::specs::Records::message, crate::specs::Records::message_in))]
+    pub(crate) fn message(&mut self, alloc: Global) -> Result<Message, ReadError>
+        ensures { Reads (λ x. x) message self.old self.new result }
+    {
+        let _format = self.octet_within(Rule::BadTag, FORMAT, FORMAT)?;
+        let tag = self.octet_within(Rule::BadTag, 1, 8)?;
+        let dir = self.u32()?;
+        let from = self.octet()?;
+        let epoch = self.u64()?;
+        let floor = self.u64()?;
+        let body = self.body(alloc, tag)?;
+        Ok(Message {
+            dir: DirId(dir),
+            from: HouseNo(from),
+            epoch: EpochNo(epoch),
+            floor,
+            body,
+        })
+    }
+}

@@ -1,0 +1,65 @@
+// Messages and images from octets.
+ghost use Rattle.std.specs.Prelude.{◌≡◌, length, IfOk};
+ghost use Rattle.cds_records.specs.Images.{image};
+ghost use Rattle.cds_records.specs.Records.{message};
+ghost use Rattle.cds_records.specs.Decoding.{fault_at, error_of, IsLeftWithin, Decodes};
+ghost use Rattle.cds_records.specs.Validity.{IsValidImage, IsValidMessage};
+
+use crate::fault::{ReadError, RecordFault, Rule};
+use crate::fields::Reader;
+use crate::image::Image;
+use crate::message::Message;
+use cds_stamps::AllocOr;
+use std::alloc::Global;
+
+/// The message at the front of the octets, and how many octets it has; other octets may follow it. Else the first fault.
+pub fn decode(alloc: Global, octets: &[u8]) -> Result<(Message, usize), AllocOr<RecordFault>>
+    ensures decodes { Decodes message octets.now result }
+    ensures valid { IfOk result (λ r. IsValidMessage r.0) }
+{
+    let mut reader = Reader::new(octets);
+    match reader.message(alloc) {
+        Ok(message) => Ok((message, octets.len() - reader.left())),
+        Err(error) => Err(fault_from(error, octets)),
+    }
+}
+
+/// The image at the front of the octets, and how many octets it has; other octets may follow it. Else the first fault.
+pub fn decode_image(alloc: Global, octets: &[u8]) -> Result<(Image, usize), AllocOr<RecordFault>>
+    ensures decodes { Decodes image octets.now result }
+    ensures valid { IfOk result (λ r. IsValidImage r.0) }
+{
+    let mut reader = Reader::new(octets);
+    match reader.image(alloc) {
+        Ok(image) => Ok((image, octets.len() - reader.left())),
+        Err(error) => Err(fault_from(error, octets)),
+    }
+}
+
+/// The error of a reader of these octets, by its place.
+fn fault_from(error: ReadError, octets: &[u8]) -> AllocOr<RecordFault>
+    requires { IsLeftWithin (length octets.now) error }
+    ensures { result ≡ error_of (length octets.now) error }
+{
+    match error {
+        AllocOr::Fault(broken) => AllocOr::Fault(fault_of(
+            broken.rule,
+            octets.len() - broken.left + 1,
+        )),
+        AllocOr::OutOfMemory => AllocOr::OutOfMemory,
+    }
+}
+
+/// The fault of a rule at a place.
+fn fault_of(rule: Rule, place: usize) -> RecordFault
+    ensures { result ≡ fault_at rule place }
+{
+    match rule {
+        Rule::Short => RecordFault::Short(place),
+        Rule::BadTag => RecordFault::BadTag(place),
+        Rule::BadLength => RecordFault::BadLength(place),
+        Rule::BadName => RecordFault::BadName(place),
+        Rule::OutOfOrder => RecordFault::OutOfOrder(place),
+        Rule::BadFlag => RecordFault::BadFlag(place),
+    }
+}

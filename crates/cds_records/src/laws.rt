@@ -1,0 +1,18 @@
+//! Laws of the definitions: functions that do nothing, whose contracts are proved.
+ghost use Rattle.std.specs.Prelude.{◌≡◌, ◌++◌, ℕ, List};
+ghost use Rattle.cds_records.specs.declared.message.Message.{Message};
+ghost use Rattle.cds_records.specs.Decoding.{IsWhole};
+ghost use Rattle.cds_records.specs.declared.image.Image.{Image};
+ghost use Rattle.cds_records.specs.Images.{image};
+ghost use Rattle.cds_records.specs.Records.{message};
+
+/// The octets of no message begin those of another, so what follows a message is never taken as its own, and octets are
+/// those of one message at most.
+pub fn no_message_begins_another()
+    ensures { (m other : Message) (a b x y : List ℕ) → IsWhole message m a → IsWhole message other b → a ++ x ≡ b ++ y → (m ≡ other) × (a ≡ b) × (x ≡ y) }
+{}
+
+/// So it is with images.
+pub fn no_image_begins_another()
+    ensures { (i other : Image) (a b x y : List ℕ) → IsWhole image i a → IsWhole image other b → a ++ x ≡ b ++ y → (i ≡ other) × (a ≡ b) × (x ≡ y) }
+{}

@@ -1,0 +1,23 @@
+//! The octets of the messages that houses post, and of the images that they keep.
+#![tactic(auto)]
+
+mod bodies;
+mod decoding;
+mod encoding;
+mod fault;
+mod fields;
+mod image;
+mod images;
+pub mod laws;
+mod members;
+mod message;
+mod tables;
+#[cfg(test)]
+mod tests;
+mod writing;
+
+pub use decoding::{decode, decode_image};
+pub use encoding::encode;
+pub use fault::RecordFault;
+pub use image::{Image, ImageDir, ImageDirs};
+pub use message::{Body, Message};

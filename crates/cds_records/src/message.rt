@@ -1,0 +1,76 @@
+// Messages between the houses of a directory.
+ghost use Rattle.std.specs.Prelude.{◌≡◌, IfOk};
+
+use cds_stamps::{DirId, EpochNo, HouseNo, Members, Stamp};
+use directory::Fragment;
+use purge_rule::Replica;
+use std::alloc::{AllocError, Global};
+
+/// A message of one house to another about a directory that both hold.
+#[derive(Drop)]
+pub struct Message {
+    pub dir: DirId,
+    pub from: HouseNo,
+    pub epoch: EpochNo,
+    /// The sender's floor when it posted the message.
+    pub floor: u64,
+    pub body: Body,
+}
+
+/// What a message carries.
+#[derive(Drop)]
+pub enum Body {
+    /// The marks of an accepted update.
+    Update(Fragment),
+    /// The first round of a skulk with this stamp begins.
+    Gather(Stamp),
+    /// The answer, with the sender's replica.
+    Gathered(Stamp, Replica),
+    /// The second round begins, with the master's replica.
+    Spread(Stamp, Replica),
+    /// The answer.
+    SpreadAck(Stamp),
+    /// The skulk with this stamp is complete.
+    Advance(Stamp),
+    /// The receiver is a member of this epoch, with the master's replica.
+    Join(Members, Replica),
+    /// The receiver is a member no more.
+    Leave,
+}
+
+impl Message {
+    /// A message of the same parts.
+    pub fn copy(&self, alloc: Global) -> Result<Message, AllocError>
+        ensures { IfOk result (λ m. m ≡ self.now) }
+    {
+        let body = self.body.copy(alloc)?;
+        Ok(Message {
+            dir: self.dir,
+            from: self.from,
+            epoch: self.epoch,
+            floor: self.floor,
+            body,
+        })
+    }
+}
+
+impl Body {
+    /// A body of the same parts.
+    pub fn copy(&self, alloc: Global) -> Result<Body, AllocError>
+        ensures { IfOk result (λ b. b ≡ self.now) }
+    {
+        match self {
+            Body::Update(fragment) => Ok(Body::Update(fragment.copy(alloc)?)),
+            Body::Gather(stamp) => Ok(Body::Gather(*stamp)),
+            Body::Gathered(stamp, replica) => Ok(Body::Gathered(*stamp, replica.copy(alloc)?)),
+            Body::Spread(stamp, replica) => Ok(Body::Spread(*stamp, replica.copy(alloc)?)),
+            Body::SpreadAck(stamp) => Ok(Body::SpreadAck(*stamp)),
+            Body::Advance(stamp) => Ok(Body::Advance(*stamp)),
+            Body::Join(members, replica) => {
+                let members = members.copy(alloc)?;
+                Ok(Body::Join(members, replica.copy(alloc)?))
+            }
+            Body::Leave => Ok(Body::Leave),
+        }
+    }
+}

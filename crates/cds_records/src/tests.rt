@@ -1,0 +1,139 @@
+// Messages as octets, and octets that are none.
+use super::*;
+use cds_stamps::AllocOr;
+use std::alloc::Global;
+use std::test::Fail;
+
+// The directory 1, the house 1, epoch 1 and floor 2 of a message.
+const HEAD: &[u8] = b"\0\0\0\x01\x01\0\0\0\0\0\0\0\x01\0\0\0\0\0\0\0\x02";
+
+// The time 3 at the node 10.
+const STAMP: &[u8] = b"\0\0\0\0\0\0\0\x03\0\0\0\0\0\x0a";
+
+// The name e of an object that was born at STAMP and has no death, and one attribute that is named A.
+const ENTRY: &[u8] = b"\x01e\x01\0\0\0\0\0\0\0\x03\0\0\0\0\0\x0a\0\0\0\0\0\0\0\0\x01\x01A";
+
+// The octets of a message: format, tag, HEAD and these parts.
+fn message(alloc: Global, tag: u8, parts: &[&[u8]]) -> Result<Vec<u8>, Fail> {
+    let mut octets = vec![in alloc; 1, tag]?;
+    octets.extend_from_slice(HEAD)?;
+    for part in parts {
+        octets.extend_from_slice(part)?;
+    }
+    Ok(octets)
+}
+
+#[test]
+fn messages_of_each_tag_are_read_and_written_again(rt: HostRuntime) -> Result<(), Fail> {
+    let alloc = rt.alloc();
+    let none: &[u8] = b"\0\0\0\0\0\0\0\0\0";
+    let value: &[u8] = b"\0\0\0\0\0\0\0\0\x01\0\x01\x01\x01\0\0\0\0\0\0\0\x02\0\0\0\0\0\x0a";
+    let cleared: &[u8] = b"\x01\0\0\0\0\0\0\0\x05\0\0\0\0\0\x0a\0\0\0\0\0\0\0\0";
+    let one: &[u8] = b"\0\0\0\0\0\0\0\x01";
+    let members: &[u8] = b"\x02\x01\0\0\0\0\0\0\0\x01\x02\x07\0\0\0\0\0\0\0\x02\x01";
+    let rows: [(u8, &[&[u8]], usize); 8] = [
+        (1, &[ENTRY, value], 78),
+        (2, &[STAMP], 37),
+        (3, &[STAMP, none], 46),
+        (4, &[STAMP, b"\x01", STAMP, one, ENTRY, cleared], 111),
+        (5, &[STAMP], 37),
+        (6, &[STAMP], 37),
+        (7, &[members, none], 53),
+        (8, &[], 23),
+    ];
+    for (tag, parts, len) in rows {
+        let mut octets = message(alloc, tag, parts)?;
+        assert_eq!(rt; octets.len(), len);
+        let (read, used) = decode(alloc, octets.as_slice())?;
+        assert_eq!(rt; used, len);
+        assert!(rt; encode(alloc, &read)?.as_slice() == octets.as_slice());
+        octets.push(0)?;
+        let (again, used) = decode(alloc, octets.as_slice())?;
+        assert_eq!(rt; used, len);
+        assert!(rt; encode(alloc, &again.copy(alloc)?)?.as_slice() == &octets[..len]);
+    }
+    Ok(())
+}
+
+#[test]
+fn octets_that_begin_with_no_message_have_a_first_fault(rt: HostRuntime) -> Result<(), Fail> {
+    let alloc = rt.alloc();
+    let early: &[u8] =
+        b"\x01\0\0\0\0\0\0\0\x05\0\0\0\0\0\x0a\0\0\0\0\0\0\0\x01\0\x01\x01\x01\0\0\0\0\0\0\0\x02\0\0\0\0\0\x0a";
+    let rows: [(u8, &[&[u8]], RecordFault); 13] = [
+        (0, &[], RecordFault::BadTag(2)),
+        (9, &[], RecordFault::BadTag(2)),
+        (2, &[b"\0\0"], RecordFault::Short(26)),
+        (1, &[b"\0"], RecordFault::BadLength(24)),
+        (1, &[b"\xff"], RecordFault::BadLength(24)),
+        (1, &[b"\x01/"], RecordFault::BadName(25)),
+        (1, &[b"\x01e\x04"], RecordFault::BadFlag(26)),
+        (
+            1,
+            &[ENTRY, b"\0\0\0\0\0\0\0\0\0"],
+            RecordFault::BadLength(53),
+        ),
+        (1, &[ENTRY, early], RecordFault::OutOfOrder(79)),
+        (7, &[b"\x41"], RecordFault::BadLength(24)),
+        (
+            7,
+            &[b"\x01\x01\0\0\0\0\0\0\0\x01\x02"],
+            RecordFault::BadFlag(34),
+        ),
+        (
+            7,
+            &[b"\x02\x01\0\0\0\0\0\0\0\x01\x01\x01"],
+            RecordFault::OutOfOrder(35),
+        ),
+        (
+            7,
+            &[b"\x02\x01\0\0\0\0\0\0\0\x01\x01\x02\0\0\0\0\0\0\0\x01\x01"],
+            RecordFault::BadFlag(44),
+        ),
+    ];
+    for (tag, parts, fault) in rows {
+        let octets = message(alloc, tag, parts)?;
+        match decode(alloc, octets.as_slice()) {
+            Ok(_) => assert!(rt; false),
+            Err(error) => assert_eq!(rt; error, AllocOr::Fault(fault)),
+        }
+    }
+    let octets = message(alloc, 1, &[])?;
+    let fronts: [(&[u8], RecordFault); 4] = [
+        (b"", RecordFault::Short(1)),
+        (b"\x01", RecordFault::Short(2)),
+        (b"\x02", RecordFault::BadTag(1)),
+        (&octets[..22], RecordFault::Short(23)),
+    ];
+    for (front, fault) in fronts {
+        match decode(alloc, front) {
+            Ok(_) => assert!(rt; false),
+            Err(error) => assert_eq!(rt; error, AllocOr::Fault(fault)),
+        }
+    }
+    Ok(())
+}
+
+// The image of house 1 at node 10, which holds the root alone, of which it is master, with an empty table.
+const IMAGE: &[u8] =
+    b"\x01\x09\x01\0\0\0\0\0\x0a\0\0\0\0\0\0\0\0\0\0\0\0\0\0\0\x01\0\0\0\x01\x01\0\0\0\0\0\0\0\x01\x01\x01\0\0\0\0\0\0\0\x01\x01\0\0\0\0\0\0\0\0\0";
+
+#[test]
+fn an_image_is_read_or_has_a_first_fault(rt: HostRuntime) -> Result<(), Fail> {
+    let alloc = rt.alloc();
+    let (image, used) = decode_image(alloc, IMAGE)?;
+    assert_eq!(rt; used, 58);
+    assert_eq!(rt; image.dirs.len(), 1);
+    let fronts: [(&[u8], RecordFault); 3] = [
+        (&IMAGE[..57], RecordFault::Short(58)),
+        (b"\x01\x08", RecordFault::BadTag(2)),
+        (b"\x02", RecordFault::BadTag(1)),
+    ];
+    for (front, fault) in fronts {
+        match decode_image(alloc, front) {
+            Ok(_) => assert!(rt; false),
+            Err(error) => assert_eq!(rt; error, AllocOr::Fault(fault)),
+        }
+    }
+    Ok(())
+}

@@ -1,0 +1,85 @@
+// A replica of a directory.
+ghost use Rattle.std.specs.Prelude.{◌≡◌, ◌++◌, List, Option, Some, None, IfOk, OnOk, OnErr, min};
+ghost use Rattle.std.specs.List.{AllByRecursion};
+ghost use Rattle.cds_stamps.specs.Semilattice.{maybe};
+ghost use Rattle.cds_stamps.specs.Stamps.{later_stamp};
+ghost use Rattle.directory.specs.Entries.{IsValidEntry, IsValidTable};
+ghost use Rattle.directory.specs.Histories.{Mark};
+ghost use Rattle.purge_rule.specs.Replicas.{replica_of, together, CanMerge, IsFragmentOf};
+ghost use Rattle.purge_rule.specs.Held.{held_in, most_held};
+
+use crate::held::held_in;
+use cds_stamps::{Lattice, Stamp};
+use directory::{Fragment, Table};
+use std::alloc::{AllocError, Global};
+
+/// What a house holds of a directory: its table, and the stamp up to which each member of the replica set has each mark.
+#[derive(Drop)]
+pub struct Replica {
+    pub table: Table,
+    pub all_up_to: Option<Stamp>,
+}
+
+impl Replica {
+    /// A replica of the same table and AllUpTo.
+    pub fn copy(&self, alloc: Global) -> Result<Replica, AllocError>
+        ensures { IfOk result (λ r. r ≡ self.now) }
+    {
+        Ok(Replica {
+            table: self.table.copy(alloc)?,
+            all_up_to: self.all_up_to,
+        })
+    }
+
+    /// Merges another replica in. Of two histories that can be merged it becomes the replica of both together, up to the
+    /// later AllUpTo.
+    pub fn take(&mut self, alloc: Global, other: &Replica) -> Result<(), AllocError>
+        ensures merged { OnOk result ((h g : List Mark) → CanMerge h g (together self.old.all_up_to other.now.all_up_to) → self.old ≡ replica_of h self.old.all_up_to → other.now ≡ replica_of g other.now.all_up_to → self.new ≡ replica_of (h ++ g) (together self.old.all_up_to other.now.all_up_to)) }
+        ensures all_up_to { OnOk result (self.new.all_up_to ≡ together self.old.all_up_to other.now.all_up_to) }
+        ensures valid { OnOk result (IsValidTable self.old.table → IsValidTable other.now.table → IsValidTable self.new.table) }
+        ensures err { OnErr result (self.new ≡ self.old) }
+    {
+        self.table.join(alloc, &other.table)?;
+        self.all_up_to = later_of(self.all_up_to, other.all_up_to);
+        Ok(())
+    }
+
+    /// Merges the marks of one update in. Of a history that they can be merged with it becomes the replica of both
+    /// together, up to the same stamp.
+    pub fn take_marks(&mut self, alloc: Global, fragment: &Fragment) -> Result<(), AllocError>
+        ensures merged { OnOk result ((h marks : List Mark) → CanMerge h marks self.old.all_up_to → IsFragmentOf marks fragment.now → self.old ≡ replica_of h self.old.all_up_to → self.new ≡ replica_of (h ++ marks) self.old.all_up_to) }
+        ensures all_up_to { self.new.all_up_to ≡ self.old.all_up_to }
+        ensures valid { OnOk result (IsValidTable self.old.table → IsValidEntry fragment.now.entry → IsValidTable self.new.table) }
+        ensures err { OnErr result (self.new ≡ self.old) }
+    {
+        self.table.join_entry(alloc, fragment)?;
+        Ok(())
+    }
+
+    /// Raises AllUpTo to this stamp, if that is later. It takes no memory.
+    pub fn advance(&mut self, t: Stamp)
+        ensures merged { (h : List Mark) → self.old ≡ replica_of h self.old.all_up_to → self.new ≡ replica_of h (together self.old.all_up_to (Some t)) }
+        ensures all_up_to { self.new.all_up_to ≡ together self.old.all_up_to (Some t) }
+        ensures valid { IsValidTable self.old.table → IsValidTable self.new.table }
+    {
+        self.all_up_to = later_of(self.all_up_to, Some(t));
+    }
+
+    /// How many entries, deaths, clears and marks of values it holds, or the last number of 64 bits where there are more.
+    pub fn held(&self) -> u64
+        ensures { result ≡ min (held_in self.now.table) most_held }
+    {
+        held_in(&self.table)
+    }
+}
+
+/// The later of two stamps of which either may be missing.
+fn later_of(a: Option<Stamp>, b: Option<Stamp>) -> Option<Stamp>
+    ensures { result ≡ together a b }
+{
+    match (a, b) {
+        (Some(x), Some(y)) => Some(if x < y { y } else { x }),
+        (Some(x), None) => Some(x),
+        (None, y) => y,
+    }
+}
