@@ -83,20 +83,46 @@ in_rows (row ∷ rs) word s l all is = go (bytes_eq word row.word) is (in_rows r
 all_rows : AllByRecursion RowHolds rows
 all_rows = (
   λ h p n q. tt,
-  (λ h p t q. tt,
-  (λ m p rs none. none,
-  (λ h p d q n r m t rs none. none,
-  (λ h p d q n r m t rs u. tt,
-  (λ h p d q n r. tt,
-  (λ h p d q n r target t. tt,
-  (λ h p d q n r. tt,
-  (λ h p d q n r a t v u. tt,
-  (λ h p d q n r a t v u. tt,
-  (λ h p d q n r a t v u. tt,
-  (λ h p d q n r a t. tt,
-  (λ h p c q n r a t. tt,
-  (λ h p c q n r. tt,
-  tt)))))))))))))
+  (
+    λ h p t q. tt,
+    (
+      λ m p rs none. none,
+      (
+        λ h p d q n r m t rs none. none,
+        (
+          λ h p d q n r m t rs u. tt,
+          (
+            λ h p d q n r. tt,
+            (
+              λ h p d q n r target t. tt,
+              (
+                λ h p d q n r. tt,
+                (
+                  λ h p d q n r a t v u. tt,
+                  (
+                    λ h p d q n r a t v u. tt,
+                    (
+                      λ h p d q n r a t v u. tt,
+                      (
+                        λ h p d q n r a t. tt,
+                        (
+                          λ h p c q n r a t. tt,
+                          (
+                            λ h p c q n r. tt,
+                            tt,
+                          ),
+                        ),
+                      ),
+                    ),
+                  ),
+                ),
+              ),
+            ),
+          ),
+        ),
+      ),
+    ),
+  ),
 )
 
 pub said_runs : (words : List (List ℕ)) (l : ScriptLine) → said_in words ≡ Ok (Some l) → IsRunnable l

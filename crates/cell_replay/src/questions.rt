@@ -76,9 +76,7 @@ fn values_at<R: EntryReader>(
     ensures { IfOk result (λ a. a ≡ values_read (R.tells reader.now) attr.now (walked (R.tells reader.now) true name.now)) }
 {
     match resolve(alloc, reader, name, true) {
-        Ok(found) => Ok(Answer::Values(Values::of(
-            reader.values(alloc, &found, attr)?,
-        ))),
+        Ok(found) => Ok(Answer::Values(Values::of(reader.values(alloc, &found, attr)?))),
         Err(AllocOr::Fault(refusal)) => Ok(Answer::Refused(refusal_in_script(refusal))),
         Err(AllocOr::OutOfMemory) => Err(AllocError),
     }

@@ -333,7 +333,10 @@ fn the_first_faulty_line_ends_a_run(rt: HostRuntime) -> Result<(), Fail> {
         assert_eq!(rt; end, Status::BadInput, "at {line}");
     }
     let text = print_line_fault(alloc, LineFault::TooManyLines(16777217, 1))?;
-    assert_eq!(rt; text.as_slice(), b"16777217 fault TooManyLines 1\n".as_slice());
+    assert_eq!(rt;
+        text.as_slice(),
+        b"16777217 fault TooManyLines 1\n".as_slice()
+    );
     Ok(())
 }
 

@@ -11,8 +11,8 @@ ghost use Rattle.cell_replay.specs.Sights.{Sees, seen_fault};
 
 use crate::endings::{Status, finish, stop_with};
 use crate::replies::Waiting;
-use cell_script::print_fault;
 use cds_base::{Failed, Sink, Source, Window};
+use cell_script::print_fault;
 use std::alloc::{AllocError, Global};
 use tower_codec::{TowerFault, TowerView};
 
