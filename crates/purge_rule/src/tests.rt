@@ -12,7 +12,8 @@ fn stamp(time: u64) -> Result<Stamp, Fail> {
 }
 
 // An entry of this name with an attribute of one value and a clear, born at a time; the clear and the value are one later.
-fn fragment(alloc: Global, name: &[u8], time: u64) -> Result<Fragment, Fail> {
+fn fragment(alloc: Global, name: &[u8], time: u32) -> Result<Fragment, Fail> {
+    let time = u64::from(time);
     let mut cell = AttrCell::new(alloc);
     cell.put(alloc, &Value::new(alloc, b"1")?, stamp(time + 1)?)?;
     let mut attrs = AttrMap::new(alloc);
