@@ -6,5 +6,7 @@ pub mod Valid
 pub mod Listed
 pub mod DecodingLaws
 pub mod WritingLaws
+pub mod KeyedWriting
 pub mod WritingMembers
 pub mod WritingBodies
+pub mod WritingImages

@@ -71,7 +71,7 @@ tag_lawful (Advance t) = refl
 tag_lawful (Join ms r) = refl
 tag_lawful Leave = refl
 
-abbrev OctetWriter : ℕ → List ℕ → List ℕ → Type 0
+abbrev pub OctetWriter : ℕ → List ℕ → List ℕ → Type 0
 OctetWriter n x y = (rule : ℕ → Option Rule) → rule n ≡ None → Writes (octet rule) n x y
 
 pub message_written : (m : Message) (a b c d e f g h : List ℕ) → a ≡ [] → OctetWriter 1 a b → OctetWriter (tag_of m.body) b c → ((rule : ℕ → Option Rule) → rule m.dir.0 ≡ None → Writes (number w32 rule) m.dir.0 c d) → OctetWriter m.from.0 d e

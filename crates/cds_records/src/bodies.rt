@@ -5,14 +5,12 @@ ghost use Rattle.cds_records.specs.Records.{fragment, copied, joined, body, mess
 
 use crate::fault::{ReadError, Rule};
 use crate::fields::{Reader, simple_name_from};
+use crate::format::FORMAT;
 use crate::message::{Body, Message};
 use cds_stamps::{DirId, EpochNo, HouseNo, Members, Stamp};
 use directory::Fragment;
 use purge_rule::Replica;
 use std::alloc::Global;
-
-// The format of messages and images.
-const FORMAT: u8 = 1;
 
 impl<'a> Reader<'a> {
     /// The marks of an update.

@@ -10,6 +10,7 @@ ghost use Rattle.cds_records.specs.Kinds as kinds;
 ghost use Rattle.cds_records.specs.Records as records;
 ghost use Rattle.cds_records.specs.declared.message.Body.TheVariants as bodies;
 
+use crate::format::FORMAT;
 use crate::message::{Body, Message};
 use crate::writing::{
     put_entry, put_octet, put_replica, put_simple_name, put_stamp, put_u32, put_u64,
@@ -18,9 +19,6 @@ use cds_stamps::{Member, MemberKind, Members, Stamp};
 use directory::Fragment;
 use purge_rule::Replica;
 use std::alloc::{AllocError, Global};
-
-// The format of messages and images.
-const FORMAT: u8 = 1;
 
 /// The octets of a message. That they are is promised if its entries and tables are valid.
 pub fn encode(alloc: Global, message: &Message) -> Result<Vec<u8>, AllocError>
@@ -151,7 +149,7 @@ fn put_member(out: &mut Vec<u8>, member: &Member) -> Result<(), AllocError>
 }
 
 /// A member list.
-fn put_members(out: &mut Vec<u8>, list: &[Member]) -> Result<(), AllocError>
+pub(crate) fn put_members(out: &mut Vec<u8>, list: &[Member]) -> Result<(), AllocError>
     requires { members_fault (members_of list.now) ≡ None }
     ensures { OnOk result (Writes records.members list.now out.old.items out.new.items) }
 {

@@ -84,6 +84,17 @@ impl ImageDirs {
     {
         Ok(self.dirs.insert(dir, kept)?)
     }
+
+    /// The same of the same directories.
+    pub fn copy(&self, alloc: Global) -> Result<ImageDirs, AllocError>
+        ensures { IfOk result (λ d. d ≡ self.now) }
+    {
+        let mut copy = ImageDirs::new(alloc);
+        for (dir, kept) in self.iter() {
+            copy.insert(*dir, kept.copy(alloc)?)?;
+        }
+        Ok(copy)
+    }
 }
 
 impl ImageDir {

@@ -12,12 +12,10 @@ ghost use Rattle.cds_records.specs.declared.fault.Rule.TheVariants.{OutOfOrder};
 
 use crate::fault::{ReadError, Rule};
 use crate::fields::{Reader, broken};
+use crate::format::{FORMAT, IMAGE};
 use crate::image::{Image, ImageDir, ImageDirs};
 use cds_stamps::{DirId, EpochNo, HouseNo};
 use std::alloc::{AllocError, Global};
-
-// The format of messages and images.
-const FORMAT: u8 = 1;
 
 impl<'a> Reader<'a> {
     /// A directory above the one before it.
@@ -92,7 +90,7 @@ impl<'a> Reader<'a> {
         ensures { Reads (λ x. x) image self.old self.new result }
     {
         let _format = self.octet_within(Rule::BadTag, FORMAT, FORMAT)?;
-        let _tag = self.octet_within(Rule::BadTag, 9, 9)?;
+        let _tag = self.octet_within(Rule::BadTag, IMAGE, IMAGE)?;
         let house = self.octet()?;
         let node = self.node()?;
         let floor = self.u64()?;

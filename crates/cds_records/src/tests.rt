@@ -23,6 +23,29 @@ fn message(alloc: Global, tag: u8, parts: &[&[u8]]) -> Result<Vec<u8>, Fail> {
     Ok(octets)
 }
 
+// What is written of the message at the front of the octets, and of its copy, and how many octets it has there.
+fn written_again(alloc: Global, octets: &[u8]) -> Result<(Vec<u8>, Vec<u8>, usize), Fail> {
+    let (read, used) = decode(alloc, octets)?;
+    let written = encode(alloc, &read)?;
+    Ok((written, encode(alloc, &read.copy(alloc)?)?, used))
+}
+
+// The first fault of octets that begin with no message.
+fn fault_of_message(alloc: Global, octets: &[u8]) -> Option<RecordFault> {
+    match decode(alloc, octets) {
+        Err(AllocOr::Fault(fault)) => Some(fault),
+        _ => None,
+    }
+}
+
+// The first fault of octets that begin with no image.
+fn fault_of_image(alloc: Global, octets: &[u8]) -> Option<RecordFault> {
+    match decode_image(alloc, octets) {
+        Err(AllocOr::Fault(fault)) => Some(fault),
+        _ => None,
+    }
+}
+
 #[test]
 fn messages_of_each_tag_are_read_and_written_again(rt: HostRuntime) -> Result<(), Fail> {
     let alloc = rt.alloc();
@@ -44,37 +67,135 @@ fn messages_of_each_tag_are_read_and_written_again(rt: HostRuntime) -> Result<()
     for (tag, parts, len) in rows {
         let mut octets = message(alloc, tag, parts)?;
         assert_eq!(rt; octets.len(), len);
-        let (read, used) = decode(alloc, octets.as_slice())?;
+        let (written, copied, used) = written_again(alloc, octets.as_slice())?;
         assert_eq!(rt; used, len);
-        assert!(rt; encode(alloc, &read)?.as_slice() == octets.as_slice());
+        assert!(rt; written == octets && copied == octets);
         octets.push(0)?;
-        let (again, used) = decode(alloc, octets.as_slice())?;
+        let (again, _, used) = written_again(alloc, octets.as_slice())?;
         assert_eq!(rt; used, len);
-        assert!(rt; encode(alloc, &again.copy(alloc)?)?.as_slice() == &octets[..len]);
+        assert!(rt; again == written);
     }
     Ok(())
 }
 
-// The image of house 1 at node 10, which holds the root alone, of which it is master, with an empty table.
-const IMAGE: &[u8] =
-    b"\x01\x09\x01\0\0\0\0\0\x0a\0\0\0\0\0\0\0\0\0\0\0\0\0\0\0\x01\0\0\0\x01\x01\0\0\0\0\0\0\0\x01\x01\x01\0\0\0\0\0\0\0\x01\x01\0\0\0\0\0\0\0\0\0";
-
 #[test]
-fn an_image_is_read_or_has_a_first_fault(rt: HostRuntime) -> Result<(), Fail> {
+fn octets_that_begin_with_no_message_have_a_first_fault(rt: HostRuntime) -> Result<(), Fail> {
     let alloc = rt.alloc();
-    let (image, used) = decode_image(alloc, IMAGE)?;
-    assert_eq!(rt; used, 58);
-    assert_eq!(rt; image.dirs.len(), 1);
+    let early: &[u8] =
+        b"\x01\0\0\0\0\0\0\0\x05\0\0\0\0\0\x0a\0\0\0\0\0\0\0\x01\0\x01\x01\x01\0\0\0\0\0\0\0\x02\0\0\0\0\0\x0a";
+    let rows: [(u8, &[&[u8]], RecordFault); 13] = [
+        (0, &[], RecordFault::BadTag(2)),
+        (9, &[], RecordFault::BadTag(2)),
+        (2, &[b"\0\0"], RecordFault::Short(26)),
+        (1, &[b"\0"], RecordFault::BadLength(24)),
+        (1, &[b"\xff"], RecordFault::BadLength(24)),
+        (1, &[b"\x01/"], RecordFault::BadName(25)),
+        (1, &[b"\x01e\x04"], RecordFault::BadFlag(26)),
+        (
+            1,
+            &[ENTRY, b"\0\0\0\0\0\0\0\0\0"],
+            RecordFault::BadLength(53),
+        ),
+        (1, &[ENTRY, early], RecordFault::OutOfOrder(79)),
+        (7, &[b"\x41"], RecordFault::BadLength(24)),
+        (
+            7,
+            &[b"\x01\x01\0\0\0\0\0\0\0\x01\x02"],
+            RecordFault::BadFlag(34),
+        ),
+        (
+            7,
+            &[b"\x02\x01\0\0\0\0\0\0\0\x01\x01\x01"],
+            RecordFault::OutOfOrder(35),
+        ),
+        (
+            7,
+            &[b"\x02\x01\0\0\0\0\0\0\0\x01\x01\x02\0\0\0\0\0\0\0\x01\x01"],
+            RecordFault::BadFlag(44),
+        ),
+    ];
+    for (tag, parts, fault) in rows {
+        let octets = message(alloc, tag, parts)?;
+        assert_eq!(rt; fault_of_message(alloc, octets.as_slice()), Some(fault));
+    }
     let fronts: [(&[u8], RecordFault); 3] = [
-        (&IMAGE[..57], RecordFault::Short(58)),
-        (b"\x01\x08", RecordFault::BadTag(2)),
+        (b"", RecordFault::Short(1)),
+        (b"\x01", RecordFault::Short(2)),
         (b"\x02", RecordFault::BadTag(1)),
     ];
     for (front, fault) in fronts {
-        match decode_image(alloc, front) {
-            Ok(_) => assert!(rt; false),
-            Err(error) => assert_eq!(rt; error, AllocOr::Fault(fault)),
-        }
+        assert_eq!(rt; fault_of_message(alloc, front), Some(fault));
+    }
+    let octets = message(alloc, 1, &[])?;
+    assert_eq!(rt;
+        fault_of_message(alloc, &octets[..22]),
+        Some(RecordFault::Short(23))
+    );
+    Ok(())
+}
+
+// The image of house 1 at node 10 with floor 0, which holds two directories.
+const HEAD_OF_IMAGE: &[u8] = b"\x01\x09\x01\0\0\0\0\0\x0a\0\0\0\0\0\0\0\0\0\0\0\0\0\0\0\x02";
+
+// The directory 1 is held in epoch 1 by the house alone, with an empty table.
+const HELD: &[u8] =
+    b"\0\0\0\x01\x01\0\0\0\0\0\0\0\x01\x01\x01\0\0\0\0\0\0\0\x01\x01\0\0\0\0\0\0\0\0\0";
+
+// The directory 2 is gone since epoch 3.
+const GONE: &[u8] = b"\0\0\0\x02\x02\0\0\0\0\0\0\0\x03";
+
+// The octets of these parts.
+fn together(alloc: Global, parts: &[&[u8]]) -> Result<Vec<u8>, Fail> {
+    let mut octets = Vec::new(alloc);
+    for part in parts {
+        octets.extend_from_slice(part)?;
+    }
+    Ok(octets)
+}
+
+// What is written of the image at the front of the octets, and of a copy of its directories, and how many octets it has.
+fn image_again(alloc: Global, octets: &[u8]) -> Result<(Vec<u8>, Vec<u8>, usize), Fail> {
+    let (image, used) = decode_image(alloc, octets)?;
+    let copied = Image {
+        house: image.house,
+        node: image.node,
+        floor: image.floor,
+        dirs: image.dirs.copy(alloc)?,
+    };
+    let written = encode_image(alloc, &image)?;
+    Ok((written, encode_image(alloc, &copied)?, used))
+}
+
+#[test]
+fn an_image_is_read_and_written_again(rt: HostRuntime) -> Result<(), Fail> {
+    let alloc = rt.alloc();
+    let mut octets = together(alloc, &[HEAD_OF_IMAGE, HELD, GONE])?;
+    let (written, copied, used) = image_again(alloc, octets.as_slice())?;
+    assert_eq!(rt; used, 71);
+    assert!(rt; written == octets && copied == octets);
+    octets.push(0)?;
+    let (again, _, used) = image_again(alloc, octets.as_slice())?;
+    assert_eq!(rt; used, 71);
+    assert!(rt; again == written);
+    Ok(())
+}
+
+#[test]
+fn octets_that_begin_with_no_image_have_a_first_fault(rt: HostRuntime) -> Result<(), Fail> {
+    let alloc = rt.alloc();
+    let third: &[u8] = b"\0\0\0\x03\x03";
+    let rows: [(&[&[u8]], RecordFault); 7] = [
+        (&[], RecordFault::Short(1)),
+        (&[b"\x02"], RecordFault::BadTag(1)),
+        (&[b"\x01\x08"], RecordFault::BadTag(2)),
+        (&[HEAD_OF_IMAGE, HELD], RecordFault::Short(59)),
+        (&[HEAD_OF_IMAGE, GONE, HELD], RecordFault::OutOfOrder(39)),
+        (&[HEAD_OF_IMAGE, GONE, GONE], RecordFault::OutOfOrder(39)),
+        (&[HEAD_OF_IMAGE, HELD, third], RecordFault::BadFlag(63)),
+    ];
+    for (parts, fault) in rows {
+        let octets = together(alloc, parts)?;
+        assert_eq!(rt; fault_of_image(alloc, octets.as_slice()), Some(fault));
     }
     Ok(())
 }
