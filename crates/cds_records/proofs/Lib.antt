@@ -8,3 +8,5 @@ pub mod DecodingLaws
 pub mod WritingLaws
 pub mod WritingMembers
 pub mod WritingBodies
+pub mod Spelling
+pub mod SpellingRecords
