@@ -1,18 +1,16 @@
 -- Octets of keyed lists, written item by item, and of the maps that they are the entries of.
-use Rattle.std.proofs.Common.{◌≡◌, ℕ, zero, suc, Bool, true, false, T, cond, List, [], ◌∷◌, ◌++◌, length, Option, Some, None, refl, sym, ap, subst, ◌∙◌, append_assoc, append-nil}
-use Rattle.std.specs.Prelude.{◌&&◌, IfSome, if◌then◌else◌}
+use Rattle.std.proofs.Common.{◌≡◌, ℕ, Bool, true, false, T, List, [], ◌∷◌, ◌++◌, length, Option, Some, None, refl, sym, ap, subst, ◌∙◌, append_assoc, append-nil, arith}
+use Rattle.std.specs.Prelude.{IfSome, if◌then◌else◌}
 use Rattle.std.specs.declared.cmp.Ordering.{Ordering}
-use Rattle.std.specs.declared.cmp.Ordering.TheVariants.{Less, Equal, Greater}
-use Rattle.std.specs.Ordering.{eq_by_cmp, is_lt, is_eq, nat_cmp}
-use Rattle.std.specs.Cmp.{IsTotalOrder, tied_itself}
+use Rattle.std.specs.Ordering.{is_lt, nat_cmp}
+use Rattle.std.specs.Cmp.{IsTotalOrder}
 use Rattle.std.specs.Cmp.Lexicographic.{nat_list_cmp_total}
 use Rattle.std.specs.List.{AllByRecursion}
-use Rattle.std.specs.FinMap.{FinMap, IsAntisymmetric, empty, get, insert, entries, entries_sorted, len, len-entries, get-entries, get-empty, get-insert, find, is_sorted, same_map}
+use Rattle.std.specs.FinMap.{FinMap, IsAntisymmetric, empty, entries, entries_sorted, len, len-entries, get-entries, is_sorted}
 use Rattle.std.specs.FinMap.Entries.{below_all}
 use Rattle.std.specs.Option.{option_map}
 use Rattle.cds_stamps.specs.declared.numbers.DirId.{DirId}
 use Rattle.cds_stamps.specs.Joins.{EachValue}
-use Rattle.cds_stamps.specs.Keyed.{tied}
 use Rattle.cds_stamps.specs.Octets.{octets_cmp, octets_exact}
 use Rattle.cds_records.specs.declared.fault.Rule.{Rule}
 use Rattle.cds_records.specs.declared.fault.Rule.TheVariants.{OutOfOrder}
@@ -23,6 +21,7 @@ use Rattle.cds_records.specs.Fields.{octets_order, number_order}
 use Rattle.cds_records.specs.Dirs.{dir_cmp, dir_total, dir_exact}
 use Rattle.cds_records.specs.Records.{item, ascending, add_all, map_of}
 use Rattle.cds_records.proofs.WritingLaws.{whole_next}
+use Rattle.cds_records.proofs.Ascending.{first_of, second_of, added_entries, each_entry}
 
 -- ---- orders of keys
 
@@ -53,6 +52,9 @@ octets_keys = record {
 abbrev pub dir_order : Option DirId → DirId → Option Rule
 dir_order before d = number_order (option_map (λ d. d.0) before) d.0
 
+pub dir_above : (b k : ℕ) → T (is_lt (nat_cmp b k)) → number_order (Some b) k ≡ None
+dir_above b k p = grind (arith, p)
+
 abbrev pub dir_keys : KeyOrder DirId
 dir_keys = record {
   cmp = dir_cmp;
@@ -60,7 +62,7 @@ dir_keys = record {
   total = dir_total;
   exact = dir_exact;
   first = λ k. refl;
-  above = λ b k p. in_order (is_lt (nat_cmp b.0 k.0)) p;
+  above = λ b k p. dir_above b.0 k.0 p;
 }
 
 -- ---- items
@@ -102,62 +104,6 @@ module _ {K X : Type 0} (o : KeyOrder K) (key : Option K → Layout K) (content 
 
 -- ---- maps
 
-first_of : (a b : Bool) → T (a && b) → T a
-first_of true b p = tt
-first_of false b p = absurd p
-
-second_of : (a b : Bool) → T (a && b) → T b
-second_of true b p = p
-second_of false b p = absurd p
-
-less_apart : (r : Ordering) → T (is_lt r) → is_eq r ≡ false
-less_apart Less p = refl
-less_apart Equal p = absurd p
-less_apart Greater p = absurd p
-
-or_else : {X : Type 0} → Option X → Option X → Option X
-or_else None y = y
-or_else (Some x) y = Some x
-
-or_none : {X : Type 0} (o : Option X) → or_else o None ≡ o
-unfolding or_else
-or_none None = refl
-or_none (Some x) = refl
-
-module _ {K X : Type 0} (o : KeyOrder K) where
-  not_found : (q : K) (es : List (K × X)) → T (below_all o.cmp q es) → find o.cmp q es ≡ None
-  not_found q [] p = refl
-  not_found q (e ∷ es) p = rw (less_apart (o.cmp q e.0) (first_of _ _ p)) (not_found q es (second_of _ _ p))
-
-  -- at a key that is tied to the first, the rest has nothing
-  behind_first : (q : K) (e : K × X) (es : List (K × X)) → eq_by_cmp o.cmp q e.0 ≡ true → T (below_all o.cmp e.0 es) → find o.cmp q es ≡ None
-  behind_first q e es same p = not_found q es (subst (λ k. T (below_all o.cmp k es)) (sym (tied o.exact q e.0 same)) p)
-
-  get-add_all : (n : FinMap o.cmp X) (es : List (K × X)) (q : K) → T (is_sorted o.cmp es) → get (add_all n es) q ≡ or_else (find o.cmp q es) (get n q)
-  unfolding or_else
-  get-add_all n [] q p = refl
-  get-add_all n (e ∷ es) q p =
-      get-add_all (insert n e.0 e.1) es q (second_of _ _ p) ∙ ap (or_else (find o.cmp q es)) (get-insert o.total n e.0 e.1 q) ∙ at (eq_by_cmp o.cmp q e.0) refl
-    where
-      at : (b : Bool) → eq_by_cmp o.cmp q e.0 ≡ b → or_else (find o.cmp q es) (cond b (Some e.1) (get n q)) ≡ or_else (cond b (Some e.1) (find o.cmp q es)) (get n q)
-      at true same = ap (λ o. or_else o (Some e.1)) (behind_first q e es same (first_of _ _ p))
-      at false other = refl
-
-  pub added_entries : (m : FinMap o.cmp X) → add_all empty (entries m) ≡ m
-  added_entries m = same_map o.total o.exact (add_all empty (entries m)) m (λ q.
-      get-add_all empty (entries m) q (entries_sorted m) ∙ ap (or_else (find o.cmp q (entries m))) (get-empty o.cmp q) ∙ or_none (find o.cmp q (entries m)) ∙ sym (get-entries m q))
-
-  each_entry : (V : X → Type 0) (es : List (K × X)) → T (is_sorted o.cmp es) → ((q : K) → IfSome (find o.cmp q es) V) → AllByRecursion (λ e. V e.1) es
-  each_entry V [] p h = tt
-  each_entry V (e ∷ es) p h = (
-    subst (λ b. IfSome (cond b (Some e.1) (find o.cmp e.0 es)) V) (ap is_eq (tied_itself o.total e.0)) (h e.0),
-    each_entry V es (second_of _ _ p) (λ q. at q (eq_by_cmp o.cmp q e.0) refl),
-  )
-    where
-      at : (q : K) (b : Bool) → eq_by_cmp o.cmp q e.0 ≡ b → IfSome (find o.cmp q es) V
-      at q true same = subst (λ x. IfSome x V) (sym (behind_first q e es same (first_of _ _ p))) tt
-      at q false other = subst (λ b. IfSome (cond b (Some e.1) (find o.cmp q es)) V) other (h q)
-
 module _ {K X : Type 0} (o : KeyOrder K) (V : X → Type 0) (key : Option K → Layout K) (content : Layout X) where
   ascends_after : (k : K) (es : List (K × X)) → T (below_all o.cmp k es) → T (is_sorted o.cmp es) → IsAscending o key content (Some k) es
   ascends_after k [] p q = tt
@@ -174,7 +120,7 @@ module _ {K X : Type 0} (o : KeyOrder K) (V : X → Type 0) (key : Option K → 
   pub writing_begins : (m : FinMap o.cmp X) (rest : List (K × X)) (old : List ℕ) → rest ≡ entries m → Written m rest old old
   writing_begins m rest old e valid =
       subst (λ r. AllByRecursion (λ e. V e.1) r × Completes o key content (entries m) r old old) (sym e)
-      (each_entry o V (entries m) (entries_sorted m) (λ q. subst (λ x. IfSome x V) (get-entries m q) (valid q)), nothing_written o key content (entries m) old (ascends (entries m) (entries_sorted m)))
+      (each_entry o.total o.exact V (entries m) (entries_sorted m) (λ q. subst (λ x. IfSome x V) (get-entries m q) (valid q)), nothing_written o key content (entries m) old (ascends (entries m) (entries_sorted m)))
 
   pub writing_goes_on : (m : FinMap o.cmp X) (es rest : List (K × X)) (k : K) (x : X) (old out new : List ℕ) → es ≡ (k, x) ∷ rest → Written m es old out
       → (V x → (before : Option K) → o.rule before k ≡ None → Writes (item key content before) (k, x) out new) → Written m rest old new
@@ -186,7 +132,7 @@ module _ {K X : Type 0} (o : KeyOrder K) (V : X → Type 0) (key : Option K → 
   unfolding map_of
   writing_ends m rest old out none so_far valid =
       let all = all_written o key content (entries m) rest old out none (so_far valid).1 in
-      let map = whole_next (ascending key content (length (entries m)) None) (λ es. done (add_all (empty {R = o.cmp}) es)) (entries m) m all.own [] all.whole (added_entries o m, refl) in
+      let map = whole_next (ascending key content (length (entries m)) None) (λ es. done (add_all (empty {R = o.cmp}) es)) (entries m) m all.own [] all.whole (added_entries o.total m, refl) in
       record {
         own = all.own;
         behind = all.behind;

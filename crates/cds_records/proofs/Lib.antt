@@ -6,7 +6,10 @@ pub mod Valid
 pub mod Listed
 pub mod DecodingLaws
 pub mod WritingLaws
+pub mod Ascending
 pub mod KeyedWriting
 pub mod WritingMembers
 pub mod WritingBodies
 pub mod WritingImages
+pub mod Spelling
+pub mod SpellingRecords

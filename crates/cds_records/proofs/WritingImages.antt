@@ -10,7 +10,6 @@ use Rattle.purge_rule.specs.declared.replica.Replica.{Replica}
 use Rattle.cds_records.specs.declared.fault.Rule.{Rule}
 use Rattle.cds_records.specs.declared.fault.Rule.TheVariants.{BadTag, BadFlag}
 use Rattle.cds_records.specs.declared.image.Image.{Image}
-use Rattle.cds_records.specs.declared.image.ImageDir.{ImageDir}
 use Rattle.cds_records.specs.declared.image.ImageDir.TheVariants.{Held, Gone}
 use Rattle.cds_records.specs.Layouts.{done, next, choose}
 use Rattle.cds_records.specs.Decoding.{IsWhole}

@@ -1,13 +1,8 @@
 -- Octets written field by field, and item by item.
-use Rattle.std.proofs.Common.{◌≡◌, ℕ, zero, suc, ◌+◌, ◌/◌, ◌%◌, ◌^◌, ◌<◌, ◌≤◌, Bool, true, false, T, cond, List, [], ◌∷◌, ◌++◌, length, Option, Some, None, refl, sym, ap, subst, ◌∙◌, append_assoc, append-nil, arith}
-use Rattle.std.specs.Prelude.{◌&&◌, ◌==◌, ◌-◌, IfSome, IsTrue, if◌then◌else◌}
-use Rattle.std.specs.declared.cmp.Ordering.{Ordering}
-use Rattle.std.specs.declared.cmp.Ordering.TheVariants.{Less, Equal, Greater}
-use Rattle.std.specs.Cmp.{tied_itself}
+use Rattle.std.proofs.Common.{◌≡◌, ℕ, zero, suc, ◌+◌, ◌/◌, ◌%◌, ◌^◌, ◌<◌, ◌≤◌, Bool, true, false, cond, List, [], ◌∷◌, ◌++◌, length, Option, Some, None, refl, sym, ap, subst, ◌∙◌, append_assoc, append-nil, arith}
+use Rattle.std.specs.Prelude.{◌==◌, ◌-◌, IfSome, IsTrue}
 use Rattle.std.proofs.lemmas.List.Elements.{recursion_from_All}
-use Rattle.std.specs.FinMap.Entries.{below_all}
 use Rattle.cds_stamps.specs.Joins.{EachValue}
-use Rattle.cds_stamps.specs.Keyed.{tied}
 use Rattle.cds_stamps.specs.Names.{is_name_octet, is_attr_octet, simple_name_fault, attr_fault}
 use Rattle.cds_stamps.proofs.NameLaws.{simple_name_laws, attr_name_laws}
 use Rattle.cds_stamps.specs.Stamps.{is_earlier}
@@ -21,21 +16,19 @@ use Rattle.directory.specs.Kinds.{rank, kind_of_rank}
 use Rattle.directory.specs.Entries.{IsHeldCell}
 use Rattle.purge_rule.specs.declared.replica.Replica.{Replica}
 use Rattle.attr_sets.specs.Values.{value_fault}
-use Rattle.cds_records.specs.declared.fault.Rule.TheVariants.{BadLength, OutOfOrder, BadFlag}
+use Rattle.cds_records.specs.declared.fault.Rule.TheVariants.{BadLength, BadFlag}
 use Rattle.std.specs.Int.{w16, w32, w64, to_be_bytes}
 use Rattle.std.specs.List.{AllByRecursion, list_all}
-use Rattle.std.specs.FinMap.{FinMap, empty, get, insert, entries, entries_sorted, len, len-entries, empty_of_len, get-entries, get-empty, get-insert, find, is_sorted, same_map}
-use Rattle.std.specs.Ordering.{eq_by_cmp, is_lt, is_eq}
-use Rattle.std.specs.Cmp.Lexicographic.{nat_list_cmp_total}
+use Rattle.std.specs.FinMap.{get, entries, len, empty_of_len}
 use Rattle.std.proofs.lemmas.Nat.{from_be_bytes-to_be_bytes_2, from_be_bytes-to_be_bytes_4, from_be_bytes-to_be_bytes_8}
 use Rattle.cds_stamps.specs.declared.stamp.Stamp.{Stamp}
-use Rattle.cds_stamps.specs.Octets.{octets_cmp, octets_exact}
+use Rattle.cds_stamps.specs.Octets.{octets_cmp}
 use Rattle.cds_records.specs.declared.fault.Rule.{Rule}
 use Rattle.cds_records.specs.Layouts.{Layout, done, field, next, Stands}
 use Rattle.cds_records.specs.Decoding.{IsWhole}
 use Rattle.cds_records.specs.Writing.{Writes}
 use Rattle.cds_records.specs.Fields.{free, outside, name_rule, node_of, node_octets, stamp_of, octets_order, stamp_order, octet, number, node, stamp, stamp_if, optional_stamp, octets_of, simple_name, attr_name, value}
-use Rattle.cds_records.specs.Records.{item, ascending, add_all, map_of, mark, empty_cell, cell, kind, entry, replica}
+use Rattle.cds_records.specs.Records.{item, map_of, mark, empty_cell, cell, kind, entry, replica}
 use Rattle.cds_records.proofs.LayoutLaws.{front_stands}
 
 -- ---- one layout and then another

@@ -1,5 +1,6 @@
 //! Laws of the definitions: functions that do nothing, whose contracts are proved.
-ghost use Rattle.std.specs.Prelude.{◌≡◌, ◌++◌, ℕ, List};
+ghost use Rattle.std.specs.Prelude.{◌≡◌, ◌++◌, ◌<◌, ℕ, List};
+ghost use Rattle.std.specs.List.{All};
 ghost use Rattle.cds_records.specs.declared.message.Message.{Message};
 ghost use Rattle.cds_records.specs.Decoding.{IsWhole};
 ghost use Rattle.cds_records.specs.declared.image.Image.{Image};
@@ -15,4 +16,14 @@ pub fn no_message_begins_another()
 /// So it is with images.
 pub fn no_image_begins_another()
     ensures { (i other : Image) (a b x y : List ℕ) → IsWhole image i a → IsWhole image other b → a ++ x ≡ b ++ y → (i ≡ other) × (a ≡ b) × (x ≡ y) }
+{}
+
+/// A message has one spelling: octets that are both the whole of it are the same.
+pub fn a_message_has_one_spelling()
+    ensures { (m : Message) (a b : List ℕ) → All (λ n. n < 256) a → All (λ n. n < 256) b → IsWhole message m a → IsWhole message m b → a ≡ b }
+{}
+
+/// So has an image.
+pub fn an_image_has_one_spelling()
+    ensures { (i : Image) (a b : List ℕ) → All (λ n. n < 256) a → All (λ n. n < 256) b → IsWhole image i a → IsWhole image i b → a ≡ b }
 {}

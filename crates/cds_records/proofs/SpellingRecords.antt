@@ -1,0 +1,288 @@
+-- Messages and images spell each value in one way.
+use Rattle.std.proofs.Common.{◌≡◌, ℕ, zero, suc, ◌+◌, ◌-◌, Bool, true, false, cond, List, [], length, Option, Some, None, refl, sym, ap, ◌∙◌, arith}
+use Rattle.std.specs.Prelude.{◌||◌, ◌==◌, if◌then◌else◌}
+use Rattle.std.specs.declared.cmp.Ordering.{Ordering}
+use Rattle.std.specs.declared.cmp.Ordering.TheVariants.{Less, Equal, Greater}
+use Rattle.std.specs.Cmp.{nat_cmp_is}
+use Rattle.std.specs.Cmp.Lexicographic.{nat_list_cmp_total}
+use Rattle.std.specs.Ordering.{is_lt, nat_cmp}
+use Rattle.cds_stamps.specs.declared.numbers.DirId.{DirId}
+use Rattle.cds_stamps.specs.declared.stamp.Stamp.{Stamp}
+use Rattle.cds_stamps.specs.declared.members.Member.{Member}
+use Rattle.cds_stamps.specs.Members.{is_master}
+use Rattle.cds_stamps.specs.Octets.{octets_cmp}
+use Rattle.attr_sets.specs.declared.mark.ValueMark.{ValueMark}
+use Rattle.attr_sets.specs.declared.cell.AttrCell.{AttrCell}
+use Rattle.directory.specs.declared.entry.EntryCell.{EntryCell}
+use Rattle.directory.specs.declared.entry.Fragment.{Fragment}
+use Rattle.directory.specs.Kinds.{rank, kind_of_rank}
+use Rattle.purge_rule.specs.declared.replica.Replica.{Replica}
+use Rattle.cds_records.specs.declared.fault.Rule.{Rule}
+use Rattle.cds_records.specs.declared.fault.Rule.TheVariants.{BadTag, BadName, OutOfOrder, BadFlag}
+use Rattle.cds_records.specs.declared.image.ImageDir.{ImageDir}
+use Rattle.cds_records.specs.declared.image.ImageDir.TheVariants.{Held, Gone}
+use Rattle.cds_records.specs.declared.image.Image.{Image}
+use Rattle.cds_records.specs.declared.message.Message.{Message}
+use Rattle.cds_records.specs.declared.message.Body.{Body}
+use Rattle.cds_records.specs.declared.message.Body.TheVariants.{Update, Gather, Gathered, Spread, SpreadAck, Advance, Join, Leave}
+use Rattle.cds_records.specs.Dirs.{dir_cmp, dir_total}
+use Rattle.cds_records.specs.Kinds.{kind_in, kind_number}
+use Rattle.cds_records.specs.Layouts.{done, choose, Stands}
+use Rattle.cds_records.specs.Fields.{free, outside, number_order, octets_order, stamp_order, octet, number, stamp_if, optional_stamp, octets_of, simple_name, attr_name, value}
+use Rattle.cds_records.specs.Records.{mark, cell, kind, entry, replica, kind_rule, member_kind, member, listed, members, fragment, copied, joined, body, tag_of, message, message_in}
+use Rattle.cds_records.specs.Images.{dir_number, held, dir_state, image, image_in}
+use Rattle.cds_records.proofs.Spelling.{OneSpelling, tells, spell_next, spell_done, spell_last, spell_choose, spell_cons, spell_octet, spell_16, spell_32, spell_64, spell_node, spell_stamp, spell_sized, spell_counted}
+
+-- ---- names and values
+
+spell_simple_name : (before : Option (List ℕ)) → OneSpelling (simple_name before)
+unfolding simple_name
+spell_simple_name before = spell_sized _ (spell_octet _)
+
+spell_attr_name : (before : Option (List ℕ)) → OneSpelling (attr_name before)
+unfolding attr_name
+spell_attr_name before = spell_sized _ (spell_octet _)
+
+spell_value : (before : Option (List ℕ)) → OneSpelling (value before)
+unfolding value
+spell_value before = spell_sized _ (spell_16 _)
+
+in_order : (r : Ordering) → (if is_lt r then None else Some OutOfOrder) ≡ None → r ≡ Less
+in_order Less e = refl
+in_order Equal e = absurd cc
+in_order Greater e = absurd cc
+
+name_in_order : (named : Bool) (b o : List ℕ) → (if named then octets_order (Some b) o else Some BadName) ≡ None → octets_cmp b o ≡ Less
+name_in_order true b o e = in_order (octets_cmp b o) e
+name_in_order false b o e = absurd cc
+
+simple_names_rise : (b o x y : List ℕ) → Stands (simple_name (Some b)) x o y → octets_cmp b o ≡ Less
+unfolding simple_name octets_of
+simple_names_rise b o x y h = name_in_order _ b o h.3.4
+
+attr_names_rise : (b o x y : List ℕ) → Stands (attr_name (Some b)) x o y → octets_cmp b o ≡ Less
+unfolding attr_name octets_of
+attr_names_rise b o x y h = name_in_order _ b o h.3.4
+
+values_rise : (b o x y : List ℕ) → Stands (value (Some b)) x o y → octets_cmp b o ≡ Less
+unfolding value octets_of
+values_rise b o x y h = in_order (octets_cmp b o) h.3.4
+
+-- ---- replicas
+
+flag_of : Option Stamp → ℕ
+flag_of None = 0
+flag_of (Some s) = 1
+
+stamp_flag : (flag : ℕ) (s : Option Stamp) (x y : List ℕ) → outside BadFlag 0 1 flag ≡ None → Stands (stamp_if flag) x s y → flag_of s ≡ flag
+unfolding flag_of
+stamp_flag zero s x y e h = ap flag_of (sym h.0)
+stamp_flag (suc zero) s x y e h = ap flag_of (sym h.3.0)
+stamp_flag (suc (suc n)) s x y e h = absurd (grind (arith, e))
+
+spell_optional_stamp : OneSpelling optional_stamp
+unfolding optional_stamp octet
+spell_optional_stamp =
+    spell_next (tells flag_of (λ flag s w x g h. stamp_flag flag s x [] g.4 h)) (spell_octet _) (λ flag.
+    spell_choose (flag == 0) (spell_done None) (spell_last (λ s. Some s) (λ s t e. cc) (spell_stamp free)))
+
+present_flag : (n : ℕ) → outside BadFlag 0 1 n ≡ None → cond (n == 1) 1 0 ≡ n
+present_flag zero e = refl
+present_flag (suc zero) e = refl
+present_flag (suc (suc n)) e = absurd (grind (arith, e))
+
+spell_mark : (cleared : Option Stamp) → OneSpelling (mark cleared)
+unfolding mark octet
+spell_mark cleared =
+    spell_next (tells (λ m. cond m.present 1 0) (λ n m w x g h. ap (λ (m : ValueMark). cond m.present 1 0) (sym h.3.0) ∙ present_flag n g.4)) (spell_octet _) (λ n.
+    spell_last (λ s. record { present = n == 1; stamp = s }) (λ s t e. ap (λ (m : ValueMark). m.stamp) e) (spell_stamp (stamp_order cleared)))
+
+spell_cell : OneSpelling cell
+unfolding cell
+spell_cell =
+    spell_next (tells (λ c. c.cleared) (λ t c w x g h. ap (λ (c : AttrCell). c.cleared) (sym h.3.3.0))) spell_optional_stamp (λ t.
+    spell_counted nat_list_cmp_total value (mark t) values_rise spell_value (spell_mark t) (λ marks. record { cleared = t; values = marks }) (λ c. c.values) (λ m. refl) (spell_64 _))
+
+kind_flag : (n : ℕ) → outside BadFlag 1 3 n ≡ None → rank (kind_of_rank (n - 1)) + 1 ≡ n
+kind_flag zero e = absurd (grind (arith, e))
+kind_flag (suc zero) e = refl
+kind_flag (suc (suc zero)) e = refl
+kind_flag (suc (suc (suc zero))) e = refl
+kind_flag (suc (suc (suc (suc n)))) e = absurd (grind (arith, e))
+
+spell_kind : OneSpelling kind
+unfolding kind octet
+spell_kind = spell_next (tells (λ k. rank k + 1) (λ n k w x g h. ap (λ k. rank k + 1) (sym h.0) ∙ kind_flag n g.4)) (spell_octet _) (λ n. spell_done (kind_of_rank (n - 1)))
+
+spell_entry : OneSpelling entry
+unfolding entry
+spell_entry =
+    spell_next (tells (λ e. e.kind) (λ k e w x g h. ap (λ (e : EntryCell). e.kind) (sym h.3.3.3.3.0))) spell_kind (λ k.
+    spell_next (tells (λ e. e.birth) (λ s e w x g h. ap (λ (e : EntryCell). e.birth) (sym h.3.3.3.0))) (spell_stamp free) (λ birth.
+    spell_next (tells (λ e. e.death) (λ t e w x g h. ap (λ (e : EntryCell). e.death) (sym h.3.3.0))) spell_optional_stamp (λ death.
+    spell_counted nat_list_cmp_total attr_name cell attr_names_rise spell_attr_name spell_cell (λ attrs. record { birth = birth; kind = k; death = death; attrs = attrs }) (λ e. e.attrs) (λ m. refl) (spell_64 free))))
+
+spell_replica : OneSpelling replica
+unfolding replica
+spell_replica =
+    spell_next (tells (λ r. r.all_up_to) (λ t r w x g h. ap (λ (r : Replica). r.all_up_to) (sym h.3.3.0))) spell_optional_stamp (λ t.
+    spell_counted nat_list_cmp_total simple_name entry simple_names_rise spell_simple_name spell_entry (λ entries. record { table = entries; all_up_to = t }) (λ r. r.table) (λ m. refl) (spell_64 free))
+
+-- ---- members
+
+member_flag : (left : ℕ) (master : Bool) (n : ℕ) → kind_rule left master n ≡ None → kind_number (kind_in n) ≡ n
+member_flag left master zero e = absurd cc
+member_flag left master (suc zero) e = refl
+member_flag left master (suc (suc zero)) e = refl
+member_flag left master (suc (suc (suc n))) e = absurd (grind (arith, e))
+
+spell_member_kind : (left : ℕ) (master : Bool) → OneSpelling (member_kind left master)
+unfolding member_kind octet
+spell_member_kind left master = spell_next (tells kind_number (λ n k w x g h. ap kind_number (sym h.0) ∙ member_flag left master n g.4)) (spell_octet _) (λ n. spell_done (kind_in n))
+
+spell_member : (left : ℕ) (before : Option ℕ) (master : Bool) → OneSpelling (member left before master)
+unfolding member
+spell_member left before master =
+    spell_next (tells (λ m. m.house.0) (λ n m w x g h. ap (λ (m : Member). m.house.0) (sym h.3.3.0))) (spell_octet _) (λ house.
+    spell_next (tells (λ m. m.since.0) (λ n m w x g h. ap (λ (m : Member). m.since.0) (sym h.3.0))) (spell_64 free) (λ since.
+    spell_last (λ k. record { house = record { 0 = house }; since = record { 0 = since }; kind = k }) (λ k j e. ap (λ (m : Member). m.kind) e) (spell_member_kind left master)))
+
+spell_listed : (n : ℕ) (before : Option ℕ) (master : Bool) → OneSpelling (listed n before master)
+unfolding listed
+spell_listed zero before master = spell_done []
+spell_listed (suc n) before master = spell_cons (spell_member n before master) (λ m. spell_listed n (Some m.house.0) (master || is_master m.kind))
+
+member_count : (n : ℕ) (before : Option ℕ) (master : Bool) (x : List ℕ) (ms : List Member) (y : List ℕ) → Stands (listed n before master) x ms y → length ms ≡ n
+unfolding listed
+member_count zero before master x ms y h = ap length (sym h.0)
+member_count (suc n) before master x ms y h = ap length (sym h.3.3.0) ∙ ap suc (member_count n _ _ h.1 h.3.0 h.3.1 h.3.2)
+
+spell_members : OneSpelling members
+unfolding members
+spell_members = spell_next (tells length (λ n ms w x g h. member_count n None false x ms [] h)) (spell_octet _) (λ n. spell_listed n None false)
+
+-- ---- messages
+
+spell_fragment : OneSpelling fragment
+unfolding fragment
+spell_fragment =
+    spell_next (tells (λ f. f.name) (λ n f w x g h. ap (λ (f : Fragment). f.name) (sym h.3.0))) (spell_simple_name None) (λ n.
+    spell_last (λ e. record { name = n; entry = e }) (λ d e s. ap (λ (f : Fragment). f.entry) s) spell_entry)
+
+spell_copied : OneSpelling copied
+unfolding copied
+spell_copied =
+    spell_next (tells (λ c. c.0) (λ t c w x g h. ap (λ (c : Stamp × Replica). c.0) (sym h.3.0))) (spell_stamp free) (λ t.
+    spell_last (λ r. (t, r)) (λ r s e. ap (λ (c : Stamp × Replica). c.1) e) spell_replica)
+
+spell_joined : OneSpelling joined
+unfolding joined
+spell_joined =
+    spell_next (tells (λ j. j.0) (λ ms j w x g h. ap (λ (j : List Member × Replica). j.0) (sym h.3.0))) spell_members (λ ms.
+    spell_last (λ r. (ms, r)) (λ r s e. ap (λ (j : List Member × Replica). j.1) e) spell_replica)
+
+same_pair : {A B : Type 0} (c d : A × B) → c.0 ≡ d.0 → c.1 ≡ d.1 → c ≡ d
+same_pair c d p q = λ i. (p i, q i)
+
+spell_body : (tag : ℕ) → OneSpelling (body tag)
+unfolding body
+spell_body tag =
+    spell_choose (tag == 1) (spell_last (λ f. Update f) (λ f g e. cc) spell_fragment)
+    (spell_choose (tag == 2) (spell_last (λ t. Gather t) (λ s t e. cc) (spell_stamp free))
+    (spell_choose (tag == 3) (spell_last (λ c. Gathered c.0 c.1) (λ c d e. same_pair c d (cc) (cc)) spell_copied)
+    (spell_choose (tag == 4) (spell_last (λ c. Spread c.0 c.1) (λ c d e. same_pair c d (cc) (cc)) spell_copied)
+    (spell_choose (tag == 5) (spell_last (λ t. SpreadAck t) (λ s t e. cc) (spell_stamp free))
+    (spell_choose (tag == 6) (spell_last (λ t. Advance t) (λ s t e. cc) (spell_stamp free))
+    (spell_choose (tag == 7) (spell_last (λ j. Join j.0 j.1) (λ c d e. same_pair c d (cc) (cc)) spell_joined)
+    (spell_done Leave)))))))
+
+body_tag : (tag : ℕ) (b : Body) (x y : List ℕ) → outside BadTag 1 8 tag ≡ None → Stands (body tag) x b y → tag_of b ≡ tag
+unfolding body
+body_tag zero b x y e h = absurd (grind (arith, e))
+body_tag (suc zero) b x y e h = ap tag_of (sym h.3.0)
+body_tag (suc (suc zero)) b x y e h = ap tag_of (sym h.3.0)
+body_tag (suc (suc (suc zero))) b x y e h = ap tag_of (sym h.3.0)
+body_tag (suc (suc (suc (suc zero)))) b x y e h = ap tag_of (sym h.3.0)
+body_tag (suc (suc (suc (suc (suc zero))))) b x y e h = ap tag_of (sym h.3.0)
+body_tag (suc (suc (suc (suc (suc (suc zero)))))) b x y e h = ap tag_of (sym h.3.0)
+body_tag (suc (suc (suc (suc (suc (suc (suc zero))))))) b x y e h = ap tag_of (sym h.3.0)
+body_tag (suc (suc (suc (suc (suc (suc (suc (suc zero)))))))) b x y e h = ap tag_of (sym h.0)
+body_tag (suc (suc (suc (suc (suc (suc (suc (suc (suc n))))))))) b x y e h = absurd (grind (arith, e))
+
+-- a number that must be this one
+the_number : (rule : Rule) (n k : ℕ) → outside rule n n k ≡ None → n ≡ k
+the_number rule n k e = grind (arith, e)
+
+pub spell_message : OneSpelling message
+unfolding message message_in octet
+spell_message =
+    spell_next (tells (λ m. 1) (λ k m w x g h. the_number BadTag 1 k g.4)) (spell_octet _) (λ format.
+    spell_next (tells (λ m. tag_of m.body) (λ tag m w x g h. ap (λ (m : Message). tag_of m.body) (sym h.3.3.3.3.3.0) ∙ body_tag tag h.3.3.3.3.0 h.3.3.3.1 h.3.3.3.3.1 g.4 h.3.3.3.3.2)) (spell_octet _) (λ tag.
+    spell_next (tells (λ m. m.dir.0) (λ n m w x g h. ap (λ (m : Message). m.dir.0) (sym h.3.3.3.3.0))) (spell_32 free) (λ dir.
+    spell_next (tells (λ m. m.from.0) (λ n m w x g h. ap (λ (m : Message). m.from.0) (sym h.3.3.3.0))) (spell_octet free) (λ house.
+    spell_next (tells (λ m. m.epoch.0) (λ n m w x g h. ap (λ (m : Message). m.epoch.0) (sym h.3.3.0))) (spell_64 free) (λ epoch.
+    spell_next (tells (λ m. m.floor) (λ n m w x g h. ap (λ (m : Message). m.floor) (sym h.3.0))) (spell_64 free) (λ floor.
+    spell_last (λ b. record { dir = record { 0 = dir }; from = record { 0 = house }; epoch = record { 0 = epoch }; floor = floor; body = b }) (λ b c e. ap (λ (m : Message). m.body) e) (spell_body tag)))))))
+
+-- ---- images
+
+spell_dir_number : (before : Option DirId) → OneSpelling (dir_number before)
+unfolding dir_number
+spell_dir_number before = spell_last (λ n. record { 0 = n }) (λ m n e. ap (λ (d : DirId). d.0) e) (spell_32 _)
+
+number_above : (b n : ℕ) → number_order (Some b) n ≡ None → nat_cmp b n ≡ Less
+number_above b n e = sym (nat_cmp_is b n Less (grind (arith, e)))
+
+dirs_rise : (b d : DirId) (x y : List ℕ) → Stands (dir_number (Some b)) x d y → dir_cmp b d ≡ Less
+unfolding dir_number number
+dirs_rise b d x y h = number_above b.0 d.0 (ap (λ (d : DirId). number_order (Some b.0) d.0) (sym h.3.0) ∙ h.2.4)
+
+epoch_of : ImageDir → ℕ
+epoch_of (Held e ms r) = e.0
+epoch_of (Gone e) = e.0
+
+state_of : ImageDir → ℕ
+state_of (Held e ms r) = 1
+state_of (Gone e) = 2
+
+members_of : ImageDir → List Member
+members_of (Held e ms r) = ms
+members_of (Gone e) = []
+
+same_replica : (epoch : ℕ) (ms : List Member) (r s : Replica) → Held (record { 0 = epoch }) ms r ≡ Held (record { 0 = epoch }) ms s → r ≡ s
+same_replica epoch ms r s e = cc
+
+spell_held : (epoch : ℕ) → OneSpelling (held epoch)
+unfolding held members_of
+spell_held epoch =
+    spell_next (tells members_of (λ ms d w x g h. ap members_of (sym h.3.0))) spell_members (λ ms.
+    spell_last (λ r. Held (record { 0 = epoch }) ms r) (same_replica epoch ms) spell_replica)
+
+said_epoch : (test : Bool) (epoch : ℕ) (d : ImageDir) (x y : List ℕ) → Stands (choose test (held epoch) (done (Gone (record { 0 = epoch })))) x d y → epoch_of d ≡ epoch
+unfolding held epoch_of
+said_epoch true epoch d x y h = ap epoch_of (sym h.3.3.0)
+said_epoch false epoch d x y h = ap epoch_of (sym h.0)
+
+said_state : (state epoch : ℕ) (d : ImageDir) (x y : List ℕ) → outside BadFlag 1 2 state ≡ None → Stands (choose (state == 1) (held epoch) (done (Gone (record { 0 = epoch })))) x d y → state_of d ≡ state
+unfolding held state_of
+said_state zero epoch d x y e h = absurd (grind (arith, e))
+said_state (suc zero) epoch d x y e h = ap state_of (sym h.3.3.0)
+said_state (suc (suc zero)) epoch d x y e h = ap state_of (sym h.0)
+said_state (suc (suc (suc n))) epoch d x y e h = absurd (grind (arith, e))
+
+spell_dir : OneSpelling dir_state
+unfolding dir_state octet
+spell_dir =
+    spell_next (tells state_of (λ state d w x g h. said_state state h.0 d h.1 [] g.4 h.3)) (spell_octet _) (λ state.
+    spell_next (tells epoch_of (λ epoch d w x g h. said_epoch (state == 1) epoch d x [] h)) (spell_64 free) (λ epoch.
+    spell_choose (state == 1) (spell_held epoch) (spell_done (Gone (record { 0 = epoch })))))
+
+pub spell_image : OneSpelling image
+unfolding image image_in octet
+spell_image =
+    spell_next (tells (λ i. 1) (λ k i w x g h. the_number BadTag 1 k g.4)) (spell_octet _) (λ format.
+    spell_next (tells (λ i. 9) (λ k i w x g h. the_number BadTag 9 k g.4)) (spell_octet _) (λ tag.
+    spell_next (tells (λ i. i.house.0) (λ n i w x g h. ap (λ (i : Image). i.house.0) (sym h.3.3.3.3.0))) (spell_octet free) (λ house.
+    spell_next (tells (λ i. i.node) (λ n i w x g h. ap (λ (i : Image). i.node) (sym h.3.3.3.0))) spell_node (λ node.
+    spell_next (tells (λ i. i.floor) (λ n i w x g h. ap (λ (i : Image). i.floor) (sym h.3.3.0))) (spell_64 free) (λ floor.
+    spell_counted dir_total dir_number dir_state dirs_rise spell_dir_number spell_dir (λ dirs. record { house = record { 0 = house }; node = node; floor = floor; dirs = dirs }) (λ i. i.dirs) (λ m. refl) (spell_64 free))))))
