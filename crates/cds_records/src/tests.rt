@@ -13,13 +13,20 @@ const STAMP: &[u8] = b"\0\0\0\0\0\0\0\x03\0\0\0\0\0\x0a";
 // The name e of an object that was born at STAMP and has no death, and one attribute that is named A.
 const ENTRY: &[u8] = b"\x01e\x01\0\0\0\0\0\0\0\x03\0\0\0\0\0\x0a\0\0\0\0\0\0\0\0\x01\x01A";
 
+// The octets of these parts.
+fn together(alloc: Global, parts: &[&[u8]]) -> Result<Vec<u8>, Fail> {
+    let mut octets = Vec::new(alloc);
+    for part in parts {
+        octets.extend_from_slice(part)?;
+    }
+    Ok(octets)
+}
+
 // The octets of a message: format, tag, HEAD and these parts.
 fn message(alloc: Global, tag: u8, parts: &[&[u8]]) -> Result<Vec<u8>, Fail> {
     let mut octets = vec![in alloc; 1, tag]?;
     octets.extend_from_slice(HEAD)?;
-    for part in parts {
-        octets.extend_from_slice(part)?;
-    }
+    octets.extend_from_slice(together(alloc, parts)?.as_slice())?;
     Ok(octets)
 }
 
@@ -81,56 +88,54 @@ fn messages_of_each_tag_are_read_and_written_again(rt: HostRuntime) -> Result<()
 #[test]
 fn octets_that_begin_with_no_message_have_a_first_fault(rt: HostRuntime) -> Result<(), Fail> {
     let alloc = rt.alloc();
+    let update: &[u8] = b"\x01\x01";
+    let gather: &[u8] = b"\x01\x02";
+    let join: &[u8] = b"\x01\x07";
     let early: &[u8] =
         b"\x01\0\0\0\0\0\0\0\x05\0\0\0\0\0\x0a\0\0\0\0\0\0\0\x01\0\x01\x01\x01\0\0\0\0\0\0\0\x02\0\0\0\0\0\x0a";
-    let rows: [(u8, &[&[u8]], RecordFault); 13] = [
-        (0, &[], RecordFault::BadTag(2)),
-        (9, &[], RecordFault::BadTag(2)),
-        (2, &[b"\0\0"], RecordFault::Short(26)),
-        (1, &[b"\0"], RecordFault::BadLength(24)),
-        (1, &[b"\xff"], RecordFault::BadLength(24)),
-        (1, &[b"\x01/"], RecordFault::BadName(25)),
-        (1, &[b"\x01e\x04"], RecordFault::BadFlag(26)),
+    let member: &[u8] = b"\x01\0\0\0\0\0\0\0\x01";
+    let rows: [(&[&[u8]], RecordFault); 18] = [
+        (&[], RecordFault::Short(1)),
+        (&[b"\x02"], RecordFault::BadTag(1)),
+        (&[b"\x01"], RecordFault::Short(2)),
+        (&[b"\x01\0"], RecordFault::BadTag(2)),
+        (&[b"\x01\x09"], RecordFault::BadTag(2)),
+        (&[update, b"\0\0\0\x01\x01"], RecordFault::Short(8)),
+        (&[gather, HEAD, b"\0\0"], RecordFault::Short(26)),
+        (&[update, HEAD, b"\0"], RecordFault::BadLength(24)),
+        (&[update, HEAD, b"\xff"], RecordFault::BadLength(24)),
+        (&[update, HEAD, b"\x01/"], RecordFault::BadName(25)),
+        (&[update, HEAD, b"\x01e\x04"], RecordFault::BadFlag(26)),
+        (&[update, HEAD, b"\x01e\x01"], RecordFault::Short(27)),
         (
-            1,
-            &[ENTRY, b"\0\0\0\0\0\0\0\0\0"],
+            &[update, HEAD, ENTRY, b"\0\0\0\0\0\0\0\0\0"],
             RecordFault::BadLength(53),
         ),
-        (1, &[ENTRY, early], RecordFault::OutOfOrder(79)),
-        (7, &[b"\x41"], RecordFault::BadLength(24)),
+        (&[update, HEAD, ENTRY, early], RecordFault::OutOfOrder(79)),
+        (&[join, HEAD, b"\x41"], RecordFault::BadLength(24)),
         (
-            7,
-            &[b"\x01\x01\0\0\0\0\0\0\0\x01\x02"],
+            &[join, HEAD, b"\x01", member, b"\x02"],
             RecordFault::BadFlag(34),
         ),
         (
-            7,
-            &[b"\x02\x01\0\0\0\0\0\0\0\x01\x01\x01"],
+            &[join, HEAD, b"\x02", member, b"\x01\x01"],
             RecordFault::OutOfOrder(35),
         ),
         (
-            7,
-            &[b"\x02\x01\0\0\0\0\0\0\0\x01\x01\x02\0\0\0\0\0\0\0\x01\x01"],
+            &[
+                join,
+                HEAD,
+                b"\x02",
+                member,
+                b"\x01\x02\0\0\0\0\0\0\0\x01\x01",
+            ],
             RecordFault::BadFlag(44),
         ),
     ];
-    for (tag, parts, fault) in rows {
-        let octets = message(alloc, tag, parts)?;
+    for (parts, fault) in rows {
+        let octets = together(alloc, parts)?;
         assert_eq!(rt; fault_of_message(alloc, octets.as_slice()), Some(fault));
     }
-    let fronts: [(&[u8], RecordFault); 3] = [
-        (b"", RecordFault::Short(1)),
-        (b"\x01", RecordFault::Short(2)),
-        (b"\x02", RecordFault::BadTag(1)),
-    ];
-    for (front, fault) in fronts {
-        assert_eq!(rt; fault_of_message(alloc, front), Some(fault));
-    }
-    let octets = message(alloc, 1, &[])?;
-    assert_eq!(rt;
-        fault_of_message(alloc, &octets[..22]),
-        Some(RecordFault::Short(23))
-    );
     Ok(())
 }
 
@@ -143,15 +148,6 @@ const HELD: &[u8] =
 
 // The directory 2 is gone since epoch 3.
 const GONE: &[u8] = b"\0\0\0\x02\x02\0\0\0\0\0\0\0\x03";
-
-// The octets of these parts.
-fn together(alloc: Global, parts: &[&[u8]]) -> Result<Vec<u8>, Fail> {
-    let mut octets = Vec::new(alloc);
-    for part in parts {
-        octets.extend_from_slice(part)?;
-    }
-    Ok(octets)
-}
 
 // What is written of the image at the front of the octets, and of a copy of its directories, and how many octets it has.
 fn image_again(alloc: Global, octets: &[u8]) -> Result<(Vec<u8>, Vec<u8>, usize), Fail> {
