@@ -8,3 +8,4 @@ pub mod DecodingLaws
 pub mod WritingLaws
 pub mod WritingMembers
 pub mod WritingBodies
+pub mod OneDecoding

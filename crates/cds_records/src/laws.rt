@@ -1,7 +1,7 @@
 //! Laws of the definitions: functions that do nothing, whose contracts are proved.
 ghost use Rattle.std.specs.Prelude.{◌≡◌, ◌++◌, ℕ, List};
 ghost use Rattle.cds_records.specs.declared.message.Message.{Message};
-ghost use Rattle.cds_records.specs.Decoding.{IsWhole};
+ghost use Rattle.cds_records.specs.Decoding.{IsWhole, Decodes, decoding, with_memory};
 ghost use Rattle.cds_records.specs.declared.image.Image.{Image};
 ghost use Rattle.cds_records.specs.Images.{image};
 ghost use Rattle.cds_records.specs.Records.{message};
@@ -15,4 +15,11 @@ pub fn no_message_begins_another()
 /// So it is with images.
 pub fn no_image_begins_another()
     ensures { (i other : Image) (a b x y : List ℕ) → IsWhole image i a → IsWhole image other b → a ++ x ≡ b ++ y → (i ≡ other) × (a ≡ b) × (x ≡ y) }
+{}
+
+/// What octets decode to as a function is what the grammar says of them: the message at their front, or their first fault;
+/// and so it is with images.
+pub fn octets_decode_to_one_thing()
+    ensures messages { (octets : List ℕ) → Decodes message octets (with_memory (decoding message octets)) }
+    ensures images { (octets : List ℕ) → Decodes image octets (with_memory (decoding image octets)) }
 {}
