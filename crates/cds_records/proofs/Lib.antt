@@ -13,3 +13,4 @@ pub mod WritingBodies
 pub mod WritingImages
 pub mod Spelling
 pub mod SpellingRecords
+pub mod OneDecoding

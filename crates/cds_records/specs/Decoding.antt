@@ -1,5 +1,6 @@
 -- What is decoded of octets by a layout, and with which fault it fails (own).
 use Rattle.std.specs.Prelude.{◌≡◌, ℕ, ◌+◌, ◌-◌, ◌≤◌, List, [], ◌++◌, length, take, Result, Ok, Err, IfOk}
+use Rattle.std.specs.Result.{result_map_both}
 use Rattle.cds_stamps.specs.declared.alloc_or.AllocOr.{AllocOr}
 use Rattle.cds_stamps.specs.declared.alloc_or.AllocOr.TheVariants.{Fault, OutOfMemory}
 use Rattle.cds_stamps.specs.Outcomes.{Answers}
@@ -9,6 +10,7 @@ use Rattle.cds_records.specs.declared.fault.Broken.{Broken}
 use Rattle.cds_records.specs.declared.fault.RecordFault.{RecordFault}
 use Rattle.cds_records.specs.declared.fault.RecordFault.TheVariants.{Short, BadTag, BadLength, BadName, OutOfOrder, BadFlag}
 use Rattle.cds_records.specs.Layouts.{Layout, Stands, Breaks}
+use Rattle.cds_records.specs.Reading.{read}
 
 -- the fault of a rule at a place (own)
 abbrev pub fault_at : Rule → ℕ → RecordFault
@@ -58,3 +60,12 @@ pub record Decodes {A : Type 0} (l : Layout A) (octets : List ℕ) (result : Res
   -- the fault is the first one, and the first one is the fault
   pub fault : IfFault (IsFault l octets) result
   pub each_fault : (fault : RecordFault) → IsFault l octets fault → Answers result (Err fault)
+
+-- the same as a function: what reading by the layout gives, with the number of its octets, or the fault by its place (own)
+abbrev pub decoding : {A : Type 0} → Layout A → List ℕ → Result (A × ℕ) RecordFault
+decoding l octets =
+    result_map_both (λ r. (r.0, length octets - length r.1)) (λ b. fault_at b.rule (length octets - b.left + 1)) (read l octets)
+
+-- this as a call answers it that wants for no memory (own)
+abbrev pub with_memory : {T E : Type 0} → Result T E → Result T (AllocOr E)
+with_memory = result_map_both (λ x. x) Fault

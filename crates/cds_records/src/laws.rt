@@ -2,7 +2,7 @@
 ghost use Rattle.std.specs.Prelude.{◌≡◌, ◌++◌, ◌<◌, ℕ, List};
 ghost use Rattle.std.specs.List.{All};
 ghost use Rattle.cds_records.specs.declared.message.Message.{Message};
-ghost use Rattle.cds_records.specs.Decoding.{IsWhole};
+ghost use Rattle.cds_records.specs.Decoding.{IsWhole, Decodes, decoding, with_memory};
 ghost use Rattle.cds_records.specs.declared.image.Image.{Image};
 ghost use Rattle.cds_records.specs.Images.{image};
 ghost use Rattle.cds_records.specs.Records.{message};
@@ -26,4 +26,11 @@ pub fn a_message_has_one_spelling()
 /// So has an image.
 pub fn an_image_has_one_spelling()
     ensures { (i : Image) (a b : List ℕ) → All (λ n. n < 256) a → All (λ n. n < 256) b → IsWhole image i a → IsWhole image i b → a ≡ b }
+{}
+
+/// What octets decode to as a function is what the grammar says of them: the message at their front, or their first fault;
+/// and so it is with images.
+pub fn octets_decode_to_one_thing()
+    ensures messages { (octets : List ℕ) → Decodes message octets (with_memory (decoding message octets)) }
+    ensures images { (octets : List ℕ) → Decodes image octets (with_memory (decoding image octets)) }
 {}

@@ -7,7 +7,7 @@ use Rattle.cds_stamps.specs.declared.numbers.HouseNo.{HouseNo}
 use Rattle.cell_script.specs.declared.command.ScriptLine.{ScriptLine}
 use Rattle.cell_script.specs.declared.fault.ParseFault.{ParseFault}
 use Rattle.cell_script.specs.declared.fault.ParseFault.TheVariants.{NotBuilt, UnknownCommand}
-use Rattle.cell_script.specs.Forms.{◌>>=◌, Form, House, Directory, Time, Node, SimpleName, FullName, AttrName, Value, Confidence, Houses, NoHouses, Said, Words, taken, no_houses, said_at, counted, is_open, least_of, Builds, built, read_as}
+use Rattle.cell_script.specs.Forms.{◌>>=◌, Form, House, Directory, Time, Node, SimpleName, FullName, AttrName, Value, Octets, Confidence, Houses, NoHouses, Said, Words, taken, no_houses, said_at, counted, is_open, least_of, Builds, built, read_as}
 use Rattle.cell_script.specs.Commands.{Row, rows, is_later, said_in_row, said_by, some_line, said_in}
 use Rattle.cell_script.specs.Words.{house_of}
 use Rattle.cell_replay.specs.Standing.{IsRunnable}
@@ -27,6 +27,7 @@ Fits SimpleName x = Unit {0}
 Fits FullName x = Unit {0}
 Fits AttrName x = Unit {0}
 Fits Value x = Unit {0}
+Fits Octets x = Unit {0}
 Fits Confidence x = Unit {0}
 Fits Houses x = Unit {0}
 Fits NoHouses x = x ≡ []
@@ -45,6 +46,7 @@ fits SimpleName s t is = tt
 fits FullName s t is = tt
 fits AttrName s t is = tt
 fits Value s t is = tt
+fits Octets s t is = tt
 fits Confidence s t is = tt
 fits Houses s t is = tt
 fits NoHouses s t is = no_houses_fit s.read s.rest t is
@@ -109,7 +111,10 @@ all_rows = (
                           λ h p c q n r a t. tt,
                           (
                             λ h p c q n r. tt,
-                            tt,
+                            (
+                              λ o p. tt,
+                              tt,
+                            ),
                           ),
                         ),
                       ),

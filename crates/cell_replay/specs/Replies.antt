@@ -24,6 +24,11 @@ use Rattle.cell_script.specs.declared.answer.ScriptRefusal.TheVariants as why
 use Rattle.cell_script.specs.Texts.{line_text, answer_text}
 use Rattle.cds_cell.specs.Readings.{reading}
 use Rattle.cds_cell.specs.Scripted.{step_of, answer_of}
+use Rattle.cds_records.specs.declared.message.Message.{Message}
+use Rattle.cds_records.specs.declared.fault.RecordFault.{RecordFault}
+use Rattle.cds_records.specs.declared.fault.RecordFault.TheVariants as fault
+use Rattle.cds_records.specs.Records.{message, tag_of}
+use Rattle.cds_records.specs.Decoding.{decoding}
 
 -- what the walk of a full name finds, or why it finds nothing (own)
 abbrev pub walked : Reader → (follow_last : Bool) → List (List ℕ) → Result Found Refusal
@@ -58,6 +63,21 @@ abbrev pub target_read : Reader → Result Found Refusal → Answer
 target_read reader (Ok found) = target_of found.kind (reader.values found link_target)
 target_read reader (Err r) = answer.Refused (refusal_of_walk r)
 
+-- why the script says that octets begin with no message; of the last one no message is refused (own)
+abbrev pub refusal_of_octets : RecordFault → ScriptRefusal
+refusal_of_octets (fault.Short place) = why.Short place
+refusal_of_octets (fault.BadTag place) = why.BadTag place
+refusal_of_octets (fault.BadLength place) = why.BadLength place
+refusal_of_octets (fault.BadName place) = why.BadName place
+refusal_of_octets (fault.OutOfOrder place) = why.OutOfOrder place
+refusal_of_octets (fault.BadFlag place) = why.BadFlag place
+refusal_of_octets (fault.Trailing place) = why.BadLength place
+
+-- the message that octets begin with, by its tag and the number of its octets (own)
+abbrev pub message_told : Result (Message × ℕ) RecordFault → Answer
+message_told (Ok r) = answer.Decoded (tag_of r.0.body) r.1
+message_told (Err f) = answer.Refused (refusal_of_octets f)
+
 -- the answers to questions, which name a house that is preferred and how far a replica is trusted. `read` follows links to
 -- the last, `readlink` looks at the last itself (own, after C705, lookups of clerks)
 abbrev pub asked_of : Cell → (house : ℕ) → Answer → Answer
@@ -68,6 +88,7 @@ question_answer g (question.Read h high name attr) =
     asked_of g h.0 (values_read (reading g (Some h.0) high) attr (walked (reading g (Some h.0) high) true name))
 question_answer g (question.Readlink h high name) =
     asked_of g h.0 (target_read (reading g (Some h.0) high) (walked (reading g (Some h.0) high) false name))
+question_answer g (question.Decode octets) = message_told (decoding message octets)
 
 -- what a cell replies to a line, and the cell after it (own)
 abbrev pub reply_to : Cell → ScriptLine → Answer

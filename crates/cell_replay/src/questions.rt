@@ -5,11 +5,14 @@ ghost use Rattle.directory.specs.Kinds.{link_target};
 ghost use Rattle.cds_cell.specs.Standing.{Stands};
 ghost use Rattle.cds_cell.specs.Readings.{reading};
 ghost use Rattle.cds_cell.specs.Telling.{told};
-ghost use Rattle.cell_replay.specs.Replies.{asked_of, first_target, question_answer, refusal_of_walk, target_of, target_read, values_read, walked};
+ghost use Rattle.cell_replay.specs.Replies.{asked_of, first_target, message_told, question_answer, refusal_of_octets, refusal_of_walk, target_of, target_read, values_read, walked};
 ghost use Rattle.directory.specs.Shown.{targets};
+ghost use Rattle.cds_records.specs.Decoding.{decoding};
+ghost use Rattle.cds_records.specs.Records.{message, tag_of};
 
 use attr_sets::Value;
 use cds_cell::{Cell, CellReader};
+use cds_records::{Body, RecordFault};
 use cds_stamps::{AllocOr, AttrName, HouseNo};
 use cell_names::FullName;
 use cell_script::{Answer, Question, ScriptRefusal, Values};
@@ -32,6 +35,7 @@ pub(crate) fn answer_question(
     match question {
         Question::Read(house, _, name, attr) => read(alloc, cell, *house, name, attr),
         Question::Readlink(house, _, name) => read_link(alloc, cell, *house, name),
+        Question::Decode(octets) => decoded(alloc, octets.list()),
     }
 }
 
@@ -150,5 +154,46 @@ fn refusal_in_script(refusal: Refusal) -> ScriptRefusal
         Refusal::TooManyLinks => ScriptRefusal::TooManyLinks,
         Refusal::NameTooLong => ScriptRefusal::NameTooLong,
         Refusal::RootName => ScriptRefusal::RootName,
+    }
+}
+
+// Which message stands at the front of octets.
+fn decoded(alloc: Global, octets: &[u8]) -> Result<Answer, AllocError>
+    ensures { IfOk result (λ a. a ≡ message_told (decoding message octets.now)) }
+{
+    match cds_records::decode(alloc, octets) {
+        Ok((message, used)) => Ok(Answer::Decoded(tag_in_script(&message.body), used)),
+        Err(AllocOr::Fault(fault)) => Ok(Answer::Refused(fault_in_script(fault))),
+        Err(AllocOr::OutOfMemory) => Err(AllocError),
+    }
+}
+
+// The tag of a message.
+fn tag_in_script(body: &Body) -> u8
+    ensures { result ≡ tag_of body.now }
+{
+    match body {
+        Body::Update(_) => 1,
+        Body::Gather(_) => 2,
+        Body::Gathered(_, _) => 3,
+        Body::Spread(_, _) => 4,
+        Body::SpreadAck(_) => 5,
+        Body::Advance(_) => 6,
+        Body::Join(_, _) => 7,
+        Body::Leave => 8,
+    }
+}
+
+fn fault_in_script(fault: RecordFault) -> ScriptRefusal
+    ensures { result ≡ refusal_of_octets fault }
+{
+    match fault {
+        RecordFault::Short(place) => ScriptRefusal::Short(place),
+        RecordFault::BadTag(place) => ScriptRefusal::BadTag(place),
+        RecordFault::BadLength(place) => ScriptRefusal::BadLength(place),
+        RecordFault::BadName(place) => ScriptRefusal::BadName(place),
+        RecordFault::OutOfOrder(place) => ScriptRefusal::OutOfOrder(place),
+        RecordFault::BadFlag(place) => ScriptRefusal::BadFlag(place),
+        RecordFault::Trailing(place) => ScriptRefusal::BadLength(place),
     }
 }

@@ -316,7 +316,7 @@ static FAULTY: [(&str, &str); 40] = [
     ("link 1 1 s e", "BadWord 5"),
     ("read 1 low a A", "BadWord 4"),
     ("read 1 low /.:/a//b A-", "BadWord 4"),
-    ("decode", "NotBuilt 1"),
+    ("decode", "WrongCount 1"),
     ("skulk 0 0 0", "NotBuilt 1"),
     ("clock\t1 1", "NotAscii 6"),
     ("hous 1\x7f", "NotAscii 7"),
@@ -337,6 +337,59 @@ fn the_first_faulty_line_ends_a_run(rt: HostRuntime) -> Result<(), Fail> {
         text.as_slice(),
         b"16777217 fault TooManyLines 1\n".as_slice()
     );
+    Ok(())
+}
+
+// The front of an update: format and tag, directory, house, epoch and floor.
+const HEAD: &str = "0101000000010100000000000000010000000000000002";
+
+// The entry e, an object that was born at the time 1, and its one attribute, which is named A.
+const ENTRY: &str = "016501000000000000000100000000000a0000000000000000010141";
+
+// No clear, and the value 01, which is there since the time 2.
+const VALUE: &str = "00000000000000000100010101000000000000000200000000000a";
+
+// The same value, and a clear at the time 5.
+const CLEARED: &str =
+    "01000000000000000500000000000a000000000000000100010101000000000000000200000000000a";
+
+// Octets in three parts, and what is answered.
+static DECODED: [(&str, &str, &str, &str); 13] = [
+    (HEAD, "", "", "refused Short 24"),
+    (HEAD, "00", "", "refused BadLength 24"),
+    (HEAD, "ff", "", "refused BadLength 24"),
+    (HEAD, "012f", "", "refused BadName 25"),
+    (HEAD, "016504", "", "refused BadFlag 26"),
+    (HEAD, "016501", "", "refused Short 27"),
+    (HEAD, ENTRY, VALUE, "ok Update 78"),
+    (HEAD, ENTRY, CLEARED, "refused OutOfOrder 79"),
+    (
+        "0108",
+        "00000001FF",
+        "00000000000000010000000000000002",
+        "ok Leave 23",
+    ),
+    (
+        "0108",
+        "00000001ff",
+        "00000000000000010000000000000002ff",
+        "ok Leave 23",
+    ),
+    ("0109", "", "", "refused BadTag 2"),
+    ("02", "", "", "refused BadTag 1"),
+    ("0102", "", "", "refused Short 3"),
+];
+
+#[test]
+fn octets_are_decoded(rt: HostRuntime) -> Result<(), Fail> {
+    let alloc = rt.alloc();
+    for (head, middle, end, answer) in DECODED {
+        let script = format!(in alloc; "decode {head}{middle}{end}\n")?;
+        let line = format!(in alloc; "1 {answer}\n")?;
+        let (written, status) = replay(alloc, script.as_bytes(), 4096)?;
+        assert_eq!(rt; written.as_slice(), line.as_bytes(), "at {answer}");
+        assert_eq!(rt; status, Status::Ok, "at {answer}");
+    }
     Ok(())
 }
 

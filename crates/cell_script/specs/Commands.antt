@@ -10,7 +10,7 @@ use Rattle.cell_script.specs.declared.command.ScriptLine.{ScriptLine}
 use Rattle.cell_script.specs.declared.command.ScriptLine.TheVariants as line
 use Rattle.cell_script.specs.declared.fault.ParseFault.{ParseFault}
 use Rattle.cell_script.specs.declared.fault.ParseFault.TheVariants.{UnknownCommand, NotBuilt}
-use Rattle.cell_script.specs.Forms.{◌>>=◌, Form, House, Directory, Time, Node, SimpleName, FullName, AttrName, Value, Confidence, Houses, NoHouses, Words, Builds, followed_by, read_as}
+use Rattle.cell_script.specs.Forms.{◌>>=◌, Form, House, Directory, Time, Node, SimpleName, FullName, AttrName, Value, Octets, Confidence, Houses, NoHouses, Words, Builds, followed_by, read_as}
 
 -- a command: its first word, the forms of the words behind it, and what a line of them says (own)
 pub record Row : Type 0 where
@@ -42,11 +42,12 @@ rows =
     ∷ step (codes "clear") (House ∷ Directory ∷ SimpleName ∷ AttrName ∷ []) command.Clear
     ∷ asks (codes "read") (House ∷ Confidence ∷ FullName ∷ AttrName ∷ []) question.Read
     ∷ asks (codes "readlink") (House ∷ Confidence ∷ FullName ∷ []) question.Readlink
+    ∷ asks (codes "decode") (Octets ∷ []) question.Decode
     ∷ []
 
 -- the commands that are not built yet (own)
 abbrev pub later_commands : List (List ℕ)
-later_commands = slice_split (λ b. b == 32) (codes "epoch skulk deliver lose crash start export unexport groupadd groupdel profadd profdel import dump octets decode")
+later_commands = slice_split (λ b. b == 32) (codes "epoch skulk deliver lose crash start export unexport groupadd groupdel profadd profdel import dump octets")
 
 unfoldable pub is_later : List ℕ → Bool
 is_later name = list_any (bytes_eq name) later_commands

@@ -6,7 +6,7 @@ use Rattle.cds_stamps.specs.declared.alloc_or.AllocOr.{AllocOr}
 use Rattle.cds_stamps.specs.declared.alloc_or.AllocOr.TheVariants.{Fault, OutOfMemory}
 use Rattle.cell_script.specs.declared.fault.ParseFault.{ParseFault}
 use Rattle.cell_script.specs.declared.fault.ParseFault.TheVariants.{WrongCount, BadWord, NotBuilt}
-use Rattle.cell_script.specs.Words.{number_of, house_of, directory_of, node_of, simple_name_of, full_name_of, attr_name_of, octets_value_of, confidence_of}
+use Rattle.cell_script.specs.Words.{number_of, house_of, directory_of, node_of, simple_name_of, full_name_of, attr_name_of, octets_value_of, octets_of, confidence_of}
 
 -- the forms of words; the last two stand for any number of words (own)
 pub data Form : Type 0 where
@@ -18,6 +18,7 @@ pub data Form : Type 0 where
   FullName : Form
   AttrName : Form
   Value : Form
+  Octets : Form
   Confidence : Form
   Houses : Form
   -- the same, as long as commands with such words are not built
@@ -33,6 +34,7 @@ Said SimpleName = List ℕ
 Said FullName = List (List ℕ)
 Said AttrName = List ℕ
 Said Value = List ℕ
+Said Octets = List ℕ
 Said Confidence = Bool
 Said Houses = List HouseNo
 Said NoHouses = List HouseNo
@@ -90,6 +92,7 @@ taken SimpleName s = next_word simple_name_of s.read s.rest
 taken FullName s = next_word full_name_of s.read s.rest
 taken AttrName s = next_word attr_name_of s.read s.rest
 taken Value s = next_word octets_value_of s.read s.rest
+taken Octets s = next_word octets_of s.read s.rest
 taken Confidence s = next_word confidence_of s.read s.rest
 taken Houses s = all_houses s.read s.rest
 taken NoHouses s = no_houses s.read s.rest

@@ -1,5 +1,5 @@
 -- The text of answers and faults, one line each (own).
-use Rattle.std.specs.Prelude.{ℕ, List, [], ◌∷◌, ◌++◌, length, drop, codes, Option, Some, None}
+use Rattle.std.specs.Prelude.{ℕ, ◌==◌, if◌then◌else◌, List, [], ◌∷◌, ◌++◌, length, drop, codes, Option, Some, None}
 use Rattle.std.specs.List.{flat_map}
 use Rattle.std.specs.Fmt.{decimal}
 use Rattle.std.specs.Int.{to_be_bytes, w64}
@@ -65,6 +65,12 @@ refusal_name why.TooManyLinks = codes "TooManyLinks"
 refusal_name why.NameTooLong = codes "NameTooLong"
 refusal_name why.RootName = codes "RootName"
 refusal_name why.NotLink = codes "NotLink"
+refusal_name (why.Short place) = codes "Short"
+refusal_name (why.BadTag place) = codes "BadTag"
+refusal_name (why.BadLength place) = codes "BadLength"
+refusal_name (why.BadName place) = codes "BadName"
+refusal_name (why.OutOfOrder place) = codes "OutOfOrder"
+refusal_name (why.BadFlag place) = codes "BadFlag"
 
 -- the numbers behind them (own)
 abbrev pub refusal_numbers : ScriptRefusal → List ℕ
@@ -72,7 +78,25 @@ refusal_numbers (why.StampsSpent k ns) = accepted_text k ++ posted_text ns
 refusal_numbers (why.NoSuchName done) = 32 ∷ decimal done
 refusal_numbers (why.NotDirectory number) = 32 ∷ decimal number
 refusal_numbers (why.Unreachable dir) = 32 ∷ decimal dir.0
+refusal_numbers (why.Short place) = 32 ∷ decimal place
+refusal_numbers (why.BadTag place) = 32 ∷ decimal place
+refusal_numbers (why.BadLength place) = 32 ∷ decimal place
+refusal_numbers (why.BadName place) = 32 ∷ decimal place
+refusal_numbers (why.OutOfOrder place) = 32 ∷ decimal place
+refusal_numbers (why.BadFlag place) = 32 ∷ decimal place
 refusal_numbers other = []
+
+-- the name of a message by its tag; other numbers have none (own)
+abbrev pub message_name : ℕ → List ℕ
+message_name tag =
+    if tag == 1 then codes "Update"
+    else (if tag == 2 then codes "Gather"
+    else (if tag == 3 then codes "Gathered"
+    else (if tag == 4 then codes "Spread"
+    else (if tag == 5 then codes "SpreadAck"
+    else (if tag == 6 then codes "Advance"
+    else (if tag == 7 then codes "Join"
+    else (if tag == 8 then codes "Leave" else [])))))))
 
 -- what an answer says (own)
 abbrev pub answer_text : Answer → List ℕ
@@ -82,6 +106,7 @@ answer_text (answer.Made d s ns) = codes "ok " ++ (decimal d.0 ++ (32 ∷ (stamp
 answer_text (answer.Stamped s ns) = codes "ok " ++ (stamp_text s ++ posted_text ns)
 answer_text (answer.Values vs) = codes "ok " ++ values_text vs
 answer_text (answer.Target components) = codes "ok " ++ spelling components
+answer_text (answer.Decoded tag used) = codes "ok " ++ (message_name tag ++ (32 ∷ decimal used))
 answer_text (answer.Refused why) = codes "refused " ++ (refusal_name why ++ refusal_numbers why)
 
 -- the line of a fault: its name and its place (own)

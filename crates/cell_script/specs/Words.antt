@@ -70,6 +70,10 @@ value_in octets = result_ok (ok_unless (value_fault octets) octets)
 abbrev pub octets_value_of : List ℕ → Option (List ℕ)
 octets_value_of w = option_and_then value_in (result_ok (decode_of w))
 
+-- octets, in hexadecimal digits of either case, two for each (own)
+abbrev pub octets_of : List ℕ → Option (List ℕ)
+octets_of w = result_ok (decode_of w)
+
 -- how much the answer of a replica is trusted: `high` is true (C705, confidence of a clerk's lookups)
 abbrev pub confidence_of : List ℕ → Option Bool
 confidence_of w = if bytes_eq w (codes "low") then Some false else (if bytes_eq w (codes "high") then Some true else None)

@@ -18,6 +18,8 @@ pub enum Answer {
     Values(Values),
     /// The name that a link leads to.
     Target(FullName),
+    /// The message at the front of octets: its tag, and how many octets it has.
+    Decoded(u8, usize),
     Refused(ScriptRefusal),
 }
 
@@ -47,4 +49,11 @@ pub enum ScriptRefusal {
     NameTooLong,
     RootName,
     NotLink,
+    /// Octets begin with no message. This refusal and the five behind it have the place of the first fault.
+    Short(usize),
+    BadTag(usize),
+    BadLength(usize),
+    BadName(usize),
+    OutOfOrder(usize),
+    BadFlag(usize),
 }

@@ -1,5 +1,5 @@
 // The commands of a script.
-use crate::lists::HouseNos;
+use crate::lists::{HouseNos, Octets};
 use attr_sets::Value;
 use cds_stamps::{AttrName, DirId, HouseNo, Node, SimpleName};
 use cell_names::FullName;
@@ -27,6 +27,8 @@ pub enum Command {
 pub enum Question {
     Read(HouseNo, bool, FullName, AttrName),
     Readlink(HouseNo, bool, FullName),
+    /// Which message stands at the front of these octets.
+    Decode(Octets),
 }
 
 /// What a line says.

@@ -163,3 +163,10 @@ pub(crate) fn readlink(alloc: Global, words: &mut Words<'_>) -> Parsed<ScriptLin
         words.full_name(alloc)?,
     )))
 }
+
+pub(crate) fn decode(alloc: Global, words: &mut Words<'_>) -> Parsed<ScriptLine>
+    ensures { Answers result (said_by (codes "decode") words.old) }
+{
+    words.exactly(1)?;
+    Ok(ScriptLine::Question(Question::Decode(words.octets(alloc)?)))
+}

@@ -16,6 +16,6 @@ mod words;
 pub use answer::{Answer, ScriptRefusal};
 pub use command::{Command, Question, ScriptLine};
 pub use fault::ParseFault;
-pub use lists::{HouseNos, Serials, Values};
+pub use lists::{HouseNos, Octets, Serials, Values};
 pub use parse::parse_line;
 pub use print::{print_answer, print_fault, print_parse_fault};

@@ -127,3 +127,32 @@ impl Values {
         self.items.as_slice()
     }
 }
+
+/// Octets that are asked about.
+#[derive(Debug, Drop)]
+pub struct Octets {
+    items: Vec<u8>,
+}
+
+impl Model for Octets {
+    ghost use Rattle.std.specs.Prelude.{ℕ, List};
+
+    ghost Value = { List ℕ };
+
+    ghost view = { λ v. v.items.items };
+}
+
+impl Octets {
+    /// The octets of a vector, in its order.
+    pub fn of(items: Vec<u8>) -> Octets
+        ensures { result ≡ items.items }
+    {
+        Octets { items }
+    }
+
+    pub fn list(&self) -> &[u8]
+        ensures { result.now ≡ self.now }
+    {
+        self.items.as_slice()
+    }
+}

@@ -13,7 +13,7 @@ use std::alloc::Global;
 
 // The commands that are not built yet.
 const LATER: &[u8] =
-    b"epoch skulk deliver lose crash start export unexport groupadd groupdel profadd profdel import dump octets decode";
+    b"epoch skulk deliver lose crash start export unexport groupadd groupdel profadd profdel import dump octets";
 
 fn comes_later(word: &[u8]) -> bool
     ensures { result ≡ is_later word.now }
@@ -67,6 +67,9 @@ fn said(alloc: Global, word: &[u8], words: &mut Words<'_>) -> Parsed<ScriptLine>
     }
     if word == b"readlink".as_slice() {
         return commands::readlink(alloc, words);
+    }
+    if word == b"decode".as_slice() {
+        return commands::decode(alloc, words);
     }
     if comes_later(word) {
         return Err(AllocOr::Fault(ParseFault::NotBuilt(1)));

@@ -2,7 +2,7 @@
 ghost use Rattle.std.specs.Prelude.{◌≡◌, ◌++◌, ◌∷◌, IfOk, OnOk, codes, decimal};
 ghost use Rattle.hex.specs.Hex.{encode_lower};
 ghost use Rattle.cell_names.specs.FullNames.{spelling};
-ghost use Rattle.cell_script.specs.Texts.{line_text, spaced, stamp_text, posted_text, values_text, accepted_text, refusal_name, refusal_numbers, answer_text, fault_text, parse_fault_text};
+ghost use Rattle.cell_script.specs.Texts.{line_text, spaced, stamp_text, posted_text, values_text, accepted_text, refusal_name, refusal_numbers, message_name, answer_text, fault_text, parse_fault_text};
 
 use crate::answer::{Answer, ScriptRefusal};
 use crate::fault::ParseFault;
@@ -103,6 +103,12 @@ fn name_of(refusal: &ScriptRefusal) -> &'static [u8]
         ScriptRefusal::NameTooLong => b"NameTooLong",
         ScriptRefusal::RootName => b"RootName",
         ScriptRefusal::NotLink => b"NotLink",
+        ScriptRefusal::Short(_) => b"Short",
+        ScriptRefusal::BadTag(_) => b"BadTag",
+        ScriptRefusal::BadLength(_) => b"BadLength",
+        ScriptRefusal::BadName(_) => b"BadName",
+        ScriptRefusal::OutOfOrder(_) => b"OutOfOrder",
+        ScriptRefusal::BadFlag(_) => b"BadFlag",
     }
 }
 
@@ -118,6 +124,12 @@ fn push_numbers(line: &mut Vec<u8>, refusal: &ScriptRefusal) -> Result<(), Alloc
         ScriptRefusal::NoSuchName(done) => push_spaced(line, u64::from(*done)),
         ScriptRefusal::NotDirectory(number) => push_spaced(line, u64::from(*number)),
         ScriptRefusal::Unreachable(dir) => push_spaced(line, u64::from(dir.0)),
+        ScriptRefusal::Short(place) => push_spaced(line, *place as u64),
+        ScriptRefusal::BadTag(place) => push_spaced(line, *place as u64),
+        ScriptRefusal::BadLength(place) => push_spaced(line, *place as u64),
+        ScriptRefusal::BadName(place) => push_spaced(line, *place as u64),
+        ScriptRefusal::OutOfOrder(place) => push_spaced(line, *place as u64),
+        ScriptRefusal::BadFlag(place) => push_spaced(line, *place as u64),
         _ => Ok(()),
     }
 }
@@ -129,6 +141,23 @@ fn push_accepted(line: &mut Vec<u8>, accepted: Option<u64>) -> Result<(), AllocE
     match accepted {
         None => Ok(()),
         Some(count) => push_spaced(line, count),
+    }
+}
+
+// The name of a message by its tag.
+fn message_of(tag: u8) -> &'static [u8]
+    ensures { result.now ≡ message_name tag }
+{
+    match tag {
+        1 => b"Update",
+        2 => b"Gather",
+        3 => b"Gathered",
+        4 => b"Spread",
+        5 => b"SpreadAck",
+        6 => b"Advance",
+        7 => b"Join",
+        8 => b"Leave",
+        _ => b"",
     }
 }
 
@@ -161,6 +190,11 @@ fn push_answer(alloc: Global, line: &mut Vec<u8>, answer: &Answer) -> Result<(),
         Answer::Target(name) => {
             line.extend_from_slice(b"ok ")?;
             line.extend_from_slice(&name.print(alloc)?)
+        }
+        Answer::Decoded(tag, used) => {
+            line.extend_from_slice(b"ok ")?;
+            line.extend_from_slice(message_of(*tag))?;
+            push_spaced(line, *used as u64)
         }
         Answer::Refused(refusal) => {
             line.extend_from_slice(b"refused ")?;

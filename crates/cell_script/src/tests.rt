@@ -7,7 +7,7 @@ use std::alloc::{AllocError, Global};
 use std::test::Fail;
 
 // A command, and how its words are written in one way only.
-static COMMANDS: [(&str, &str); 22] = [
+static COMMANDS: [(&str, &str); 24] = [
     ("house 255 00000000ABcd", "house 255 00000000abcd"),
     ("  house  1   00000000000a ", "house 1 00000000000a"),
     ("clock 1 0", "clock 1 0"),
@@ -33,6 +33,8 @@ static COMMANDS: [(&str, &str); 22] = [
     ("read 2 high /.: A", "read 2 high /.: A"),
     ("readlink 1 low /.:/sub/up", "readlink 1 low /.:/sub/up"),
     ("readlink 1 high /.:/#", "readlink 1 high /.:/#"),
+    ("decode 00", "decode 00"),
+    ("decode  fF0102Ab ", "decode ff0102ab"),
 ];
 
 // The words that stand for an entry: H D S.
@@ -102,6 +104,13 @@ fn spell_command(alloc: Global, text: &mut Vec<u8>, command: &Command) -> Result
             spell_number(text, u64::from(master.0))?;
             spell_houses(text, houses)
         }
+        _ => spell_update(alloc, text, command),
+    }
+}
+
+// The commands that change one entry and no directory.
+fn spell_update(alloc: Global, text: &mut Vec<u8>, command: &Command) -> Result<(), AllocError> {
+    match command {
         Command::Create(house, dir, name) => {
             text.extend_from_slice(b"create")?;
             spell_entry(text, house.0, *dir, name)
@@ -138,6 +147,7 @@ fn spell_command(alloc: Global, text: &mut Vec<u8>, command: &Command) -> Result
             spell_entry(text, house.0, *dir, name)?;
             spell_word(text, attr.octets())
         }
+        _ => Ok(()),
     }
 }
 
@@ -167,6 +177,10 @@ fn spell_question(
             spell_number(text, u64::from(house.0))?;
             spell_confidence(text, *high)?;
             spell_name(alloc, text, name)
+        }
+        Question::Decode(octets) => {
+            text.extend_from_slice(b"decode")?;
+            spell_hex(alloc, text, octets.list())
         }
     }
 }
@@ -216,14 +230,14 @@ fn lines_without_words_and_comments_say_nothing(rt: HostRuntime) -> Result<(), F
 }
 
 // A line at fault, and the fault.
-static FAULTY: [(&str, ParseFault); 61] = [
+static FAULTY: [(&str, ParseFault); 65] = [
     ("hous 1", ParseFault::UnknownCommand(1)),
     ("House 1 00000000000a", ParseFault::UnknownCommand(1)),
     ("  hous #", ParseFault::UnknownCommand(1)),
     ("epochs 1", ParseFault::UnknownCommand(1)),
     ("epoch skulk", ParseFault::NotBuilt(1)),
     ("skulk 0 0 0", ParseFault::NotBuilt(1)),
-    (" decode", ParseFault::NotBuilt(1)),
+    (" octets", ParseFault::NotBuilt(1)),
     ("dump 1 1", ParseFault::NotBuilt(1)),
     ("root", ParseFault::WrongCount(1)),
     ("house 0", ParseFault::WrongCount(2)),
@@ -239,6 +253,8 @@ static FAULTY: [(&str, ParseFault); 61] = [
     ("add 1 1 e A 01 # 1", ParseFault::WrongCount(8)),
     ("read 1 low /.:/e A B", ParseFault::WrongCount(6)),
     ("readlink 1 low /.:/e A", ParseFault::WrongCount(5)),
+    (" decode", ParseFault::WrongCount(1)),
+    ("decode 01 02", ParseFault::WrongCount(3)),
     ("house 0 00000000000a", ParseFault::BadWord(2)),
     ("house 256 00000000000a", ParseFault::BadWord(2)),
     ("house 01 00000000000a", ParseFault::BadWord(2)),
@@ -278,6 +294,8 @@ static FAULTY: [(&str, ParseFault); 61] = [
     ("read 1 low e A-", ParseFault::BadWord(4)),
     ("read 1 low /.:/e A-", ParseFault::BadWord(5)),
     ("readlink 1 HIGH /.:/e", ParseFault::BadWord(3)),
+    ("decode 012", ParseFault::BadWord(2)),
+    ("decode 0g", ParseFault::BadWord(2)),
 ];
 
 #[test]
@@ -321,6 +339,33 @@ fn values(alloc: Global, octets: &[u8]) -> Result<Values, AllocOr<attr_sets::Val
     Ok(values)
 }
 
+fn text_of(alloc: Global, answer: Answer) -> Result<Vec<u8>, Fail> {
+    Ok(print_answer(alloc, 7, &answer)?)
+}
+
+fn posted(alloc: Global, numbers: &[u64]) -> Result<Vec<u8>, Fail> {
+    text_of(alloc, Answer::Posted(serials(alloc, numbers)?))
+}
+
+fn made(alloc: Global, stamp: Stamp, numbers: &[u64]) -> Result<Vec<u8>, Fail> {
+    text_of(
+        alloc,
+        Answer::Made(DirId(2), stamp, serials(alloc, numbers)?),
+    )
+}
+
+fn stamped(alloc: Global, stamp: Stamp, numbers: &[u64]) -> Result<Vec<u8>, Fail> {
+    text_of(alloc, Answer::Stamped(stamp, serials(alloc, numbers)?))
+}
+
+fn valued(alloc: Global, octets: &[u8]) -> Result<Vec<u8>, Fail> {
+    text_of(alloc, Answer::Values(values(alloc, octets)?))
+}
+
+fn led(alloc: Global, name: &[u8]) -> Result<Vec<u8>, Fail> {
+    text_of(alloc, Answer::Target(FullName::parse(alloc, name)?))
+}
+
 #[test]
 fn answers_have_their_texts(rt: HostRuntime) -> Result<(), Fail> {
     let alloc = rt.alloc();
@@ -328,41 +373,46 @@ fn answers_have_their_texts(rt: HostRuntime) -> Result<(), Fail> {
         return Ok(());
     };
     let stamp = Stamp { time: 100, node };
-    let (Ok(few), Ok(none), Ok(target), Ok(root)) = (
-        values(alloc, &[0, 255, 16]),
-        values(alloc, &[]),
-        FullName::parse(alloc, b"/.:/sub/lpr"),
-        FullName::parse(alloc, b"/.:"),
-    ) else {
-        assert!(rt; false, "values and names are lawful");
-        return Ok(());
-    };
     let rows = [
-        (Answer::Done, "7 ok\n"),
-        (Answer::Posted(serials(alloc, &[])?), "7 ok\n"),
+        (text_of(alloc, Answer::Done)?, "7 ok\n"),
+        (posted(alloc, &[])?, "7 ok\n"),
+        (posted(alloc, &[1, 2])?, "7 ok posted 1 2\n"),
+        (made(alloc, stamp, &[])?, "7 ok 2 100@000000000a0b\n"),
         (
-            Answer::Posted(serials(alloc, &[1, 2])?),
-            "7 ok posted 1 2\n",
-        ),
-        (
-            Answer::Made(DirId(2), stamp, serials(alloc, &[])?),
-            "7 ok 2 100@000000000a0b\n",
-        ),
-        (
-            Answer::Made(DirId(2), stamp, serials(alloc, &[9])?),
+            made(alloc, stamp, &[9])?,
             "7 ok 2 100@000000000a0b posted 9\n",
         ),
         (
-            Answer::Stamped(stamp, serials(alloc, &[3, 10])?),
+            stamped(alloc, stamp, &[3, 10])?,
             "7 ok 100@000000000a0b posted 3 10\n",
         ),
-        (Answer::Values(few), "7 ok 3 00 ff 10\n"),
-        (Answer::Values(none), "7 ok 0\n"),
-        (Answer::Target(target), "7 ok /.:/sub/lpr\n"),
-        (Answer::Target(root), "7 ok /.:\n"),
+        (valued(alloc, &[0, 255, 16])?, "7 ok 3 00 ff 10\n"),
+        (valued(alloc, &[])?, "7 ok 0\n"),
+        (led(alloc, b"/.:/sub/lpr")?, "7 ok /.:/sub/lpr\n"),
+        (led(alloc, b"/.:")?, "7 ok /.:\n"),
     ];
-    for (answer, text) in &rows {
-        assert_eq!(rt; print_answer(alloc, 7, answer)?.as_slice(), text.as_bytes());
+    for (text, wanted) in &rows {
+        assert_eq!(rt; text.as_slice(), wanted.as_bytes());
+    }
+    Ok(())
+}
+
+#[test]
+fn messages_have_their_names(rt: HostRuntime) -> Result<(), Fail> {
+    let alloc = rt.alloc();
+    let rows = [
+        (1, 78, "7 ok Update 78\n"),
+        (2, 37, "7 ok Gather 37\n"),
+        (3, 46, "7 ok Gathered 46\n"),
+        (4, 111, "7 ok Spread 111\n"),
+        (5, 37, "7 ok SpreadAck 37\n"),
+        (6, 37, "7 ok Advance 37\n"),
+        (7, 53, "7 ok Join 53\n"),
+        (8, 23, "7 ok Leave 23\n"),
+    ];
+    for (tag, used, text) in rows {
+        let line = print_answer(alloc, 7, &Answer::Decoded(tag, used))?;
+        assert_eq!(rt; line.as_slice(), text.as_bytes());
     }
     Ok(())
 }
@@ -402,6 +452,12 @@ fn refusals_have_their_texts(rt: HostRuntime) -> Result<(), Fail> {
         (ScriptRefusal::NameTooLong, "NameTooLong"),
         (ScriptRefusal::RootName, "RootName"),
         (ScriptRefusal::NotLink, "NotLink"),
+        (ScriptRefusal::Short(24), "Short 24"),
+        (ScriptRefusal::BadTag(1), "BadTag 1"),
+        (ScriptRefusal::BadLength(25), "BadLength 25"),
+        (ScriptRefusal::BadName(26), "BadName 26"),
+        (ScriptRefusal::OutOfOrder(90), "OutOfOrder 90"),
+        (ScriptRefusal::BadFlag(27), "BadFlag 27"),
     ];
     for (refusal, text) in rows {
         let line = print_answer(alloc, 16_777_216, &Answer::Refused(refusal))?;

@@ -1,10 +1,12 @@
 // What a single word says.
 ghost use Rattle.std.specs.Prelude.{◌≡◌, ◌*◌, ◌∷◌, length, IfOk};
 ghost use Rattle.std.specs.Int.{from_be_bytes, w64};
-ghost use Rattle.cell_script.specs.Words.{number_of, number_to, house_of, directory_of, node_of, octets_value_of, confidence_of};
+ghost use Rattle.cell_script.specs.Words.{number_of, number_to, house_of, directory_of, node_of, octets_value_of, octets_of, confidence_of};
 
+use crate::lists::Octets;
 use attr_sets::Value;
 use cds_stamps::{AllocOr, DirId, HouseNo, Node};
+use hex::FromHexError;
 use std::alloc::{AllocError, Global};
 
 const LOW: &[u8] = b"low";
@@ -129,5 +131,16 @@ fn value_in(alloc: Global, word: &[u8], room: &mut [u8]) -> Result<Option<Value>
         Ok(value) => Ok(Some(value)),
         Err(AllocOr::Fault(_)) => Ok(None),
         Err(AllocOr::OutOfMemory) => Err(AllocError),
+    }
+}
+
+/// Octets, in hexadecimal digits.
+pub(crate) fn octets(alloc: Global, word: &[u8]) -> Result<Option<Octets>, AllocError>
+    ensures { IfOk result (λ o. o ≡ octets_of word.now) }
+{
+    match hex::decode(alloc, word) {
+        Ok(octets) => Ok(Some(Octets::of(octets))),
+        Err(FromHexError::OutOfMemory) => Err(AllocError),
+        Err(_) => Ok(None),
     }
 }

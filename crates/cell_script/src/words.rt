@@ -12,7 +12,7 @@ ghost use Rattle.cell_script.specs.Forms as form;
 ghost use Rattle.cell_script.specs.Forms.{Takes, taken, counted, said_at};
 
 use crate::fault::ParseFault;
-use crate::lists::HouseNos;
+use crate::lists::{HouseNos, Octets};
 use crate::word;
 use attr_sets::Value;
 use cds_stamps::{AllocOr, AttrName, DirId, HouseNo, Node, SimpleName};
@@ -240,6 +240,15 @@ impl<'a> Words<'a> {
         let word = self.needed()?;
         let value = word::value(alloc, word)?;
         self.said(value)
+    }
+
+    /// Octets, in hexadecimal digits.
+    pub(crate) fn octets(&mut self, alloc: Global) -> Parsed<Octets>
+        ensures { Takes result self.new (taken form.Octets self.old) }
+    {
+        let word = self.needed()?;
+        let octets = word::octets(alloc, word)?;
+        self.said(octets)
     }
 
     /// Numbers of houses, as many as there are words.
