@@ -1,7 +1,6 @@
 pub mod LayoutLaws
 pub mod NameLaws
 pub mod MapLoops
-pub mod Ahead
 pub mod Valid
 pub mod Listed
 pub mod DecodingLaws

@@ -1,13 +1,12 @@
 -- Reading octets by a layout, field by field, as the private readers do.
 use Rattle.std.specs.Prelude.{◌≡◌, ℕ, List, length, take, drop, Option, Some, None, Result, Ok, Err, nat_lt, if◌then◌else◌}
-use Rattle.std.specs.FinMap.{FinMap, get, insert}
+use Rattle.std.specs.FinMap.{FinMap, insert}
 use Rattle.std.specs.declared.cmp.Ordering.{Ordering}
 use Rattle.cds_stamps.specs.declared.alloc_or.AllocOr.{AllocOr}
 use Rattle.cds_stamps.specs.declared.alloc_or.AllocOr.TheVariants.{Fault, OutOfMemory}
 use Rattle.cds_records.specs.declared.fault.Rule.{Rule}
 use Rattle.cds_records.specs.declared.fault.Rule.TheVariants.{Short}
 use Rattle.cds_records.specs.declared.fault.Broken.{Broken}
-use Rattle.cds_records.specs.Fields.{octets_order}
 use Rattle.cds_records.specs.Layouts.{Layout, done, field, next}
 
 infixl 10 ◌>>=◌
@@ -46,7 +45,3 @@ abbrev pub Adds : {Y K X : Type 0} {R : K → K → Ordering} → (Y → K) → 
 Adds {X = X} view l m n old new (Ok y) = (x : X) × (read l old ≡ Ok ((view y, x), new)) × (n ≡ insert m (view y) x)
 Adds view l m n old new (Err (Fault b)) = read l old ≡ Err b
 Adds view l m n old new (Err OutOfMemory) = Unit {0}
-
--- no key that may come next stands in the map
-abbrev pub IsAhead : {X : Type 0} {R : List ℕ → List ℕ → Ordering} → Option (List ℕ) → FinMap R X → Type 0
-IsAhead before m = (q : List ℕ) → octets_order before q ≡ None → get m q ≡ None

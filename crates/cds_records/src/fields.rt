@@ -227,7 +227,6 @@ impl<'a> Reader<'a> {
     fn name_octets(&mut self, size: usize, before: Option<&[u8]>) -> Result<&'a [u8], ReadError>
         ensures read { Reads (λ x. x.now) (octets_of size (name_rule is_name_octet (option_map (λ b. b.now) before.entry))) self.old self.new result }
         ensures each { IfOk result (λ x. list_all is_name_octet x.now ≡ true) }
-        ensures above { IfOk result (λ x. octets_order (option_map (λ b. b.now) before.entry) x.now ≡ None) }
         ensures len { IfOk result (λ x. length x.now ≡ size) }
     {
         let left = self.left();
@@ -278,7 +277,6 @@ impl<'a> Reader<'a> {
     pub(crate) fn simple_name(&mut self, before: Option<&[u8]>) -> Result<&'a [u8], ReadError>
         ensures read { Reads (λ x. x.now) (simple_name (option_map (λ b. b.now) before.entry)) self.old self.new result }
         ensures lawful { IfOk result (λ x. simple_name_fault x.now ≡ None) }
-        ensures above { IfOk result (λ x. octets_order (option_map (λ b. b.now) before.entry) x.now ≡ None) }
     {
         let size = self.octet_within(Rule::BadLength, 1, 254)?;
         let own = self.name_octets(usize::from(size), before)?;

@@ -1,12 +1,11 @@
 // Readers of replicas, level by level.
-ghost use Rattle.std.specs.Prelude.{◌≡◌, ◌-◌, ◌≤◌, Some, None, IfOk, OnOk, if◌then◌else◌};
+ghost use Rattle.std.specs.Prelude.{◌≡◌, ◌-◌, ◌≤◌, Some, None, OnOk, if◌then◌else◌};
 ghost use Rattle.std.specs.FinMap as map;
 ghost use Rattle.std.specs.Int.{w64};
 ghost use Rattle.std.specs.Option.{option_map};
 ghost use Rattle.cds_stamps.specs.Octets.{octets_cmp};
-ghost use Rattle.directory.specs.Entries.{IsValidEntry};
 ghost use Rattle.directory.specs.Kinds.{kind_of_rank};
-ghost use Rattle.cds_records.specs.Reading.{Reads, Adds, IsAhead};
+ghost use Rattle.cds_records.specs.Reading.{Reads, Adds};
 ghost use Rattle.cds_records.specs.Fields.{number, value, attr_name, simple_name};
 ghost use Rattle.cds_records.specs.Records.{item, map_of, mark, empty_cell, cell, kind, entry, replica};
 ghost use Rattle.cds_records.specs.declared.fault.Rule.TheVariants.{BadLength};
@@ -14,8 +13,8 @@ ghost use Rattle.cds_records.specs.declared.fault.Rule.TheVariants.{BadLength};
 use crate::fault::{ReadError, Rule};
 use crate::fields::{Reader, attr_name_from, broken, simple_name_from, value_from};
 use attr_sets::{AttrCell, ValueMap, ValueMark};
-use cds_stamps::{AttrName, Stamp};
-use directory::{AttrMap, EntryCell, Fragment, Kind, Table};
+use cds_stamps::{AttrName, SimpleName, Stamp};
+use directory::{AttrMap, EntryCell, Kind, Table};
 use purge_rule::Replica;
 use std::alloc::{AllocError, Global};
 
@@ -173,14 +172,12 @@ impl<'a> Reader<'a> {
         table: &mut Table,
         before: Option<&[u8]>,
     ) -> Result<&'a [u8], ReadError>
-        requires { IsAhead (option_map (λ b. b.now) before) table.old }
-        ensures adds { Adds (λ x. x.now) (item simple_name entry (option_map (λ b. b.now) before.entry)) table.old table.new self.old self.new result }
-        ensures ahead { IfOk result (λ x. IsAhead (Some x.now) table.new) }
+        ensures { Adds (λ x. x.now) (item simple_name entry (option_map (λ b. b.now) before.entry)) table.old table.new self.old self.new result }
     {
         let own = self.simple_name(before)?;
         let entry = self.entry(alloc)?;
         let name = simple_name_from(alloc, own)?;
-        insert_entry(alloc, table, &Fragment { name, entry })?;
+        insert_entry(table, name, entry)?;
         Ok(own)
     }
 
@@ -210,12 +207,10 @@ impl<'a> Reader<'a> {
 }
 
 /// Gives a new name its entry.
-fn insert_entry(alloc: Global, table: &mut Table, fragment: &Fragment) -> Result<(), AllocError>
-    requires new { map.get table.old fragment.now.name ≡ None }
-    requires valid { IsValidEntry fragment.now.entry }
-    ensures { OnOk result (table.new ≡ map.insert table.old fragment.now.name fragment.now.entry) }
+fn insert_entry(table: &mut Table, name: SimpleName, entry: EntryCell) -> Result<(), AllocError>
+    ensures { OnOk result (table.new ≡ map.insert table.old name entry) }
 {
-    table.join_entry(alloc, fragment)?;
+    table.insert(name, entry)?;
     Ok(())
 }
 

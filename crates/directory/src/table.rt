@@ -59,7 +59,7 @@ impl Clone for Table {
     }
 }
 
-// Reading.
+// A table as a map, and what shows of it.
 impl Table {
     pub fn new(alloc: Global) -> Self
         ensures { result ≡ map.empty }
@@ -88,6 +88,19 @@ impl Table {
         ensures { option_copied result ≡ map.get self.now name.now }
     {
         self.entries.get(name)
+    }
+
+    /// Gives a name this entry, whatever it had. The entry that it had.
+    pub fn insert(
+        &mut self,
+        name: SimpleName,
+        entry: EntryCell,
+    ) -> Result<Option<EntryCell>, AllocError>
+        ensures before { IfOk result (λ before. before ≡ map.get self.old name) }
+        ensures ok { OnOk result (self.new ≡ map.insert self.old name entry) }
+        ensures err { OnErr result (self.new ≡ self.old) }
+    {
+        Ok(self.entries.insert(name, entry)?)
     }
 
     /// A table of the same entries.
@@ -312,14 +325,6 @@ impl Table {
 
 // Joins.
 impl Table {
-    fn insert(&mut self, name: SimpleName, entry: EntryCell) -> Result<(), AllocError>
-        ensures ok { OnOk result (self.new ≡ map.insert self.old name entry) }
-        ensures err { OnErr result (self.new ≡ self.old) }
-    {
-        self.entries.insert(name, entry)?;
-        Ok(())
-    }
-
     /// Joins one entry in, in place, with at most one insertion.
     fn join_one(
         &mut self,
