@@ -26,6 +26,7 @@ abbrev pub error_of : ℕ → AllocOr Broken → AllocOr RecordFault
 error_of len (Fault b) = Fault (fault_at b.rule (len - b.left + 1))
 error_of len OutOfMemory = OutOfMemory
 
+-- what an error says is left is no more than there was (own)
 abbrev pub IsLeftWithin : ℕ → AllocOr Broken → Type 0
 IsLeftWithin len (Fault b) = b.left ≤ len
 IsLeftWithin len OutOfMemory = Unit {0}

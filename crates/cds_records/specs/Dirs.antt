@@ -9,6 +9,7 @@ use Rattle.std.proofs.lemmas.Cmp.{on_total}
 use Rattle.std.proofs.lemmas.Map.Lookups.{exact_unsigned}
 use Rattle.cds_stamps.specs.declared.numbers.DirId.{DirId}
 
+-- directories in the order of their numbers (own)
 abbrev pub dir_cmp : DirId → DirId → Ordering
 dir_cmp a b = nat_cmp a.0 b.0
 

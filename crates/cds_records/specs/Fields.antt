@@ -40,51 +40,58 @@ name_rule is_octet before octets = if list_all is_octet octets then octets_order
 
 -- ---- numbers
 
+-- one octet (own)
 unfoldable pub octet : (ℕ → Option Rule) → Layout ℕ
 octet rule = field 1 (λ o. slice_index o 0) rule
 
+-- a number of this width (own)
 unfoldable pub number : Width → (ℕ → Option Rule) → Layout ℕ
 number w rule = field (byte_len w) (from_be_bytes w) rule
 
--- the number of a node has 48 bits
+-- the number of a node has 48 bits (own)
 abbrev pub node_of : List ℕ → ℕ
 node_of octets = 4294967296 * from_be_bytes w16 (take 2 octets) + from_be_bytes w32 (drop 2 octets)
 
+-- its octets (own)
 abbrev pub node_octets : ℕ → List ℕ
 node_octets n = to_be_bytes w16 (n / 4294967296) ++ to_be_bytes w32 (n % 4294967296)
 
+-- a node (own)
 unfoldable pub node : Layout ℕ
 node = field 6 node_of free
 
 -- ---- stamps: the time in 8 octets, and the node in 6
 
+-- what 14 octets say (own)
 abbrev pub stamp_of : List ℕ → Stamp
 stamp_of octets = record { time = from_be_bytes w64 (take 8 octets); node = node_of (drop 8 octets) }
 
+-- a stamp (own)
 unfoldable pub stamp : (Stamp → Option Rule) → Layout Stamp
 stamp rule = field 14 stamp_of rule
 
--- behind a flag of 1 a stamp stands, behind 0 nothing
+-- behind a flag of 1 a stamp stands, behind 0 nothing (own)
 abbrev pub stamp_if : ℕ → Layout (Option Stamp)
 stamp_if flag = choose (flag == 0) (done None) (next (stamp free) (λ s. done (Some s)))
 
+-- a flag, and a stamp where it is 1 (own)
 unfoldable pub optional_stamp : Layout (Option Stamp)
 optional_stamp = next (octet (outside BadFlag 0 1)) stamp_if
 
 -- ---- octets behind their number
 
--- so many octets of any value
+-- so many octets that keep a rule (own)
 unfoldable pub octets_of : ℕ → (List ℕ → Option Rule) → Layout (List ℕ)
 octets_of size rule = field size (λ o. o) rule
 
--- a simple name above the one before it, behind its length in 1 octet
+-- a simple name above the one before it, behind its length in 1 octet (own)
 unfoldable pub simple_name : Option (List ℕ) → Layout (List ℕ)
 simple_name before = next (octet (outside BadLength 1 254)) (λ n. octets_of n (name_rule is_name_octet before))
 
--- an attribute's name
+-- an attribute's name, in the same way (own)
 unfoldable pub attr_name : Option (List ℕ) → Layout (List ℕ)
 attr_name before = next (octet (outside BadLength 1 31)) (λ n. octets_of n (name_rule is_attr_octet before))
 
--- a value, behind its length in 2 octets
+-- a value above the one before it, behind its length in 2 octets (own)
 unfoldable pub value : Option (List ℕ) → Layout (List ℕ)
 value before = next (number w16 (outside BadLength 1 1024)) (λ n. octets_of n (octets_order before))

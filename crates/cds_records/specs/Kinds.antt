@@ -3,9 +3,11 @@ use Rattle.std.specs.Prelude.{◌≡◌, ℕ, ◌==◌, if◌then◌else◌, ref
 use Rattle.cds_stamps.specs.declared.members.MemberKind.{MemberKind}
 use Rattle.cds_stamps.specs.declared.members.MemberKind.TheVariants.{Master, ReadOnly}
 
+-- the kind of a number (own)
 abbrev pub kind_in : ℕ → MemberKind
 kind_in kind = if kind == 1 then Master else ReadOnly
 
+-- the number of a kind (own)
 abbrev pub kind_number : MemberKind → ℕ
 kind_number Master = 1
 kind_number ReadOnly = 2

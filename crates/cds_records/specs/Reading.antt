@@ -10,17 +10,17 @@ use Rattle.cds_records.specs.declared.fault.Broken.{Broken}
 use Rattle.cds_records.specs.Layouts.{Layout, done, field, next}
 
 infixl 10 ◌>>=◌
--- the next step of a reading that has not failed
+-- the next step of a reading that has not failed (own)
 abbrev pub ◌>>=◌ : {A B E : Type 0} → Result A E → (A → Result B E) → Result B E
 (Ok x) >>= f = f x
 (Err e) >>= f = Err e
 
--- what is read of a whole field, of which so many octets and more are left, by the rule that it breaks
+-- what is read of a whole field, of which so many octets and more are left, by the rule that it breaks (own)
 abbrev pub ruled : {A : Type 0} → Option Rule → ℕ → A → List ℕ → Result (A × List ℕ) Broken
 ruled None left value rest = Ok (value, rest)
 ruled (Some rule) left value rest = Err (record { rule = rule; left = left })
 
--- the value of the octets at the front, and what follows them; or the first field that breaks a rule
+-- the value of the octets at the front, and what follows them; or the first field that breaks a rule (own)
 abbrev pub read : {A : Type 0} → Layout A → List ℕ → Result (A × List ℕ) Broken
 read (done a) octets = Ok (a, octets)
 read (field size says rule) octets =
@@ -28,19 +28,19 @@ read (field size says rule) octets =
     else ruled (rule (says (take size octets))) (length octets) (says (take size octets)) (drop size octets)
 read (next first second) octets = read first octets >>= λ y. read (second y.0) y.1
 
--- what a reader returned, seen by `view`, and what it leaves are what reading by the layout gives; or it is want of memory
+-- what a reader returned, seen by `view`, and what it leaves are what reading by the layout gives; or it is want of memory (own)
 abbrev pub Reads : {X A : Type 0} → (X → A) → Layout A → List ℕ → List ℕ → Result X (AllocOr Broken) → Type 0
 Reads view l old new (Ok x) = read l old ≡ Ok (view x, new)
 Reads view l old new (Err (Fault b)) = read l old ≡ Err b
 Reads view l old new (Err OutOfMemory) = Unit {0}
 
--- the value that is expected, or want of memory
+-- the value that is expected, or want of memory (own)
 abbrev pub Makes : {X A : Type 0} → (X → A) → A → Result X (AllocOr Broken) → Type 0
 Makes view expected (Ok x) = view x ≡ expected
 Makes view expected (Err (Fault b)) = ⊥
 Makes view expected (Err OutOfMemory) = Unit {0}
 
--- what a reader of one more item returned, its key, and how it left the map and the octets
+-- what a reader of one more item returned, its key, and how it left the map and the octets (own)
 abbrev pub Adds : {Y K X : Type 0} {R : K → K → Ordering} → (Y → K) → Layout (K × X) → (old new : FinMap R X) → List ℕ → List ℕ → Result Y (AllocOr Broken) → Type 0
 Adds {X = X} view l m n old new (Ok y) = (x : X) × (read l old ≡ Ok ((view y, x), new)) × (n ≡ insert m (view y) x)
 Adds view l m n old new (Err (Fault b)) = read l old ≡ Err b

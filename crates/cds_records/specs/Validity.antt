@@ -19,9 +19,11 @@ IsValidBody (Advance t) = Unit {0}
 IsValidBody (Join ms r) = IsValidTable r.table
 IsValidBody Leave = Unit {0}
 
+-- so is the message (own)
 abbrev pub IsValidMessage : Message → Type 0
 IsValidMessage m = IsValidBody m.body
 
+-- the table of a directory that is held is valid (own)
 abbrev pub IsValidDir : ImageDir → Type 0
 IsValidDir (Held e ms r) = IsValidTable r.table
 IsValidDir (Gone e) = Unit {0}

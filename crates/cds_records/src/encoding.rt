@@ -26,29 +26,13 @@ pub fn encode(alloc: Global, message: &Message) -> Result<Vec<u8>, AllocError>
 {
     let mut out = Vec::new(alloc);
     put_octet(&mut out, FORMAT)?;
-    put_octet(&mut out, tag_of(&message.body))?;
+    put_octet(&mut out, message.body.tag())?;
     put_u32(&mut out, message.dir.0)?;
     put_octet(&mut out, message.from.0)?;
     put_u64(&mut out, message.epoch.0)?;
     put_u64(&mut out, message.floor)?;
     put_body(&mut out, &message.body)?;
     Ok(out)
-}
-
-/// The tag of what a message carries.
-fn tag_of(body: &Body) -> u8
-    ensures { result ≡ records.tag_of body.now }
-{
-    match body {
-        Body::Update(_) => 1,
-        Body::Gather(_) => 2,
-        Body::Gathered(_, _) => 3,
-        Body::Spread(_, _) => 4,
-        Body::SpreadAck(_) => 5,
-        Body::Advance(_) => 6,
-        Body::Join(_, _) => 7,
-        Body::Leave => 8,
-    }
 }
 
 /// What a message carries.

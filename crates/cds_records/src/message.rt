@@ -1,12 +1,13 @@
 // Messages between the houses of a directory.
 ghost use Rattle.std.specs.Prelude.{◌≡◌, IfOk};
+ghost use Rattle.cds_records.specs.Records.{tag_of};
 
 use cds_stamps::{DirId, EpochNo, HouseNo, Members, Stamp};
 use directory::Fragment;
 use purge_rule::Replica;
 use std::alloc::{AllocError, Global};
 
-/// A message of one house to another about a directory that both hold.
+/// A message of one house to another about a directory.
 #[derive(Drop)]
 pub struct Message {
     pub dir: DirId,
@@ -55,6 +56,22 @@ impl Message {
 }
 
 impl Body {
+    /// The tag of a message that carries this.
+    pub fn tag(&self) -> u8
+        ensures { result ≡ tag_of self.now }
+    {
+        match self {
+            Body::Update(_) => 1,
+            Body::Gather(_) => 2,
+            Body::Gathered(_, _) => 3,
+            Body::Spread(_, _) => 4,
+            Body::SpreadAck(_) => 5,
+            Body::Advance(_) => 6,
+            Body::Join(_, _) => 7,
+            Body::Leave => 8,
+        }
+    }
+
     /// A body of the same parts.
     pub fn copy(&self, alloc: Global) -> Result<Body, AllocError>
         ensures { IfOk result (λ b. b ≡ self.now) }

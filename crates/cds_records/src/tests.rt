@@ -85,54 +85,98 @@ fn messages_of_each_tag_are_read_and_written_again(rt: HostRuntime) -> Result<()
     Ok(())
 }
 
+// A table of a child that has died, with two values of which one is absent, and a clear; and of a link.
+const TABLE: &[&[u8]] = &[
+    b"\0\0\0\0\0\0\0\x02\x01a\x03",
+    STAMP,
+    b"\x01",
+    STAMP,
+    b"\0\0\0\0\0\0\0\x02\x01A\0\0\0\0\0\0\0\0\x02\0\x01\x01\x01",
+    STAMP,
+    b"\0\x02\x01\x02\0",
+    STAMP,
+    b"\x01B\x01",
+    STAMP,
+    b"\0\0\0\0\0\0\0\0\x01b\x02",
+    STAMP,
+    b"\0\0\0\0\0\0\0\0\0",
+];
+
+#[test]
+fn a_table_of_two_entries_is_read_and_written_again(rt: HostRuntime) -> Result<(), Fail> {
+    let alloc = rt.alloc();
+    let table = together(alloc, TABLE)?;
+    let mut octets = message(alloc, 4, &[STAMP, b"\x01", STAMP])?;
+    octets.extend_from_slice(table.as_slice())?;
+    let (written, copied, used) = written_again(alloc, octets.as_slice())?;
+    assert_eq!(rt; used, 199);
+    assert!(rt; written == octets && copied == octets);
+    let mut octets = together(alloc, &[HEAD_OF_IMAGE, HOLDS, b"\0"])?;
+    octets.extend_from_slice(table.as_slice())?;
+    octets.extend_from_slice(GONE)?;
+    let (written, copied, used) = image_again(alloc, octets.as_slice())?;
+    assert_eq!(rt; used, 210);
+    assert!(rt; written == octets && copied == octets);
+    Ok(())
+}
+
+// Formats and tags.
+const UPDATE: &[u8] = b"\x01\x01";
+
+const GATHER: &[u8] = b"\x01\x02";
+
+const JOIN: &[u8] = b"\x01\x07";
+
+// A value that is earlier than the clear.
+const EARLY: &[u8] =
+    b"\x01\0\0\0\0\0\0\0\x05\0\0\0\0\0\x0a\0\0\0\0\0\0\0\x01\0\x01\x01\x01\0\0\0\0\0\0\0\x02\0\0\0\0\0\x0a";
+
+// The house 1, listed since epoch 1.
+const MEMBER: &[u8] = b"\x01\0\0\0\0\0\0\0\x01";
+
+static FAULTY: [(&[&[u8]], RecordFault); 18] = [
+    (&[], RecordFault::Short(1)),
+    (&[b"\x02"], RecordFault::BadTag(1)),
+    (&[b"\x01"], RecordFault::Short(2)),
+    (&[b"\x01\0"], RecordFault::BadTag(2)),
+    (&[b"\x01\x09"], RecordFault::BadTag(2)),
+    (&[UPDATE, b"\0\0\0\x01\x01"], RecordFault::Short(8)),
+    (&[GATHER, HEAD, b"\0\0"], RecordFault::Short(26)),
+    (&[UPDATE, HEAD, b"\0"], RecordFault::BadLength(24)),
+    (&[UPDATE, HEAD, b"\xff"], RecordFault::BadLength(24)),
+    (&[UPDATE, HEAD, b"\x01/"], RecordFault::BadName(25)),
+    (&[UPDATE, HEAD, b"\x01e\x04"], RecordFault::BadFlag(26)),
+    (&[UPDATE, HEAD, b"\x01e\x01"], RecordFault::Short(27)),
+    (
+        &[UPDATE, HEAD, ENTRY, b"\0\0\0\0\0\0\0\0\0"],
+        RecordFault::BadLength(53),
+    ),
+    (&[UPDATE, HEAD, ENTRY, EARLY], RecordFault::OutOfOrder(79)),
+    (&[JOIN, HEAD, b"\x41"], RecordFault::BadLength(24)),
+    (
+        &[JOIN, HEAD, b"\x01", MEMBER, b"\x02"],
+        RecordFault::BadFlag(34),
+    ),
+    (
+        &[JOIN, HEAD, b"\x02", MEMBER, b"\x01\x01"],
+        RecordFault::OutOfOrder(35),
+    ),
+    (
+        &[
+            JOIN,
+            HEAD,
+            b"\x02",
+            MEMBER,
+            b"\x01\x02\0\0\0\0\0\0\0\x01\x01",
+        ],
+        RecordFault::BadFlag(44),
+    ),
+];
+
 #[test]
 fn octets_that_begin_with_no_message_have_a_first_fault(rt: HostRuntime) -> Result<(), Fail> {
     let alloc = rt.alloc();
-    let update: &[u8] = b"\x01\x01";
-    let gather: &[u8] = b"\x01\x02";
-    let join: &[u8] = b"\x01\x07";
-    let early: &[u8] =
-        b"\x01\0\0\0\0\0\0\0\x05\0\0\0\0\0\x0a\0\0\0\0\0\0\0\x01\0\x01\x01\x01\0\0\0\0\0\0\0\x02\0\0\0\0\0\x0a";
-    let member: &[u8] = b"\x01\0\0\0\0\0\0\0\x01";
-    let rows: [(&[&[u8]], RecordFault); 18] = [
-        (&[], RecordFault::Short(1)),
-        (&[b"\x02"], RecordFault::BadTag(1)),
-        (&[b"\x01"], RecordFault::Short(2)),
-        (&[b"\x01\0"], RecordFault::BadTag(2)),
-        (&[b"\x01\x09"], RecordFault::BadTag(2)),
-        (&[update, b"\0\0\0\x01\x01"], RecordFault::Short(8)),
-        (&[gather, HEAD, b"\0\0"], RecordFault::Short(26)),
-        (&[update, HEAD, b"\0"], RecordFault::BadLength(24)),
-        (&[update, HEAD, b"\xff"], RecordFault::BadLength(24)),
-        (&[update, HEAD, b"\x01/"], RecordFault::BadName(25)),
-        (&[update, HEAD, b"\x01e\x04"], RecordFault::BadFlag(26)),
-        (&[update, HEAD, b"\x01e\x01"], RecordFault::Short(27)),
-        (
-            &[update, HEAD, ENTRY, b"\0\0\0\0\0\0\0\0\0"],
-            RecordFault::BadLength(53),
-        ),
-        (&[update, HEAD, ENTRY, early], RecordFault::OutOfOrder(79)),
-        (&[join, HEAD, b"\x41"], RecordFault::BadLength(24)),
-        (
-            &[join, HEAD, b"\x01", member, b"\x02"],
-            RecordFault::BadFlag(34),
-        ),
-        (
-            &[join, HEAD, b"\x02", member, b"\x01\x01"],
-            RecordFault::OutOfOrder(35),
-        ),
-        (
-            &[
-                join,
-                HEAD,
-                b"\x02",
-                member,
-                b"\x01\x02\0\0\0\0\0\0\0\x01\x01",
-            ],
-            RecordFault::BadFlag(44),
-        ),
-    ];
-    for (parts, fault) in rows {
+    for (parts, fault) in FAULTY {
         let octets = together(alloc, parts)?;
         assert_eq!(rt; fault_of_message(alloc, octets.as_slice()), Some(fault));
     }
@@ -142,7 +186,10 @@ fn octets_that_begin_with_no_message_have_a_first_fault(rt: HostRuntime) -> Resu
 // The image of house 1 at node 10 with floor 0, which holds two directories.
 const HEAD_OF_IMAGE: &[u8] = b"\x01\x09\x01\0\0\0\0\0\x0a\0\0\0\0\0\0\0\0\0\0\0\0\0\0\0\x02";
 
-// The directory 1 is held in epoch 1 by the house alone, with an empty table.
+// The directory 1 is held in epoch 1 by the house alone.
+const HOLDS: &[u8] = b"\0\0\0\x01\x01\0\0\0\0\0\0\0\x01\x01\x01\0\0\0\0\0\0\0\x01\x01";
+
+// So it is, with an empty table.
 const HELD: &[u8] =
     b"\0\0\0\x01\x01\0\0\0\0\0\0\0\x01\x01\x01\0\0\0\0\0\0\0\x01\x01\0\0\0\0\0\0\0\0\0";
 

@@ -8,11 +8,11 @@ ghost use Rattle.cds_cell.specs.Telling.{told};
 ghost use Rattle.cell_replay.specs.Replies.{asked_of, first_target, message_told, question_answer, refusal_of_octets, refusal_of_walk, target_of, target_read, values_read, walked};
 ghost use Rattle.directory.specs.Shown.{targets};
 ghost use Rattle.cds_records.specs.Decoding.{decoding};
-ghost use Rattle.cds_records.specs.Records.{message, tag_of};
+ghost use Rattle.cds_records.specs.Records.{message};
 
 use attr_sets::Value;
 use cds_cell::{Cell, CellReader};
-use cds_records::{Body, RecordFault};
+use cds_records::RecordFault;
 use cds_stamps::{AllocOr, AttrName, HouseNo};
 use cell_names::FullName;
 use cell_script::{Answer, Question, ScriptRefusal, Values};
@@ -162,25 +162,9 @@ fn decoded(alloc: Global, octets: &[u8]) -> Result<Answer, AllocError>
     ensures { IfOk result (λ a. a ≡ message_told (decoding message octets.now)) }
 {
     match cds_records::decode(alloc, octets) {
-        Ok((message, used)) => Ok(Answer::Decoded(tag_in_script(&message.body), used)),
+        Ok((message, used)) => Ok(Answer::Decoded(message.body.tag(), used)),
         Err(AllocOr::Fault(fault)) => Ok(Answer::Refused(fault_in_script(fault))),
         Err(AllocOr::OutOfMemory) => Err(AllocError),
-    }
-}
-
-// The tag of a message.
-fn tag_in_script(body: &Body) -> u8
-    ensures { result ≡ tag_of body.now }
-{
-    match body {
-        Body::Update(_) => 1,
-        Body::Gather(_) => 2,
-        Body::Gathered(_, _) => 3,
-        Body::Spread(_, _) => 4,
-        Body::SpreadAck(_) => 5,
-        Body::Advance(_) => 6,
-        Body::Join(_, _) => 7,
-        Body::Leave => 8,
     }
 }
 

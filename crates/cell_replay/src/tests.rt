@@ -354,7 +354,7 @@ const CLEARED: &str =
     "01000000000000000500000000000a000000000000000100010101000000000000000200000000000a";
 
 // Octets in three parts, and what is answered.
-static DECODED: [(&str, &str, &str, &str); 13] = [
+static DECODED: [(&str, &str, &str, &str); 14] = [
     (HEAD, "", "", "refused Short 24"),
     (HEAD, "00", "", "refused BadLength 24"),
     (HEAD, "ff", "", "refused BadLength 24"),
@@ -378,6 +378,12 @@ static DECODED: [(&str, &str, &str, &str); 13] = [
     ("0109", "", "", "refused BadTag 2"),
     ("02", "", "", "refused BadTag 1"),
     ("0102", "", "", "refused Short 3"),
+    (
+        "01010000000101",
+        "0000000000000001",
+        "00000000000000",
+        "refused Short 23",
+    ),
 ];
 
 #[test]

@@ -9,6 +9,7 @@ use Rattle.directory.specs.Entries.{Entries}
 abbrev pub most_held : ℕ
 most_held = 18446744073709551615
 
+-- 1 for what is there, 0 for nothing (own)
 abbrev pub one_if_some : {A : Type 0} → Option A → ℕ
 one_if_some None = 0
 one_if_some (Some x) = 1

@@ -1,9 +1,8 @@
 // A replica of a directory.
-ghost use Rattle.std.specs.Prelude.{◌≡◌, ◌++◌, List, Option, Some, None, IfOk, OnOk, OnErr, min};
-ghost use Rattle.std.specs.List.{AllByRecursion};
-ghost use Rattle.cds_stamps.specs.Semilattice.{maybe};
-ghost use Rattle.cds_stamps.specs.Stamps.{later_stamp};
-ghost use Rattle.directory.specs.Entries.{IsValidEntry, IsValidTable};
+ghost use Rattle.std.specs.Prelude.{◌≡◌, ◌++◌, List, Option, Some, None, IfOk, OnOk, OnErr, IfSome, min};
+ghost use Rattle.cds_stamps.specs.Undos.{RaisesAt};
+ghost use Rattle.std.specs.FinMap as map;
+ghost use Rattle.directory.specs.Entries.{join_entries, join_tables, IsValidEntry, IsValidTable};
 ghost use Rattle.directory.specs.Histories.{Mark};
 ghost use Rattle.purge_rule.specs.Replicas.{replica_of, together, CanMerge, IsFragmentOf};
 ghost use Rattle.purge_rule.specs.Held.{held_in, most_held};
@@ -35,6 +34,7 @@ impl Replica {
     /// later AllUpTo.
     pub fn take(&mut self, alloc: Global, other: &Replica) -> Result<(), AllocError>
         ensures merged { OnOk result ((h g : List Mark) → CanMerge h g (together self.old.all_up_to other.now.all_up_to) → self.old ≡ replica_of h self.old.all_up_to → other.now ≡ replica_of g other.now.all_up_to → self.new ≡ replica_of (h ++ g) (together self.old.all_up_to other.now.all_up_to)) }
+        ensures joined { OnOk result (together self.old.all_up_to other.now.all_up_to ≡ None → IsValidTable self.old.table → IsValidTable other.now.table → self.new.table ≡ join_tables self.old.table other.now.table) }
         ensures all_up_to { OnOk result (self.new.all_up_to ≡ together self.old.all_up_to other.now.all_up_to) }
         ensures valid { OnOk result (IsValidTable self.old.table → IsValidTable other.now.table → IsValidTable self.new.table) }
         ensures err { OnErr result (self.new ≡ self.old) }
@@ -48,6 +48,7 @@ impl Replica {
     /// together, up to the same stamp.
     pub fn take_marks(&mut self, alloc: Global, fragment: &Fragment) -> Result<(), AllocError>
         ensures merged { OnOk result ((h marks : List Mark) → CanMerge h marks self.old.all_up_to → IsFragmentOf marks fragment.now → self.old ≡ replica_of h self.old.all_up_to → self.new ≡ replica_of (h ++ marks) self.old.all_up_to) }
+        ensures joined { OnOk result (self.old.all_up_to ≡ None → IfSome (map.get self.old.table fragment.now.name) IsValidEntry → IsValidEntry fragment.now.entry → RaisesAt join_entries self.old.table self.new.table fragment.now.name fragment.now.entry) }
         ensures all_up_to { self.new.all_up_to ≡ self.old.all_up_to }
         ensures valid { OnOk result (IsValidTable self.old.table → IsValidEntry fragment.now.entry → IsValidTable self.new.table) }
         ensures err { OnErr result (self.new ≡ self.old) }

@@ -9,7 +9,7 @@ use Rattle.cell_replay.proofs.questions.decoded.Goals as goal
 pub returns-in-Ok : goal.returns-in-Ok
 returns-in-Ok c =
     let said : decoding message c.args.octets.now ≡ Ok (c.in-Ok.message, c.in-Ok.used) = answers_decoding message c.args.octets.now (Ok (c.in-Ok.message, c.in-Ok.used)) c.in-Ok.ensures.decodes in
-    rw said (ap (λ (tag : ℕ). answer.Decoded tag c.in-Ok.used) c.tag_in_script.ensures)
+    rw said (ap (λ (tag : ℕ). answer.Decoded tag c.in-Ok.used) c.tag.ensures)
 
 pub returns-in-Err-Fault : goal.returns-in-Err-Fault
 returns-in-Err-Fault c =
