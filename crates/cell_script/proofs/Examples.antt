@@ -105,6 +105,14 @@ read_is : says (codes "read 1 high /.:/sub/lpr A") ≡ Ok (Some (line.Question (
 unfolding said_by counted taken number_of
 read_is = refl
 
+decode_is : says (codes "decode 0aFF") ≡ Ok (Some (line.Question (question.Decode (10 ∷ 255 ∷ []))))
+unfolding said_by counted taken decode_pairs
+decode_is = refl
+
+odd_digits : says (codes "decode 0aF") ≡ Err (BadWord 2)
+unfolding said_by counted taken decode_pairs
+odd_digits = refl
+
 -- ---- texts
 
 posted : answer_text (answer.Posted (1 ∷ 2 ∷ [])) ≡ codes "ok posted 1 2"
@@ -121,6 +129,14 @@ shown = refl
 
 target : answer_text (answer.Target (codes "sub" ∷ codes "lpr" ∷ [])) ≡ codes "ok /.:/sub/lpr"
 target = refl
+
+message : answer_text (answer.Decoded 1 78) ≡ codes "ok Update 78"
+unfolding digits
+message = refl
+
+no_message : answer_text (answer.Refused (why.BadTag 2)) ≡ codes "refused BadTag 2"
+unfolding digits
+no_message = refl
 
 refused : answer_text (answer.Refused (why.NoSuchName 1)) ≡ codes "refused NoSuchName 1"
 unfolding digits
