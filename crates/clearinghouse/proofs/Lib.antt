@@ -1,0 +1,4 @@
+pub mod MemberLists
+pub mod Posts
+pub mod Turning
+pub mod Accepting

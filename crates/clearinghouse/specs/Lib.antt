@@ -1,0 +1,4 @@
+pub mod StateCodes
+pub mod Posting
+pub mod Standing
+pub mod Turns

@@ -1,0 +1,77 @@
+// A clearinghouse and its calls.
+ghost use Rattle.std.specs.Prelude.{◌≡◌, ℕ, None, IfOk, option_copied};
+ghost use Rattle.std.specs.FinMap as map;
+ghost use Rattle.directory.specs.Updates.{change_of};
+ghost use Rattle.cell_model.specs.Cells as model;
+ghost use Rattle.cell_model.specs.Steps.{accept};
+ghost use Rattle.clearinghouse.specs.Standing.{IfRefused, IsAnswer, IsTurn, StandsHouse, posted_by};
+
+use crate::posted::{PostedList, post_to_others};
+use crate::states::{DirState, DirStates, Held};
+use crate::updates::{Accepted, Acceptor};
+use cds_records::{Body, Message};
+use cds_stamps::{DirId, EpochNo, Floor, HouseNo, Members, Node};
+use directory::{Table, Update, UpdateRefusal};
+use purge_rule::Replica;
+use std::alloc::{AllocError, Global};
+
+/// A clearinghouse: who it is, the floor of its stamps, and what it has of directories.
+#[derive(Drop)]
+pub struct Clearinghouse {
+    house: HouseNo,
+    node: Node,
+    floor: Floor,
+    dirs: DirStates,
+}
+
+impl Clearinghouse {
+    /// A clearinghouse without directories. It takes no memory.
+    pub fn new(alloc: Global, house: HouseNo, node: Node) -> Clearinghouse
+        ensures { result ≡ record { house = house; node = node; floor = record { time = 0 }; dirs = map.empty } }
+    {
+        Clearinghouse {
+            house,
+            node,
+            floor: Floor { time: 0 },
+            dirs: DirStates::new(alloc),
+        }
+    }
+
+    /// What it has of a directory, if it ever had something.
+    pub fn state(&self, dir: DirId) -> Option<&DirState>
+        ensures { option_copied result ≡ map.get self.now.dirs dir }
+    {
+        self.dirs.get(&dir)
+    }
+
+    /// The floor of its stamps: no later time stands in what it has.
+    pub fn floor(&self) -> u64
+        ensures { result ≡ self.now.floor.time }
+    {
+        self.floor.time
+    }
+
+    /// Takes an update of a directory, stamps it, and posts it to each other member. Or refuses it, and then nothing is
+    /// changed: where it holds no replica, where it is not the master, as the table refuses it, and where no stamp is left.
+    pub fn accept(
+        &mut self,
+        alloc: Global,
+        clock: u64,
+        dir: DirId,
+        update: &Update,
+    ) -> Result<Accepted, AllocError>
+        ensures house { self.new.house ≡ self.old.house }
+        ensures node { self.new.node ≡ self.old.node }
+        ensures refused { IfOk result (λ a. IfRefused a (self.new ≡ self.old)) }
+    {
+        let by = Acceptor {
+            house: self.house,
+            node: self.node,
+            clock,
+        };
+        match self.dirs.states.get_mut(&dir) {
+            Some(DirState::Held(held)) => held.accept(alloc, dir, by, &mut self.floor, update),
+            _ => Ok(Accepted::Refused(UpdateRefusal::NoReplica)),
+        }
+    }
+}

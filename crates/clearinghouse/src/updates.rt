@@ -1,0 +1,114 @@
+// Updates of a directory at its master.
+ghost use Rattle.std.specs.Prelude.{◌≡◌, ◌<◌, ℕ, None, IfOk, OnOk};
+ghost use Rattle.cds_stamps.specs.Members.{is_accepting, members_of, others_of};
+ghost use Rattle.directory.specs.Updates.{change_of, changed_name};
+ghost use Rattle.directory.specs.Shown.{shown, shown_in, refusal_of, marks_of};
+ghost use Rattle.cell_model.specs.Cells as model;
+ghost use Rattle.cell_model.specs.Steps.{accept, accept_at, stamp_at};
+ghost use Rattle.clearinghouse.specs.Standing.{IfRefused, StandsHeld};
+ghost use Rattle.clearinghouse.specs.Turns.{ActsAt, AddsMarks, IsTaken};
+
+use crate::posted::{PostedList, post_to_others};
+use crate::states::Held;
+use cds_records::{Body, Message};
+use cds_stamps::{DirId, Floor, HouseNo, MemberKind, Node, Stamp};
+use directory::{Update, UpdateRefusal};
+use std::alloc::{AllocError, Global};
+
+/// What comes of an update.
+#[derive(Drop)]
+pub enum Accepted {
+    /// It is accepted with this stamp, and posted to each other member.
+    Done { stamp: Stamp, posted: PostedList },
+    Refused(UpdateRefusal),
+}
+
+/// Who accepts an update: a house, with its node and its clock.
+#[derive(Clone, Copy, Debug, PartialEq, Eq)]
+pub(crate) struct Acceptor {
+    pub(crate) house: HouseNo,
+    pub(crate) node: Node,
+    pub(crate) clock: u64,
+}
+
+impl Held {
+    /// Takes an update of the directory of this number, stamped above the floor, or refuses it.
+    pub(crate) fn accept(
+        &mut self,
+        alloc: Global,
+        dir: DirId,
+        by: Acceptor,
+        floor: &mut Floor,
+        update: &Update,
+    ) -> Result<Accepted, AllocError>
+        ensures refused { IfOk result (λ a. IfRefused a (self.new ≡ self.old)) }
+        ensures floor { IfOk result (λ a. IfRefused a (floor.new ≡ floor.old)) }
+        ensures turn { (g : model.Cell) (r : model.Replica) → StandsHeld floor.old.time self.old r → ActsAt g by floor.old.time dir.0 r → IfOk result (λ a. IsTaken g by.house.0 dir.0 (accept g by.house.0 dir.0 (change_of update.now) (model.Held r)) a self.new floor.new.time) }
+    {
+        if !self.is_master(by.house) {
+            return Ok(Accepted::Refused(UpdateRefusal::NotMaster));
+        }
+        match self.replica.table.check(update) {
+            Ok(()) => self.stamp_update(alloc, dir, by, floor, update),
+            Err(refusal) => Ok(Accepted::Refused(refusal)),
+        }
+    }
+
+    /// Whether this house is master by the member list.
+    fn is_master(&self, house: HouseNo) -> bool
+        ensures { result ≡ is_accepting house.0 (members_of self.now.members) }
+    {
+        self.members.list().iter().any(|member| member.house == house
+            && member.kind == MemberKind::Master)
+    }
+
+    /// Takes an update that the table accepts, with the stamp that is issued, if one is.
+    fn stamp_update(
+        &mut self,
+        alloc: Global,
+        dir: DirId,
+        by: Acceptor,
+        floor: &mut Floor,
+        update: &Update,
+    ) -> Result<Accepted, AllocError>
+        requires { refusal_of (shown_in self.old.replica.table (changed_name (change_of update.now))) (change_of update.now) ≡ None }
+        ensures refused { IfOk result (λ a. IfRefused a (self.new ≡ self.old)) }
+        ensures floor { IfOk result (λ a. IfRefused a (floor.new ≡ floor.old)) }
+        ensures turn { (g : model.Cell) (r : model.Replica) → StandsHeld floor.old.time self.old r → ActsAt g by floor.old.time dir.0 r → IfOk result (λ a. IsTaken g by.house.0 dir.0 (accept_at g by.house.0 dir.0 (change_of update.now) r (stamp_at (g.house by.house.0))) a self.new floor.new.time) }
+    {
+        match floor.issue(by.clock, by.node) {
+            Some(stamp) => {
+                let posted = self.add_marks(alloc, dir, by.house, stamp, update)?;
+                Ok(Accepted::Done { stamp, posted })
+            }
+            None => Ok(Accepted::Refused(UpdateRefusal::StampsSpent)),
+        }
+    }
+
+    /// Takes the marks of an update that is accepted with this stamp, and posts them to each other member.
+    fn add_marks(
+        &mut self,
+        alloc: Global,
+        dir: DirId,
+        house: HouseNo,
+        stamp: Stamp,
+        update: &Update,
+    ) -> Result<PostedList, AllocError>
+        requires { refusal_of (shown_in self.old.replica.table (changed_name (change_of update.now))) (change_of update.now) ≡ None }
+        ensures { (r : model.Replica) (floor : ℕ) → StandsHeld floor self.old r → floor < stamp.time → IfOk result (λ posted. AddsMarks r house.0 dir.0 (change_of update.now) stamp self.new posted) }
+    {
+        let epoch = self.epoch;
+        let floor = stamp.time;
+        let fragment = self.replica.table.fragment(alloc, update, stamp)?;
+        self.replica.take_marks(alloc, &fragment)?;
+        let message = Message {
+            dir,
+            from: house,
+            epoch,
+            floor,
+            body: Body::Update(fragment),
+        };
+        let posted = post_to_others(alloc, &self.members, &message)?;
+        Ok(posted)
+    }
+}
