@@ -10,8 +10,10 @@ use Rattle.cds_stamps.specs.declared.numbers.HouseNo.{HouseNo}
 use Rattle.cds_stamps.specs.declared.numbers.DirId.{DirId}
 use Rattle.cds_stamps.specs.declared.numbers.EpochNo.{EpochNo}
 use Rattle.cds_stamps.specs.Stamps.{is_earlier, is_up_to}
-use Rattle.cds_stamps.specs.Members.{members_of, others_of}
+use Rattle.cds_stamps.specs.Members.{is_accepting, members_of, others_of}
 use Rattle.directory.specs.declared.entry.Fragment.{Fragment}
+use Rattle.directory.specs.declared.update.UpdateRefusal.{UpdateRefusal}
+use Rattle.directory.specs.declared.update.UpdateRefusal.TheVariants as why
 use Rattle.directory.specs.Histories.{Mark, IsHistory, IsBefore, name_in, stamp_in, born_in, entry_of, table_of, up_to}
 use Rattle.directory.specs.Updates.{Change, changed_name}
 use Rattle.directory.specs.Shown.{Shown, shown, shown_in, refusal_of, marks_of}
@@ -24,15 +26,18 @@ use Rattle.cds_records.specs.declared.message.Body.TheVariants as body
 use Rattle.cell_model.specs.Cells as model
 use Rattle.cell_model.specs.Floors.{ReplicaBelow, IsBelow}
 use Rattle.cell_model.specs.Sets.{In, IsUpTo}
-use Rattle.cell_model.specs.Steps.{grown, to_each}
+use Rattle.cell_model.specs.Commands as command
+use Rattle.cell_model.specs.Steps.{grown, to_each, update_refusal, accept}
 use Rattle.cell_model.proofs.Lists.{In-append_cases, time_up_to}
 use Rattle.cell_model.proofs.Marks.{marks_fit, marks_made, shown_birth}
 use Rattle.clearinghouse.specs.declared.states.Held.{Held}
 use Rattle.clearinghouse.specs.declared.posted.Posted.{Posted}
 use Rattle.clearinghouse.specs.Posting.{posts_to, StandEach}
 use Rattle.clearinghouse.specs.Standing.{StandsHeld}
-use Rattle.clearinghouse.specs.Turns.{new_marks, AddsMarks}
+use Rattle.clearinghouse.specs.Turns.{new_marks, AddsMarks, IsTaken}
+use Rattle.clearinghouse.specs.declared.updates.Accepted.TheVariants as accepted
 use Rattle.clearinghouse.proofs.Posts.{each_stands}
+use Rattle.clearinghouse.proofs.Turning.{refused_turn}
 
 -- ---- the two ways of standing in a list
 
@@ -68,7 +73,7 @@ kept_up_to t (m ∷ ms) k h = at (kept_up_to t ms k) (is_up_to t (stamp_in m)) r
 
 -- ---- the marks of an update
 
-module _ (r : model.Replica) (floor : ℕ) (u : Change) (s : Stamp) (history : IsHistory r.history) (below : ReplicaBelow r floor) (above : floor < s.time) (accepted : refusal_of (shown r.history (changed_name u)) u ≡ None) where
+module _ (r : model.Replica) (floor : ℕ) (u : Change) (s : Stamp) (history : IsHistory r.history) (below : ReplicaBelow r floor) (above : floor < s.time) (fine : refusal_of (shown r.history (changed_name u)) u ≡ None) where
   before : IsBefore r.history s
   before = before_stamp r.history floor s below.marks above
 
@@ -85,8 +90,8 @@ module _ (r : model.Replica) (floor : ℕ) (u : Change) (s : Stamp) (history : I
   can_merge = record {
     covered = covered r.all_up_to refl;
     mine = history;
-    theirs = marks_of-history r.history u s history before accepted;
-    both = marks_of-together r.history u s history before accepted;
+    theirs = marks_of-history r.history u s history before fine;
+    both = marks_of-together r.history u s history before fine;
   }
 
   born_before : (e : Shown) → shown r.history (changed_name u) ≡ Some e → IsUpTo e.birth s
@@ -99,7 +104,7 @@ module _ (r : model.Replica) (floor : ℕ) (u : Change) (s : Stamp) (history : I
 
   pub grown_below : ReplicaBelow (grown r (new_marks r u s)) s.time
   grown_below =
-      let made = marks_made (shown r.history (changed_name u)) u s accepted born_before in record {
+      let made = marks_made (shown r.history (changed_name u)) u s fine born_before in record {
         marks = λ k i. ⊎_elim (λ (old : In k r.history). (let low = below.marks k old in (omega (arith, low.0), omega (arith, low.1))))
             (λ (new : In k (new_marks r u s)). (let stamped = time_up_to (stamp_in k) s (made.stamped k new) in let born = time_up_to (born_in k) (stamp_in k) (made.ordered k new) in (stamped, omega arith)))
             (In-append_cases k r.history (new_marks r u s) i);
@@ -109,7 +114,7 @@ module _ (r : model.Replica) (floor : ℕ) (u : Change) (s : Stamp) (history : I
 
   pub fragment_of : (f : Fragment) → f.name ≡ changed_name u → entry_of (new_marks r u s) f.name ≡ Some f.entry → IsFragmentOf (new_marks r u s) f
   fragment_of f name entry = record {
-    named = subst (λ n. AllByRecursion (λ m. name_in m ≡ n) (new_marks r u s)) (sym name) (marks_of-names r.history u s history before accepted);
+    named = subst (λ n. AllByRecursion (λ m. name_in m ≡ n) (new_marks r u s)) (sym name) (marks_of-names r.history u s history before fine);
     entry = entry;
   }
 
@@ -147,3 +152,19 @@ adds_marks held held' r floor u s house dir f m posted fine stands above name en
   where
     first : Message
     first = record { dir = dir; from = house; epoch = held.epoch; floor = s.time; body = body.Update f }
+
+-- ---- what the house answers
+
+module _ (h : ℕ) (u : Change) (held : Held) (r : model.Replica) (floor : ℕ) (stands : StandsHeld floor held r) where
+  table_seen : shown_in held.replica.table (changed_name u) ≡ shown r.history (changed_name u)
+  table_seen = ap (λ t. shown_in t (changed_name u)) (ap (λ (x : Replica). x.table) stands.replica) ∙ shown_in-table_of r.history (changed_name u)
+
+  pub its_refusal : (q : Option UpdateRefusal) → is_accepting h (members_of held.members) ≡ true → refusal_of (shown_in held.replica.table (changed_name u)) u ≡ q → update_refusal h u r ≡ q
+  its_refusal q master is =
+      ap (λ ms. if is_accepting h ms then refusal_of (shown r.history (changed_name u)) u else Some why.NotMaster) stands.members
+      ∙ ap (λ b. if b then refusal_of (shown r.history (changed_name u)) u else Some why.NotMaster) master
+      ∙ ap (λ e. refusal_of e u) (sym table_seen) ∙ is
+
+  pub refused_as : (g : model.Cell) (d : ℕ) (q : UpdateRefusal) → (g.house h).floor ≡ floor → (g.house h).slots d ≡ model.Held r → update_refusal h u r ≡ Some q → IsTaken g h d (accept g h d u (model.Held r)) (accepted.Refused q) held floor
+  refused_as g d q same here is =
+      rw is (record { answer = refl; turn = refused_turn g h d floor held r (command.Update q) stands same here })

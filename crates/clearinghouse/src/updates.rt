@@ -78,7 +78,7 @@ impl Held {
     {
         match floor.issue(by.clock, by.node) {
             Some(stamp) => {
-                let posted = self.add_marks(alloc, dir, by.house, stamp, update)?;
+                let posted = self.add_marks(alloc, dir, by.house, &stamp, update)?;
                 Ok(Accepted::Done { stamp, posted })
             }
             None => Ok(Accepted::Refused(UpdateRefusal::StampsSpent)),
@@ -91,15 +91,15 @@ impl Held {
         alloc: Global,
         dir: DirId,
         house: HouseNo,
-        stamp: Stamp,
+        stamp: &Stamp,
         update: &Update,
     ) -> Result<PostedList, AllocError>
         requires { refusal_of (shown_in self.old.replica.table (changed_name (change_of update.now))) (change_of update.now) ≡ None }
-        ensures { (r : model.Replica) (floor : ℕ) → StandsHeld floor self.old r → floor < stamp.time → IfOk result (λ posted. AddsMarks r house.0 dir.0 (change_of update.now) stamp self.new posted) }
+        ensures { (r : model.Replica) (floor : ℕ) → StandsHeld floor self.old r → floor < stamp.now.time → IfOk result (λ posted. AddsMarks r house.0 dir.0 (change_of update.now) stamp.now self.new posted) }
     {
         let epoch = self.epoch;
         let floor = stamp.time;
-        let fragment = self.replica.table.fragment(alloc, update, stamp)?;
+        let fragment = self.replica.table.fragment(alloc, update, *stamp)?;
         self.replica.take_marks(alloc, &fragment)?;
         let message = Message {
             dir,

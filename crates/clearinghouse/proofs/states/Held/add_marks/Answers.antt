@@ -5,5 +5,5 @@ use Rattle.clearinghouse.proofs.states.Held.add_marks.Goals as goal
 
 pub returns : goal.returns
 returns c = λ r floor stands above.
-    adds_marks c.args.self.now (record c.args.self.now { replica = c.take_marks.new.self }) r floor (change_of c.args.update.now) c.args.stamp c.args.house c.args.dir c.in_ok-fragment.fragment _ c.in_ok-posted.posted
+    adds_marks c.args.self.now (record c.args.self.now { replica = c.take_marks.new.self }) r floor (change_of c.args.update.now) c.args.stamp.now c.args.house c.args.dir c.in_ok-fragment.fragment _ c.in_ok-posted.posted
     c.requires stands above c.in_ok-fragment.ensures.name c.in_ok-fragment.ensures.entry refl refl c.in_ok-take_marks.ensures.merged refl c.in_ok-posted.ensures
