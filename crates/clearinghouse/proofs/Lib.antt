@@ -2,3 +2,4 @@ pub mod MemberLists
 pub mod Posts
 pub mod Turning
 pub mod Accepting
+pub mod Maps

@@ -63,3 +63,8 @@ posted_by (accepted.Refused r) = []
 abbrev pub IfRefused : Accepted → Type 0 → Type 0
 IfRefused (accepted.Done s posted) P = Unit {0}
 IfRefused (accepted.Refused r) P = P
+
+-- an update and a clearinghouse after it are those of a step of the model (own)
+pub record IsAccepted (g : model.Cell) (o : Outcome) (c : Clearinghouse) (a : Accepted) : Type 0 where
+  pub answer : IsAnswer a o.answer
+  pub turn : IsTurn g o c (posted_by a)

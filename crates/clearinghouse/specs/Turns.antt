@@ -1,5 +1,6 @@
 -- What a call makes of one directory at a house, as a step of the model (own, after C705, updates).
-use Rattle.std.specs.Prelude.{◌≡◌, ℕ, ◌==◌, false, List, ◌++◌}
+use Rattle.std.specs.Prelude.{◌≡◌, ℕ, ◌==◌, false, List, ◌++◌, Option, Some, None}
+use Rattle.std.specs.FinMap.{FinMap, insert}
 use Rattle.cds_stamps.specs.declared.stamp.Stamp.{Stamp}
 use Rattle.cds_stamps.specs.Members.{others_of}
 use Rattle.directory.specs.Histories.{Mark}
@@ -7,7 +8,10 @@ use Rattle.directory.specs.Updates.{Change, changed_name}
 use Rattle.directory.specs.Shown.{shown, marks_of}
 use Rattle.cell_model.specs.Cells as model
 use Rattle.cell_model.specs.Steps.{Outcome, grown, to_each}
+use Rattle.cds_records.specs.Dirs.{dir_cmp}
 use Rattle.clearinghouse.specs.declared.states.Held.{Held}
+use Rattle.clearinghouse.specs.declared.states.DirState.{DirState}
+use Rattle.clearinghouse.specs.declared.states.DirState.TheVariants as state
 use Rattle.clearinghouse.specs.declared.posted.Posted.{Posted}
 use Rattle.clearinghouse.specs.declared.updates.Accepted.{Accepted}
 use Rattle.clearinghouse.specs.declared.updates.Acceptor.{Acceptor}
@@ -47,3 +51,21 @@ pub record AddsMarks (r : model.Replica) (h d : ℕ) (u : Change) (s : Stamp) (h
 pub record IsTaken (g : model.Cell) (h d : ℕ) (o : Outcome) (a : Accepted) (held : Held) (floor : ℕ) : Type 0 where
   pub answer : IsAnswer a o.answer
   pub turn : TurnsAt g h d o held floor (posted_by a)
+
+-- so it is, and this is what the house has of the directory then (own)
+pub record IsTakenAs (g : model.Cell) (h d : ℕ) (o : Outcome) (a : Accepted) (new : DirState) (floor : ℕ) : Type 0 where
+  pub held : Held
+  pub taken : IsTaken g h d o a held floor
+  pub is : new ≡ state.Held held
+
+-- so it is, and the directories are the same but for that one (own)
+pub record IsTakenIn (g : model.Cell) (h d : ℕ) (o : Outcome) (a : Accepted) (old new : FinMap dir_cmp DirState) (floor : ℕ) : Type 0 where
+  pub held : Held
+  pub taken : IsTaken g h d o a held floor
+  pub kept : new ≡ insert old (record { 0 = d }) (state.Held held)
+
+-- the house has nothing of the directory, or has left it (own)
+abbrev pub IsNotHeld : Option DirState → Type 0
+IsNotHeld None = Unit {0}
+IsNotHeld (Some (state.Gone e)) = Unit {0}
+IsNotHeld (Some (state.Held h)) = ⊥

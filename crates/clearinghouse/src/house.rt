@@ -4,7 +4,7 @@ ghost use Rattle.std.specs.FinMap as map;
 ghost use Rattle.directory.specs.Updates.{change_of};
 ghost use Rattle.cell_model.specs.Cells as model;
 ghost use Rattle.cell_model.specs.Steps.{accept};
-ghost use Rattle.clearinghouse.specs.Standing.{IfRefused, IsAnswer, IsTurn, StandsHouse, posted_by};
+ghost use Rattle.clearinghouse.specs.Standing.{IfRefused, IsAccepted, StandsHouse};
 
 use crate::posted::{PostedList, post_to_others};
 use crate::states::{DirState, DirStates, Held};
@@ -63,15 +63,13 @@ impl Clearinghouse {
         ensures house { self.new.house ≡ self.old.house }
         ensures node { self.new.node ≡ self.old.node }
         ensures refused { IfOk result (λ a. IfRefused a (self.new ≡ self.old)) }
+        ensures turn { (g : model.Cell) → StandsHouse self.old (g.house self.old.house.0) → (g.house self.old.house.0).clock ≡ clock → IfOk result (λ a. IsAccepted g (accept g self.old.house.0 dir.0 (change_of update.now) ((g.house self.old.house.0).slots dir.0)) self.new a) }
     {
         let by = Acceptor {
             house: self.house,
             node: self.node,
             clock,
         };
-        match self.dirs.states.get_mut(&dir) {
-            Some(DirState::Held(held)) => held.accept(alloc, dir, by, &mut self.floor, update),
-            _ => Ok(Accepted::Refused(UpdateRefusal::NoReplica)),
-        }
+        self.dirs.accept(alloc, dir, by, &mut self.floor, update)
     }
 }

@@ -1,15 +1,20 @@
 // Updates of a directory at its master.
-ghost use Rattle.std.specs.Prelude.{◌≡◌, ◌<◌, ℕ, None, IfOk, OnOk};
+ghost use Rattle.std.specs.Prelude.{◌≡◌, ◌<◌, ℕ, None, Some, IfOk};
 ghost use Rattle.cds_stamps.specs.Members.{is_accepting, members_of, others_of};
 ghost use Rattle.directory.specs.Updates.{change_of, changed_name};
 ghost use Rattle.directory.specs.Shown.{shown, shown_in, refusal_of, marks_of};
 ghost use Rattle.cell_model.specs.Cells as model;
 ghost use Rattle.cell_model.specs.Steps.{accept, accept_at, stamp_at};
 ghost use Rattle.clearinghouse.specs.Standing.{IfRefused, StandsHeld};
-ghost use Rattle.clearinghouse.specs.Turns.{ActsAt, AddsMarks, IsTaken};
+ghost use Rattle.clearinghouse.specs.Turns.{ActsAt, AddsMarks, IsTaken, IsTakenAs, IsTakenIn, IsNotHeld};
+ghost use Rattle.clearinghouse.specs.declared.states.Held as held;
+ghost use Rattle.clearinghouse.specs.declared.states.DirState.TheVariants as state;
+ghost use Rattle.clearinghouse.specs.declared.updates.Accepted.TheVariants as accepted;
+ghost use Rattle.directory.specs.declared.update.UpdateRefusal.TheVariants as why;
+ghost use Rattle.std.specs.FinMap as map;
 
 use crate::posted::{PostedList, post_to_others};
-use crate::states::Held;
+use crate::states::{DirState, DirStates, Held};
 use cds_records::{Body, Message};
 use cds_stamps::{DirId, Floor, HouseNo, MemberKind, Node, Stamp};
 use directory::{Update, UpdateRefusal};
@@ -29,6 +34,50 @@ pub(crate) struct Acceptor {
     pub(crate) house: HouseNo,
     pub(crate) node: Node,
     pub(crate) clock: u64,
+}
+
+impl DirStates {
+    /// Takes an update of a directory that is held, or refuses it.
+    pub(crate) fn accept(
+        &mut self,
+        alloc: Global,
+        dir: DirId,
+        by: Acceptor,
+        floor: &mut Floor,
+        update: &Update,
+    ) -> Result<Accepted, AllocError>
+        ensures refused { IfOk result (λ a. IfRefused a (self.new ≡ self.old)) }
+        ensures floor { IfOk result (λ a. IfRefused a (floor.new ≡ floor.old)) }
+        ensures held { (g : model.Cell) (r : model.Replica) (held : held.Held) → map.get self.old dir ≡ Some (state.Held held) → StandsHeld floor.old.time held r → ActsAt g by floor.old.time dir.0 r → IfOk result (λ a. IsTakenIn g by.house.0 dir.0 (accept g by.house.0 dir.0 (change_of update.now) (model.Held r)) a self.old self.new floor.new.time) }
+        ensures not_held { IsNotHeld (map.get self.old dir) → IfOk result (λ a. a ≡ accepted.Refused why.NoReplica) }
+    {
+        match self.states.get_mut(&dir) {
+            Some(state) => state.accept(alloc, dir, by, floor, update),
+            None => Ok(Accepted::Refused(UpdateRefusal::NoReplica)),
+        }
+    }
+}
+
+impl DirState {
+    /// Takes an update of the directory, if it is held, or refuses it.
+    fn accept(
+        &mut self,
+        alloc: Global,
+        dir: DirId,
+        by: Acceptor,
+        floor: &mut Floor,
+        update: &Update,
+    ) -> Result<Accepted, AllocError>
+        ensures refused { IfOk result (λ a. IfRefused a (self.new ≡ self.old)) }
+        ensures floor { IfOk result (λ a. IfRefused a (floor.new ≡ floor.old)) }
+        ensures held { (g : model.Cell) (r : model.Replica) (held : held.Held) → self.old ≡ state.Held held → StandsHeld floor.old.time held r → ActsAt g by floor.old.time dir.0 r → IfOk result (λ a. IsTakenAs g by.house.0 dir.0 (accept g by.house.0 dir.0 (change_of update.now) (model.Held r)) a self.new floor.new.time) }
+        ensures not_held { IsNotHeld (Some self.old) → IfOk result (λ a. a ≡ accepted.Refused why.NoReplica) }
+    {
+        match self {
+            DirState::Held(held) => held.accept(alloc, dir, by, floor, update),
+            DirState::Gone(_) => Ok(Accepted::Refused(UpdateRefusal::NoReplica)),
+        }
+    }
 }
 
 impl Held {
