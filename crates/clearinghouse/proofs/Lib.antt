@@ -3,3 +3,4 @@ pub mod Posts
 pub mod Turning
 pub mod Accepting
 pub mod Maps
+pub mod Houses

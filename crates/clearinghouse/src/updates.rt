@@ -1,5 +1,5 @@
 // Updates of a directory at its master.
-ghost use Rattle.std.specs.Prelude.{◌≡◌, ◌<◌, ℕ, None, Some, IfOk};
+ghost use Rattle.std.specs.Prelude.{◌≡◌, ◌<◌, ◌≤◌, ℕ, None, Some, IfOk};
 ghost use Rattle.cds_stamps.specs.Members.{is_accepting, members_of, others_of};
 ghost use Rattle.directory.specs.Updates.{change_of, changed_name};
 ghost use Rattle.directory.specs.Shown.{shown, shown_in, refusal_of, marks_of};
@@ -48,6 +48,7 @@ impl DirStates {
     ) -> Result<Accepted, AllocError>
         ensures refused { IfOk result (λ a. IfRefused a (self.new ≡ self.old)) }
         ensures floor { IfOk result (λ a. IfRefused a (floor.new ≡ floor.old)) }
+        ensures rises { floor.old.time ≤ floor.new.time }
         ensures held { (g : model.Cell) (r : model.Replica) (held : held.Held) → map.get self.old dir ≡ Some (state.Held held) → StandsHeld floor.old.time held r → ActsAt g by floor.old.time dir.0 r → IfOk result (λ a. IsTakenIn g by.house.0 dir.0 (accept g by.house.0 dir.0 (change_of update.now) (model.Held r)) a self.old self.new floor.new.time) }
         ensures not_held { IsNotHeld (map.get self.old dir) → IfOk result (λ a. a ≡ accepted.Refused why.NoReplica) }
     {
@@ -70,6 +71,7 @@ impl DirState {
     ) -> Result<Accepted, AllocError>
         ensures refused { IfOk result (λ a. IfRefused a (self.new ≡ self.old)) }
         ensures floor { IfOk result (λ a. IfRefused a (floor.new ≡ floor.old)) }
+        ensures rises { floor.old.time ≤ floor.new.time }
         ensures held { (g : model.Cell) (r : model.Replica) (held : held.Held) → self.old ≡ state.Held held → StandsHeld floor.old.time held r → ActsAt g by floor.old.time dir.0 r → IfOk result (λ a. IsTakenAs g by.house.0 dir.0 (accept g by.house.0 dir.0 (change_of update.now) (model.Held r)) a self.new floor.new.time) }
         ensures not_held { IsNotHeld (Some self.old) → IfOk result (λ a. a ≡ accepted.Refused why.NoReplica) }
     {
@@ -92,6 +94,7 @@ impl Held {
     ) -> Result<Accepted, AllocError>
         ensures refused { IfOk result (λ a. IfRefused a (self.new ≡ self.old)) }
         ensures floor { IfOk result (λ a. IfRefused a (floor.new ≡ floor.old)) }
+        ensures rises { floor.old.time ≤ floor.new.time }
         ensures turn { (g : model.Cell) (r : model.Replica) → StandsHeld floor.old.time self.old r → ActsAt g by floor.old.time dir.0 r → IfOk result (λ a. IsTaken g by.house.0 dir.0 (accept g by.house.0 dir.0 (change_of update.now) (model.Held r)) a self.new floor.new.time) }
     {
         if !self.is_master(by.house) {
@@ -123,6 +126,7 @@ impl Held {
         requires { refusal_of (shown_in self.old.replica.table (changed_name (change_of update.now))) (change_of update.now) ≡ None }
         ensures refused { IfOk result (λ a. IfRefused a (self.new ≡ self.old)) }
         ensures floor { IfOk result (λ a. IfRefused a (floor.new ≡ floor.old)) }
+        ensures rises { floor.old.time ≤ floor.new.time }
         ensures turn { (g : model.Cell) (r : model.Replica) → StandsHeld floor.old.time self.old r → ActsAt g by floor.old.time dir.0 r → IfOk result (λ a. IsTaken g by.house.0 dir.0 (accept_at g by.house.0 dir.0 (change_of update.now) r (stamp_at (g.house by.house.0))) a self.new floor.new.time) }
     {
         match floor.issue(by.clock, by.node) {
