@@ -1,8 +1,9 @@
 -- A clearinghouse after an update.
-use Rattle.std.proofs.Common.{◌≡◌, ℕ, ◌≤◌, Bool, true, false, cond, List, [], ◌++◌, Option, Some, None, Result, Ok, Err, refl, sym, ap, subst, ◌∙◌, append-nil, arith}
+use Rattle.std.proofs.Common.{◌≡◌, ℕ, ◌≤◌, Bool, true, false, cond, List, [], Option, Some, None, Result, Ok, Err, refl, sym, ap, subst, ◌∙◌, append-nil, arith}
 use Rattle.std.specs.Prelude.{◌==◌, IfOk}
 use Rattle.std.specs.FinMap.{FinMap, get, insert, get-insert}
 use Rattle.std.specs.Ordering.{eq_by_cmp}
+use Rattle.attr_sets.proofs.Greatest.{Contains-none}
 use Rattle.std.proofs.lemmas.Bool.Decides.{nat_tests}
 use Rattle.std.specs.declared.alloc.AllocError.{AllocError}
 use Rattle.cds_stamps.specs.declared.numbers.DirId.{DirId}
@@ -13,7 +14,7 @@ use Rattle.directory.specs.declared.update.UpdateRefusal.TheVariants as why
 use Rattle.cds_records.specs.Dirs.{dir_cmp, dir_total}
 use Rattle.cell_model.specs.Cells as model
 use Rattle.cell_model.specs.Commands as command
-use Rattle.cell_model.specs.Steps.{Outcome, accept, refused}
+use Rattle.cell_model.specs.Steps.{Outcome, accept, refused, first_replica, first_joins, to_each, copy_of}
 use Rattle.clearinghouse.specs.declared.states.DirState.{DirState}
 use Rattle.clearinghouse.specs.declared.states.DirState.TheVariants as state
 use Rattle.clearinghouse.specs.declared.states.Held.{Held}
@@ -22,9 +23,16 @@ use Rattle.clearinghouse.specs.declared.updates.Accepted.{Accepted}
 use Rattle.clearinghouse.specs.declared.updates.Accepted.TheVariants as accepted
 use Rattle.clearinghouse.specs.declared.updates.Acceptor.{Acceptor}
 use Rattle.clearinghouse.specs.declared.posted.Posted.{Posted}
-use Rattle.clearinghouse.specs.Standing.{StandsHeld, StandsSlot, StandsHouse, IsTurn, IsAnswer, IsAccepted, IfRefused, posted_by}
+use Rattle.clearinghouse.specs.Standing.{StandsHeld, StandsSlot, StandsHouse, IsTurn, IsAccepted, IfRefused, posted_by, founds}
 use Rattle.clearinghouse.specs.Turns.{TurnsAt, ActsAt, IsTakenIn, IsNotHeld}
-use Rattle.clearinghouse.proofs.Turning.{below_later}
+use Rattle.cds_stamps.specs.declared.members.Member as declared
+use Rattle.cds_stamps.specs.Members.{members_of, others_of}
+use Rattle.purge_rule.specs.Replicas.{replica_of}
+use Rattle.cds_records.specs.declared.message.Message.{Message}
+use Rattle.cds_records.specs.declared.message.Body.TheVariants as body
+use Rattle.clearinghouse.specs.Posting.{posts_to, StandEach}
+use Rattle.clearinghouse.proofs.Posts.{each_stands}
+use Rattle.clearinghouse.proofs.Turning.{below_later, founded_turn}
 
 -- what stands for a slot does so with a later floor
 slot_later : (a b : ℕ) (o : Option DirState) (s : model.Slot) → a ≤ b → StandsSlot a o s → StandsSlot b o s
@@ -112,3 +120,38 @@ module _ (c : Clearinghouse) (g : model.Cell) (dir : DirId) (u : Change) (by : A
       by_slot (Some (state.Gone e)) (model.Held r) is here h = elim h [ ]
       by_slot (Some (state.Held x)) model.Absent is here h = elim h [ ]
       by_slot (Some (state.Held x)) (model.Gone k) is here h = elim h [ ]
+
+-- ---- a new directory
+
+first_stands : (floor : ℕ) (ms : List declared.Member) → StandsHeld floor (record { epoch = record { 0 = 1 }; members = ms; replica = replica_of [] None }) (first_replica (members_of ms))
+first_stands floor ms = record {
+  epoch = refl;
+  members = refl;
+  replica = refl;
+  phase = refl;
+  history = record { births = tt; ordered = tt; kinds = λ n c j k i i'. absurd (Contains-none _ i) };
+  below = record { marks = λ k i. elim i [ ]; all_up_to = λ t e. absurd (cc); phase = λ t e. absurd (cc) };
+}
+
+pub house_founds : (c : Clearinghouse) (g : model.Cell) (dir : DirId) (ms : List declared.Member) (m : Message) (held : Held) (new : FinMap dir_cmp DirState) (posted : List Posted) → StandsHouse c (g.house c.house.0)
+    → m ≡ record { dir = dir; from = c.house; epoch = record { 0 = 1 }; floor = c.floor.time; body = body.Join ms (replica_of [] None) } → posted ≡ posts_to (others_of m.from.0 (members_of ms)) m
+    → held ≡ record { epoch = record { 0 = 1 }; members = ms; replica = replica_of [] None } → new ≡ insert c.dirs dir (state.Held held)
+    → IsTurn g (founds g dir.0 c.house.0 (members_of ms)) (record { house = c.house; node = c.node; floor = c.floor; dirs = new }) posted
+house_founds c g dir ms m held new posted stands message posts is kept =
+    house_turns c g dir.0 _ held c.floor new posted stands (omega arith) kept
+    (founded_turn g c.house.0 dir.0 c.floor.time (members_of ms) held posted stands.floor (subst (λ h. StandsHeld c.floor.time h (first_replica (members_of ms))) (sym is) (first_stands c.floor.time ms)) each)
+  where
+    join : Message
+    join = record { dir = dir; from = c.house; epoch = record { 0 = 1 }; floor = c.floor.time; body = body.Join ms (replica_of [] None) }
+
+    houses : List ℕ
+    houses = others_of c.house.0 (members_of ms)
+
+    all : posted ≡ posts_to houses join
+    all = posts ∙ ap (λ (n : Message). posts_to (others_of n.from.0 (members_of ms)) n) message
+
+    each : StandEach posted (first_joins g dir.0 c.house.0 (members_of ms))
+    each =
+        subst (λ ps. StandEach ps (first_joins g dir.0 c.house.0 (members_of ms))) (sym all)
+        (subst (λ f. StandEach (posts_to houses join) (to_each houses dir.0 c.house.0 1 f (model.Join (members_of ms) (copy_of (first_replica (members_of ms)))))) (sym stands.floor)
+        (each_stands join (model.Join (members_of ms) (copy_of (first_replica (members_of ms)))) houses (refl, refl)))

@@ -1,5 +1,5 @@
 -- Directories of a house after one was written, and results.
-use Rattle.std.proofs.Common.{◌≡◌, ℕ, Bool, cond, List, Option, Some, None, Result, Ok, Err, refl, sym, ap, ◌∙◌}
+use Rattle.std.proofs.Common.{◌≡◌, cond, List, Some, Result, Ok, Err, sym, ap, ◌∙◌}
 use Rattle.std.specs.Prelude.{IfOk}
 use Rattle.std.specs.FinMap.{FinMap, get, insert, from_entries}
 use Rattle.std.specs.BTreeMap.{is_at}

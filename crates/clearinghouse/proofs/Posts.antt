@@ -1,6 +1,6 @@
 -- Messages posted to the other members.
-use Rattle.std.proofs.Common.{◌≡◌, ℕ, Bool, true, false, cond, List, [], ◌∷◌, ◌++◌, refl, sym, ap, subst, ◌∙◌, append_assoc, append-nil}
-use Rattle.std.specs.Prelude.{◌==◌, map}
+use Rattle.std.proofs.Common.{◌≡◌, ℕ, true, false, cond, List, [], ◌∷◌, ◌++◌, refl, sym, ap, ◌∙◌, append_assoc, append-nil}
+use Rattle.std.specs.Prelude.{◌==◌}
 use Rattle.cds_stamps.specs.declared.members.Member.{Member}
 use Rattle.cds_stamps.specs.Members.{members_of, others_of}
 use Rattle.cds_records.specs.declared.message.Message.{Message}

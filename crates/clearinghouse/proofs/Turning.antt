@@ -1,21 +1,16 @@
 -- Steps of the model at a house, by what they change.
-use Rattle.std.proofs.Common.{◌≡◌, ℕ, ◌<◌, ◌≤◌, Bool, true, false, cond, List, [], ◌∷◌, ◌++◌, Option, Some, None, refl, sym, ap, subst, ◌∙◌, append-nil, arith, inl, inr, ⊎_elim}
-use Rattle.std.specs.Prelude.{◌==◌, ◌⊎◌, if◌then◌else◌}
-use Rattle.std.specs.List.{Contains}
-use Rattle.std.specs.Option.{option_map}
-use Rattle.cds_stamps.specs.declared.stamp.Stamp.{Stamp}
-use Rattle.cds_stamps.specs.Stamps.{is_earlier, is_up_to, next_stamp}
-use Rattle.directory.specs.Histories.{Mark, IsHistory, stamp_in, up_to}
+use Rattle.std.proofs.Common.{◌≡◌, ℕ, ◌≤◌, true, false, cond, List, [], refl, sym, ap, ◌∙◌, append-nil, arith}
+use Rattle.std.specs.Prelude.{◌==◌}
 use Rattle.cell_model.specs.Cells as model
 use Rattle.cell_model.specs.Cells.{put}
 use Rattle.cell_model.specs.Commands as command
 use Rattle.cell_model.specs.Floors.{ReplicaBelow}
-use Rattle.cell_model.specs.Sets.{In}
-use Rattle.cell_model.specs.Steps.{Outcome, moved, holding, refused}
+use Rattle.cds_stamps.specs.Members.{Member}
+use Rattle.cell_model.specs.Steps.{moved, holding, refused, first_replica, first_joins}
 use Rattle.clearinghouse.specs.declared.states.Held.{Held}
 use Rattle.clearinghouse.specs.declared.posted.Posted.{Posted}
 use Rattle.clearinghouse.specs.Posting.{StandEach}
-use Rattle.clearinghouse.specs.Standing.{StandsHeld}
+use Rattle.clearinghouse.specs.Standing.{StandsHeld, founds}
 use Rattle.clearinghouse.specs.Turns.{TurnsAt}
 
 same_number : (n : ℕ) → (n == n) ≡ true
@@ -66,3 +61,19 @@ below_later r a b le h = record {
   all_up_to = λ t e. omega (arith, h.all_up_to t e);
   phase = λ t e. omega (arith, h.phase t e);
 }
+
+-- a new directory at its master
+pub founded_turn : (g : model.Cell) (h d floor : ℕ) (ms : List Member) (held : Held) (posted : List Posted) → (g.house h).floor ≡ floor → StandsHeld floor held (first_replica ms) → StandEach posted (first_joins g d h ms) → TurnsAt g h d (founds g d h ms) held floor posted
+founded_turn g h d floor ms held posted is stands each =
+    let house = put_here g.house h (holding (g.house h) d (g.house h).floor (model.Held (first_replica ms))) in record {
+      up = ap (λ (x : model.House). x.up) house;
+      node = ap (λ (x : model.House). x.node) house;
+      raised = ap (λ (x : model.House). x.floor) house ∙ is;
+      replica = first_replica ms;
+      here = ap (λ (x : model.House). x.slots d) house ∙ put_here (g.house h).slots d (model.Held (first_replica ms));
+      stands = stands;
+      others = λ e other. ap (λ (x : model.House). x.slots e) house ∙ put_elsewhere (g.house h).slots d e (model.Held (first_replica ms)) other;
+      posts = first_joins g d h ms;
+      bag = refl;
+      each = each;
+    }

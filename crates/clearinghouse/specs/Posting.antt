@@ -1,6 +1,5 @@
 -- Messages that houses post, and which messages of the model they stand for (own, after C705, updates, skulks and new epochs).
 use Rattle.std.specs.Prelude.{◌≡◌, ℕ, List, [], ◌∷◌, map}
-use Rattle.cds_stamps.specs.declared.members.Member.{Member}
 use Rattle.cds_stamps.specs.Members.{members_of}
 use Rattle.cds_records.specs.declared.message.Message.{Message}
 use Rattle.cds_records.specs.declared.message.Body.{Body}

@@ -7,7 +7,8 @@ use Rattle.purge_rule.specs.Replicas.{replica_of}
 use Rattle.cell_model.specs.Cells as model
 use Rattle.cell_model.specs.Commands as command
 use Rattle.cell_model.specs.Floors.{ReplicaBelow}
-use Rattle.cell_model.specs.Steps.{Outcome}
+use Rattle.cds_stamps.specs.Members.{Member}
+use Rattle.cell_model.specs.Steps.{Outcome, stays, founded}
 use Rattle.clearinghouse.specs.declared.states.Held.{Held}
 use Rattle.clearinghouse.specs.declared.states.DirState.{DirState}
 use Rattle.clearinghouse.specs.declared.states.DirState.TheVariants as state
@@ -68,3 +69,7 @@ IfRefused (accepted.Refused r) P = P
 pub record IsAccepted (g : model.Cell) (o : Outcome) (c : Clearinghouse) (a : Accepted) : Type 0 where
   pub answer : IsAnswer a o.answer
   pub turn : IsTurn g o c (posted_by a)
+
+-- a new directory at its master (own, after C705, creating a directory)
+abbrev pub founds : model.Cell → (d m : ℕ) → List Member → Outcome
+founds g d m ms = stays (founded g d m ms) command.Done

@@ -1,6 +1,6 @@
 -- What tells apart what houses have of directories (own).
 use Rattle.std.specs.Prelude.{◌≡◌, ℕ, ◌⊎◌, List, refl}
-use Rattle.std.proofs.Common.{inl, inr, sym, ap, ◌∙◌}
+use Rattle.std.proofs.Common.{inl, inr}
 use Rattle.std.specs.Coded.{Coded, code_by, coded×, coded⊎, coded_ℕ, coded_list}
 use Rattle.cds_stamps.specs.declared.members.Member.{Member}
 use Rattle.cds_stamps.specs.declared.stamp.Stamp.{Stamp}
@@ -9,7 +9,6 @@ use Rattle.cds_stamps.specs.Octets.{octets_code}
 use Rattle.directory.specs.declared.entry.EntryCell.{EntryCell}
 use Rattle.directory.specs.Entries.{entry_code}
 use Rattle.purge_rule.specs.declared.replica.Replica.{Replica}
-use Rattle.cds_records.specs.declared.message.Message.{Message}
 use Rattle.cds_records.specs.declared.message.Body.{Body}
 use Rattle.cds_records.specs.declared.message.Body.TheVariants.{Update, Gather, Gathered, Spread, SpreadAck, Advance, Join, Leave}
 use Rattle.cds_records.specs.DirCodes.{member_code, replica_code}

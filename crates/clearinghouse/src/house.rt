@@ -1,17 +1,20 @@
 // A clearinghouse and its calls.
-ghost use Rattle.std.specs.Prelude.{◌≡◌, ℕ, None, IfOk, option_copied};
+ghost use Rattle.std.specs.Prelude.{◌≡◌, ℕ, None, [], IfOk, option_copied};
 ghost use Rattle.std.specs.FinMap as map;
 ghost use Rattle.directory.specs.Updates.{change_of};
 ghost use Rattle.cell_model.specs.Cells as model;
 ghost use Rattle.cell_model.specs.Steps.{accept};
-ghost use Rattle.clearinghouse.specs.Standing.{IfRefused, IsAccepted, StandsHouse};
+ghost use Rattle.cds_stamps.specs.Members.{master_of, members_of};
+ghost use Rattle.purge_rule.specs.Replicas.{replica_of};
+ghost use Rattle.cds_records.specs.declared.message.Body.TheVariants as body;
+ghost use Rattle.clearinghouse.specs.Standing.{IfRefused, IsAccepted, IsTurn, StandsHouse, founds};
 
 use crate::posted::{PostedList, post_to_others};
 use crate::states::{DirState, DirStates, Held};
 use crate::updates::{Accepted, Acceptor};
 use cds_records::{Body, Message};
 use cds_stamps::{DirId, EpochNo, Floor, HouseNo, Members, Node};
-use directory::{Table, Update, UpdateRefusal};
+use directory::{Table, Update};
 use purge_rule::Replica;
 use std::alloc::{AllocError, Global};
 
@@ -51,6 +54,47 @@ impl Clearinghouse {
         self.floor.time
     }
 
+    /// Makes a directory of which it is the master: in epoch 1, with a replica that is empty. It posts Joins to the other
+    /// members.
+    pub fn create_directory(
+        &mut self,
+        alloc: Global,
+        dir: DirId,
+        members: &Members,
+    ) -> Result<PostedList, AllocError>
+        requires absent { map.get self.old.dirs dir ≡ None }
+        requires master { master_of (members_of members.now) ≡ self.old.house.0 }
+        ensures house { self.new.house ≡ self.old.house }
+        ensures node { self.new.node ≡ self.old.node }
+        ensures floor { self.new.floor ≡ self.old.floor }
+        ensures turn { (g : model.Cell) → StandsHouse self.old (g.house self.old.house.0) → IfOk result (λ posted. IsTurn g (founds g dir.0 self.old.house.0 (members_of members.now)) self.new posted) }
+    {
+        let message = self.first_join(alloc, dir, members)?;
+        let posted = post_to_others(alloc, members, &message)?;
+        let held = first_held(alloc, members)?;
+        self.dirs.insert(dir, DirState::Held(held))?;
+        Ok(posted)
+    }
+
+    /// The Join of a new directory.
+    fn first_join(
+        &self,
+        alloc: Global,
+        dir: DirId,
+        members: &Members,
+    ) -> Result<Message, AllocError>
+        ensures { IfOk result (λ m. m ≡ record { dir = dir; from = self.now.house; epoch = record { 0 = 1 }; floor = self.now.floor.time; body = body.Join members.now (replica_of [] None) }) }
+    {
+        let floor = self.floor.time;
+        Ok(Message {
+            dir,
+            from: self.house,
+            epoch: EpochNo(1),
+            floor,
+            body: Body::Join(members.copy(alloc)?, first_replica(alloc)),
+        })
+    }
+
     /// Takes an update of a directory, stamps it, and posts it to each other member. Or refuses it, and then nothing is
     /// changed: where it holds no replica, where it is not the master, as the table refuses it, and where no stamp is left.
     pub fn accept(
@@ -71,5 +115,26 @@ impl Clearinghouse {
             clock,
         };
         self.dirs.accept(alloc, dir, by, &mut self.floor, update)
+    }
+}
+
+/// What the master of a new directory holds.
+fn first_held(alloc: Global, members: &Members) -> Result<Held, AllocError>
+    ensures { IfOk result (λ h. h ≡ record { epoch = record { 0 = 1 }; members = members.now; replica = replica_of [] None }) }
+{
+    Ok(Held {
+        epoch: EpochNo(1),
+        members: members.copy(alloc)?,
+        replica: first_replica(alloc),
+    })
+}
+
+/// The replica without entries and AllUpTo.
+fn first_replica(alloc: Global) -> Replica
+    ensures { result ≡ replica_of [] None }
+{
+    Replica {
+        table: Table::new(alloc),
+        all_up_to: None,
     }
 }

@@ -1,10 +1,9 @@
-use Rattle.std.proofs.Common.{refl, sym, ap, subst, ◌∙◌, Some, None}
+use Rattle.std.proofs.Common.{refl, sym, ap, subst, ◌∙◌, Some}
 use Rattle.std.specs.FinMap as map
 use Rattle.std.specs.BTreeMap.{is_at}
 use Rattle.std.proofs.lemmas.Map.Steps.{set_value_same}
 use Rattle.cds_records.specs.Dirs.{dir_cmp}
 use Rattle.clearinghouse.specs.Turns.{IsNotHeld}
-use Rattle.clearinghouse.specs.declared.states.DirState.TheVariants as state
 use Rattle.clearinghouse.proofs.Maps.{written, found, if_ok_map, refused_map, some_is}
 use Rattle.clearinghouse.proofs.states.DirStates.accept.Goals.{in-Some, in-None}
 use Rattle.clearinghouse.proofs.states.DirStates.accept.Goals as goal

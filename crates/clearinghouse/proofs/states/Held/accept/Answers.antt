@@ -1,4 +1,4 @@
-use Rattle.std.proofs.Common.{◌≡◌, sym, refl, None, Some, ◌∙◌, ap}
+use Rattle.std.proofs.Common.{sym, None, Some}
 use Rattle.cds_stamps.proofs.OutcomeLaws.{ok_unless-Ok, ok_unless-Err}
 use Rattle.directory.specs.Updates.{change_of}
 use Rattle.clearinghouse.proofs.Accepting.{its_refusal, refused_as}

@@ -1,6 +1,5 @@
 use Rattle.std.proofs.Common.{◌∙◌, rules, tests, ap}
 use Rattle.std.specs.Prelude.{◌&&◌, ◌==◌}
-use Rattle.std.specs.List.{list_any}
 use Rattle.std.proofs.lemmas.Iterator.Search.{any_from_yields_List}
 use Rattle.std.proofs.lemmas.Iterator.{YieldsList-from_slice}
 use Rattle.cds_stamps.specs.declared.members.Member.{Member}
