@@ -21,7 +21,7 @@ use std::alloc::{AllocError, Global};
 /// A clearinghouse: who it is, the floor of its stamps, and what it has of directories.
 #[derive(Drop)]
 pub struct Clearinghouse {
-    house: HouseNo,
+    pub(crate) house: HouseNo,
     node: Node,
     floor: Floor,
     dirs: DirStates,

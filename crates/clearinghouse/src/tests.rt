@@ -70,6 +70,24 @@ fn second(alloc: Global) -> Option<Clearinghouse> {
     Some(Clearinghouse::new(alloc, HouseNo(2), node))
 }
 
+// Makes the root with these members, if it is their master and has no root.
+fn make_root(alloc: Global, house: &mut Clearinghouse) -> Result<Option<PostedList>, Fail> {
+    let members = members(alloc)?;
+    if members.master() != house.house || house.state(ROOT).is_some() {
+        return Ok(None);
+    }
+    let posted = house.create_directory(alloc, ROOT, &members)?;
+    Ok(Some(posted))
+}
+
+// Whether the two other members are told to join.
+fn tells_of_a_join(posted: &Option<PostedList>) -> bool {
+    match posted {
+        Some(posted) => goes_to_the_others(posted, 0, 7),
+        None => false,
+    }
+}
+
 #[test]
 fn the_others_join_a_new_directory_and_are_told_of_its_updates(
     rt: HostRuntime,
@@ -83,9 +101,8 @@ fn the_others_join_a_new_directory_and_are_told_of_its_updates(
     assert!(rt; house.state(ROOT).is_none());
     let absent = tell(alloc, &mut house, 5, b"e")?;
     assert_eq!(rt; absent, Told::Refused(UpdateRefusal::NoReplica));
-    let members = members(alloc)?;
-    let posted = house.create_directory(alloc, ROOT, &members)?;
-    assert!(rt; goes_to_the_others(&posted, 0, 7));
+    let posted = make_root(alloc, &mut house)?;
+    assert!(rt; tells_of_a_join(&posted));
     assert!(rt; house.state(ROOT).is_some());
     let rows: [(u64, &[u8], Told); 5] = [
         (0, b"e", Told::Stamped(1, true)),
