@@ -1,5 +1,5 @@
 -- Rounds: what an answer leaves, and what each phase keeps.
-use Rattle.std.proofs.Common.{◌≡◌, ℕ, zero, suc, ◌<◌, ◌≤◌, Bool, true, false, ◌&&◌, ◌||◌, ◌==◌, nat_eq, MatchBool, ◌⊎◌, inl, inr, refl, sym, ap, subst, ◌∙◌, arith}
+use Rattle.std.proofs.Common.{◌≡◌, ℕ, zero, suc, ◌<◌, Bool, true, false, ◌&&◌, ◌||◌, ◌==◌, nat_eq, MatchBool, refl, sym, ap, subst, ◌∙◌, arith}
 use Rattle.std.specs.Ordering.{is_eq}
 use Rattle.std.specs.Cmp.{tied_itself}
 use Rattle.std.proofs.lemmas.Bool.{and_parts, eqb-true}
@@ -10,8 +10,8 @@ use Rattle.skulk_core.specs.declared.skulk.Skulk.{Skulk}
 use Rattle.skulk_core.specs.declared.skulk.Skulk.TheVariants.{Idle, Gathering, Spreading}
 use Rattle.skulk_core.specs.declared.skulk.Next.TheVariants.{Nothing, SendSpread, Complete}
 use Rattle.skulk_core.specs.Places.{is_answered, each_place}
-use Rattle.skulk_core.specs.Rounds.{only, also, Gathers, Spreads, TakesGathered, TakesSpread, IsRound, IsPhaseOf}
-use Rattle.skulk_core.proofs.Masks.{same_place, other_place, each_place-same, each_place-false, at_each_place, each_place-from}
+use Rattle.skulk_core.specs.Rounds.{also, TakesGathered, TakesSpread, IsRound, IsPhaseOf}
+use Rattle.skulk_core.proofs.Masks.{same_place, other_place, each_place-same, each_place-false, each_place-from}
 
 -- ---- cases
 
