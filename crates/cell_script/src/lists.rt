@@ -143,6 +143,22 @@ impl Model for Octets {
 }
 
 impl Octets {
+    /// No octet. Takes no memory.
+    pub fn new(alloc: Global) -> Octets
+        ensures { result ≡ [] }
+    {
+        Octets {
+            items: Vec::new(alloc),
+        }
+    }
+
+    pub fn push(&mut self, octet: u8) -> Result<(), AllocError>
+        ensures ok { OnOk result (self.new ≡ self.old ++ octet ∷ []) }
+        ensures err { OnErr result (self.new ≡ self.old) }
+    {
+        Ok(self.items.push(octet)?)
+    }
+
     /// The octets of a vector, in its order.
     pub fn of(items: Vec<u8>) -> Octets
         ensures { result ≡ items.items }

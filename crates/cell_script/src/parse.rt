@@ -77,8 +77,9 @@ fn said(alloc: Global, word: &[u8], words: &mut Words<'_>) -> Parsed<ScriptLine>
     Err(AllocOr::Fault(ParseFault::UnknownCommand(1)))
 }
 
-/// What a line says: a command, or nothing where it has no words or is a comment, which takes no memory. A fault tells the first word of no
-/// command; or else that there are too few or too many words; or else the first word that is not of its form.
+/// What a line says: a command, or nothing where it has no words or is a comment, which takes no memory. A fault tells the
+/// first word of no command; or else that there are too few or too many words; or else the first word that is not of its
+/// form.
 pub fn parse_line(alloc: Global, line: &[u8]) -> Result<Option<ScriptLine>, AllocOr<ParseFault>>
     ensures answer { Answers result (said_in (words_of line.now)) }
     ensures passed_over { said_in (words_of line.now) ≡ Ok None → result ≡ Ok None }

@@ -9,3 +9,4 @@ pub mod ChangeLaws
 pub mod Lookups
 pub mod FragmentLaws
 pub mod Leads
+pub mod Untouched

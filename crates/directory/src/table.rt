@@ -1,5 +1,5 @@
 // The table of a directory.
-ghost use Rattle.std.specs.Prelude.{◌≡◌, List, ℕ, [], ◌∷◌, Some, None, MatchOption, MatchBool, true, false, IsSome, IfOk, IfSome, OnOk, OnErr, if◌then◌else◌, option_copied};
+ghost use Rattle.std.specs.Prelude.{◌≡◌, ◌≢◌, List, ℕ, [], ◌∷◌, Some, None, MatchOption, MatchBool, true, false, IsSome, IfOk, IfSome, OnOk, OnErr, if◌then◌else◌, option_copied};
 ghost use Rattle.std.specs.FinMap as map;
 ghost use Rattle.std.specs.Option.{option_map};
 ghost use Rattle.cds_stamps.specs.Octets.{octets_cmp, is_octets};
@@ -316,6 +316,7 @@ impl Table {
     /// grows with the logarithm of the number of entries, attributes and values.
     pub fn join_entry(&mut self, alloc: Global, fragment: &Fragment) -> Result<(), AllocError>
         ensures ok { OnOk result (IfSome (map.get self.old fragment.now.name) IsValidEntry → IsValidEntry fragment.now.entry → RaisesAt join_entries self.old self.new fragment.now.name fragment.now.entry) }
+        ensures others { OnOk result ((q : List ℕ) → q ≢ fragment.now.name → map.get self.new q ≡ map.get self.old q) }
         ensures err { OnErr result (self.new ≡ self.old) }
     {
         self.join_one(alloc, &fragment.name, &fragment.entry)?;
@@ -333,6 +334,7 @@ impl Table {
         entry: &EntryCell,
     ) -> Result<(), AllocError>
         ensures ok { OnOk result (IfSome (map.get self.old name.now) IsValidEntry → IsValidEntry entry.now → RaisesAt join_entries self.old self.new name.now entry.now) }
+        ensures others { OnOk result ((q : List ℕ) → q ≢ name.now → map.get self.new q ≡ map.get self.old q) }
         ensures err { OnErr result (self.new ≡ self.old) }
     {
         let here = self.join_here(alloc, name, entry)?;
@@ -352,6 +354,7 @@ impl Table {
         entry: &EntryCell,
     ) -> Result<bool, AllocError>
         ensures ok { IfOk result (λ here. MatchBool here (IfSome (map.get self.old name.now) IsValidEntry → IsValidEntry entry.now → RaisesAt join_entries self.old self.new name.now entry.now) ((map.get self.old name.now ≡ None) × (self.new ≡ self.old))) }
+        ensures others { OnOk result ((q : List ℕ) → q ≢ name.now → map.get self.new q ≡ map.get self.old q) }
         ensures err { OnErr result (self.new ≡ self.old) }
     {
         match self.entries.get_mut(name) {

@@ -15,7 +15,7 @@ pub data Sight : Type 0 where
   Child : (house : ℕ) → (child : Pointer) → Sight
 
 -- what a reader tells: where the root directory is, if there is one; what is seen of a simple name in a directory; and
--- the values of an attribute that show of an entry, ascending (own)
+-- the values of an attribute that show of an entry (own)
 pub record Reader : Type 0 where
   pub root : Option Pointer
   pub sees : Pointer → List ℕ → Sight

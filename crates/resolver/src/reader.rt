@@ -28,7 +28,7 @@ pub trait EntryReader {
     ) -> Result<Seen, AllocError>
         ensures { IfOk result (λ seen. sight_of seen ≡ (tells self.now).sees (pointer_in at.now) name.now) };
 
-    /// The values of an attribute that show of an entry, ascending.
+    /// The values of an attribute that show of an entry, in the order in which the reader tells them.
     fn values(&self, alloc: Global, at: &Found, attr: &AttrName) -> Result<Vec<Value>, AllocError>
         ensures { IfOk result (λ found. found.items ≡ (tells self.now).values at.now attr.now) };
 }

@@ -1,5 +1,6 @@
 use Rattle.std.proofs.Common.{ap, ◌∙◌, sym, refl, Some}
 use Rattle.std.specs.FinMap as map
+use Rattle.directory.proofs.Untouched.{untouched}
 use Rattle.std.specs.BTreeMap.{is_at}
 use Rattle.std.specs.Cmp.Lexicographic.{nat_list_cmp_total}
 use Rattle.std.proofs.lemmas.Map.Steps.{set_value_same}
@@ -25,4 +26,14 @@ returns-clause-ok c = elim c.match-get_mut.branch [
       ((c.get_mut.follows.holds w.join.new.self).3 (rw (← w.in-Some.ensures.value) refl)).0)
   | in-None w ↦ rw (w.result-is, w.self-inside-is)
       (not_here nat_list_cmp_total octets_exact c.args.self.now c.self.inside.entries.entries c.get_mut.follows.lender-at-none.entries c.args.name.now c.self.view_is w.in-None.ensures.value (ap (λ m. m.entries) c.get_mut.follows.holds-at-none))
+]
+
+pub returns-clause-others : goal.returns-clause-others
+returns-clause-others c = elim c.match-get_mut.branch [
+  | in-Some+in_ok-join-in-Some w ↦ rw (w.result-is, w.self-inside-is)
+      (untouched nat_list_cmp_total octets_exact c.args.self.now c.self.inside.entries.entries (c.get_mut.follows.lender w.join.new.self).entries c.args.name.now w.join.new.self
+      c.self.view_is ((c.get_mut.follows.holds w.join.new.self).3 (rw (← w.in-Some.ensures.value) refl)).0)
+  | in-None w ↦ rw (w.result-is, w.self-inside-is)
+      (λ q _. ap (λ m. map.get m q)
+      (not_here nat_list_cmp_total octets_exact c.args.self.now c.self.inside.entries.entries c.get_mut.follows.lender-at-none.entries c.args.name.now c.self.view_is w.in-None.ensures.value (ap (λ m. m.entries) c.get_mut.follows.holds-at-none)).1)
 ]
