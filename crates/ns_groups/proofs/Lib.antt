@@ -1,0 +1,4 @@
+pub mod SpelledWalks
+pub mod Ascending
+pub mod MemberLaws
+pub mod GroupLaws

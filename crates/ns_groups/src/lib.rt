@@ -1,0 +1,11 @@
+//! Groups of the name service: entries whose values of one attribute spell the full names of their members.
+#![tactic(auto)]
+
+pub mod laws;
+mod member;
+#[cfg(test)]
+mod tests;
+mod updates;
+
+pub use member::{GroupFault, member_of, members};
+pub use updates::{add, delete};

@@ -1,0 +1,84 @@
+// The members of a group, as its values spell them.
+ghost use Rattle.std.specs.Prelude.{◌≡◌, ◌++◌, ◌∷◌, [], map, filter, IfOk, OnOk, IfSome, if◌then◌else◌};
+ghost use Rattle.cds_stamps.specs.Outcomes.{Answers, ok_unless};
+ghost use Rattle.cds_stamps.specs.declared.alloc_or.AllocOr.TheVariants.{Fault};
+ghost use Rattle.cell_names.specs.FullNames.{components_of, is_full_name};
+ghost use Rattle.ns_groups.specs.Groups.{member_fault, members_of};
+
+use attr_sets::Value;
+use cds_stamps::AllocOr;
+use cell_names::FullName;
+use std::alloc::{AllocError, Global};
+use thiserror::Error;
+
+/// Why a value spells no member, or a member is not deleted.
+#[derive(Clone, Copy, Debug, PartialEq, Eq, Drop, Error)]
+pub enum GroupFault {
+    #[error("the value is no full name")]
+    BadMemberValue,
+    #[error("the group has no such member")]
+    NoSuchMember,
+}
+
+/// The member that a value spells: BadMemberValue where its octets are no full name, and then no memory is asked for.
+pub fn member_of(alloc: Global, value: &Value) -> Result<FullName, AllocOr<GroupFault>>
+    ensures answer { Answers result (ok_unless (member_fault value.now) (components_of value.now)) }
+    ensures faulty { IfSome (member_fault value.now) (λ fault. result ≡ Err (Fault fault)) }
+{
+    match FullName::parse(alloc, value.octets()) {
+        Ok(member) => Ok(member),
+        Err(AllocOr::Fault(_)) => Err(AllocOr::Fault(GroupFault::BadMemberValue)),
+        Err(AllocOr::OutOfMemory) => Err(AllocOr::OutOfMemory),
+    }
+}
+
+/// The members that values in any order spell, in ascending order of their octets. A value that is no full name is passed
+/// over, and one that stands twice counts once.
+pub fn members(alloc: Global, values: &[Value]) -> Result<Vec<FullName>, AllocError>
+    ensures { IfOk result (λ v. v.items ≡ members_of values.now) }
+{
+    let mut spelled = octets_of(alloc, values)?;
+    spelled.sort_unstable();
+    spelled.dedup();
+    readable_names(alloc, &spelled)
+}
+
+// The octets of values, which are not copied.
+fn octets_of<'a>(alloc: Global, values: &'a [Value]) -> Result<Vec<&'a [u8]>, AllocError>
+    ensures { IfOk result (λ v. map (λ octets. octets.now) v.items ≡ values.now) }
+{
+    let mut spelled = Vec::with_capacity(alloc, values.len())?;
+    for value in values {
+        spelled.push(value.octets())?;
+    }
+    Ok(spelled)
+}
+
+// The full names among octets, in their order.
+fn readable_names(alloc: Global, spelled: &[&[u8]]) -> Result<Vec<FullName>, AllocError>
+    ensures { IfOk result (λ v. v.items ≡ map components_of (filter is_full_name (map (λ octets. octets.now) spelled.now))) }
+{
+    let mut names = Vec::with_capacity(alloc, spelled.len())?;
+    for octets in spelled {
+        push_if_readable(alloc, &mut names, octets)?;
+    }
+    Ok(names)
+}
+
+// Puts the full name of these octets behind others, if they are one.
+fn push_if_readable(
+    alloc: Global,
+    names: &mut Vec<FullName>,
+    octets: &[u8],
+) -> Result<(), AllocError>
+    ensures { OnOk result (names.new.items ≡ names.old.items ++ map components_of (filter is_full_name (octets.now ∷ []))) }
+{
+    match FullName::parse(alloc, octets) {
+        Ok(name) => {
+            names.push(name)?;
+            Ok(())
+        }
+        Err(AllocOr::Fault(_)) => Ok(()),
+        Err(AllocOr::OutOfMemory) => Err(AllocError),
+    }
+}
