@@ -1,0 +1,7 @@
+pub mod ReadBack
+pub mod ServerReading
+pub mod OrderLaws
+pub mod ListSteps
+pub mod LeastLaws
+pub mod ExportLaws
+pub mod Unexports

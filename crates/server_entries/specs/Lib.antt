@@ -1,0 +1,5 @@
+pub mod InOrder
+pub mod ServerTowers
+pub mod TowerFaults
+pub mod Clients
+pub mod Exports

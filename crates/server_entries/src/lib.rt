@@ -1,0 +1,16 @@
+//! Entries of servers: their towers and objects, how a server is exported and unexported, and which bindings an entry
+//! has for a client.
+#![tactic(auto)]
+
+mod client;
+mod exports;
+pub mod laws;
+mod order;
+mod tower;
+
+pub use client::{Wanted, bindings};
+pub use exports::{ExportFault, OBJECTS, TOWERS, export, unexport};
+pub use tower::{ServerFault, tower_of_value};
+
+#[cfg(test)]
+mod tests;
