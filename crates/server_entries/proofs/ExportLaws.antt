@@ -1,5 +1,5 @@
 -- What is exported is read again, found and unexported.
-use Rattle.std.proofs.Common.{◌≡◌, ℕ, ◌<◌, ◌^◌, Bool, true, false, cond, eqb, List, [], ◌∷◌, length, Option, Some, None, refl, sym, ap, subst, ◌∙◌, lit<, arith, ⊎_elim}
+use Rattle.std.proofs.Common.{◌≡◌, ℕ, Bool, true, false, eqb, List, [], ◌∷◌, length, Option, Some, None, refl, sym, ap, subst, ◌∙◌, lit<, arith, ⊎_elim}
 use Rattle.std.specs.Prelude.{◌&&◌, if◌then◌else◌}
 use Rattle.std.specs.List.{Contains, filter_map, cons_option}
 use Rattle.std.specs.Option.{option_map_or}
@@ -20,7 +20,7 @@ use Rattle.server_entries.specs.declared.client.Wanted.{Wanted}
 use Rattle.server_entries.specs.InOrder.{ascending}
 use Rattle.server_entries.specs.ServerTowers.{IsServerTower, rpc_tower_of}
 use Rattle.server_entries.specs.Clients.{wants, serves, is_compatible, compatible_binding, binding_to, binding_in, carried, entry_bindings, IsBindingOf}
-use Rattle.server_entries.specs.Exports.{exported_tower, same_interface, offers, tower_goes}
+use Rattle.server_entries.specs.Exports.{exported_tower, offers, tower_goes}
 use Rattle.server_entries.proofs.OrderLaws.{ascending-has, ascending-had}
 use Rattle.server_entries.proofs.ServerReading.{server_again}
 

@@ -1,5 +1,5 @@
 -- What is read of five floors is the RPC tower of their parts.
-use Rattle.std.proofs.Common.{◌≡◌, ℕ, zero, suc, ◌+◌, ◌*◌, ◌<◌, ◌^◌, Bool, true, false, cond, eqb, List, [], ◌∷◌, ◌++◌, length, get_or, Option, Some, None, refl, sym, ap, subst, ◌∙◌, lit<, arith}
+use Rattle.std.proofs.Common.{◌≡◌, ℕ, zero, suc, ◌+◌, ◌*◌, Bool, true, false, cond, eqb, List, [], ◌∷◌, ◌++◌, length, Option, Some, None, refl, sym, ap, subst, ◌∙◌, lit<}
 use Rattle.std.specs.Prelude.{slice_get}
 use Rattle.std.specs.List.{AllByRecursion}
 use Rattle.std.specs.Option.{option_and_then}
@@ -9,7 +9,7 @@ use Rattle.tower_codec.specs.declared.rpc.Interface.{Interface}
 use Rattle.tower_codec.specs.declared.rpc.Protseq.{Protseq}
 use Rattle.tower_codec.specs.declared.rpc.Protseq.TheVariants.{Tcp, Udp}
 use Rattle.tower_codec.specs.declared.rpc.RpcTower.{RpcTower}
-use Rattle.tower_codec.specs.Tower.{Floor, IsNumber, IsPart, IsFloor, AreFloors, IsTower}
+use Rattle.tower_codec.specs.Tower.{Floor, IsNumber, IsFloor, AreFloors, IsTower}
 use Rattle.tower_codec.specs.Rpc.{rpc_protocol, port_protocol, IsInterfaceFloor, IsPortFloor, IsRpcTower}
 use Rattle.tower_codec.specs.RpcReading.{interface_at, protseq_at, port_at, address_at, rpc_at}
 use Rattle.tower_codec.proofs.Grammar.{IsBytes, IsBytes-rest, IsBytes-tail}

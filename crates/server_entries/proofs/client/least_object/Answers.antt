@@ -1,6 +1,6 @@
-use Rattle.std.proofs.Common.{◌≡◌, cond, eqb, length, ap, sym, ◌∙◌}
+use Rattle.std.proofs.Common.{cond, eqb, length, ap, sym, ◌∙◌}
 use Rattle.std.specs.Prelude.{Some}
-use Rattle.server_entries.specs.Clients.{least_object, lesser}
+use Rattle.server_entries.specs.Clients.{lesser}
 use Rattle.server_entries.proofs.LeastLaws.{least_more}
 use Rattle.server_entries.proofs.client.least_object.Goals as goal
 

@@ -1,4 +1,4 @@
-use Rattle.std.proofs.Common.{◌+◌, length, take, drop, Ok, Err, sym, subst, arith}
+use Rattle.std.proofs.Common.{◌+◌, take, drop, Ok, Err, sym, subst, arith}
 use Rattle.std.proofs.lemmas.List.{take_all, take-append-drop, length-take-le, length-drop}
 use Rattle.tower_codec.specs.Tower.{IsTower}
 use Rattle.tower_codec.proofs.Grammar.{IsBytes}

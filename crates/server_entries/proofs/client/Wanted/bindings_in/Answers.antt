@@ -1,4 +1,4 @@
-use Rattle.std.proofs.Common.{◌≡◌, ◌++◌, List, sym, ap, ◌∙◌, map, take}
+use Rattle.std.proofs.Common.{◌++◌, List, sym, ap, ◌∙◌, map, take}
 use Rattle.std.specs.List.{filter_map}
 use Rattle.std.specs.Option.{option_to_list}
 use Rattle.tower_codec.specs.declared.binding.StringBinding.{StringBinding}
