@@ -1,0 +1,19 @@
+//! Profiles of the name service: the elements of a profile, and in which order a search takes them.
+//!
+//! An element says that whoever looks for an interface may go on at its member, sooner or later by its priority. A
+//! default element says so of all interfaces, behind the others.
+#![tactic(auto)]
+
+mod element;
+mod fault;
+pub mod laws;
+mod names;
+mod search;
+#[cfg(test)]
+mod tests;
+mod updates;
+
+pub use element::{Annotation, Element};
+pub use fault::ProfileFault;
+pub use search::elements_for;
+pub use updates::{add, delete};

@@ -1,0 +1,165 @@
+// The elements among the values of a profile, and the order in which a search takes them.
+ghost use Rattle.std.specs.Prelude.{◌≡◌, ◌∷◌, [], None, map, filter, not, true, false, ◌==◌, option_copied, IfOk, OnErr, vec_len};
+ghost use Rattle.std.specs.List.{All, list_any};
+ghost use Rattle.cell_names.specs.FullNames.{is_name};
+ghost use Rattle.ns_profiles.specs.Elements.{element_fault, said};
+ghost use Rattle.ns_profiles.specs.Profiles.{ascending, is_interface, is_for, is_meant, is_element, is_served, is_taken, is_sought, search_order};
+
+use crate::element::{DEFAULT, check, interface_of, known_name, member_of, priority_of};
+use crate::names::spells;
+use attr_sets::Value;
+use cell_names::FullName;
+use std::alloc::{AllocError, Global};
+use tower_codec::Interface;
+
+/// The members at which a search for an interface goes on: those of the elements that serve it, by priority and then by
+/// their octets, and then those of the default elements, by their octets. The values may stand in any order; one that is
+/// no element is passed over, and one that stands twice counts once.
+pub fn elements_for(
+    alloc: Global,
+    values: &[Value],
+    interface: &Interface,
+) -> Result<Vec<FullName>, AllocError>
+    ensures { IfOk result (λ v. v.items ≡ search_order interface.now values.now) }
+{
+    let found = sought(alloc, values, interface)?;
+    let sorted = in_order(found);
+    members_of(alloc, &sorted)
+}
+
+// The values that are elements for this interface and have this member. No memory is asked for where there are none.
+pub(crate) fn elements_of<'a>(
+    alloc: Global,
+    values: &'a [Value],
+    interface: Option<&Interface>,
+    member: &FullName,
+) -> Result<Vec<&'a Value>, AllocError>
+    ensures found { IfOk result (λ v. map (λ value. value.now) v.items ≡ filter (is_element (option_copied interface.entry) member.now) values.now) }
+    ensures some { IfOk result (λ v. (vec_len v == 0) ≡ not (list_any (is_element (option_copied interface.entry) member.now) values.now)) }
+    ensures lacking { OnErr result (list_any (is_element (option_copied interface.entry) member.now) values.now ≡ true) }
+{
+    let mut found = Vec::new(alloc);
+    for value in values {
+        if is_element(value.octets(), interface, member) {
+            found.push(value)?;
+        }
+    }
+    Ok(found)
+}
+
+// The values that are elements which a search for the interface takes.
+fn sought<'a>(
+    alloc: Global,
+    values: &'a [Value],
+    interface: &Interface,
+) -> Result<Vec<&'a Value>, AllocError>
+    ensures { IfOk result (λ v. map (λ value. value.now) v.items ≡ filter (is_sought interface.now) values.now) }
+{
+    let mut found = Vec::new(alloc);
+    for value in values {
+        if is_sought(value.octets(), interface) {
+            found.push(value)?;
+        }
+    }
+    Ok(found)
+}
+
+// The values in ascending order, each once.
+pub(crate) fn in_order<'a>(values: Vec<&'a Value>) -> Vec<&'a Value>
+    ensures { map (λ value. value.now) result.items ≡ ascending (map (λ value. value.now) values.entry.items) }
+{
+    let mut sorted = values;
+    sorted.sort_unstable();
+    sorted.dedup();
+    sorted
+}
+
+// The members of values that are elements, in their order.
+fn members_of(alloc: Global, values: &[&Value]) -> Result<Vec<FullName>, AllocError>
+    requires { All (λ value. element_fault value.now ≡ None) values.now }
+    ensures { IfOk result (λ v. v.items ≡ map (λ value. (said value.now).member) values.now) }
+{
+    let mut members = Vec::with_capacity(alloc, values.len())?;
+    for value in values {
+        members.push(known_member(alloc, value)?)?;
+    }
+    Ok(members)
+}
+
+// The member of a value that is an element.
+fn known_member(alloc: Global, value: &Value) -> Result<FullName, AllocError>
+    requires { element_fault value.now ≡ None }
+    ensures { IfOk result (λ name. name ≡ (said value.now).member) }
+{
+    known_name(alloc, member_of(value.octets()))
+}
+
+// Whether octets are an element that a search for the interface takes.
+fn is_sought(octets: &[u8], interface: &Interface) -> bool
+    ensures { result ≡ is_sought interface.now octets.now }
+{
+    match check(octets) {
+        Ok(()) => is_taken(octets, interface),
+        Err(_) => false,
+    }
+}
+
+// Whether a search for the interface takes the element of these octets.
+fn is_taken(octets: &[u8], interface: &Interface) -> bool
+    requires { element_fault octets.now ≡ None }
+    ensures { result ≡ is_taken interface.now (said octets.now) }
+{
+    priority_of(octets) == DEFAULT || serves(&interface_of(octets), interface)
+}
+
+// Whether an offered interface serves a wanted one.
+fn serves(offered: &Interface, wanted: &Interface) -> bool
+    ensures { result ≡ is_served wanted.now offered.now }
+{
+    offered.uuid == wanted.uuid && offered.major == wanted.major && wanted.minor <= offered.minor
+}
+
+// Whether octets are an element for this interface, with this member.
+fn is_element(octets: &[u8], interface: Option<&Interface>, member: &FullName) -> bool
+    ensures { result ≡ is_element (option_copied interface.entry) member.now octets.now }
+{
+    match check(octets) {
+        Ok(()) => is_meant(octets, interface, member),
+        Err(_) => false,
+    }
+}
+
+// Whether the element of these octets is for this interface, and has this member.
+fn is_meant(octets: &[u8], interface: Option<&Interface>, member: &FullName) -> bool
+    requires { element_fault octets.now ≡ None }
+    ensures { result ≡ is_meant (option_copied interface.entry) member.now (said octets.now) }
+{
+    is_for(octets, interface) && is_member(octets, member)
+}
+
+// Whether the element of these octets has this member.
+fn is_member(octets: &[u8], member: &FullName) -> bool
+    requires { element_fault octets.now ≡ None }
+    ensures { result ≡ is_name (said octets.now).member member.now }
+{
+    spells(member_of(octets), member)
+}
+
+// Whether the octets of an element are for this interface, or of a default element where there is none.
+fn is_for(octets: &[u8], interface: Option<&Interface>) -> bool
+    requires { element_fault octets.now ≡ None }
+    ensures { result ≡ is_for (option_copied interface.entry) (said octets.now) }
+{
+    match interface {
+        None => priority_of(octets) == DEFAULT,
+        Some(interface) => priority_of(octets) != DEFAULT
+            && is_interface(&interface_of(octets), interface),
+    }
+}
+
+// Whether the two are the same interface and version.
+fn is_interface(a: &Interface, b: &Interface) -> bool
+    ensures { result ≡ is_interface a.now b.now }
+{
+    a.uuid == b.uuid && a.major == b.major && a.minor == b.minor
+}
