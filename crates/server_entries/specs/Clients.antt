@@ -23,7 +23,7 @@ ndr_syntax = record {
   minor = 0;
 }
 
--- The client wants this protocol sequence.
+-- The client wants this protocol sequence (C706, protocol sequences).
 abbrev pub wants : Wanted → Protseq → Bool
 wants wanted Tcp = wanted.tcp
 wants wanted Udp = wanted.udp
@@ -33,7 +33,7 @@ wants wanted Udp = wanted.udp
 abbrev pub serves : Interface → Interface → Bool
 serves offered wanted = bytes_eq offered.uuid wanted.uuid && (offered.major == wanted.major) && nat_le wanted.minor offered.minor
 
--- The data are represented by NDR of major version 2.
+-- The data are represented by NDR of major version 2 (C706, transfer syntaxes).
 abbrev pub is_ndr : Interface → Bool
 is_ndr syntax = bytes_eq syntax.uuid ndr_syntax.uuid && (syntax.major == 2)
 
@@ -41,16 +41,16 @@ is_ndr syntax = bytes_eq syntax.uuid ndr_syntax.uuid && (syntax.major == 2)
 abbrev pub is_compatible : Wanted → RpcTower → Bool
 is_compatible wanted tower = serves tower.interface wanted.interface && is_ndr tower.transfer && wants wanted tower.protseq
 
--- The binding to the server of a tower, for an object.
+-- The binding to the server of a tower, for an object (C706, bindings).
 abbrev pub binding_to : List ℕ → RpcTower → StringBinding
 binding_to object tower = record { object = object; protseq = tower.protseq; address = tower.address; port = tower.port }
 
--- The binding that there is for the client in a tower, if it is that of an RPC server.
+-- The binding that there is for the client in a tower, if it is that of an RPC server (own).
 abbrev pub compatible_binding : Wanted → List ℕ → Option RpcTower → Option StringBinding
 compatible_binding wanted object None = None
 compatible_binding wanted object (Some tower) = if is_compatible wanted tower then Some (binding_to object tower) else None
 
--- The same in a value of `CDS_Towers`.
+-- The same in a value of `CDS_Towers` (own).
 abbrev pub binding_in : Wanted → List ℕ → List ℕ → Option StringBinding
 binding_in wanted object octets = compatible_binding wanted object (rpc_tower_of octets)
 

@@ -40,11 +40,11 @@ exported name absent interface bindings objects =
 abbrev pub export_fault : List StringBinding → List (List ℕ) → Option ExportFault
 export_fault bindings objects = if (length bindings == 0) && (length objects == 0) then Some NothingToExport else None
 
--- The same interface, in both parts of its version.
+-- The same interface, in both parts of its version (C706, interface identifiers).
 abbrev pub same_interface : Interface → Interface → Bool
 same_interface a b = bytes_eq a.uuid b.uuid && (a.major == b.major) && (a.minor == b.minor)
 
--- The tower, if it is that of an RPC server, offers the interface, if there is one.
+-- The tower, if it is that of an RPC server, offers the interface, if there is one (own).
 abbrev pub offers : Option Interface → Option RpcTower → Bool
 offers None tower = false
 offers (Some interface) None = false
