@@ -1,11 +1,13 @@
 -- Octets in ascending order, each once: there is one such list of them.
-use Rattle.std.proofs.Common.{◌≡◌, ℕ, Bool, true, false, cond, List, [], ◌∷◌, map, Some, None, refl, sym, ap, ◌∙◌}
+use Rattle.std.proofs.Common.{◌≡◌, ◌↔◌, ℕ, Bool, true, false, cond, List, [], ◌∷◌, map, Some, None, refl, sym, ap, ◌∙◌}
 use Rattle.std.specs.Prelude.{T, ◌&&◌, ◌||◌, is_some}
 use Rattle.std.specs.declared.cmp.Ordering.{Ordering}
 use Rattle.std.specs.declared.cmp.Ordering.TheVariants.{Less, Equal, Greater}
 use Rattle.std.specs.Ordering.{is_lt, ordering_reverse}
+use Rattle.std.specs.Cmp.{eq_by_cmp_equiv}
 use Rattle.std.specs.Cmp.Lexicographic.{nat_list_cmp_total}
-use Rattle.std.specs.List.{list_any, AllByRecursion}
+use Rattle.std.specs.List.{list_any, AllByRecursion, Contains}
+use Rattle.std.proofs.lemmas.Map.Views.{list_any-from_Contains, Contains-from_any}
 use Rattle.std.specs.List.Sorted.{IsStrictlySortedBy}
 use Rattle.std.specs.FinMap.{entries, entries_sorted, contains_key-keys}
 use Rattle.std.specs.FinMap.Entries.{is_sorted, below_all}
@@ -99,3 +101,10 @@ one_list (x ∷ xs) (y ∷ ys) p q same = by_case (octets_cmp x y) refl (λ rest
 -- values that ascend keep their order
 pub ascending_kept : (values : List (List ℕ)) → IsStrictlySortedBy octets_cmp values → ascending values ≡ values
 ascending_kept values rises = one_list (ascending values) values (ascending_rises values) rises (λ o. ascending_has o values)
+
+-- the same values stand there
+pub ascending_Contains : (values : List (List ℕ)) (v : List ℕ) → Contains (ascending values) v ↔ Contains values v
+ascending_Contains values v = (
+  λ c. Contains-from_any (tied octets_exact) v values (sym (ascending_has v values) ∙ list_any-from_Contains (eq_by_cmp_equiv nat_list_cmp_total) v (ascending values) c),
+  λ c. Contains-from_any (tied octets_exact) v (ascending values) (ascending_has v values ∙ list_any-from_Contains (eq_by_cmp_equiv nat_list_cmp_total) v values c),
+)

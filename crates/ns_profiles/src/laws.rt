@@ -1,6 +1,6 @@
 //! Laws of the definitions: functions that do nothing, whose contracts are proved.
 ghost use Rattle.std.specs.Prelude.{◌≡◌, ◌<◌, ◌^◌, ◌↔◌, ℕ, List, Some, None};
-ghost use Rattle.std.specs.List.{All};
+ghost use Rattle.std.specs.List.{All, Contains};
 ghost use Rattle.std.specs.List.Sorted.{IsStrictlySortedBy};
 ghost use Rattle.cds_stamps.specs.Octets.{octets_cmp};
 ghost use Rattle.directory.specs.Updates.{Create, Add, Remove};
@@ -20,6 +20,12 @@ pub fn elements_read_back()
     ensures read { (e : Element) → IsElement e → element_of (element_octets e) ≡ Some e }
     ensures known { (octets : List ℕ) (e : Element) → IsElementOf octets e → element_of octets ≡ Some e }
     ensures written { (octets : List ℕ) (e : Element) → All (λ b. b < 2 ^ 8) octets → element_of octets ≡ Some e → IsElementOf octets e }
+{}
+
+/// The values that are searched or deleted ascend, each once, and are those that were given.
+pub fn values_ascend_once()
+    ensures rises { (values : List (List ℕ)) → IsStrictlySortedBy octets_cmp (ascending values) }
+    ensures same { (values : List (List ℕ)) (v : List ℕ) → Contains (ascending values) v ↔ Contains values v }
 {}
 
 /// Values that ascend, as those that an entry shows, are searched in their own order.
