@@ -18,4 +18,4 @@ pub use members::{Member, MemberKind, Members, MembersFault};
 pub use names::{AttrFault, AttrName, NameFault, SimpleName, is_attr_octet, is_name_octet};
 pub use numbers::{DirId, EpochNo, HouseNo};
 pub use octets::Octets;
-pub use stamp::{Floor, Node, Stamp};
+pub use stamp::{Floor, Node, Stamp, later_of};

@@ -65,6 +65,14 @@ impl Members {
         ensures faulty { IfSome (members_fault (members_of list.now)) (λ fault. result ≡ Err (Fault fault)) }
     {
         check_members(list).map_err(AllocOr::Fault)?;
+        Ok(Members::known(alloc, list)?)
+    }
+
+    /// The member list of members that are known to be one: only memory can be wanting.
+    pub fn known(alloc: Global, list: &[Member]) -> Result<Members, AllocError>
+        requires { members_fault (members_of list.now) ≡ None }
+        ensures { IfOk result (λ v. v ≡ list.now) }
+    {
         Ok(Members {
             list: Vec::from_slice(alloc, list)?,
         })

@@ -80,7 +80,7 @@ fn check_attr_name(octets: &[u8]) -> Result<(), AttrFault>
 }
 
 /// A simple name: one component of a full name.
-#[derive(Clone, Debug, PartialEq, Eq, PartialOrd, Ord, Drop)]
+#[derive(Clone, Debug, PartialEq, Eq, PartialOrd, Ord, Hash, Drop)]
 pub struct SimpleName {
     octets: Octets,
 }
@@ -106,6 +106,14 @@ impl SimpleName {
         ensures faulty { IfSome (simple_name_fault octets.now) (λ fault. result ≡ Err (Fault fault)) }
     {
         check_simple_name(octets).map_err(AllocOr::Fault)?;
+        Ok(SimpleName::known(alloc, octets)?)
+    }
+
+    /// The simple name of octets that are known to be one: only memory can be wanting.
+    pub fn known(alloc: Global, octets: &[u8]) -> Result<SimpleName, AllocError>
+        requires { simple_name_fault octets.now ≡ None }
+        ensures { IfOk result (λ v. v ≡ octets.now) }
+    {
         Ok(SimpleName {
             octets: Octets::of(alloc, octets)?,
         })
@@ -129,7 +137,7 @@ impl SimpleName {
 }
 
 /// The name of an attribute.
-#[derive(Clone, Debug, PartialEq, Eq, PartialOrd, Ord, Drop)]
+#[derive(Clone, Debug, PartialEq, Eq, PartialOrd, Ord, Hash, Drop)]
 pub struct AttrName {
     octets: Octets,
 }
@@ -155,6 +163,14 @@ impl AttrName {
         ensures faulty { IfSome (attr_fault octets.now) (λ fault. result ≡ Err (Fault fault)) }
     {
         check_attr_name(octets).map_err(AllocOr::Fault)?;
+        Ok(AttrName::known(alloc, octets)?)
+    }
+
+    /// The attribute name of octets that are known to be one: only memory can be wanting.
+    pub fn known(alloc: Global, octets: &[u8]) -> Result<AttrName, AllocError>
+        requires { attr_fault octets.now ≡ None }
+        ensures { IfOk result (λ v. v ≡ octets.now) }
+    {
         Ok(AttrName {
             octets: Octets::of(alloc, octets)?,
         })

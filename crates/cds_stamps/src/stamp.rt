@@ -1,6 +1,7 @@
 // Stamps, and the floor above which a house issues them.
 ghost use Rattle.std.specs.Prelude.{◌≡◌, ◌^◌, ◌<◌, max, SomeIff, MatchOption, Some, None};
-ghost use Rattle.cds_stamps.specs.Stamps.{next_stamp};
+ghost use Rattle.cds_stamps.specs.Semilattice.{maybe};
+ghost use Rattle.cds_stamps.specs.Stamps.{next_stamp, later_stamp};
 
 use std::marker::Model;
 
@@ -47,6 +48,17 @@ impl Node {
 pub struct Stamp {
     pub time: u64,
     pub node: Node,
+}
+
+/// The later of two stamps of which either may be missing; None exactly where both are.
+pub fn later_of(a: Option<Stamp>, b: Option<Stamp>) -> Option<Stamp>
+    ensures { result ≡ maybe later_stamp a b }
+{
+    match (a, b) {
+        (Some(x), Some(y)) => Some(if x < y { y } else { x }),
+        (Some(x), None) => Some(x),
+        (None, y) => y,
+    }
 }
 
 /// The greatest time that a house has issued or taken in.
