@@ -5,3 +5,4 @@ pub mod NameLaws
 pub mod OutcomeLaws
 mod Examples
 pub mod MemberLaws
+pub mod Masks

@@ -7,3 +7,4 @@ pub mod Names
 pub mod Undos
 pub mod Outcomes
 pub mod Members
+pub mod Places

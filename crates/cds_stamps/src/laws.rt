@@ -1,7 +1,8 @@
 //! Laws of the definitions: functions that do nothing, whose contracts are proved.
-ghost use Rattle.std.specs.Prelude.{◌≡◌, ◌↔◌, ℕ, List, None};
+ghost use Rattle.std.specs.Prelude.{◌≡◌, ◌↔◌, ℕ, ◌<◌, Bool, true, List, None};
 ghost use Rattle.cds_stamps.specs.Names.{simple_name_fault, IsSimpleName, attr_fault, IsAttrName};
 ghost use Rattle.cds_stamps.specs.Members.{Member, members_fault, IsMembers};
+ghost use Rattle.cds_stamps.specs.Places.{each_place};
 
 /// No fault is found exactly where the octets are a simple name.
 pub fn simple_names_have_no_fault()
@@ -16,4 +17,9 @@ pub fn attribute_names_have_no_fault()
 /// No fault is found exactly where the members are 1 to 64, ascend, and have one master.
 pub fn member_lists_have_no_fault()
     ensures { (ms : List Member) → (members_fault ms ≡ None) ↔ IsMembers ms }
+{}
+
+/// The test at each of the first n places is the test at every place below n.
+pub fn each_place_is_every_place()
+    ensures { (n : ℕ) (test : ℕ → Bool) → (each_place n test ≡ true) ↔ ((p : ℕ) → p < n → test p ≡ true) }
 {}

@@ -4,6 +4,7 @@
 mod alloc_or;
 mod lattice;
 pub mod laws;
+mod mask;
 mod members;
 mod names;
 mod numbers;
@@ -14,7 +15,8 @@ mod tests;
 
 pub use alloc_or::AllocOr;
 pub use lattice::Lattice;
-pub use members::{Member, MemberKind, Members, MembersFault};
+pub use mask::MemberMask;
+pub use members::{MOST_MEMBERS, Member, MemberKind, Members, MembersFault};
 pub use names::{AttrFault, AttrName, NameFault, SimpleName, is_attr_octet, is_name_octet};
 pub use numbers::{DirId, EpochNo, HouseNo};
 pub use octets::Octets;

@@ -10,8 +10,8 @@ use std::alloc::{AllocError, Global};
 use std::marker::Model;
 use thiserror::Error;
 
-// The most members of a directory.
-const MOST_MEMBERS: usize = 64;
+/// The most members of a directory.
+pub const MOST_MEMBERS: usize = 64;
 
 /// What a member of a directory's replica set is.
 #[derive(Clone, Copy, Debug, PartialEq, Eq)]

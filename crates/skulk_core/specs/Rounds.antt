@@ -2,12 +2,12 @@
 use Rattle.std.specs.Prelude.{◌≡◌, ℕ, ◌≤◌, Bool, true, false, ◌||◌, ◌==◌, MatchBool, Option, Some, None}
 use Rattle.cds_stamps.specs.declared.stamp.Stamp.{Stamp}
 use Rattle.cds_stamps.specs.Stamps.{is_stamp}
-use Rattle.skulk_core.specs.declared.mask.MemberMask.{MemberMask}
+use Rattle.cds_stamps.specs.declared.mask.MemberMask.{MemberMask}
 use Rattle.skulk_core.specs.declared.skulk.Skulk.{Skulk}
 use Rattle.skulk_core.specs.declared.skulk.Skulk.TheVariants.{Idle, Gathering, Spreading}
 use Rattle.skulk_core.specs.declared.skulk.Next.{Next}
 use Rattle.skulk_core.specs.declared.skulk.Next.TheVariants.{Nothing, Stale, SendSpread, Complete}
-use Rattle.skulk_core.specs.Places.{is_answered, each_place}
+use Rattle.cds_stamps.specs.Places.{has_place, each_place}
 
 -- ---- sets of places
 
@@ -17,7 +17,7 @@ only place p = p == place
 
 -- those that answered, and the member at this place (own)
 abbrev pub also : MemberMask → ℕ → ℕ → Bool
-also mask place p = is_answered mask p || p == place
+also mask place p = has_place mask p || p == place
 
 -- ---- phases
 
@@ -31,13 +31,13 @@ running (Spreading t answered) = Some t
 pub record IsGathering (t : Stamp) (test : ℕ → Bool) (s : Skulk) : Type 0 where
   pub mask : MemberMask
   pub round : s ≡ Gathering t mask
-  pub places : (p : ℕ) → is_answered mask p ≡ test p
+  pub places : (p : ℕ) → has_place mask p ≡ test p
 
 -- the second round of t runs, and the test says which members have answered in it (own, after C705, skulks)
 pub record IsSpreading (t : Stamp) (test : ℕ → Bool) (s : Skulk) : Type 0 where
   pub mask : MemberMask
   pub round : s ≡ Spreading t mask
-  pub places : (p : ℕ) → is_answered mask p ≡ test p
+  pub places : (p : ℕ) → has_place mask p ≡ test p
 
 -- ---- calls
 
@@ -88,9 +88,9 @@ TakesSpread t from members (Spreading u answered) new next =
 
 -- a round of so many members: no others have answered, the master has, and a member is missing (own)
 pub record IsRound (members me : ℕ) (answered : MemberMask) : Type 0 where
-  pub no_others : (p : ℕ) → members ≤ p → is_answered answered p ≡ false
-  pub master : is_answered answered me ≡ true
-  pub missing : each_place members (is_answered answered) ≡ false
+  pub no_others : (p : ℕ) → members ≤ p → has_place answered p ≡ false
+  pub master : has_place answered me ≡ true
+  pub missing : each_place members (has_place answered) ≡ false
 
 -- the phase of a skulk of so many members at the master at this place (own)
 abbrev pub IsPhaseOf : (members me : ℕ) → Skulk → Type 0

@@ -2,10 +2,8 @@
 #![tactic(auto)]
 
 pub mod laws;
-mod mask;
 mod skulk;
 #[cfg(test)]
 mod tests;
 
-pub use mask::MemberMask;
 pub use skulk::{Next, Skulk};

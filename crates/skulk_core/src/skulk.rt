@@ -1,10 +1,9 @@
 // The phases of a skulk.
 ghost use Rattle.std.specs.Prelude.{◌≡◌, ℕ, ◌<◌, ◌≤◌};
-ghost use Rattle.skulk_core.specs.Places.{most_places};
+ghost use Rattle.cds_stamps.specs.Members.{most_members};
 ghost use Rattle.skulk_core.specs.Rounds.{Begins, TakesGathered, TakesSpread, IsPhaseOf, running};
 
-use crate::mask::MemberMask;
-use cds_stamps::Stamp;
+use cds_stamps::{MemberMask, Stamp};
 
 /// What a master does about its skulk of a directory: nothing, or the first or second round of the stamp t, with the
 /// members that have answered in that round. The master itself has, from the start of each.
@@ -32,7 +31,7 @@ impl Skulk {
     /// A skulk begins, in the place of one that runs: its first round, or, at a master that is the only member,
     /// nothing, since it is complete.
     pub fn begin(&mut self, t: Stamp, members: usize, me: usize) -> Next
-        requires few { members ≤ most_places }
+        requires few { members ≤ most_members }
         requires me { me < members }
         ensures does { Begins t members me self.new result }
         ensures phase { IsPhaseOf members me self.new }
@@ -50,7 +49,7 @@ impl Skulk {
 
     /// The member at the place `from` answered the first round of t.
     pub fn gathered(&mut self, t: Stamp, from: usize, members: usize, me: usize) -> Next
-        requires few { members ≤ most_places }
+        requires few { members ≤ most_members }
         requires from { from < members }
         requires me { me < members }
         ensures does { TakesGathered t from members me self.old self.new result }
@@ -77,7 +76,7 @@ impl Skulk {
 
     /// The member at the place `from` answered the second round of t.
     pub fn spread(&mut self, t: Stamp, from: usize, members: usize) -> Next
-        requires few { members ≤ most_places }
+        requires few { members ≤ most_members }
         requires from { from < members }
         ensures does { TakesSpread t from members self.old self.new result }
         ensures phase { (me : ℕ) → IsPhaseOf members me self.old → IsPhaseOf members me self.new }

@@ -1,6 +1,6 @@
 // Skulks call by call.
-use crate::{MemberMask, Next, Skulk};
-use cds_stamps::{Node, Stamp};
+use crate::{Next, Skulk};
+use cds_stamps::{MOST_MEMBERS, MemberMask, Node, Stamp};
 use std::test::Fail;
 
 #[derive(Clone, Copy)]
@@ -12,7 +12,7 @@ enum Call {
 
 // The call at a master at this place of so many members.
 fn take(skulk: &mut Skulk, call: Call, t: Stamp, members: usize, me: usize) -> Result<Next, Fail> {
-    if members > 64 || me >= members {
+    if members > MOST_MEMBERS || me >= members {
         return Err("no place of the master".into());
     }
     match call {

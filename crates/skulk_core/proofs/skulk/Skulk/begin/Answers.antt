@@ -1,4 +1,4 @@
-use Rattle.skulk_core.proofs.Masks.{other_place}
+use Rattle.cds_stamps.proofs.Masks.{other_place}
 use Rattle.skulk_core.proofs.RoundLaws.{first_round}
 use Rattle.skulk_core.proofs.skulk.Skulk.begin.Goals as goal
 

@@ -3,7 +3,7 @@ use Rattle.std.proofs.Common.{◌≡◌, ℕ, zero, suc, ◌-◌, ◌*◌, ◌/�
 use Rattle.std.specs.Int.{bit_at}
 use Rattle.std.proofs.lemmas.Bool.{cases_eq, cases_lt, and_parts, eqb-true}
 use Rattle.std.proofs.lemmas.Nat.Bits.{bit_at_or, bit_at_and, bit_at-lt, bit_at_ones, bit_at_ones_above, bit_at_set_same, bit_at_set_other, bit_at-zero, ones_shr, same_from_bits}
-use Rattle.skulk_core.specs.Places.{each_place}
+use Rattle.cds_stamps.specs.Places.{each_place}
 
 -- places that are one, and places that are not
 pub same_place : (p q : ℕ) → p ≡ q → (p == q) ≡ true

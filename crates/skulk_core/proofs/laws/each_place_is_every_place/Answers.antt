@@ -1,5 +1,0 @@
-use Rattle.skulk_core.proofs.Masks.{at_each_place, each_place-from}
-use Rattle.skulk_core.proofs.laws.each_place_is_every_place.Goals as goal
-
-pub returns : goal.returns
-returns c = λ n test. (at_each_place n test, each_place-from n test)

@@ -1,5 +1,0 @@
-use Rattle.skulk_core.proofs.Masks.{has_ones}
-use Rattle.skulk_core.proofs.mask.MemberMask.has_all.Goals as goal
-
-pub returns : goal.returns
-returns c = has_ones c.args.self.0 c.args.members c.requires.few

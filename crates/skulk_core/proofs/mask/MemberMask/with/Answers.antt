@@ -1,5 +1,0 @@
-use Rattle.skulk_core.proofs.Masks.{with_bit}
-use Rattle.skulk_core.proofs.mask.MemberMask.with.Goals as goal
-
-pub returns : goal.returns
-returns c = λ p. with_bit c.args.self.0 c.args.place p c.requires
