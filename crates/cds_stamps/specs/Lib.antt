@@ -8,3 +8,4 @@ pub mod Undos
 pub mod Outcomes
 pub mod Members
 pub mod Places
+pub mod Numbers

@@ -1,7 +1,10 @@
 //! Laws of the definitions: functions that do nothing, whose contracts are proved.
 ghost use Rattle.std.specs.Prelude.{◌≡◌, ◌↔◌, ℕ, ◌<◌, Bool, true, List, None};
 ghost use Rattle.cds_stamps.specs.Names.{simple_name_fault, IsSimpleName, attr_fault, IsAttrName};
-ghost use Rattle.cds_stamps.specs.Members.{Member, members_fault, IsMembers};
+ghost use Rattle.cds_stamps.specs.Members.{Member, members_fault, most_members, IsMembers};
+ghost use Rattle.cds_stamps.specs.declared.members.TheConstants.{MOST_MEMBERS};
+ghost use Rattle.cds_stamps.specs.Numbers.{root_dir};
+ghost use Rattle.cds_stamps.specs.declared.numbers.TheConstants.DirId.{ROOT};
 ghost use Rattle.cds_stamps.specs.Places.{each_place};
 
 /// No fault is found exactly where the octets are a simple name.
@@ -22,4 +25,10 @@ pub fn member_lists_have_no_fault()
 /// The test at each of the first n places is the test at every place below n.
 pub fn each_place_is_every_place()
     ensures { (n : ℕ) (test : ℕ → Bool) → (each_place n test ≡ true) ↔ ((p : ℕ) → p < n → test p ≡ true) }
+{}
+
+/// The limits and numbers that the code names are those of the definitions.
+pub fn named_numbers_are_those_of_the_definitions()
+    ensures most_members { MOST_MEMBERS ≡ most_members }
+    ensures root { ROOT.0 ≡ root_dir }
 {}

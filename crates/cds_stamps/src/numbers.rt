@@ -10,6 +10,11 @@ pub struct HouseNo(pub u8);
 #[derive(Clone, Copy, Debug, PartialEq, Eq, PartialOrd, Ord, Hash)]
 pub struct DirId(pub u32);
 
+impl DirId {
+    /// The root directory of the cell.
+    pub const ROOT: DirId = DirId(1);
+}
+
 /// The number of an epoch of a directory's replica set. The console gives 1, 2, 3 and so on; where octets are read,
 /// any number is taken.
 #[derive(Clone, Copy, Debug, PartialEq, Eq, PartialOrd, Ord, Hash)]

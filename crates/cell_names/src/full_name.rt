@@ -1,7 +1,9 @@
 // Full names.
 ghost use Rattle.std.specs.Prelude.{◌≡◌, ◌==◌, ◌↔◌, ◌+◌, ◌-◌, ◌≤◌, ◌<◌, ◌++◌, None, length, slice_get, option_copied, IsSome, SomeIff, OnSome, IfOk, OnOk, IfSome};
 ghost use Rattle.std.specs.List.{All, slice_split};
-ghost use Rattle.std.specs.Cmp.Rules.{comparing};
+ghost use Rattle.std.specs.Cmp.Rules.{comparing, hashing};
+ghost use Rattle.std.specs.Hash as fed;
+ghost use Rattle.std.specs.Hash.{items_Alike};
 ghost use Rattle.std.proofs.Common.{rules};
 ghost use Rattle.cds_stamps.specs.Names.{simple_name_fault, IsSimpleName};
 ghost use Rattle.cds_stamps.specs.Outcomes.{Answers, ok_unless};
@@ -10,11 +12,12 @@ ghost use Rattle.cell_names.specs.FullNames.{slash, behind_slashes, spelling, co
 
 use cds_stamps::{AllocOr, NameFault, SimpleName, is_name_octet};
 use std::alloc::{AllocError, Global};
+use std::hash::{Hash, Hasher};
 use std::marker::Model;
 use thiserror::Error;
 
-// The root of the cell.
-const ROOT: &[u8] = b"/.:";
+/// The octets of the root of the cell, with which each full name begins.
+pub const ROOT: &[u8] = b"/.:";
 
 // What stands before the first component.
 const ROOT_SLASH: &[u8] = b"/.:/";
@@ -65,6 +68,16 @@ impl PartialEq for FullName {
 
 impl Eq for FullName {
     ghost laws = { Prim.search (comparing, rules) };
+}
+
+impl Hash for FullName {
+    ghost hash_input = { λ v. fed.slice (fed.slice fed.u8) v };
+
+    ghost respects_eq = { (items_Alike {F = fed.slice fed.u8} (record { fed = Prim.search (hashing, rules) })).fed };
+
+    fn hash<H: Hasher>(&self, state: &mut H) {
+        self.components.as_slice().hash(state);
+    }
 }
 
 impl FullName {
@@ -195,17 +208,9 @@ fn components_in(alloc: Global, octets: &[u8]) -> Result<Vec<SimpleName>, AllocE
     let count = behind.iter().filter(|octet| **octet == b'/').count();
     let mut components = Vec::with_capacity(alloc, count)?;
     for component in behind.split(|octet| *octet == b'/').skip(1) {
-        components.push(known_name(alloc, component)?)?;
+        components.push(SimpleName::known(alloc, component)?)?;
     }
     Ok(components)
-}
-
-// The simple name of octets that are one: only memory can be wanting.
-fn known_name(alloc: Global, octets: &[u8]) -> Result<SimpleName, AllocError>
-    requires { simple_name_fault octets.now ≡ None }
-    ensures { IfOk result (λ v. v ≡ octets.now) }
-{
-    SimpleName::parse(alloc, octets).map_err(|_| AllocError)
 }
 
 // Copies of names, and of others behind them.

@@ -1,13 +1,15 @@
 // The houses of a child pointer.
-ghost use Rattle.std.specs.Prelude.{◌≡◌, ◌==◌, ◌||◌, nat_lt, map, IfOk, OnOk, IfSome};
+ghost use Rattle.std.specs.Prelude.{◌≡◌, ◌==◌, ◌||◌, ◌++◌, nat_lt, [], map, IfOk, OnOk, IfSome};
 ghost use Rattle.cds_stamps.specs.Outcomes.{Answers, ok_unless};
 ghost use Rattle.cds_stamps.specs.declared.alloc_or.AllocOr.TheVariants.{Fault};
 ghost use Rattle.cell_names.specs.Houses.{IsHouses, is_houses, list_fault};
-ghost use Rattle.std.specs.Cmp.Rules.{comparing};
+ghost use Rattle.std.specs.Cmp.Rules.{comparing, hashing};
+ghost use Rattle.std.specs.Hash as fed;
 ghost use Rattle.std.proofs.Common.{rules};
 
 use cds_stamps::{AllocOr, HouseNo};
 use std::alloc::{AllocError, Global};
+use std::hash::{Hash, Hasher};
 use std::marker::Model;
 use thiserror::Error;
 
@@ -53,6 +55,17 @@ impl Eq for HouseList {
     ghost laws = { Prim.search (comparing, rules) };
 }
 
+impl Hash for HouseList {
+    ghost hash_input = { λ v. fed.u8 v.master ++ fed.slice fed.u8 v.others };
+
+    ghost respects_eq = { Prim.search (hashing, rules) };
+
+    fn hash<H: Hasher>(&self, state: &mut H) {
+        self.master.hash(state);
+        self.others.as_slice().hash(state);
+    }
+}
+
 impl HouseList {
     /// The houses of a directory, or the first place of the others, counted from 1, whose house is not above the one
     /// before it, is the master's, or is the 64th. No memory is asked for where there is a fault.
@@ -70,6 +83,13 @@ impl HouseList {
             master,
             others: Vec::from_slice(alloc, others)?,
         })
+    }
+
+    /// The houses of a directory that the master's has alone: only memory can be wanting.
+    pub fn alone(alloc: Global, master: HouseNo) -> Result<HouseList, AllocError>
+        ensures { IfOk result (λ v. v ≡ record { master = master.0; others = [] }) }
+    {
+        HouseList::of_numbers(alloc, master.0, &[])
     }
 
     /// The house of the master.

@@ -8,6 +8,6 @@ mod pointer;
 #[cfg(test)]
 mod tests;
 
-pub use full_name::{FullName, SpliceFault};
+pub use full_name::{FullName, ROOT, SpliceFault};
 pub use houses::{HouseList, HousesFault};
 pub use pointer::{ChildFault, ChildPointer};

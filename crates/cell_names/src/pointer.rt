@@ -23,7 +23,7 @@ pub enum ChildFault {
 }
 
 /// A pointer to the directory of a child: its number, and the houses that have it.
-#[derive(Debug, PartialEq, Eq, Drop)]
+#[derive(Debug, PartialEq, Eq, Hash, Drop)]
 pub struct ChildPointer {
     pub dir: DirId,
     pub houses: HouseList,
@@ -55,11 +55,11 @@ impl ChildPointer {
         ensures lacking { pointer_fault octets.now ≡ None → IfErr result (λ e. e ≡ OutOfMemory) }
     {
         ChildPointer::check(octets).map_err(AllocOr::Fault)?;
-        Ok(ChildPointer::of_octets(alloc, octets)?)
+        Ok(ChildPointer::known(alloc, octets)?)
     }
 
-    // The child pointer of octets that are one.
-    fn of_octets(alloc: Global, octets: &[u8]) -> Result<ChildPointer, AllocError>
+    /// The child pointer of octets that are known to be one: only memory can be wanting.
+    pub fn known(alloc: Global, octets: &[u8]) -> Result<ChildPointer, AllocError>
         requires { pointer_fault octets.now ≡ None }
         ensures { IfOk result (λ p. pointer_of octets.now ≡ Some (pointer_in p)) }
     {

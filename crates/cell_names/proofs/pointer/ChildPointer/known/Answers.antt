@@ -2,7 +2,7 @@ use Rattle.std.proofs.Common.{List, ℕ, get_or, sym, subst}
 use Rattle.std.proofs.lemmas.List.{take_rest}
 use Rattle.cell_names.specs.Houses.{IsHouses}
 use Rattle.cell_names.proofs.PointerLaws.{houses_read}
-use Rattle.cell_names.proofs.pointer.ChildPointer.of_octets.Goals as goal
+use Rattle.cell_names.proofs.pointer.ChildPointer.known.Goals as goal
 
 pub of_numbers-requires : goal.of_numbers-requires
 of_numbers-requires c =
