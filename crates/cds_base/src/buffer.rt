@@ -1,5 +1,5 @@
 // Octets that were read and not taken off yet, in memory that is taken once.
-ghost use Rattle.std.specs.Prelude.{◌≡◌, ◌+◌, ◌-◌, ◌<◌, ◌≤◌, ◌↔◌, [], length, take, drop, slice_range, IfOk, OnErr, IsTrue};
+ghost use Rattle.std.specs.Prelude.{◌≡◌, ◌+◌, ◌-◌, ◌<◌, ◌≤◌, ◌↔◌, [], length, take, drop, slice_range, false, IfOk, OnErr, IsTrue};
 ghost use Rattle.std.specs.Io.KnownBytes.{Consumes, Keeps, IsAtEnd};
 ghost use Rattle.std.specs.Vec.{vec_len};
 ghost use Rattle.cds_base.specs.Counts.{HasCause};
@@ -121,6 +121,8 @@ impl Buffer {
         ensures reads { GrowsByReading (S.left source.old) (S.left source.new) (octets_in self.old) (octets_in self.new) }
         ensures short { IfOk result (λ ended. IsTrue ended ↔ (length (octets_in self.new) < room_of self.new)) }
         ensures end { IfOk result (λ ended. IsTrue ended → IsAtEnd (S.left source.new)) }
+        ensures err { OnErr result (length (octets_in self.new) < room_of self.new) }
+        ensures full { length (octets_in self.old) ≡ room_of self.old → (result ≡ Ok false) × (source.new ≡ source.old) }
         ensures room { room_of self.new ≡ room_of self.old }
         ensures cause { HasCause (S.faults source.old) (S.faults source.new) result }
     {

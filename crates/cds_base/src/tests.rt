@@ -251,3 +251,50 @@ fn readers_and_writers_of_std_fail_as_ends(rt: HostRuntime) -> Result<(), Fail> 
     assert_eq!(rt; put_all(&mut sink, b"a"), Err(PutFault(0)));
     Ok(())
 }
+
+// A reader whose first read fails, and whose later reads give one octet each until it ends.
+#[derive(Drop)]
+struct Late {
+    failed: bool,
+    octets: &'static [u8],
+}
+
+impl Read for Late {
+    fn read(&mut self, buf: &mut [u8]) -> io::Result<usize> {
+        if !self.failed {
+            self.failed = true;
+            return Err(io::Error::from(io::ErrorKind::NotConnected));
+        }
+        match self.octets {
+            [first, rest @ ..] if !buf.is_empty() => {
+                buf[0] = *first;
+                self.octets = rest;
+                Ok(1)
+            }
+            _ => Ok(0),
+        }
+    }
+}
+
+#[test]
+fn the_end_of_a_reader_is_no_failure(rt: HostRuntime) -> Result<(), Fail> {
+    let alloc = rt.alloc();
+    let mut source = StdSource::new(b"a\n".as_slice());
+    let mut lines = Lines::new(alloc)?;
+    assert!(rt; lines.next(&mut source)?.is_some());
+    for _ in 0..2 {
+        assert!(rt; lines.next(&mut source)?.is_none());
+    }
+
+    let mut source = StdSource::new(Late {
+        failed: false,
+        octets: b"ab",
+    });
+    let mut octet = [0; 1];
+    let answers = [Err(Failed), Ok(1), Ok(1), Ok(0), Ok(0)];
+    for answer in answers {
+        assert_eq!(rt; source.read(&mut octet), answer);
+    }
+    assert_eq!(rt; octet[0], b'b');
+    Ok(())
+}

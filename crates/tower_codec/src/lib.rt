@@ -8,6 +8,7 @@
 mod binding;
 mod fault;
 pub mod laws;
+mod octets;
 mod rpc;
 mod view;
 mod writer;

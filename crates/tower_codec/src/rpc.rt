@@ -3,6 +3,7 @@ ghost use Rattle.tower_codec.specs.Tower.{IsTower};
 ghost use Rattle.tower_codec.specs.Rpc.{rpc_protocol, port_protocol, port_octets, IsInterfaceFloor, IsPortFloor};
 ghost use Rattle.tower_codec.specs.RpcReading.{interface_at, protseq_at, port_at, address_at};
 
+use crate::octets::{high_first, low_first};
 use crate::{TowerView, TowerWriter};
 use std::alloc::{AllocError, Global};
 use std::fmt;
@@ -127,7 +128,7 @@ impl Interface {
         ensures { result ≡ (interface_floor self.now).left }
     {
         let u = self.uuid.to_bytes_le();
-        let [low, high] = self.major.to_le_bytes();
+        let [low, high] = low_first(self.major);
         [
             UUID, u[0], u[1], u[2], u[3], u[4], u[5], u[6], u[7], u[8], u[9], u[10], u[11], u[12],
             u[13], u[14], u[15], low, high,
@@ -135,13 +136,12 @@ impl Interface {
     }
 
     // Puts the floor behind the others.
-    #[tactic(auto, using(crate::proofs::RpcLaws::le_octets))]
     fn push_to(&self, writer: &mut TowerWriter) -> Result<(), AllocError>
         requires { length writer.old < 65535 }
         ensures { OnOk result (writer.new ≡ writer.old ++ interface_floor self.now ∷ []) }
     {
         let left = self.left();
-        let right = self.minor.to_le_bytes();
+        let right = low_first(self.minor);
         writer.push(&left, &right)
     }
 }
@@ -177,14 +177,13 @@ impl Protseq {
     }
 
     // Puts the floor of a port behind the others.
-    #[tactic(auto, using(crate::proofs::RpcLaws::be_octets))]
     fn push_port_to(self, port: u16, writer: &mut TowerWriter) -> Result<(), AllocError>
         requires { length writer.old < 65535 }
         ensures { OnOk result (writer.new ≡ writer.old
             ++ record { left = port_protocol self ∷ []; right = port_octets port } ∷ []) }
     {
         let left = [self.port_protocol()];
-        let right = port.to_be_bytes();
+        let right = high_first(port);
         writer.push(&left, &right)
     }
 }

@@ -22,7 +22,7 @@ fn split_length(octets: &[u8], past: usize) -> Result<(usize, &[u8]), TowerFault
     ensures { Gives (λ r. (r.0, r.1.now)) result (length_at past octets.now) }
 {
     match octets {
-        [low, high, rest @ ..] => Ok((usize::from(*low) + 256 * usize::from(*high), rest)),
+        [low, high, rest @ ..] => Ok((usize::from(u16::from_le_bytes([*low, *high])), rest)),
         _ => Err(TowerFault::ShortLength(past)),
     }
 }
@@ -75,7 +75,7 @@ fn split_tower(octets: &[u8]) -> Result<(u16, &[u8]), TowerFault>
     let past = octets.len() + 1;
     match octets {
         [low, high, body @ ..] => {
-            let count = u16::from(*low) + 256 * u16::from(*high);
+            let count = u16::from_le_bytes([*low, *high]);
             let rest = skip_floors(body, count, past)?;
             Ok((count, &body[..body.len() - rest.len()]))
         }
@@ -89,7 +89,7 @@ fn take_part(octets: &[u8]) -> (&[u8], &[u8])
     ensures part { result.0.now ≡ known_part octets.now }
     ensures rest { result.1.now ≡ after_known_part octets.now }
 {
-    let len = usize::from(octets[0]) + 256 * usize::from(octets[1]);
+    let len = usize::from(u16::from_le_bytes([octets[0], octets[1]]));
     octets[2..].split_at(len)
 }
 

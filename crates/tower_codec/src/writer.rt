@@ -2,6 +2,7 @@ ghost use Rattle.std.specs.Prelude.{◌≡◌, ℕ, ◌+◌, ◌≤◌, ◌<◌,
 ghost use Rattle.tower_codec.specs.Tower.{Floor, IsTower};
 ghost use Rattle.tower_codec.specs.Spelling.{number_octets, part_octets, floor_octets, tower_octets};
 
+use crate::octets::low_first;
 use std::alloc::{AllocError, Global};
 use std::marker::Model;
 
@@ -31,7 +32,7 @@ fn append_part(octets: &mut Vec<u8>, part: &[u8]) -> Result<(), AllocError>
     ensures err { OnErr result
         (take (length octets.old.items) octets.new.items ≡ octets.old.items) }
 {
-    octets.extend_from_slice(&(part.len() as u16).to_le_bytes())?;
+    octets.extend_from_slice(&low_first(part.len() as u16))?;
     octets.extend_from_slice(part)
 }
 
@@ -69,7 +70,7 @@ fn write_count(octets: &mut Vec<u8>, count: u16)
     requires { 2 ≤ vec_len octets.old }
     ensures { octets.new.items ≡ number_octets count ++ drop 2 octets.old.items }
 {
-    let [low, high] = count.to_le_bytes();
+    let [low, high] = low_first(count);
     octets[0] = low;
     octets[1] = high;
 }

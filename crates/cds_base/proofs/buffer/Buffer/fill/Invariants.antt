@@ -7,6 +7,7 @@ abbrev pub invariant-reads : goal.invariant-reads
 invariant-reads g l = record {
   reads : GrowsByReading (g.S.Source.left l.fn.source) (g.S.Source.left l.source) (octets_in l.fn.self) (octets_in l.self);
   room : room_of l.self ≡ room_of l.fn.self;
+  untouched : length (octets_in l.fn.self) ≡ room_of l.fn.self → l.source ≡ l.fn.source;
   faults : g.S.Source.faults l.source ≡ g.S.Source.faults l.fn.source;
 }
 
