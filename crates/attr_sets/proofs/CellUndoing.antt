@@ -11,7 +11,7 @@ use Rattle.cds_stamps.specs.Stamps.{later_stamp}
 use Rattle.cds_stamps.proofs.TreeViews.{entry_at, join_of-entries, get-view}
 use Rattle.attr_sets.specs.declared.mark.ValueMark.{ValueMark}
 use Rattle.attr_sets.specs.declared.cell.AttrCell.{AttrCell}
-use Rattle.attr_sets.specs.Marks.{later, kept}
+use Rattle.attr_sets.specs.Marks.{later, kept, ValueMarks, JoinsKept, AgreesOnKept}
 use Rattle.attr_sets.specs.Cells.{cell_of, join_cells, IsValidCell}
 use Rattle.attr_sets.specs.CellLaws.{same_cell, get-cell_of, get-join_cells, kept-later, kept-kept, clears}
 
@@ -21,6 +21,21 @@ kept_joined a b c stays last joined valid =
     same_cell c (join_cells a b) (stays ∙ sym last) (λ q.
     joined q ∙ ap (λ x. maybe later x (kept a.cleared (get b.values q))) (sym (valid q)) ∙ sym (kept-later a.cleared (get a.values q) (get b.values q))
     ∙ ap (λ x. kept x (maybe later (get a.values q) (get b.values q))) (sym last) ∙ sym (get-join_cells a b q))
+
+-- what was kept of the other before is kept of both
+pub kept_agrees : (c : Option Stamp) (m n other : ValueMarks) → JoinsKept c m n other → AgreesOnKept c m other n
+kept_agrees c m n other joined q =
+    let own : Option ValueMark = get m q in
+    let new : Option ValueMark = get other q in
+    ap (kept c) (joined q) ∙ kept-later c own (kept c new) ∙ ap (maybe later (kept c own)) (kept-kept c c new ∙ ap (λ d. kept d new) (clears.idem c)) ∙ sym (kept-later c own new)
+
+-- the join has what its clear keeps of both
+pub joined_agrees : (a b c : AttrCell) → c ≡ join_cells a b → AgreesOnKept c.cleared a.values b.values c.values
+joined_agrees a b c is q =
+    let e : Option Stamp = (join_cells a b).cleared in
+    let both : Option ValueMark = maybe later (get a.values q) (get b.values q) in
+    ap (λ (x : AttrCell). kept x.cleared (get x.values q)) is ∙ ap (kept e) (get-join_cells a b q) ∙ kept-kept e e both ∙ ap (λ d. kept d both) (clears.idem e)
+    ∙ sym (ap (λ (x : AttrCell). kept x.cleared both) is)
 
 -- a clear takes away from each mark of a list what it takes from the latest
 pub join_of-kept : {T : Type 0} (c : Option Stamp) (g : T → Option ValueMark) (es : List T) → join_of later (λ e. kept c (g e)) es ≡ kept c (join_of later g es)

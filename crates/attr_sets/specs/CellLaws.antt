@@ -15,7 +15,7 @@ use Rattle.cds_stamps.specs.Semilattice.{IsSemilattice, greater, maybe, maybe_se
 use Rattle.cds_stamps.specs.Keyed.{get-merge, get-of_all_keys}
 use Rattle.cds_stamps.specs.Stamps.{is_earlier, later_stamp, later_stamp_laws, stamp_total, stamp_exact}
 use Rattle.cds_stamps.specs.Octets.{octets_cmp, octets_exact}
-use Rattle.attr_sets.specs.Marks.{later, later_laws, kept}
+use Rattle.attr_sets.specs.Marks.{later, later_laws, kept, RaisesKept}
 use Rattle.attr_sets.specs.Cells.{AttrMark, Cleared, Marked, clear_in, mark_in, value_in, greatest_clear, greatest_mark, cell_of, join_cells, IsValidCell}
 
 module _ {M K : Type 0} (f : M → K) {R : K → K → Ordering} (o : IsTotalOrder R) (same : IsAntisymmetric R) (S : M → M → Ordering) where
@@ -154,42 +154,42 @@ alone_clear None = refl
 alone_clear (Some c) = refl
 
 -- the values of b are those of a with a mark, if the clear keeps it
-mark_given : (a b : AttrCell) (v : List ℕ) (m : ValueMark) → IsValidCell a → b.cleared ≡ a.cleared
+pub mark_given : (a b : AttrCell) (v : List ℕ) (m : ValueMark) → IsValidCell a → b.cleared ≡ a.cleared
     → ((q : List ℕ) → get b.values q ≡ maybe later (get a.values q) (kept a.cleared (if eq_by_cmp octets_cmp q v then Some m else None)))
     → b ≡ join_cells a (cell_of (Marked v m ∷ []))
 mark_given a b v m valid same has = same_cell b (join_cells a (cell_of (Marked v m ∷ []))) (same ∙ alone_clear a.cleared) (λ q.
     let x : Option ValueMark = if eq_by_cmp octets_cmp q v then Some m else None in
     cc (get-join_cells a (cell_of (Marked v m ∷ [])) q, get-one v m q, alone_clear a.cleared, kept-later a.cleared (get a.values q) x, valid q, has q))
 
-if_kept : (c : Option Stamp) (m : ValueMark) (b : Bool) → kept c (if b then Some m else None) ≡ (if b then kept c (Some m) else None)
-if_kept c m true = refl
-if_kept None m false = refl
-if_kept (Some c) m false = refl
+alone_mark : (x : Option ValueMark) → maybe later x None ≡ x
+alone_mark None = refl
+alone_mark (Some x) = refl
 
--- a mark that is earlier than the clear changes nothing
-pub mark_covered : (a : AttrCell) (v : List ℕ) (m : ValueMark) → IsValidCell a → kept a.cleared (Some m) ≡ None → a ≡ join_cells a (cell_of (Marked v m ∷ []))
-mark_covered a v m valid covered = mark_given a a v m valid refl (λ q.
-    let b : Bool = eq_by_cmp octets_cmp q v in
-    alone_mark (get a.values q) ∙ ap (maybe later (get a.values q)) (sym (if_kept a.cleared m b ∙ ap (λ x. if b then x else None) covered ∙ none_either b)))
-  where
-    alone_mark : (x : Option ValueMark) → x ≡ maybe later x None
-    alone_mark None = refl
-    alone_mark (Some x) = refl
+-- a mark that either clear was kept to before, beside another
+kept-beside : (c d : Option Stamp) (m n : Option ValueMark) → kept (maybe later_stamp c d) (maybe later m (kept c n)) ≡ kept (maybe later_stamp c d) (maybe later m n)
+kept-beside c d m n =
+    let e = maybe later_stamp c d in
+    ap (kept e) (marks.comm m (kept c n)) ∙ kept-nested c d n m ∙ ap (kept e) (marks.comm n m)
 
-    nothing : Option ValueMark
-    nothing = None
-
-    none_either : (b : Bool) → (if b then None else None) ≡ nothing
-    none_either true = refl
-    none_either false = refl
-
--- another is joined in
-pub mark_joined : (a b : AttrCell) (v : List ℕ) (m : ValueMark) → IsValidCell a → b.cleared ≡ a.cleared → kept a.cleared (Some m) ≡ Some m
-    → ((q : List ℕ) → get b.values q ≡ maybe later (get a.values q) (if eq_by_cmp octets_cmp q v then Some m else None))
-    → b ≡ join_cells a (cell_of (Marked v m ∷ []))
-mark_joined a b v m valid same keeps joined = mark_given a b v m valid same (λ q.
-    let t : Bool = eq_by_cmp octets_cmp q v in
-    joined q ∙ ap (maybe later (get a.values q)) (sym (if_kept a.cleared m t ∙ ap (λ x. if t then x else None) keeps)))
+-- a mark, unless the clear of the cell takes it, and then a clear
+pub put_joined : (a b : AttrCell) (v : List ℕ) (m : ValueMark) (s : Stamp) → b.cleared ≡ a.cleared → RaisesKept a.cleared a.values b.values v m
+    → join_cells b (cell_of (Cleared s ∷ [])) ≡ join_cells a (cell_of (Cleared s ∷ Marked v m ∷ []))
+put_joined a b v m s same raised =
+    let clear : AttrCell = cell_of (Cleared s ∷ []) in
+    let both : AttrCell = cell_of (Cleared s ∷ Marked v m ∷ []) in
+    same_cell (join_cells b clear) (join_cells a both) (ap (λ x. maybe later_stamp x (Some s)) same) (λ q.
+    let x : Option ValueMark = if eq_by_cmp octets_cmp q v then Some m else None in
+    let e : Option Stamp = maybe later_stamp a.cleared (Some s) in
+    let own : Option ValueMark = get a.values q in
+    get-join_cells b clear q
+    ∙ ap (λ c. kept (maybe later_stamp c (Some s)) (maybe later (get b.values q) (get clear.values q))) same
+    ∙ ap (λ y. kept e (maybe later (get b.values q) y)) (get-cell_of (Cleared s ∷ []) q)
+    ∙ ap (kept e) (alone_mark (get b.values q) ∙ raised q)
+    ∙ kept-beside a.cleared (Some s) own x
+    ∙ sym (ap (λ c. kept c (maybe later own (kept (Some s) x))) (clears.comm a.cleared (Some s)) ∙ kept-beside (Some s) a.cleared own x ∙ ap (λ c. kept c (maybe later own x)) (clears.comm (Some s) a.cleared))
+    ∙ ap (λ y. kept e (maybe later own (kept (Some s) y))) (sym (alone_mark x))
+    ∙ ap (λ y. kept e (maybe later own y)) (sym (get-cell_of (Cleared s ∷ Marked v m ∷ []) q))
+    ∙ sym (get-join_cells a both q))
 
 -- a clear
 pub clear_joined : (a b : AttrCell) (s : Stamp) → b.cleared ≡ maybe later_stamp a.cleared (Some s) → ((q : List ℕ) → get b.values q ≡ kept b.cleared (get a.values q)) → b ≡ join_cells a (cell_of (Cleared s ∷ []))

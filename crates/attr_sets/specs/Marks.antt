@@ -1,17 +1,25 @@
 -- Marks of one value of an attribute (own, after C705, present and absent values).
-use Rattle.std.specs.Prelude.{Bool, true, false, Option, Some, None, if◌then◌else◌, refl}
+use Rattle.std.specs.Prelude.{◌≡◌, ℕ, List, Bool, true, false, Option, Some, None, if◌then◌else◌, refl}
 use Rattle.std.proofs.Common.{ap}
 use Rattle.std.specs.declared.cmp.Ordering.{Ordering}
 use Rattle.std.specs.Coded.{Coded, code_by, coded×, coded_bool}
-use Rattle.std.specs.Ordering.{bool_cmp, ordering_then, flip_args}
+use Rattle.std.specs.Ordering.{bool_cmp, ordering_then, flip_args, eq_by_cmp}
 use Rattle.std.specs.Cmp.{IsTotalOrder, bool_cmp_total}
-use Rattle.std.specs.FinMap.{IsAntisymmetric}
+use Rattle.std.specs.FinMap.{FinMap, IsAntisymmetric, get}
 use Rattle.std.proofs.lemmas.Cmp.{on_total, then_total, back_total}
 use Rattle.std.proofs.lemmas.Map.Lookups.{exact_pairs, CmpEqualImpliesEq}
 use Rattle.cds_stamps.specs.declared.stamp.Stamp.{Stamp}
-use Rattle.cds_stamps.specs.Semilattice.{IsSemilattice, greater, greater_semilattice}
+use Rattle.cds_stamps.specs.Octets.{octets_cmp}
+use Rattle.cds_stamps.specs.Semilattice.{IsSemilattice, greater, greater_semilattice, maybe}
 use Rattle.cds_stamps.specs.Stamps.{stamp_cmp, stamp_total, stamp_exact, stamp_code, is_earlier}
 use Rattle.attr_sets.specs.declared.mark.ValueMark.{ValueMark}
+
+-- the mark of a value that is present, or absent, by an update with this stamp (own)
+abbrev pub present_at : Stamp → ValueMark
+present_at s = record { present = true; stamp = s }
+
+abbrev pub absent_at : Stamp → ValueMark
+absent_at s = record { present = false; stamp = s }
 
 -- by stamp; of two marks with one stamp the absent one is greater (own)
 abbrev pub mark_cmp : ValueMark → ValueMark → Ordering
@@ -44,3 +52,19 @@ abbrev pub kept : Option Stamp → Option ValueMark → Option ValueMark
 kept c None = None
 kept None (Some m) = Some m
 kept (Some c) (Some m) = if is_earlier m.stamp c then None else Some m
+
+-- a mark for each value, as clauses see it (own)
+abbrev pub ValueMarks : Type 0
+ValueMarks = FinMap octets_cmp ValueMark
+
+-- n is m with this mark of v joined in, unless the mark is earlier than the clear (own)
+abbrev pub RaisesKept : Option Stamp → ValueMarks → ValueMarks → List ℕ → ValueMark → Type 0
+RaisesKept c m n v mark = (q : List ℕ) → get n q ≡ maybe later (get m q) (kept c (if eq_by_cmp octets_cmp q v then Some mark else None))
+
+-- n is m with the marks of the other joined in that are not earlier than the clear (own)
+abbrev pub JoinsKept : Option Stamp → ValueMarks → ValueMarks → ValueMarks → Type 0
+JoinsKept c m n other = (q : List ℕ) → get n q ≡ maybe later (get m q) (kept c (get other q))
+
+-- n has what the clear keeps of the two joined, where the clear keeps it of n (own)
+abbrev pub AgreesOnKept : Option Stamp → ValueMarks → ValueMarks → ValueMarks → Type 0
+AgreesOnKept c m other n = (q : List ℕ) → kept c (get n q) ≡ kept c (maybe later (get m q) (get other q))

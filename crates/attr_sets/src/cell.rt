@@ -3,7 +3,7 @@ ghost use Rattle.std.specs.Prelude.{◌≡◌, List, ℕ, [], ◌∷◌, true, f
 ghost use Rattle.std.specs.FinMap as map;
 ghost use Rattle.cds_stamps.specs.Semilattice.{maybe};
 ghost use Rattle.cds_stamps.specs.Stamps.{later_stamp};
-ghost use Rattle.attr_sets.specs.Marks.{kept};
+ghost use Rattle.attr_sets.specs.Marks.{kept, present_at, absent_at, RaisesKept, AgreesOnKept};
 ghost use Rattle.attr_sets.specs.Cells.{Cleared, Marked, cell_of, cell_values, join_cells, IsValidCell};
 ghost use Rattle.attr_sets.specs.CellUndos.{undo_cell};
 ghost use Rattle.attr_sets.specs.CellLaws.{join_cells-comm, join_cells-assoc, join_cells-idem, join_cells-valid};
@@ -11,7 +11,7 @@ ghost use Rattle.attr_sets.specs.CellLaws.{join_cells-comm, join_cells-assoc, jo
 use crate::mark::ValueMark;
 use crate::undo::CellUndo;
 use crate::value::Value;
-use crate::value_map::{ValueMap, covers};
+use crate::value_map::ValueMap;
 use cds_stamps::{Lattice, Stamp};
 use std::alloc::{AllocError, Global};
 use std::mem::replace;
@@ -67,7 +67,9 @@ impl AttrCell {
 
     /// Adds a present mark of a value, in place.
     pub fn add(&mut self, alloc: Global, value: &Value, stamp: Stamp) -> Result<(), AllocError>
-        ensures ok { OnOk result (IsValidCell self.old → self.new ≡ join_cells self.old (cell_of (Marked value.now (record { present = true; stamp = stamp }) ∷ []))) }
+        ensures ok { OnOk result (IsValidCell self.old → self.new ≡ join_cells self.old (cell_of (Marked value.now (present_at stamp) ∷ []))) }
+        ensures cleared { self.new.cleared ≡ self.old.cleared }
+        ensures values { OnOk result (RaisesKept self.old.cleared self.old.values self.new.values value.now (present_at stamp)) }
         ensures err { OnErr result (self.new ≡ self.old) }
     {
         self.mark(
@@ -82,7 +84,9 @@ impl AttrCell {
 
     /// Adds an absent mark of a value, whether it is there or not, in place.
     pub fn remove(&mut self, alloc: Global, value: &Value, stamp: Stamp) -> Result<(), AllocError>
-        ensures ok { OnOk result (IsValidCell self.old → self.new ≡ join_cells self.old (cell_of (Marked value.now (record { present = false; stamp = stamp }) ∷ []))) }
+        ensures ok { OnOk result (IsValidCell self.old → self.new ≡ join_cells self.old (cell_of (Marked value.now (absent_at stamp) ∷ []))) }
+        ensures cleared { self.new.cleared ≡ self.old.cleared }
+        ensures values { OnOk result (RaisesKept self.old.cleared self.old.values self.new.values value.now (absent_at stamp)) }
         ensures err { OnErr result (self.new ≡ self.old) }
     {
         self.mark(
@@ -97,7 +101,7 @@ impl AttrCell {
 
     /// Adds a clear and a present mark of a value with one stamp, in place: the value alone is left of what was before.
     pub fn put(&mut self, alloc: Global, value: &Value, stamp: Stamp) -> Result<(), AllocError>
-        ensures ok { OnOk result (IsValidCell self.old → self.new ≡ join_cells self.old (cell_of (Cleared stamp ∷ Marked value.now (record { present = true; stamp = stamp }) ∷ []))) }
+        ensures ok { OnOk result (self.new ≡ join_cells self.old (cell_of (Cleared stamp ∷ Marked value.now (present_at stamp) ∷ []))) }
         ensures err { OnErr result (self.new ≡ self.old) }
     {
         let stamp = &stamp;
@@ -117,6 +121,8 @@ impl AttrCell {
     /// kept whole, and the marks that the clear leaves of it are copied.
     pub fn join_logged(&mut self, alloc: Global, other: &AttrCell) -> Result<CellUndo, AllocError>
         ensures ok { OnOk result (IsValidCell self.old → self.new ≡ join_cells self.old other.now) }
+        ensures cleared { OnOk result (self.new.cleared ≡ maybe later_stamp self.old.cleared other.now.cleared) }
+        ensures values { OnOk result (AgreesOnKept self.new.cleared self.old.values other.now.values self.new.values) }
         ensures back { IfOk result (λ undo. undo_cell undo self.new ≡ self.old) }
         ensures err { OnErr result (self.new ≡ self.old) }
     {
@@ -157,12 +163,12 @@ impl AttrCell {
 
     fn mark(&mut self, alloc: Global, value: &Value, mark: ValueMark) -> Result<(), AllocError>
         ensures ok { OnOk result (IsValidCell self.old → self.new ≡ join_cells self.old (cell_of (Marked value.now mark ∷ []))) }
+        ensures cleared { self.new.cleared ≡ self.old.cleared }
+        ensures values { OnOk result (RaisesKept self.old.cleared self.old.values self.new.values value.now mark) }
         ensures err { OnErr result (self.new ≡ self.old) }
     {
-        if covers(&self.cleared, &mark) {
-            return Ok(());
-        }
-        self.values.raise(alloc, value, mark)?;
+        self.values
+            .raise_uncovered(alloc, value, &mark, &self.cleared)?;
         Ok(())
     }
 
@@ -199,7 +205,12 @@ impl Lattice for AttrCell {
 
     ghost idempotent = { λ x valid. join_cells-idem x valid };
 
-    fn join(&mut self, alloc: Global, other: &Self) -> Result<(), AllocError> {
+    fn join(&mut self, alloc: Global, other: &Self) -> Result<(), AllocError>
+        ensures ok { OnOk result (IsValidCell self.old → IsValidCell other.now → self.new ≡ join_cells self.old other.now) }
+        ensures cleared { OnOk result (self.new.cleared ≡ maybe later_stamp self.old.cleared other.now.cleared) }
+        ensures values { OnOk result (AgreesOnKept self.new.cleared self.old.values other.now.values self.new.values) }
+        ensures err { OnErr result (self.new ≡ self.old) }
+    {
         if covers_clear(&self.cleared, &other.cleared) {
             self.values.join(alloc, &other.values, &self.cleared)?;
             return Ok(());

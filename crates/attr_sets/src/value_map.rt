@@ -4,9 +4,8 @@ ghost use Rattle.std.specs.FinMap as map;
 ghost use Rattle.std.specs.BTreeMap as tree;
 ghost use Rattle.std.specs.Ordering.{eq_by_cmp};
 ghost use Rattle.cds_stamps.specs.Octets.{octets_cmp};
-ghost use Rattle.cds_stamps.specs.Semilattice.{maybe};
 ghost use Rattle.cds_stamps.specs.Undos.{RaisesAt, TakesBack, LogsChange, MendsAt, back_at, put_back};
-ghost use Rattle.attr_sets.specs.Marks.{kept, later};
+ghost use Rattle.attr_sets.specs.Marks.{kept, later, RaisesKept, JoinsKept};
 
 use crate::mark::ValueMark;
 use crate::value::Value;
@@ -157,14 +156,14 @@ impl ValueMap {
     }
 
     /// Joins one mark in, unless it is earlier than the clear.
-    fn raise_uncovered(
+    pub(crate) fn raise_uncovered(
         &mut self,
         alloc: Global,
         value: &Value,
         mark: &ValueMark,
         clear: &Option<Stamp>,
     ) -> Result<(), AllocError>
-        ensures ok { OnOk result ((q : List ℕ) → map.get self.new q ≡ maybe later (map.get self.old q) (kept clear.now (if eq_by_cmp octets_cmp q value.now then Some mark.now else None))) }
+        ensures ok { OnOk result (RaisesKept clear.now self.old self.new value.now mark.now) }
         ensures err { OnErr result (self.new ≡ self.old) }
     {
         if covers(clear, mark) {
@@ -183,7 +182,7 @@ impl ValueMap {
         clear: &Option<Stamp>,
         log: &mut Vec<(Value, Option<ValueMark>)>,
     ) -> Result<(), AllocError>
-        ensures ok { OnOk result ((q : List ℕ) → map.get self.new q ≡ maybe later (map.get self.old q) (kept clear.now (if eq_by_cmp octets_cmp q value.now then Some mark.now else None))) }
+        ensures ok { OnOk result (RaisesKept clear.now self.old self.new value.now mark.now) }
         ensures back { LogsChange put_back self.old self.new log.old.items log.new.items }
     {
         if covers(clear, mark) {
@@ -219,7 +218,7 @@ impl ValueMap {
         clear: &Option<Stamp>,
         log: &mut Vec<(Value, Option<ValueMark>)>,
     ) -> Result<(), AllocError>
-        ensures ok { OnOk result ((q : List ℕ) → map.get self.new q ≡ maybe later (map.get self.old q) (kept clear.now (map.get other.now q))) }
+        ensures ok { OnOk result (JoinsKept clear.now self.old self.new other.now) }
         ensures back { LogsChange put_back self.old self.new log.old.items log.new.items }
     {
         for (value, mark) in other.marks.iter() {
@@ -236,7 +235,7 @@ impl ValueMap {
         other: &ValueMap,
         clear: &Option<Stamp>,
     ) -> Result<(), AllocError>
-        ensures { OnOk result ((q : List ℕ) → map.get self.new q ≡ maybe later (map.get self.old q) (kept clear.now (map.get other.now q))) }
+        ensures { OnOk result (JoinsKept clear.now self.old self.new other.now) }
     {
         for (value, mark) in other.marks.iter() {
             self.raise_uncovered(alloc, value, mark, clear)?;
@@ -251,7 +250,7 @@ impl ValueMap {
         other: &ValueMap,
         clear: &Option<Stamp>,
     ) -> Result<MarkLog, AllocError>
-        ensures ok { OnOk result ((q : List ℕ) → map.get self.new q ≡ maybe later (map.get self.old q) (kept clear.now (map.get other.now q))) }
+        ensures ok { OnOk result (JoinsKept clear.now self.old self.new other.now) }
         ensures back { IfOk result (λ log. TakesBack put_back self.old self.new log) }
         ensures err { OnErr result (self.new ≡ self.old) }
     {
@@ -270,7 +269,7 @@ impl ValueMap {
         other: &ValueMap,
         clear: &Option<Stamp>,
     ) -> Result<(), AllocError>
-        ensures ok { OnOk result ((q : List ℕ) → map.get self.new q ≡ maybe later (map.get self.old q) (kept clear.now (map.get other.now q))) }
+        ensures ok { OnOk result (JoinsKept clear.now self.old self.new other.now) }
         ensures err { OnErr result (self.new ≡ self.old) }
     {
         if let Some((value, mark)) = other.only() {
