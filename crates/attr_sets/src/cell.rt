@@ -12,7 +12,7 @@ use crate::mark::ValueMark;
 use crate::undo::CellUndo;
 use crate::value::Value;
 use crate::value_map::ValueMap;
-use cds_stamps::{Lattice, Stamp};
+use cds_stamps::{Lattice, Stamp, later_of};
 use std::alloc::{AllocError, Global};
 use std::mem::replace;
 
@@ -218,17 +218,6 @@ impl Lattice for AttrCell {
         self.values.join(alloc, &other.values, &other.cleared)?;
         self.join_clear(other.cleared);
         Ok(())
-    }
-}
-
-/// The later of two clears.
-fn later_of(a: Option<Stamp>, b: Option<Stamp>) -> Option<Stamp>
-    ensures { result ≡ maybe later_stamp a b }
-{
-    match (a, b) {
-        (Some(x), Some(y)) => Some(if x < y { y } else { x }),
-        (Some(x), None) => Some(x),
-        (None, y) => y,
     }
 }
 

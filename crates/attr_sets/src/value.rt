@@ -51,6 +51,16 @@ impl Value {
         })
     }
 
+    /// The value of octets that are one: only memory can be wanting.
+    pub fn known(alloc: Global, octets: &[u8]) -> Result<Value, AllocError>
+        requires { value_fault octets.now ≡ None }
+        ensures { IfOk result (λ v. v ≡ octets.now) }
+    {
+        Ok(Value {
+            octets: Octets::of(alloc, octets)?,
+        })
+    }
+
     pub fn octets(&self) -> &[u8]
         ensures { result.now ≡ self.now }
     {

@@ -25,7 +25,7 @@ pub const LINK_TARGET: &[u8] = b"CDS_LinkTarget";
 pub const REPLICAS: &[u8] = b"CDS_Replicas";
 
 /// The kind of an entry.
-#[derive(Clone, Copy, Debug, PartialEq, Eq, PartialOrd, Ord)]
+#[derive(Clone, Copy, Debug, PartialEq, Eq, PartialOrd, Ord, Hash)]
 pub enum Kind {
     Object,
     Link,

@@ -8,7 +8,6 @@ ghost use Rattle.cds_stamps.specs.Undos.{RaisesAt, TakesBack, LogsChange, MendsA
 ghost use Rattle.cds_stamps.specs.Names.{attr_fault};
 ghost use Rattle.cell_names.specs.FullNames.{spelling};
 ghost use Rattle.cell_names.specs.ChildPointers.{pointer_in, pointer_octets};
-ghost use Rattle.attr_sets.specs.Values.{value_fault};
 ghost use Rattle.attr_sets.specs.Cells.{Cleared, Marked, cell_of};
 ghost use Rattle.directory.specs.Kinds.{replicas};
 ghost use Rattle.directory.specs.Entries.{join_entries, join_tables, IsValidEntry, IsValidTable};
@@ -23,7 +22,7 @@ use crate::entry::{EntryCell, Fragment, Kind, LINK_TARGET, REPLICAS};
 use crate::undo::EntryUndo;
 use crate::update::{Update, UpdateRefusal};
 use attr_sets::{AttrCell, Value};
-use cds_stamps::{AllocOr, AttrName, Lattice, SimpleName, Stamp};
+use cds_stamps::{AttrName, Lattice, SimpleName, Stamp};
 use cell_names::{ChildPointer, FullName, HouseList};
 use std::alloc::{AllocError, Global};
 use std::collections::BTreeMap;
@@ -268,7 +267,7 @@ impl Table {
         };
         let value = pointer_value(alloc, &pointer)?;
         let cell = put_marks(alloc, &value, stamp)?;
-        let attr = known_attr(alloc, REPLICAS)?;
+        let attr = AttrName::known(alloc, REPLICAS)?;
         self.cell_fragment(alloc, name, &attr, cell)
     }
 
@@ -555,7 +554,7 @@ fn born_with(
 {
     let stamp = &stamp;
     let cell = present_mark(alloc, value, *stamp)?;
-    let attrs = one_attr(alloc, known_attr(alloc, attr)?, cell)?;
+    let attrs = one_attr(alloc, AttrName::known(alloc, attr)?, cell)?;
     born(alloc, name, kind, attrs, *stamp)
 }
 
@@ -564,7 +563,7 @@ fn target_value(alloc: Global, target: &FullName) -> Result<Value, AllocError>
     ensures { IfOk result (λ v. v ≡ spelling target.now) }
 {
     let octets = target.print(alloc)?;
-    known_value(alloc, &octets)
+    Value::known(alloc, &octets)
 }
 
 /// The value that is the pointer of a child.
@@ -572,31 +571,7 @@ fn pointer_value(alloc: Global, pointer: &ChildPointer) -> Result<Value, AllocEr
     ensures { IfOk result (λ v. v ≡ pointer_octets (pointer_in pointer.now)) }
 {
     let octets = pointer.write(alloc)?;
-    known_value(alloc, &octets)
-}
-
-/// The value of octets that are not too few or too many for one: only memory can be wanting.
-fn known_value(alloc: Global, octets: &[u8]) -> Result<Value, AllocError>
-    requires { value_fault octets.now ≡ None }
-    ensures { IfOk result (λ v. v ≡ octets.now) }
-{
-    match Value::new(alloc, octets) {
-        Ok(value) => Ok(value),
-        Err(AllocOr::OutOfMemory) => Err(AllocError),
-        Err(AllocOr::Fault(_)) => unreachable!(),
-    }
-}
-
-/// The attribute name of octets that are one: only memory can be wanting.
-fn known_attr(alloc: Global, octets: &[u8]) -> Result<AttrName, AllocError>
-    requires { attr_fault octets.now ≡ None }
-    ensures { IfOk result (λ a. a ≡ octets.now) }
-{
-    match AttrName::parse(alloc, octets) {
-        Ok(attr) => Ok(attr),
-        Err(AllocOr::OutOfMemory) => Err(AllocError),
-        Err(AllocOr::Fault(_)) => unreachable!(),
-    }
+    Value::known(alloc, &octets)
 }
 
 /// The cell of one present mark of a value.

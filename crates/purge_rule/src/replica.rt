@@ -1,5 +1,5 @@
 // A replica of a directory.
-ghost use Rattle.std.specs.Prelude.{◌≡◌, ◌++◌, List, Option, Some, None, IfOk, OnOk, OnErr, IfSome, min};
+ghost use Rattle.std.specs.Prelude.{◌≡◌, ◌≢◌, ◌++◌, ℕ, List, Option, Some, IfOk, OnOk, OnErr, IfSome, min};
 ghost use Rattle.cds_stamps.specs.Undos.{RaisesAt};
 ghost use Rattle.std.specs.FinMap as map;
 ghost use Rattle.directory.specs.Entries.{join_entries, join_tables, IsValidEntry, IsValidTable};
@@ -8,7 +8,7 @@ ghost use Rattle.purge_rule.specs.Replicas.{replica_of, together, CanMerge, IsFr
 ghost use Rattle.purge_rule.specs.Held.{held_in, most_held};
 
 use crate::held::held_in;
-use cds_stamps::{Lattice, Stamp};
+use cds_stamps::{Lattice, Stamp, later_of};
 use directory::{Fragment, Table};
 use std::alloc::{AllocError, Global};
 
@@ -30,11 +30,13 @@ impl Replica {
         })
     }
 
-    /// Merges another replica in. Of two histories that can be merged it becomes the replica of both together, up to the
-    /// later AllUpTo.
+    /// Merges another replica in: the tables are joined, up to the later AllUpTo. Of two histories that can be merged it
+    /// becomes the replica of both together.
     pub fn take(&mut self, alloc: Global, other: &Replica) -> Result<(), AllocError>
-        ensures merged { OnOk result ((h g : List Mark) → CanMerge h g (together self.old.all_up_to other.now.all_up_to) → self.old ≡ replica_of h self.old.all_up_to → other.now ≡ replica_of g other.now.all_up_to → self.new ≡ replica_of (h ++ g) (together self.old.all_up_to other.now.all_up_to)) }
-        ensures joined { OnOk result (together self.old.all_up_to other.now.all_up_to ≡ None → IsValidTable self.old.table → IsValidTable other.now.table → self.new.table ≡ join_tables self.old.table other.now.table) }
+        ensures merged { OnOk result ((h g : List Mark) →
+            let t = together self.old.all_up_to other.now.all_up_to in
+            CanMerge h g t → self.old ≡ replica_of h self.old.all_up_to → other.now ≡ replica_of g other.now.all_up_to → self.new ≡ replica_of (h ++ g) t) }
+        ensures joined { OnOk result (IsValidTable self.old.table → IsValidTable other.now.table → self.new.table ≡ join_tables self.old.table other.now.table) }
         ensures all_up_to { OnOk result (self.new.all_up_to ≡ together self.old.all_up_to other.now.all_up_to) }
         ensures valid { OnOk result (IsValidTable self.old.table → IsValidTable other.now.table → IsValidTable self.new.table) }
         ensures err { OnErr result (self.new ≡ self.old) }
@@ -44,11 +46,14 @@ impl Replica {
         Ok(())
     }
 
-    /// Merges the marks of one update in. Of a history that they can be merged with it becomes the replica of both
-    /// together, up to the same stamp.
+    /// Merges the marks of one update in: their entry is joined in, and every other name stays as it is. Of a history that
+    /// they can be merged with it becomes the replica of both together, up to the same stamp.
     pub fn take_marks(&mut self, alloc: Global, fragment: &Fragment) -> Result<(), AllocError>
-        ensures merged { OnOk result ((h marks : List Mark) → CanMerge h marks self.old.all_up_to → IsFragmentOf marks fragment.now → self.old ≡ replica_of h self.old.all_up_to → self.new ≡ replica_of (h ++ marks) self.old.all_up_to) }
-        ensures joined { OnOk result (self.old.all_up_to ≡ None → IfSome (map.get self.old.table fragment.now.name) IsValidEntry → IsValidEntry fragment.now.entry → RaisesAt join_entries self.old.table self.new.table fragment.now.name fragment.now.entry) }
+        ensures merged { OnOk result ((h marks : List Mark) →
+            CanMerge h marks self.old.all_up_to → IsFragmentOf marks fragment.now → self.old ≡ replica_of h self.old.all_up_to → self.new ≡ replica_of (h ++ marks) self.old.all_up_to) }
+        ensures joined { OnOk result (let f = fragment.now in
+            IfSome (map.get self.old.table f.name) IsValidEntry → IsValidEntry f.entry → RaisesAt join_entries self.old.table self.new.table f.name f.entry) }
+        ensures others { OnOk result ((q : List ℕ) → q ≢ fragment.now.name → map.get self.new.table q ≡ map.get self.old.table q) }
         ensures all_up_to { self.new.all_up_to ≡ self.old.all_up_to }
         ensures valid { OnOk result (IsValidTable self.old.table → IsValidEntry fragment.now.entry → IsValidTable self.new.table) }
         ensures err { OnErr result (self.new ≡ self.old) }
@@ -71,16 +76,5 @@ impl Replica {
         ensures { result ≡ min (held_in self.now.table) most_held }
     {
         held_in(&self.table)
-    }
-}
-
-/// The later of two stamps of which either may be missing.
-fn later_of(a: Option<Stamp>, b: Option<Stamp>) -> Option<Stamp>
-    ensures { result ≡ together a b }
-{
-    match (a, b) {
-        (Some(x), Some(y)) => Some(if x < y { y } else { x }),
-        (Some(x), None) => Some(x),
-        (None, y) => y,
     }
 }
