@@ -1,27 +1,15 @@
 -- The greatest of what the items of a list have.
-use Rattle.std.proofs.Common.{◌≡◌, Bool, true, false, List, [], ◌∷◌, Option, Some, None, refl, sym, ap, ◌∙◌, ◌⊎◌, inl, inr, ⊎_elim, arith}
+use Rattle.std.proofs.Common.{◌≡◌, Bool, true, false, List, [], ◌∷◌, Option, Some, None, refl, sym, ap, ◌∙◌, ⊎_elim, arith}
 use Rattle.std.specs.Prelude.{if◌then◌else◌}
 use Rattle.std.specs.declared.cmp.Ordering.{Ordering}
 use Rattle.std.specs.Ordering.{is_lt}
 use Rattle.std.specs.Cmp.{IsTotalOrder, tied_itself}
 use Rattle.std.specs.FinMap.{IsAntisymmetric}
 use Rattle.std.specs.List.{Contains}
-use Rattle.std.proofs.lemmas.List.Elements.{Contains-append_left, Contains-append_right, Contains-append_cases, Contains-push, Contains-push_cases}
 use Rattle.cds_stamps.specs.Semilattice.{IsSemilattice, greater, greater_semilattice, maybe, maybe_semilattice, join_of}
-
 -- ---- members of lists
 
-pub Contains-head : {A : Type 0} (x : A) (xs : List A) → Contains (x ∷ xs) x
-Contains-head x xs = Contains-append_left (x ∷ []) xs x (Contains-push [] x)
-
-pub Contains-tail : {A : Type 0} (y : A) (xs : List A) (x : A) → Contains xs x → Contains (y ∷ xs) x
-Contains-tail y xs x h = Contains-append_right (y ∷ []) xs x h
-
-pub Contains-none : {A : Type 0} (x : A) → Contains [] x → ⊥
-Contains-none x h = omega (arith, h.1)
-
-pub Contains-cases : {A : Type 0} (y : A) (xs : List A) (x : A) → Contains (y ∷ xs) x → (y ≡ x) ⊎ Contains xs x
-Contains-cases y xs x h = ⊎_elim (λ one. ⊎_elim (λ no. absurd (Contains-none x no)) inl (Contains-push_cases [] y x one)) inr (Contains-append_cases (y ∷ []) xs x h)
+pub use Rattle.cds_stamps.proofs.ListMembers.{Contains-head, Contains-tail, Contains-none, Contains-cases}
 
 -- ---- joins of members
 

@@ -1,5 +1,6 @@
 pub mod CellUndoing
 pub mod Greatest
+mod SortedValues
 pub mod ShownLaws
 pub mod UpdateLaws
 mod Examples

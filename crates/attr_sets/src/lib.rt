@@ -4,6 +4,7 @@
 mod cell;
 mod laws;
 mod mark;
+mod order;
 #[cfg(test)]
 mod tests;
 mod undo;
@@ -16,6 +17,7 @@ pub use laws::{
     shown_values_ascend,
 };
 pub use mark::ValueMark;
+pub use order::{all_in_order, in_order};
 pub use undo::CellUndo;
 pub use value::{Value, ValueFault};
 pub use value_map::{MarkLog, ValueMap};

@@ -6,3 +6,5 @@ pub mod OutcomeLaws
 mod Examples
 pub mod MemberLaws
 pub mod Masks
+pub mod ListMembers
+pub mod AscendingLaws

@@ -3,6 +3,7 @@ pub mod Semilattice
 pub mod Joins
 pub mod Stamps
 pub mod Octets
+pub mod Ascending
 pub mod Names
 pub mod Undos
 pub mod Outcomes

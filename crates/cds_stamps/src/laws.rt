@@ -1,5 +1,9 @@
 //! Laws of the definitions: functions that do nothing, whose contracts are proved.
 ghost use Rattle.std.specs.Prelude.{◌≡◌, ◌↔◌, ℕ, ◌<◌, Bool, true, List, None};
+ghost use Rattle.std.specs.List.{Contains};
+ghost use Rattle.std.specs.List.Sorted.{IsStrictlySortedBy};
+ghost use Rattle.cds_stamps.specs.Octets.{octets_cmp};
+ghost use Rattle.cds_stamps.specs.Ascending.{ascending};
 ghost use Rattle.cds_stamps.specs.Names.{simple_name_fault, IsSimpleName, attr_fault, IsAttrName};
 ghost use Rattle.cds_stamps.specs.Members.{Member, members_fault, most_members, IsMembers};
 ghost use Rattle.cds_stamps.specs.declared.members.TheConstants.{MOST_MEMBERS};
@@ -31,4 +35,12 @@ pub fn each_place_is_every_place()
 pub fn named_numbers_are_those_of_the_definitions()
     ensures most_members { MOST_MEMBERS ≡ most_members }
     ensures root { ROOT.0 ≡ root_dir }
+{}
+
+/// Octets in ascending order ascend, each once, and are those that were given; and no other list does and has them.
+pub fn octets_ascend_once()
+    ensures rises { (all : List (List ℕ)) → IsStrictlySortedBy octets_cmp (ascending all) }
+    ensures same { (all : List (List ℕ)) (o : List ℕ) → Contains (ascending all) o ↔ Contains all o }
+    ensures only { (all once : List (List ℕ)) → IsStrictlySortedBy octets_cmp once
+        → ((o : List ℕ) → Contains once o ↔ Contains all o) → once ≡ ascending all }
 {}
