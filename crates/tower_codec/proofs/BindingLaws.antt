@@ -83,7 +83,7 @@ unfolding protseq_named
 named_again Tcp = refl
 named_again Udp = refl
 
-protseq_found : (text : List ℕ) (y : Protseq × List ℕ) → protseq_at text ≡ Ok y → text ≡ protseq_name y.0 ++ 58 ∷ y.1
+pub protseq_found : (text : List ℕ) (y : Protseq × List ℕ) → protseq_at text ≡ Ok y → text ≡ protseq_name y.0 ++ 58 ∷ y.1
 unfolding protseq_at
 protseq_found text y h =
     let a = bind_ok (ok_or (cut 58 text) BadProtseq) (λ p. ok_or (option_map (λ protseq. (protseq, p.1)) (protseq_named p.0)) BadProtseq) y h in
@@ -95,7 +95,7 @@ name_lacks : (mark : ℕ) (protseq : Protseq) → lacks mark (protseq_name Tcp) 
 name_lacks mark Tcp tcp udp = tcp
 name_lacks mark Udp tcp udp = udp
 
-protseq_again : (protseq : Protseq) (rest : List ℕ) → protseq_at (protseq_name protseq ++ 58 ∷ rest) ≡ Ok (protseq, rest)
+pub protseq_again : (protseq : Protseq) (rest : List ℕ) → protseq_at (protseq_name protseq ++ 58 ∷ rest) ≡ Ok (protseq, rest)
 unfolding protseq_at
 protseq_again protseq rest =
     rw (cut_again 58 (protseq_name protseq) rest (name_lacks 58 protseq refl refl), named_again protseq) refl
@@ -117,10 +117,10 @@ octet_again n rest small =
     rw (cut_again 46 (decimal n) rest (decimal_lacks 46 n (omega arith) refl), number_again 255 n (omega arith) (lit< tt)) refl
 
 -- An address that is spelled by a text.
-record Spells (text address : List ℕ) : Type 0 where
-  text_is : text ≡ address_text address
-  four : length address ≡ 4
-  octets : All (λ n. n < 256) address
+pub record Spells (text address : List ℕ) : Type 0 where
+  pub text_is : text ≡ address_text address
+  pub four : length address ≡ 4
+  pub octets : All (λ n. n < 256) address
 
 four_octets : (a b c d : ℕ) → a < 256 → b < 256 → c < 256 → d < 256 → All (λ n. n < 256) (a ∷ b ∷ c ∷ d ∷ [])
 four_octets a b c d la lb lc ld zero e within = la
@@ -129,7 +129,7 @@ four_octets a b c d la lb lc ld (suc (suc zero)) e within = lc
 four_octets a b c d la lb lc ld (suc (suc (suc zero))) e within = ld
 four_octets a b c d la lb lc ld (suc (suc (suc (suc k)))) e within = absurd (omega arith)
 
-address_found : (text address : List ℕ) → address_of text ≡ Ok address → Spells text address
+pub address_found : (text address : List ℕ) → address_of text ≡ Ok address → Spells text address
 unfolding address_of
 address_found text address h =
     let a = bind_ok (octet_at text) (λ first. octet_at first.1 >>= λ second. octet_at second.1 >>= λ third. ok_or (number_of 255 third.1) BadAddress >>= λ fourth. Ok (first.0 ∷ second.0 ∷ third.0 ∷ fourth ∷ [])) address h in
@@ -152,7 +152,7 @@ address_found text address h =
       octets = four_octets a.0.0 b.0.0 c.0.0 d.0 first.1 second.1 third.1 (omega (arith, fourth.1));
     })
 
-address_again : (address : List ℕ) → length address ≡ 4 → All (λ n. n < 256) address → address_of (address_text address) ≡ Ok address
+pub address_again : (address : List ℕ) → length address ≡ 4 → All (λ n. n < 256) address → address_of (address_text address) ≡ Ok address
 unfolding address_of
 address_again [] len octets = absurd (omega arith)
 address_again (a ∷ []) len octets = absurd (omega arith)
@@ -169,7 +169,7 @@ address_again (a ∷ b ∷ c ∷ d ∷ []) len octets =
     ) refl
 address_again (a ∷ b ∷ c ∷ d ∷ e ∷ address) len octets = absurd (omega arith)
 
-address_lacks : (mark : ℕ) (address : List ℕ) → length address ≡ 4 → All (λ n. n < 256) address → is_ascii_digit mark ≡ false → lacks mark (46 ∷ []) ≡ true → lacks mark (address_text address) ≡ true
+pub address_lacks : (mark : ℕ) (address : List ℕ) → length address ≡ 4 → All (λ n. n < 256) address → is_ascii_digit mark ≡ false → lacks mark (46 ∷ []) ≡ true → lacks mark (address_text address) ≡ true
 address_lacks mark address len octets other dot =
     let at : (i : ℕ) → i < 4 → lacks mark (decimal (get_or address i 0)) ≡ true = λ i within.
     decimal_lacks mark (get_or address i 0) (let small = octets i 0 (omega arith) in omega arith) other in
@@ -219,7 +219,7 @@ endpoint_found : (text : List ℕ) (port : ℕ) → port_of (endpoint_parts text
 unfolding endpoint_parts
 endpoint_found text port h = endpoint_stands text (cut 91 text) port refl h
 
-endpoint_again : (front part : List ℕ) (port : ℕ) → IsEndpointPart part port → port < 2 ^ 16 → lacks 91 front ≡ true → (endpoint_parts (front ++ part) ≡ (front, part)) × (port_of part ≡ Ok port)
+pub endpoint_again : (front part : List ℕ) (port : ℕ) → IsEndpointPart part port → port < 2 ^ 16 → lacks 91 front ≡ true → (endpoint_parts (front ++ part) ≡ (front, part)) × (port_of part ≡ Ok port)
 unfolding endpoint_parts port_of
 endpoint_again front part port (inl none) small lack =
     let text : front ++ part ≡ front = ap (λ (x : List ℕ). front ++ x) none.0 ∙ append-nil front in

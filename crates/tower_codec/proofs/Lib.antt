@@ -10,4 +10,5 @@ pub mod Cuts
 pub mod UuidTexts
 pub mod Numbers
 pub mod BindingLaws
+pub mod BindingFaults
 mod Examples

@@ -6,4 +6,5 @@ pub mod Rpc
 pub mod RpcReading
 pub mod Binding
 pub mod BindingReading
+pub mod BindingFaults
 pub mod Steps

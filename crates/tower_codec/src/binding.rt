@@ -1,8 +1,9 @@
-ghost use Rattle.std.specs.Prelude.{◌≡◌, ℕ, ◌<◌, ◌≤◌, List, length, Some, Ok, IfSome, IfOk};
+ghost use Rattle.std.specs.Prelude.{◌≡◌, ℕ, ◌<◌, ◌≤◌, List, length, Some, Ok, IfSome, IfOk, IfErr};
 ghost use Rattle.std.specs.Option.{option_map};
 ghost use Rattle.uuid.specs.Text.{parsed_hyphenated};
 ghost use Rattle.tower_codec.specs.Steps.{Gives};
 ghost use Rattle.tower_codec.specs.Binding.{IsBinding, object_text, endpoint_text, binding_text};
+ghost use Rattle.tower_codec.specs.BindingFaults.{IsBindingFault};
 ghost use Rattle.tower_codec.specs.BindingReading.{cut, digits_of, number_of, object_at, protseq_named, protseq_at, endpoint_parts, octet_at, address_of, port_of, binding_of};
 
 use crate::{BindingFault, Protseq};
@@ -207,7 +208,8 @@ impl StringBinding {
         ensures only { (binding : StringBinding)
             → IsBinding octets.now binding → result ≡ Ok binding }
 
-        // Which fault it is.
+        // The fault is that of the first part from the left that no binding has there.
+        ensures fault { IfErr result (IsBindingFault octets.now) }
         ensures exact { Gives (λ r. r) result (binding_of octets.now) }
     {
         StringBinding::from_parts(octets)
