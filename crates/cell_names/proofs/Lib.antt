@@ -6,4 +6,5 @@ pub mod HouseLaws
 pub mod PointerWalks
 pub mod PointerLaws
 pub mod FullNameLaws
+pub mod SpelledWalks
 mod Examples

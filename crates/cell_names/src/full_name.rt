@@ -6,10 +6,12 @@ ghost use Rattle.std.specs.Hash as fed;
 ghost use Rattle.std.specs.Hash.{items_Alike};
 ghost use Rattle.std.proofs.Common.{rules};
 ghost use Rattle.cds_stamps.specs.Names.{simple_name_fault, IsSimpleName};
+ghost use Rattle.cds_stamps.specs.Octets.{is_octets};
 ghost use Rattle.cds_stamps.specs.Outcomes.{Answers, ok_unless};
 ghost use Rattle.cds_stamps.specs.declared.alloc_or.AllocOr.TheVariants.{Fault};
-ghost use Rattle.cell_names.specs.FullNames.{slash, behind_slashes, spelling, components_of, components_fault, name_fault, splice_fault, is_name, IsComponentList};
+ghost use Rattle.cell_names.specs.FullNames.{slash, behind_slashes, spelling, components_of, components_fault, name_fault, splice_fault, is_name, longest_name, IsComponentList};
 
+use crate::spelled::spell;
 use cds_stamps::{AllocOr, NameFault, SimpleName, is_name_octet};
 use std::alloc::{AllocError, Global};
 use std::hash::{Hash, Hasher};
@@ -144,14 +146,39 @@ impl FullName {
         ensures lawful { IfOk result (λ v. name_fault v.items ≡ None) }
         ensures read { IfOk result (λ v. components_of v.items ≡ self.now) }
     {
-        let mut octets = Vec::with_capacity(alloc, MOST_OCTETS - self.room())?;
+        let mut octets = Vec::with_capacity(alloc, self.spelled_len())?;
+        self.append_spelling(&mut octets)?;
+        Ok(octets)
+    }
+
+    /// Puts the octets that spell the name behind others. After want of memory some of them may be there.
+    pub fn append_spelling(&self, octets: &mut Vec<u8>) -> Result<(), AllocError>
+        ensures { OnOk result (octets.new.items ≡ octets.old.items ++ spelling self.now) }
+    {
         octets.extend_from_slice(ROOT)?;
         let components = self.components();
         for component in components {
             octets.push(b'/')?;
             octets.extend_from_slice(component.octets())?;
         }
-        Ok(octets)
+        Ok(())
+    }
+
+    /// How many octets spell the name.
+    pub fn spelled_len(&self) -> usize
+        ensures value { result ≡ length (spelling self.now) }
+        ensures within { result ≤ longest_name }
+        ensures lawful { IsComponentList self.now }
+    {
+        MOST_OCTETS - self.room()
+    }
+
+    /// Whether octets spell the name. Takes no memory.
+    pub fn is_spelled(&self, octets: &[u8]) -> bool
+        ensures value { result ≡ is_octets (spelling self.now) octets.now }
+        ensures lawful { IsComponentList self.now }
+    {
+        spell(octets, self.components())
     }
 
     // How many octets more a full name may have.

@@ -5,6 +5,7 @@ mod full_name;
 mod houses;
 pub mod laws;
 mod pointer;
+mod spelled;
 #[cfg(test)]
 mod tests;
 

@@ -6,10 +6,10 @@ use Rattle.cell_names.proofs.full_name.FullName.print.Goals as goal
 
 pub returns-clause-lawful : goal.returns-clause-lawful
 returns-clause-lawful c =
-    let spelled : c.loop-component.octets.items ≡ spelling c.components-components.result.now = grind (arith, common_steps) in
-    ap name_fault spelled ∙ name_fault-spelling c.components-components.result.now c.components-components.ensures.lawful
+    let spelled : c.append_spelling.new.octets.items ≡ spelling c.args.self.now = grind (arith, common_steps) in
+    ap name_fault spelled ∙ name_fault-spelling c.args.self.now c.spelled_len.ensures.lawful
 
 pub returns-clause-read : goal.returns-clause-read
 returns-clause-read c =
-    let spelled : c.loop-component.octets.items ≡ spelling c.components-components.result.now = grind (arith, common_steps) in
-    ap components_of spelled ∙ components_of-spelling c.components-components.result.now c.components-components.ensures.lawful ∙ c.components-components.ensures.value
+    let spelled : c.append_spelling.new.octets.items ≡ spelling c.args.self.now = grind (arith, common_steps) in
+    ap components_of spelled ∙ components_of-spelling c.args.self.now c.spelled_len.ensures.lawful

@@ -1,6 +1,0 @@
-use Rattle.std.proofs.Common.{◌≡◌, take}
-use Rattle.cell_names.specs.FullNames.{spelling}
-use Rattle.cell_names.proofs.full_name.FullName.print.Given as goal
-
-abbrev pub invariant-loop-component : goal.invariant-loop-component
-invariant-loop-component l = l.octets.items ≡ spelling (take l.component-index l.components)

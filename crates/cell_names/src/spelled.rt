@@ -1,0 +1,40 @@
+// Octets that spell components, compared without memory.
+ghost use Rattle.std.specs.Prelude.{◌≡◌, ◌≢◌, ◌↔◌, ◌++◌, ◌∷◌, ℕ, List, IsTrue, MatchOption};
+ghost use Rattle.cds_stamps.specs.Octets.{is_octets};
+ghost use Rattle.cell_names.specs.FullNames.{slash, spelling, behind_slashes};
+
+use crate::full_name::ROOT;
+use cds_stamps::SimpleName;
+
+/// Whether octets are the root of the cell and these components.
+pub(crate) fn spell(octets: &[u8], components: &[SimpleName]) -> bool
+    ensures { result ≡ is_octets (spelling components.now) octets.now }
+{
+    match octets.strip_prefix(ROOT) {
+        Some(behind) => are_components(behind, components),
+        None => false,
+    }
+}
+
+// Whether octets are these components, each behind a slash.
+fn are_components(octets: &[u8], components: &[SimpleName]) -> bool
+    ensures { IsTrue result ↔ (octets.now ≡ behind_slashes components.now) }
+{
+    let mut rest = octets;
+    for component in components {
+        match behind_component(rest, component.octets()) {
+            Some(behind) => rest = behind,
+            None => return false,
+        }
+    }
+    rest.is_empty()
+}
+
+// What stands behind a slash and this component, if octets begin so.
+fn behind_component<'a>(octets: &'a [u8], component: &[u8]) -> Option<&'a [u8]>
+    ensures { MatchOption result
+        ((rest : List ℕ) → octets.now ≢ slash ∷ (component.now ++ rest))
+        (λ rest. octets.now ≡ slash ∷ (component.now ++ rest.now)) }
+{
+    octets.strip_prefix(b"/")?.strip_prefix(component)
+}
