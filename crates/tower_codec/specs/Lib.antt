@@ -4,6 +4,7 @@ pub mod FloorView
 pub mod Spelling
 pub mod Rpc
 pub mod RpcReading
+pub mod Serving
 pub mod Binding
 pub mod BindingReading
 pub mod BindingFaults

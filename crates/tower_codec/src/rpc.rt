@@ -122,6 +122,15 @@ fn address_of(left: &[u8], right: &[u8]) -> Option<[u8; 4]>
 
 impl Interface {
     ghost use Rattle.tower_codec.specs.Rpc.{interface_floor};
+    ghost use Rattle.tower_codec.specs.Serving.{serves};
+
+    /// Whether this interface, where it is offered, serves one that is wanted: it has the same UUID and
+    /// major version, and the same minor version or a later one.
+    pub fn serves(&self, wanted: &Interface) -> bool
+        ensures { result ≡ serves self.now wanted.now }
+    {
+        self.uuid == wanted.uuid && self.major == wanted.major && wanted.minor <= self.minor
+    }
 
     // The left part of the floor.
     fn left(&self) -> [u8; 19]
