@@ -3,7 +3,9 @@
 
     generate.py comments N   N comment lines of 60 octets
     generate.py adds N       one entry, and N `add` and `remove` commands over eight values of it, and a `read`
-    generate.py creates N    N `create` commands, and then a `read` of each entry
+    generate.py values N     one entry, N `add` commands of as many values, and a `read`
+    generate.py creates N    N `create` commands, each with an `add`, and then a `read` of each entry
+    generate.py check N      N commands of several kinds, for the form `check`
     generate.py towers N     the octets of N RPC towers of five floors, 75 octets each, for the form `towers`
     generate.py untowers N   the text of the same towers, a line each, for the form `untowers`
 
@@ -29,14 +31,40 @@ def adds(count):
     yield "read 1 low /.:/entry Attribute\n"
 
 
-def creates(count):
-    yield "house 1 00000000000a\nroot 1\n"
+def mixed(count):
+    """The numbers below the count, each once, in no order."""
     # A step that shares no divisor with the count visits each number once.
     step = next(s for s in range(count * 2 // 3 + 1, 2 * count + 2) if coprime(s, count))
-    for i in range(count):
-        yield f"create 1 1 entry-{i * step % count:08}\n"
+    return (i * step % count for i in range(count))
+
+
+def values(count):
+    yield "house 1 00000000000a\nroot 1\ncreate 1 1 entry\n"
+    for i in mixed(count):
+        yield f"add 1 1 entry Attribute {i:08x}\n"
+    yield "read 1 low /.:/entry Attribute\n"
+
+
+def creates(count):
+    yield "house 1 00000000000a\nroot 1\n"
+    for i in mixed(count):
+        yield f"create 1 1 entry-{i:08}\n"
+        yield f"add 1 1 entry-{i:08} Attribute {i:08x}\n"
     for i in range(count):
         yield f"read 1 low /.:/entry-{i:08} Attribute\n"
+
+
+def check(count):
+    for i in range(count):
+        kind, name = i % 5, f"entry-{i // 5:08}"
+        if kind == 0:
+            yield f"clock 1 {i}\n"
+        elif kind == 1:
+            yield f"create 1 1 {name}\n"
+        elif kind == 4:
+            yield f"read 1 low /.:/{name} Attribute\n"
+        else:
+            yield f"{'add' if kind == 2 else 'remove'} 1 1 {name} Attribute {i:08x}\n"
 
 
 def coprime(a, b):
@@ -71,7 +99,9 @@ def encoded(texts):
 KINDS = {
     "comments": lambda count: encoded(comments(count)),
     "adds": lambda count: encoded(adds(count)),
+    "values": lambda count: encoded(values(count)),
     "creates": lambda count: encoded(creates(count)),
+    "check": lambda count: encoded(check(count)),
     "towers": towers,
     "untowers": untowers,
 }

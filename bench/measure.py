@@ -1,18 +1,22 @@
 #!/usr/bin/env python3
-"""Measures a program over inputs of generate.py:
+"""Measures programs over inputs of generate.py:
 
-    measure.py [--runs K] [--divide D] [--kinds KIND,KIND] NAME=PROGRAM [NAME=PROGRAM ..]
+    measure.py [--runs K] [--divide D] [--instructions E] [--kinds KIND,KIND] NAME=PROGRAM [NAME=PROGRAM ..]
 
 Each PROGRAM is run as `PROGRAM FORM`, with the input on its standard input, K times (3); one run at a time. The form is
-`run`, or `towers` or `untowers` for the kinds of these names. For each input and each program one line tells the number of
-lines or towers of the input, the seconds of the fastest run, the lines or towers and the MB that it took in one second, the
-processor time of that run, and the greatest peak of memory of its runs in KiB. The programs have to give the same answers
-and status 0; if not, it says so and ends with status 1. D divides the sizes of the inputs.
+`run`, or that of the kind's name, as `towers`. For each input and each program one line tells the number of lines or towers of
+the input, the seconds of the fastest run, the lines or towers and the MB that it took in one second, the processor time of
+that run, and the greatest peak of memory of its runs in KiB. The programs have to give the same answers and status 0; if not,
+it says so and ends with status 1. D divides the sizes of the inputs.
+
+With --instructions the instructions are counted too, by valgrind, which a busy machine does not change. That is slow, so the
+inputs are E times smaller for it (20, say). At the end a table has the ratios of the first program to the last.
 """
 
 import argparse
 import filecmp
 import os
+import re
 import resource
 import shutil
 import subprocess
@@ -23,8 +27,16 @@ import time
 sys.dont_write_bytecode = True
 import generate
 
-SIZES = {"comments": 10_000_000, "adds": 1_000_000, "creates": 100_000, "towers": 700_000, "untowers": 700_000}
-FORMS = {"towers": "towers", "untowers": "untowers"}
+SIZES = {
+    "comments": 10_000_000,
+    "adds": 1_000_000,
+    "values": 60_000,
+    "creates": 100_000,
+    "check": 300_000,
+    "towers": 700_000,
+    "untowers": 700_000,
+}
+FORMS = {"check": "check", "towers": "towers", "untowers": "untowers"}
 # GNU time has a small peak of its own; this process would lend its children a greater one.
 TIME = shutil.which("time")
 
@@ -42,18 +54,33 @@ def run_once(program, form, script, answers):
         return seconds, processor, int(peak.read()) if TIME else after.ru_maxrss, status
 
 
-def measure(kind, size, programs, runs, folder):
-    """Prints the line of each program; true where they agree."""
+def instructions(program, form, script):
+    """How many instructions a run takes."""
+    command = ["valgrind", "--tool=callgrind", "--callgrind-out-file=/dev/null", program, form]
+    with open(script, "rb") as source:
+        ran = subprocess.run(command, stdin=source, stdout=subprocess.DEVNULL, stderr=subprocess.PIPE, text=True)
+    return int(re.search(r"Collected : (\d+)", ran.stderr)[1])
+
+
+def generated(kind, size, folder):
+    """The input's file, and how many items it has."""
     script = os.path.join(folder, "input")
     with open(script, "wb") as out:
-        items = generate.write(kind, size, out)
+        return script, generate.write(kind, size, out)
+
+
+def measure(kind, size, programs, runs, folder):
+    """Prints the line of each program; the processor time of each, and whether they agree."""
+    script, items = generated(kind, size, folder)
     megabytes = os.path.getsize(script) / 1e6
-    agreed, first = True, None
+    agreed, first, times = True, None, []
     for name, program in programs:
         answers = os.path.join(folder, f"answers-{name}")
         results = [run_once(program, FORMS.get(kind, "run"), script, answers) for _ in range(runs)]
-        seconds, processor = min(results)[:2]
+        seconds = min(results)[0]
+        processor = min(result[1] for result in results)
         peak = max(result[2] for result in results)
+        times.append(processor)
         print(f"{kind:<10}{name:<12}{items:>12,}{seconds:>10.2f}{items / seconds:>14,.0f}{megabytes / seconds:>8,.0f}{processor:>11.2f}{peak:>11,}", flush=True)
         if any(result[3] != 0 for result in results):
             print(f"{name} ended with a status other than 0")
@@ -62,13 +89,23 @@ def measure(kind, size, programs, runs, folder):
             print(f"{name} answers otherwise than {programs[0][0]}")
             agreed = False
         first = first or answers
-    return agreed
+    return times, agreed
+
+
+def count(kind, size, programs, folder):
+    """Prints the instructions of each program, and gives them."""
+    script, items = generated(kind, size, folder)
+    counts = [instructions(program, FORMS.get(kind, "run"), script) for _, program in programs]
+    for (name, _), it in zip(programs, counts):
+        print(f"{kind:<10}{name:<12}{items:>12,}{it:>16,} instructions{it / items:>10,.0f} each", flush=True)
+    return counts
 
 
 def main():
     parser = argparse.ArgumentParser(description=__doc__, formatter_class=argparse.RawDescriptionHelpFormatter)
     parser.add_argument("--runs", type=int, default=3)
     parser.add_argument("--divide", type=int, default=1)
+    parser.add_argument("--instructions", type=int, default=0)
     parser.add_argument("--kinds", default=",".join(SIZES))
     parser.add_argument("programs", nargs="+", metavar="NAME=PROGRAM")
     args = parser.parse_args()
@@ -79,11 +116,18 @@ def main():
             name, path = os.path.basename(word), word
         programs.append((name, os.path.abspath(path)))
     print(f"{'input':<10}{'program':<12}{'items':>12}{'seconds':>10}{'items/second':>14}{'MB/s':>8}{'processor':>11}{'peak KiB':>11}")
-    agreed = True
+    all_agreed, rows = True, []
     with tempfile.TemporaryDirectory() as folder:
         for kind in args.kinds.split(","):
-            agreed &= measure(kind, SIZES[kind] // args.divide, programs, args.runs, folder)
-    sys.exit(0 if agreed else 1)
+            size = SIZES[kind] // args.divide
+            times, agreed = measure(kind, size, programs, args.runs, folder)
+            all_agreed &= agreed
+            counts = count(kind, max(size // args.instructions, 1), programs, folder) if args.instructions else []
+            rows.append((kind, times, counts))
+    print(f"\n| workload | processor time, {programs[0][0]} to {programs[-1][0]} | instructions |\n|---|---|---|")
+    for kind, times, counts in rows:
+        print(f"| `{kind}` | {times[0] / max(times[-1], 0.001):.2f} | {f'{counts[0] / counts[-1]:.2f}' if counts else ''} |")
+    sys.exit(0 if all_agreed else 1)
 
 
 if __name__ == "__main__":

@@ -1,6 +1,6 @@
-//! The work of `cdsreplay run`, `towers` and `untowers` on the inputs of generate.py, written in plain Rust: what a proved
-//! program is to be compared with. It answers the commands of one house, and stops at the first faulty line or tower without
-//! saying why.
+//! The work of `cdsreplay run`, `check`, `towers` and `untowers` on the inputs of generate.py, written in plain Rust: what a
+//! proved program is to be compared with. It knows the commands of one house, and stops at the first faulty line or tower
+//! without saying why.
 
 use std::collections::BTreeMap;
 use std::io::{self, BufRead, BufReader, BufWriter, Read, Write};
@@ -204,37 +204,47 @@ impl Cell {
         Answer::Values(values.filter(|(_, mark)| mark.present).map(|(value, _)| value.clone()).collect())
     }
 
-    /// The answer to what the words of a line say; nothing for a line without words.
-    fn reply(&mut self, words: &[&[u8]]) -> Result<Option<Answer>, Faulty> {
-        let answer = match words {
-            [] => return Ok(None),
-            [b"house", h, n] => {
-                the_house(h)?;
-                self.make_house(node(n)?)
-            }
-            [b"clock", h, time] => {
-                the_house(h)?;
-                self.set_clock(number(time)?)
-            }
-            [b"root", h] => {
-                the_house(h)?;
-                self.make_root()
-            }
-            [b"create", h, d, name] => {
-                the_house(h)?;
-                self.create(directory(d)?, simple_name(name)?)
-            }
-            [command @ (b"add" | b"remove"), h, d, name, a, v] => {
-                the_house(h)?;
-                self.mark(directory(d)?, simple_name(name)?, attribute(a)?, value(v)?, *command == b"add")
-            }
-            [b"read", h, b"low" | b"high", name, a] => {
-                the_house(h)?;
-                self.read(entry_name(name)?, attribute(a)?)
-            }
-            _ => return Err(Faulty),
-        };
-        Ok(Some(answer))
+    fn step(&mut self, command: Command) -> Answer {
+        match command {
+            Command::House(node) => self.make_house(node),
+            Command::Clock(time) => self.set_clock(time),
+            Command::Root => self.make_root(),
+            Command::Create(dir, name) => self.create(dir, name),
+            Command::Mark { dir, name, attribute, value, present } => self.mark(dir, name, attribute, value, present),
+            Command::Read(name, attribute) => self.read(name, attribute),
+        }
+    }
+}
+
+/// What a line says; its names are those of the line.
+enum Command<'a> {
+    House(u64),
+    Clock(u64),
+    Root,
+    Create(u32, &'a [u8]),
+    Mark { dir: u32, name: &'a [u8], attribute: &'a [u8], value: Vec<u8>, present: bool },
+    Read(&'a [u8], &'a [u8]),
+}
+
+/// What the words of a line say.
+fn command<'a>(words: &[&'a [u8]]) -> Result<Command<'a>, Faulty> {
+    if let [_, h, ..] = words {
+        the_house(h)?;
+    }
+    match words {
+        [b"house", _, n] => Ok(Command::House(node(n)?)),
+        [b"clock", _, time] => Ok(Command::Clock(number(time)?)),
+        [b"root", _] => Ok(Command::Root),
+        [b"create", _, d, name] => Ok(Command::Create(directory(d)?, simple_name(name)?)),
+        [word @ (b"add" | b"remove"), _, d, name, a, v] => Ok(Command::Mark {
+            dir: directory(d)?,
+            name: simple_name(name)?,
+            attribute: attribute(a)?,
+            value: value(v)?,
+            present: *word == b"add",
+        }),
+        [b"read", _, b"low" | b"high", name, a] => Ok(Command::Read(entry_name(name)?, attribute(a)?)),
+        _ => Err(Faulty),
     }
 }
 
@@ -256,8 +266,8 @@ fn write_answer(out: &mut impl Write, number: u32, answer: &Answer) -> io::Resul
     }
 }
 
-/// The answer to a line with its end; nothing for a line that says nothing.
-fn reply_to(cell: &mut Cell, line: &[u8]) -> Result<Option<Answer>, Faulty> {
+/// What a line with its end says, if it says anything.
+fn parse(line: &[u8]) -> Result<Option<Command<'_>>, Faulty> {
     let text = line.strip_suffix(b"\n").ok_or(Faulty)?;
     if text.len() > LONGEST || !text.iter().all(|b| matches!(b, b' '..=b'~')) {
         return Err(Faulty);
@@ -266,31 +276,51 @@ fn reply_to(cell: &mut Cell, line: &[u8]) -> Result<Option<Answer>, Faulty> {
         return Ok(None);
     }
     let words: Vec<&[u8]> = text.split(|b| *b == b' ').filter(|word| !word.is_empty()).collect();
-    cell.reply(&words)
+    if words.is_empty() { Ok(None) } else { command(&words).map(Some) }
 }
 
-/// Answers each line; false at the first faulty one.
-fn run(source: impl Read, sink: impl Write) -> io::Result<bool> {
+/// Takes each line by its number, with what it says; false at the first faulty one.
+fn each_line(source: impl Read, mut take: impl FnMut(u32, Option<Command>) -> io::Result<()>) -> io::Result<bool> {
     let mut source = BufReader::new(source);
-    let mut sink = BufWriter::new(sink);
-    let mut cell = Cell::default();
     let mut line = Vec::new();
     let mut number = 0;
     loop {
         line.clear();
         if source.read_until(b'\n', &mut line)? == 0 {
-            sink.flush()?;
             return Ok(true);
         }
         number += 1;
-        let Ok(answer) = reply_to(&mut cell, &line) else {
-            sink.flush()?;
+        let Ok(command) = parse(&line) else {
             return Ok(false);
         };
-        if let Some(answer) = answer {
-            write_answer(&mut sink, number, &answer)?;
-        }
+        take(number, command)?;
     }
+}
+
+/// Answers each line; false at the first faulty one.
+fn run(source: impl Read, sink: impl Write) -> io::Result<bool> {
+    let mut sink = BufWriter::new(sink);
+    let mut cell = Cell::default();
+    let whole = each_line(source, |number, command| match command {
+        Some(command) => write_answer(&mut sink, number, &cell.step(command)),
+        None => Ok(()),
+    })?;
+    sink.flush()?;
+    Ok(whole)
+}
+
+/// Counts the lines and the commands; false at the first faulty line.
+fn check(source: impl Read, mut sink: impl Write) -> io::Result<bool> {
+    let (mut lines, mut commands) = (0, 0);
+    let whole = each_line(source, |number, command| {
+        lines = number;
+        commands += u32::from(command.is_some());
+        Ok(())
+    })?;
+    if whole {
+        writeln!(sink, "ok {lines} {commands}")?;
+    }
+    Ok(whole)
 }
 
 const LONGEST_TOWER: usize = 1024;
@@ -437,6 +467,7 @@ fn main() -> ExitCode {
     let (source, sink) = (io::stdin().lock(), io::stdout().lock());
     let ended = match std::env::args().nth(1).as_deref() {
         Some("run") => run(source, sink),
+        Some("check") => check(source, sink),
         Some("towers") => towers(source, sink),
         Some("untowers") => untowers(source, sink),
         _ => return ExitCode::from(2),
