@@ -30,7 +30,8 @@ between_more old new start end n le same =
 
 -- what is between the places behind the first n
 pub between_behind : (xs : List ℕ) (start end n : ℕ) → between xs (start + n) end ≡ drop n (between xs start end)
-between_behind xs start end n = ap (λ (l : List ℕ). take (end - (start + n)) l) (sym (drop-drop n start xs)) ∙ behind n (end - start) (end - (start + n)) (drop start xs) (omega arith)
+between_behind xs start end n = ap (λ (l : List ℕ). take (end - (start + n)) l) (sym (drop-drop n start xs))
+    ∙ behind n (end - start) (end - (start + n)) (drop start xs) (omega arith)
   where
     behind : (n m k : ℕ) (l : List ℕ) → k ≡ m - n → take k (drop n l) ≡ drop n (take m l)
     behind zero m k l is = let same : k ≡ m = omega (arith, is) in ap (λ (i : ℕ). take i l) same
@@ -51,4 +52,5 @@ copied old new start len within same each =
     let size : length (take len new) ≡ len = length-take-le len new (omega arith) in
     let size' : length (take len (drop start old)) ≡ len = length-take-le len (drop start old) (omega (arith, length-drop start old)) in
     ext_get_or 0 (take len new) (take len (drop start old)) (size ∙ sym size')
-    (λ k lt. let below : k < len = omega arith in get_or-take len new k 0 below ∙ each k below ∙ sym (get_or-drop start old k 0) ∙ sym (get_or-take len (drop start old) k 0 below))
+    (λ k lt. let below : k < len = omega arith in get_or-take len new k 0 below ∙ each k below ∙ sym (get_or-drop start old k 0)
+    ∙ sym (get_or-take len (drop start old) k 0 below))

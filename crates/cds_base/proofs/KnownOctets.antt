@@ -107,7 +107,8 @@ grows_consumes (Some xs) (Some ys) held held' front grows =
     ∙ ap (λ (l : List ℕ). l ++ ys) (sym grows.grown) ∙ append_assoc front held' ys
 
 -- what is held and what is left together stay
-pub grows_keeps : (left left' : Option (List ℕ)) (held held' : List ℕ) → GrowsByReading left left' held held' → Keeps (prepend_known held left) (prepend_known held' left')
+pub grows_keeps : (left left' : Option (List ℕ)) (held held' : List ℕ) → GrowsByReading left left' held held'
+    → Keeps (prepend_known held left) (prepend_known held' left')
 grows_keeps None left' held held' grows = tt
 grows_keeps (Some xs) None held held' grows = absurd grows.taken
 grows_keeps (Some xs) (Some ys) held held' grows =

@@ -1,5 +1,6 @@
 -- What the printable front of some octets says of the line there.
-use Rattle.std.proofs.Common.{◌≡◌, ◌≢◌, ◌⊎◌, inl, inr, ℕ, zero, suc, ◌+◌, ◌-◌, ◌≤◌, ◌<◌, true, false, List, [], ◌∷◌, ◌++◌, length, take, drop, get_or, refl, sym, ◌∙◌, ap, subst, arith, take-append-drop}
+use Rattle.std.proofs.Common.{◌≡◌, ◌≢◌, ◌⊎◌, inl, inr, ℕ, zero, suc, ◌+◌, ◌-◌, ◌≤◌, ◌<◌, true, false, List, [], ◌∷◌, ◌++◌, length, take, drop, get_or}
+use Rattle.std.proofs.Common.{refl, sym, ◌∙◌, ap, subst, arith, take-append-drop}
 use Rattle.std.specs.Prelude.{None, Some}
 use Rattle.std.specs.List.{prefix_len}
 use Rattle.std.proofs.lemmas.Bool.Decides.{nat_tests}
@@ -52,7 +53,8 @@ printable≢end b h e = let r = printable_range b h in absurd (omega (arith, r.0
 
 -- ---- the octets in front
 
-clean_front : (number place : ℕ) (k : ℕ) (xs : List ℕ) → k ≤ prefix_len is_printable xs → (0 < k → number ≤ 16777216) → place + k ≤ 4097 → AreClean number place (take k xs)
+clean_front : (number place : ℕ) (k : ℕ) (xs : List ℕ) → k ≤ prefix_len is_printable xs → (0 < k → number ≤ 16777216) → place + k ≤ 4097
+    → AreClean number place (take k xs)
 clean_front number place zero xs front few room = tt
 clean_front number place (suc k) [] front few room = absurd (omega arith)
 clean_front number place (suc k) (b ∷ bs) front few room =
@@ -73,7 +75,8 @@ zero_or zero = inl refl
 zero_or (suc n) = inr (omega arith)
 
 -- the printable front goes on at a printable octet, and ends at another
-pub front_goes_on : (xs : List ℕ) (k : ℕ) → k ≤ prefix_len is_printable xs → k < length xs → is_printable (get_or xs k 0) ≡ true → k + 1 ≤ prefix_len is_printable xs
+pub front_goes_on : (xs : List ℕ) (k : ℕ) → k ≤ prefix_len is_printable xs → k < length xs → is_printable (get_or xs k 0) ≡ true
+    → k + 1 ≤ prefix_len is_printable xs
 front_goes_on xs k front within passes =
     elim (zero_or (prefix_len is_printable xs - k)) [
       | inl none ↦
@@ -100,7 +103,8 @@ split_at : (xs : List ℕ) (k : ℕ) → k < length xs → xs ≡ take k xs ++ g
 split_at xs k lt = sym (take-append-drop k xs) ∙ ap (λ (l : List ℕ). take k xs ++ l) (drop_more xs k 0 lt)
 
 module _ (number : ℕ) (xs : List ℕ) where
-  shows : (k : ℕ) (fault : LineFault) → k < length xs → AreClean number 1 (take k xs) → fault_at number (k + 1) (get_or xs k 0) ≡ Some fault → ShowsFault number fault xs
+  shows : (k : ℕ) (fault : LineFault) → k < length xs → AreClean number 1 (take k xs) → fault_at number (k + 1) (get_or xs k 0) ≡ Some fault
+      → ShowsFault number fault xs
   shows k fault lt clean is =
       let at : length (take k xs) + 1 ≡ k + 1 = omega (arith, length-take-le k xs (omega arith)) in record {
         front = take k xs;
@@ -115,7 +119,8 @@ module _ (number : ℕ) (xs : List ℕ) where
   sees_long long few =
       let within : 4096 < length xs = omega (arith, prefix_len-le-length is_printable xs) in
       let passes = prefix_len_passes is_printable xs 4096 0 long in
-      shows 4096 (LineTooLong number 4097) within (clean_front number 1 4096 xs (omega arith) (λ _. few) (omega arith)) (too_long number 4097 (get_or xs 4096 0) (printable≢end _ passes) (omega arith))
+      shows 4096 (LineTooLong number 4097) within (clean_front number 1 4096 xs (omega arith) (λ _. few) (omega arith))
+      (too_long number 4097 (get_or xs 4096 0) (printable≢end _ passes) (omega arith))
 
   pub sees_many : 0 < prefix_len is_printable xs → 16777216 < number → ShowsFault number (TooManyLines number 1) xs
   sees_many some many =
@@ -153,7 +158,8 @@ module _ (number : ℕ) (xs : List ℕ) where
     pub sees_too_long : n ≡ 4096 → get_or xs n 0 ≢ 10 → ShowsFault number (LineTooLong number 4097) xs
     sees_too_long at ne =
         let place : n + 1 ≡ 4097 = omega (arith, at) in
-        shows n (LineTooLong number 4097) within front_clean (too_long number (n + 1) (get_or xs n 0) ne (omega arith) ∙ ap (λ (k : ℕ). Some (LineTooLong number k)) place)
+        shows n (LineTooLong number 4097) within front_clean (too_long number (n + 1) (get_or xs n 0) ne (omega arith)
+        ∙ ap (λ (k : ℕ). Some (LineTooLong number k)) place)
 
     pub sees_not_ascii : n ≢ 4096 → get_or xs n 0 ≢ 10 → ShowsFault number (NotAscii number (n + 1)) xs
     sees_not_ascii less ne = shows n (NotAscii number (n + 1)) within front_clean (not_ascii number (n + 1) (get_or xs n 0) ne stops (omega arith))
@@ -161,7 +167,8 @@ module _ (number : ℕ) (xs : List ℕ) where
 -- ---- octets that are not clean
 
 -- clean octets hold no line end and no octet at fault
-clean_octet : (number place : ℕ) (front rest : List ℕ) (octet : ℕ) → AreClean number place (front ++ octet ∷ rest) → (octet ≢ 10) × (fault_at number (place + length front) octet ≡ None)
+clean_octet : (number place : ℕ) (front rest : List ℕ) (octet : ℕ) → AreClean number place (front ++ octet ∷ rest) → (octet ≢ 10)
+    × (fault_at number (place + length front) octet ≡ None)
 clean_octet number place [] rest octet clean =
     let at : place ≡ place + 0 = omega arith in
     (clean.0, ap (λ (k : ℕ). fault_at number k octet) (sym at) ∙ clean.1)

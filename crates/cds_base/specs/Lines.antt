@@ -117,7 +117,8 @@ seen_line (Ok o) = Ok (as_line o)
 seen_line (Err e) = Err e
 
 -- what a call of next did to the source and to the lines, once the line that it gave is let go
-pub record HasMoved {S : Type 0} (left : S → Option (List ℕ)) (faults : S → ℕ) (source source' : S) (old new : Lines) (result : Result (Option (ℕ × List ℕ)) LineFault) : Type 0 where
+pub record HasMoved {S : Type 0} (left : S → Option (List ℕ)) (faults : S → ℕ) (source source' : S) (old new : Lines)
+    (result : Result (Option (ℕ × List ℕ)) LineFault) : Type 0 where
   pub next : kept old ≡ None → IsNext (left source) (left source') old new result
   pub cause : kept old ≡ None → HasLineCause (faults source) (faults source') result
   pub ready : IsReady old → (source' ≡ source) × (kept old ≡ None → result ≢ Err ReadFault)

@@ -1,5 +1,6 @@
 -- The fault of a text is that of its first part that no binding has there.
-use Rattle.std.proofs.Common.{◌≡◌, ℕ, ◌<◌, ◌^◌, true, List, [], ◌∷◌, ◌++◌, length, drop, Option, Some, None, Result, Ok, Err, inl, inr, refl, sym, ap, subst, ◌∙◌, append_assoc, append-nil}
+use Rattle.std.proofs.Common.{◌≡◌, ℕ, ◌<◌, ◌^◌, true, List, [], ◌∷◌, ◌++◌, length, drop, Option, Some, None, Result, Ok, Err, inl, inr, refl, sym, ap}
+use Rattle.std.proofs.Common.{subst, ◌∙◌, append_assoc, append-nil}
 use Rattle.std.specs.Prelude.{IfErr}
 use Rattle.std.specs.Option.{option_map, ok_or}
 use Rattle.std.proofs.lemmas.Bool.{eq-eqb, cases_eq, ne_eqb}
@@ -12,7 +13,8 @@ use Rattle.tower_codec.specs.declared.fault.BindingFault.TheVariants.{BadObject,
 use Rattle.tower_codec.specs.declared.rpc.Protseq.{Protseq}
 use Rattle.tower_codec.specs.Steps.{◌>>=◌, Gives}
 use Rattle.tower_codec.specs.Binding.{address_text, IsEndpointPart}
-use Rattle.tower_codec.specs.BindingReading.{cut, number_of, object_of, object_at, protseq_named, protseq_at, parts_of, endpoint_parts, octet_at, address_of, port_before, port_of, binding_of}
+use Rattle.tower_codec.specs.BindingReading.{cut, number_of, object_of, object_at, protseq_named, protseq_at, parts_of, endpoint_parts, octet_at}
+use Rattle.tower_codec.specs.BindingReading.{address_of, port_before, port_of, binding_of}
 use Rattle.tower_codec.specs.BindingFaults.{HasMark, MayBeEndpoint, ObjectThen, ProtseqThen, AddressThen, IsBindingFault}
 use Rattle.tower_codec.proofs.StepLaws.{ok_is, bind_err, pair_ok}
 use Rattle.tower_codec.proofs.Cuts.{lacks, cut_again, cut_none, cut_found}
@@ -62,7 +64,8 @@ first_mark mark (c ∷ text) p e has =
     at_head [] back rest other none is = other (cc (is))
     at_head (b ∷ front) back rest other none is = let same : rest ≡ front ++ mark ∷ back = cc (is) in none (front, back, same)
 
-    later : ((q : List ℕ × List ℕ) → cut mark text ≡ Some q → HasMark mark q.0 → ⊥) → (o : Option (List ℕ × List ℕ)) → cut mark text ≡ o → option_map (more_front c) o ≡ Some p → (c ≡ mark → ⊥) → ⊥
+    later : ((q : List ℕ × List ℕ) → cut mark text ≡ Some q → HasMark mark q.0 → ⊥) → (o : Option (List ℕ × List ℕ)) → cut mark text ≡ o
+        → option_map (more_front c) o ≡ Some p → (c ≡ mark → ⊥) → ⊥
     later behind None is e other = cc (e)
     later behind (Some q) is e other =
         let front : c ∷ q.0 ≡ p.0 = ap (λ (r : List ℕ × List ℕ). r.0) (some_is (c ∷ q.0, q.1) p e) in
@@ -82,7 +85,8 @@ mapped_none : {A B : Type 0} (o : Option A) (f : A → B) → option_map f o ≡
 mapped_none None f is = refl
 mapped_none (Some x) f is = absurd cc
 
-object_fails : (text : List ℕ) (o : Option (List ℕ × List ℕ)) (e : BindingFault) → cut 64 text ≡ o → object_of text o ≡ Err e → (BadObject ≡ e) × IsBindingFault text BadObject
+object_fails : (text : List ℕ) (o : Option (List ℕ × List ℕ)) (e : BindingFault) → cut 64 text ≡ o → object_of text o ≡ Err e → (BadObject ≡ e)
+    × IsBindingFault text BadObject
 object_fails text None e is fails = absurd cc
 object_fails text (Some p) e is fails =
     let failed = ok_or_err (option_map (λ object. (object, p.1)) (parsed_hyphenated p.0)) BadObject e fails in
@@ -136,18 +140,21 @@ octet_fails text e fails =
 address_fails : (text : List ℕ) (e : BindingFault) → address_of text ≡ Err e → BadAddress ≡ e
 unfolding address_of
 address_fails text e fails =
-    elim (bind_err (octet_at text) (λ first. octet_at first.1 >>= λ second. octet_at second.1 >>= λ third. ok_or (number_of 255 third.1) BadAddress >>= λ fourth. Ok (first.0 ∷ second.0 ∷ third.0 ∷ fourth ∷ [])) e fails) [
+    elim (bind_err (octet_at text) (λ first. octet_at first.1 >>= λ second. octet_at second.1 >>= λ third. ok_or
+    (number_of 255 third.1) BadAddress >>= λ fourth. Ok (first.0 ∷ second.0 ∷ third.0 ∷ fourth ∷ [])) e fails) [
       | inl none ↦ octet_fails text e none
-      | inr a ↦ elim (bind_err (octet_at a.0.1) (λ second. octet_at second.1 >>= λ third. ok_or (number_of 255 third.1) BadAddress >>= λ fourth. Ok (a.0.0 ∷ second.0 ∷ third.0 ∷ fourth ∷ [])) e a.2) [
-        | inl none ↦ octet_fails a.0.1 e none
-        | inr b ↦ elim (bind_err (octet_at b.0.1) (λ third. ok_or (number_of 255 third.1) BadAddress >>= λ fourth. Ok (a.0.0 ∷ b.0.0 ∷ third.0 ∷ fourth ∷ [])) e b.2) [
-          | inl none ↦ octet_fails b.0.1 e none
-          | inr c ↦ elim (bind_err (ok_or (number_of 255 c.0.1) BadAddress) (λ fourth. Ok (a.0.0 ∷ b.0.0 ∷ c.0.0 ∷ fourth ∷ [])) e c.2) [
-            | inl none ↦ (ok_or_err (number_of 255 c.0.1) BadAddress e none).1
-            | inr d ↦ absurd (never (a.0.0 ∷ b.0.0 ∷ c.0.0 ∷ d.0 ∷ []) e d.2)
+      | inr a ↦ elim (bind_err (octet_at a.0.1) (λ second. octet_at second.1 >>= λ third. ok_or (number_of 255 third.1) BadAddress >>= λ fourth. Ok
+          (a.0.0 ∷ second.0 ∷ third.0 ∷ fourth ∷ [])) e a.2) [
+            | inl none ↦ octet_fails a.0.1 e none
+            | inr b ↦ elim (bind_err (octet_at b.0.1) (λ third. ok_or (number_of 255 third.1) BadAddress >>= λ fourth. Ok
+                (a.0.0 ∷ b.0.0 ∷ third.0 ∷ fourth ∷ [])) e b.2) [
+                  | inl none ↦ octet_fails b.0.1 e none
+                  | inr c ↦ elim (bind_err (ok_or (number_of 255 c.0.1) BadAddress) (λ fourth. Ok (a.0.0 ∷ b.0.0 ∷ c.0.0 ∷ fourth ∷ [])) e c.2) [
+                    | inl none ↦ (ok_or_err (number_of 255 c.0.1) BadAddress e none).1
+                    | inr d ↦ absurd (never (a.0.0 ∷ b.0.0 ∷ c.0.0 ∷ d.0 ∷ []) e d.2)
+                  ]
+                ]
           ]
-        ]
-      ]
     ]
 
 -- what stands in front of where an endpoint may begin
@@ -203,7 +210,8 @@ no_port part e fails port small is = never port e (sym (endpoint_again [] part p
 binding_fails : (text : List ℕ) (e : BindingFault) → binding_of text ≡ Err e → IsBindingFault text e
 unfolding binding_of
 binding_fails text e fails =
-    elim (bind_err (object_at text) (λ object. protseq_at object.1 >>= λ protseq. address_of (endpoint_parts protseq.1).0 >>= λ address. port_of (endpoint_parts protseq.1).1 >>= λ port. Ok (made object.0 protseq.0 address port)) e fails) [
+    elim (bind_err (object_at text) (λ object. protseq_at object.1 >>= λ protseq. address_of (endpoint_parts protseq.1).0 >>= λ address. port_of
+    (endpoint_parts protseq.1).1 >>= λ port. Ok (made object.0 protseq.0 address port)) e fails) [
       | inl none ↦ (let no = no_object text e none in subst (IsBindingFault text) no.0 no.1)
       | inr a ↦ behind_object a.0 (object_then text a.0 a.1) a.2
     ]
@@ -212,7 +220,8 @@ binding_fails text e fails =
     made object protseq address port = record { object = object; protseq = protseq; address = address; port = port }
 
     behind_protseq : (y : List ℕ × List ℕ) (z : Protseq × List ℕ) → ObjectThen text y.1 → ProtseqThen y.1 z.1
-        → (address_of (endpoint_parts z.1).0 >>= λ address. port_of (endpoint_parts z.1).1 >>= λ port. Ok (made y.0 z.0 address port)) ≡ Err e → IsBindingFault text e
+        → (address_of (endpoint_parts z.1).0 >>= λ address. port_of (endpoint_parts z.1).1 >>= λ port. Ok (made y.0 z.0 address port)) ≡ Err e
+        → IsBindingFault text e
     behind_protseq y z object protseq fails =
         elim (bind_err (address_of (endpoint_parts z.1).0) (λ address. port_of (endpoint_parts z.1).1 >>= λ port. Ok (made y.0 z.0 address port)) e fails) [
           | inl none ↦ subst (IsBindingFault text) (address_fails (endpoint_parts z.1).0 e none) (y.1, z.1, object, protseq, no_address z.1 e none)
@@ -224,9 +233,11 @@ binding_fails text e fails =
         ]
 
     behind_object : (y : List ℕ × List ℕ) → ObjectThen text y.1
-        → (protseq_at y.1 >>= λ protseq. address_of (endpoint_parts protseq.1).0 >>= λ address. port_of (endpoint_parts protseq.1).1 >>= λ port. Ok (made y.0 protseq.0 address port)) ≡ Err e → IsBindingFault text e
+        → (protseq_at y.1 >>= λ protseq. address_of (endpoint_parts protseq.1).0 >>= λ address. port_of (endpoint_parts protseq.1).1 >>= λ port. Ok
+        (made y.0 protseq.0 address port)) ≡ Err e → IsBindingFault text e
     behind_object y object fails =
-        elim (bind_err (protseq_at y.1) (λ protseq. address_of (endpoint_parts protseq.1).0 >>= λ address. port_of (endpoint_parts protseq.1).1 >>= λ port. Ok (made y.0 protseq.0 address port)) e fails) [
+        elim (bind_err (protseq_at y.1) (λ protseq. address_of (endpoint_parts protseq.1).0 >>= λ address. port_of
+        (endpoint_parts protseq.1).1 >>= λ port. Ok (made y.0 protseq.0 address port)) e fails) [
           | inl none ↦ subst (IsBindingFault text) (protseq_fails y.1 e none) (y.1, object, no_protseq y.1 e none)
           | inr b ↦ behind_protseq y b.0 object (b.0.0, protseq_found y.1 b.0 b.1) b.2
         ]

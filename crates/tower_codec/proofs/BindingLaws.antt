@@ -1,5 +1,6 @@
 -- What is read of a string binding is a form of it, and each form is read.
-use Rattle.std.proofs.Common.{◌≡◌, ℕ, zero, suc, ◌<◌, ◌^◌, Bool, true, false, cond, not, eqb, ◌==◌, List, [], ◌∷◌, ◌++◌, length, get_or, drop, All, Option, Some, None, Result, Ok, Err, IfOk, inl, inr, refl, sym, ap, subst, ◌∙◌, append_assoc, lit<, arith}
+use Rattle.std.proofs.Common.{◌≡◌, ℕ, zero, suc, ◌<◌, ◌^◌, Bool, true, false, cond, not, eqb, ◌==◌, List, [], ◌∷◌, ◌++◌, length, get_or, drop, All}
+use Rattle.std.proofs.Common.{Option, Some, None, Result, Ok, Err, IfOk, inl, inr, refl, sym, ap, subst, ◌∙◌, append_assoc, lit<, arith}
 use Rattle.std.specs.Option.{option_map, ok_or}
 use Rattle.std.specs.Char.{is_ascii_digit}
 use Rattle.std.specs.Str.{bytes_eq}
@@ -16,8 +17,10 @@ use Rattle.tower_codec.specs.declared.fault.BindingFault.TheVariants.{BadObject,
 use Rattle.tower_codec.specs.declared.rpc.Protseq.{Protseq}
 use Rattle.tower_codec.specs.declared.rpc.Protseq.TheVariants.{Tcp, Udp}
 use Rattle.tower_codec.specs.Steps.{◌>>=◌, Gives}
-use Rattle.tower_codec.specs.Binding.{protseq_name, address_text, object_text, endpoint_text, binding_text, IsObjectPart, IsEndpointPart, FitsBinding, IsUuid, IsBinding}
-use Rattle.tower_codec.specs.BindingReading.{cut, number_of, object_of, object_at, protseq_named, protseq_at, parts_of, endpoint_parts, octet_at, address_of, port_before, port_of, binding_of}
+use Rattle.tower_codec.specs.Binding.{protseq_name, address_text, object_text, endpoint_text, binding_text, IsObjectPart, IsEndpointPart, FitsBinding}
+use Rattle.tower_codec.specs.Binding.{IsUuid, IsBinding}
+use Rattle.tower_codec.specs.BindingReading.{cut, number_of, object_of, object_at, protseq_named, protseq_at, parts_of, endpoint_parts, octet_at}
+use Rattle.tower_codec.specs.BindingReading.{address_of, port_before, port_of, binding_of}
 use Rattle.tower_codec.proofs.StepLaws.{ok_is, bind_ok, ok_or_ok, pair_ok}
 use Rattle.tower_codec.proofs.Cuts.{lacks, lacks-append, cut_again, cut_none, cut_found}
 use Rattle.tower_codec.proofs.Numbers.{number_again, number_found, decimal_lacks}
@@ -34,7 +37,8 @@ record ObjectStands (text object rest : List ℕ) : Type 0 where
   is : IsObjectPart part object
   front : text ≡ part ++ rest
 
-object_stands : (text : List ℕ) (cut_is : Option (List ℕ × List ℕ)) (y : List ℕ × List ℕ) → cut 64 text ≡ cut_is → object_of text cut_is ≡ Ok y → ObjectStands text y.0 y.1
+object_stands : (text : List ℕ) (cut_is : Option (List ℕ × List ℕ)) (y : List ℕ × List ℕ) → cut 64 text ≡ cut_is → object_of text cut_is ≡ Ok y
+    → ObjectStands text y.0 y.1
 object_stands text None y e h =
     subst (λ (z : List ℕ × List ℕ). ObjectStands text z.0 z.1) (ok_is (zero_bytes, text) y h)
     (record { part = []; is = inl (refl, refl); front = refl })
@@ -58,7 +62,8 @@ object_again part object rest (inl nil) lack =
     ap object_at text ∙ rw (none, nil.1) refl
 object_again part object rest (inr uuid) lack =
     let text : part ++ rest ≡ uuid.0 ++ 64 ∷ rest = ap (λ (x : List ℕ). x ++ rest) uuid.1 ∙ append_assoc uuid.0 (64 ∷ []) rest in
-    let found : cut 64 (uuid.0 ++ 64 ∷ rest) ≡ Some (uuid.0, rest) = cut_again 64 uuid.0 rest (uuid_lacks 64 uuid.0 object uuid.2 (λ e. absurd (omega arith)) refl) in
+    let found : cut 64 (uuid.0 ++ 64 ∷ rest) ≡ Some (uuid.0, rest) = cut_again 64 uuid.0 rest
+    (uuid_lacks 64 uuid.0 object uuid.2 (λ e. absurd (omega arith)) refl) in
     ap object_at text ∙ rw (found, uuid.2) refl
 
 -- ---- Protocol sequences.
@@ -91,7 +96,8 @@ protseq_found text y h =
     let named = pair_ok (protseq_named a.0.0) a.0.1 BadProtseq y a.2 in
     parts ∙ ap (λ (x : List ℕ). x ++ 58 ∷ a.0.1) (named_is a.0.0 y.0 named.0) ∙ ap (λ (x : List ℕ). protseq_name y.0 ++ 58 ∷ x) named.1
 
-name_lacks : (mark : ℕ) (protseq : Protseq) → lacks mark (protseq_name Tcp) ≡ true → lacks mark (protseq_name Udp) ≡ true → lacks mark (protseq_name protseq) ≡ true
+name_lacks : (mark : ℕ) (protseq : Protseq) → lacks mark (protseq_name Tcp) ≡ true → lacks mark (protseq_name Udp) ≡ true
+    → lacks mark (protseq_name protseq) ≡ true
 name_lacks mark Tcp tcp udp = tcp
 name_lacks mark Udp tcp udp = udp
 
@@ -132,8 +138,10 @@ four_octets a b c d la lb lc ld (suc (suc (suc (suc k)))) e within = absurd (ome
 pub address_found : (text address : List ℕ) → address_of text ≡ Ok address → Spells text address
 unfolding address_of
 address_found text address h =
-    let a = bind_ok (octet_at text) (λ first. octet_at first.1 >>= λ second. octet_at second.1 >>= λ third. ok_or (number_of 255 third.1) BadAddress >>= λ fourth. Ok (first.0 ∷ second.0 ∷ third.0 ∷ fourth ∷ [])) address h in
-    let b = bind_ok (octet_at a.0.1) (λ second. octet_at second.1 >>= λ third. ok_or (number_of 255 third.1) BadAddress >>= λ fourth. Ok (a.0.0 ∷ second.0 ∷ third.0 ∷ fourth ∷ [])) address a.2 in
+    let a = bind_ok (octet_at text) (λ first. octet_at first.1 >>= λ second. octet_at second.1 >>= λ third. ok_or
+    (number_of 255 third.1) BadAddress >>= λ fourth. Ok (first.0 ∷ second.0 ∷ third.0 ∷ fourth ∷ [])) address h in
+    let b = bind_ok (octet_at a.0.1) (λ second. octet_at second.1 >>= λ third. ok_or (number_of 255 third.1) BadAddress >>= λ fourth. Ok
+    (a.0.0 ∷ second.0 ∷ third.0 ∷ fourth ∷ [])) address a.2 in
     let c = bind_ok (octet_at b.0.1) (λ third. ok_or (number_of 255 third.1) BadAddress >>= λ fourth. Ok (a.0.0 ∷ b.0.0 ∷ third.0 ∷ fourth ∷ [])) address b.2 in
     let d = bind_ok (ok_or (number_of 255 c.0.1) BadAddress) (λ fourth. Ok (a.0.0 ∷ b.0.0 ∷ c.0.0 ∷ fourth ∷ [])) address c.2 in
     let first = octet_found text a.0 a.1 in
@@ -169,7 +177,8 @@ address_again (a ∷ b ∷ c ∷ d ∷ []) len octets =
     ) refl
 address_again (a ∷ b ∷ c ∷ d ∷ e ∷ address) len octets = absurd (omega arith)
 
-pub address_lacks : (mark : ℕ) (address : List ℕ) → length address ≡ 4 → All (λ n. n < 256) address → is_ascii_digit mark ≡ false → lacks mark (46 ∷ []) ≡ true → lacks mark (address_text address) ≡ true
+pub address_lacks : (mark : ℕ) (address : List ℕ) → length address ≡ 4 → All (λ n. n < 256) address → is_ascii_digit mark ≡ false
+    → lacks mark (46 ∷ []) ≡ true → lacks mark (address_text address) ≡ true
 address_lacks mark address len octets other dot =
     let at : (i : ℕ) → i < 4 → lacks mark (decimal (get_or address i 0)) ≡ true = λ i within.
     decimal_lacks mark (get_or address i 0) (let small = octets i 0 (omega arith) in omega arith) other in
@@ -189,13 +198,17 @@ record EndpointStands (text : List ℕ) (parts : List ℕ × List ℕ) (port : �
   small : port < 2 ^ 16
   whole : text ≡ parts.0 ++ parts.1
 
-port_stands : (text : List ℕ) (cut_is : Option (List ℕ × List ℕ)) (port : ℕ) → cut 93 text ≡ cut_is → port_before cut_is ≡ Some port → (91 ∷ text ≡ 91 ∷ (decimal port ++ 93 ∷ [])) × (port < 2 ^ 16)
+port_stands : (text : List ℕ) (cut_is : Option (List ℕ × List ℕ)) (port : ℕ) → cut 93 text ≡ cut_is → port_before cut_is ≡ Some port
+    → (91 ∷ text ≡ 91 ∷ (decimal port ++ 93 ∷ [])) × (port < 2 ^ 16)
 port_stands text None port e h = absurd cc
 port_stands text (Some p) port e h =
     let g = guard_some (length p.1 == 0) (number_of 65535 p.0) port h in
     let last : p.1 ≡ [] = nil_from_length p.1 (eqb-true (length p.1) 0 g.0) in
-    let number = number_found 65535 port p.0 (lit< tt) g.1 in
-    (ap (λ (x : List ℕ). 91 ∷ x) (cut_found 93 text p e ∙ ap (λ (x : List ℕ). x ++ 93 ∷ p.1) number.0 ∙ ap (λ (x : List ℕ). decimal port ++ 93 ∷ x) last), omega (arith, number.1))
+    let number = number_found 65535 port p.0 (lit< tt) g.1 in (
+      ap (λ (x : List ℕ). 91 ∷ x) (cut_found 93 text p e ∙ ap (λ (x : List ℕ). x ++ 93 ∷ p.1) number.0
+          ∙ ap (λ (x : List ℕ). decimal port ++ 93 ∷ x) last),
+      omega (arith, number.1),
+    )
 
 none_stands : (text : List ℕ) (port : ℕ) → port_of [] ≡ Ok port → EndpointStands text (text, []) port
 unfolding port_of
@@ -207,7 +220,8 @@ port_found : (text : List ℕ) (port : ℕ) → port_of (91 ∷ text) ≡ Ok por
 unfolding port_of
 port_found text port h = port_stands text (cut 93 text) port refl (ok_or_ok (port_before (cut 93 text)) BadEndpoint port h)
 
-endpoint_stands : (text : List ℕ) (cut_is : Option (List ℕ × List ℕ)) (port : ℕ) → cut 91 text ≡ cut_is → port_of (parts_of text cut_is).1 ≡ Ok port → EndpointStands text (parts_of text cut_is) port
+endpoint_stands : (text : List ℕ) (cut_is : Option (List ℕ × List ℕ)) (port : ℕ) → cut 91 text ≡ cut_is → port_of (parts_of text cut_is).1 ≡ Ok port
+    → EndpointStands text (parts_of text cut_is) port
 endpoint_stands text None port e h = none_stands text port h
 endpoint_stands text (Some p) port e h =
     let parts = cut_found 91 text p e in
@@ -219,7 +233,8 @@ endpoint_found : (text : List ℕ) (port : ℕ) → port_of (endpoint_parts text
 unfolding endpoint_parts
 endpoint_found text port h = endpoint_stands text (cut 91 text) port refl h
 
-pub endpoint_again : (front part : List ℕ) (port : ℕ) → IsEndpointPart part port → port < 2 ^ 16 → lacks 91 front ≡ true → (endpoint_parts (front ++ part) ≡ (front, part)) × (port_of part ≡ Ok port)
+pub endpoint_again : (front part : List ℕ) (port : ℕ) → IsEndpointPart part port → port < 2 ^ 16 → lacks 91 front ≡ true
+    → (endpoint_parts (front ++ part) ≡ (front, part)) × (port_of part ≡ Ok port)
 unfolding endpoint_parts port_of
 endpoint_again front part port (inl none) small lack =
     let text : front ++ part ≡ front = ap (λ (x : List ℕ). front ++ x) none.0 ∙ append-nil front in
@@ -229,7 +244,8 @@ endpoint_again front part port (inr some) small lack =
     let digits : cut 93 (decimal port ++ 93 ∷ []) ≡ Some (decimal port, []) = cut_again 93 (decimal port) [] (decimal_lacks 93 port (omega arith) refl) in
     let text : front ++ part ≡ front ++ 91 ∷ (decimal port ++ 93 ∷ []) = ap (λ (x : List ℕ). front ++ x) some in
     let found : cut 91 (front ++ 91 ∷ (decimal port ++ 93 ∷ [])) ≡ Some (front, decimal port ++ 93 ∷ []) = cut_again 91 front (decimal port ++ 93 ∷ []) lack in
-    let rest : drop (length front) (front ++ 91 ∷ (decimal port ++ 93 ∷ [])) ≡ part = drop_at front (91 ∷ (decimal port ++ 93 ∷ [])) (length front) refl ∙ sym some in
+    let rest : drop (length front) (front ++ 91 ∷ (decimal port ++ 93 ∷ [])) ≡ part = drop_at front (91 ∷ (decimal port ++ 93 ∷ []))
+    (length front) refl ∙ sym some in
     (ap endpoint_parts text ∙ rw (found, rest) refl, ap port_of some ∙ rw (digits, number_again 65535 port (omega arith) (lit< tt)) refl)
 
 -- ---- Bindings.
@@ -238,9 +254,12 @@ endpoint_again front part port (inr some) small lack =
 binding_stands : (text : List ℕ) (binding : StringBinding) → binding_of text ≡ Ok binding → IsBinding text binding
 unfolding binding_of
 binding_stands text binding h =
-    let made : List ℕ → Protseq → List ℕ → ℕ → StringBinding = λ object protseq address port. record { object = object; protseq = protseq; address = address; port = port } in
-    let a = bind_ok (object_at text) (λ object. protseq_at object.1 >>= λ protseq. address_of (endpoint_parts protseq.1).0 >>= λ address. port_of (endpoint_parts protseq.1).1 >>= λ port. Ok (made object.0 protseq.0 address port)) binding h in
-    let b = bind_ok (protseq_at a.0.1) (λ protseq. address_of (endpoint_parts protseq.1).0 >>= λ address. port_of (endpoint_parts protseq.1).1 >>= λ port. Ok (made a.0.0 protseq.0 address port)) binding a.2 in
+    let made : List ℕ → Protseq → List ℕ → ℕ → StringBinding = λ object protseq address port. record
+    { object = object; protseq = protseq; address = address; port = port } in
+    let a = bind_ok (object_at text) (λ object. protseq_at object.1 >>= λ protseq. address_of (endpoint_parts protseq.1).0 >>= λ address. port_of
+    (endpoint_parts protseq.1).1 >>= λ port. Ok (made object.0 protseq.0 address port)) binding h in
+    let b = bind_ok (protseq_at a.0.1) (λ protseq. address_of (endpoint_parts protseq.1).0 >>= λ address. port_of
+    (endpoint_parts protseq.1).1 >>= λ port. Ok (made a.0.0 protseq.0 address port)) binding a.2 in
     let parts = endpoint_parts b.0.1 in
     let c = bind_ok (address_of parts.0) (λ address. port_of parts.1 >>= λ port. Ok (made a.0.0 b.0.0 address port)) binding b.2 in
     let d = bind_ok (port_of parts.1) (λ port. Ok (made a.0.0 b.0.0 c.0 port)) binding c.2 in
@@ -249,7 +268,8 @@ binding_stands text binding h =
     let address = address_found parts.0 c.0 c.1 in
     let endpoint = endpoint_found b.0.1 d.0 d.1 in
     let spelled : text ≡ object.part ++ (protseq_name b.0.0 ++ (58 ∷ (address_text c.0 ++ parts.1))) =
-    object.front ∙ ap (λ (x : List ℕ). object.part ++ x) (protseq ∙ ap (λ (x : List ℕ). protseq_name b.0.0 ++ 58 ∷ x) (endpoint.whole ∙ ap (λ (x : List ℕ). x ++ parts.1) address.text_is)) in
+    object.front ∙ ap (λ (x : List ℕ). object.part ++ x) (protseq ∙ ap (λ (x : List ℕ). protseq_name b.0.0 ++ 58 ∷ x)
+    (endpoint.whole ∙ ap (λ (x : List ℕ). x ++ parts.1) address.text_is)) in
     subst (IsBinding text) (ok_is (made a.0.0 b.0.0 c.0 d.0) binding d.2)
     (record { four = address.four; octets = address.octets; port = endpoint.small }, (object.part, parts.1, object.is, endpoint.is, spelled))
 
@@ -257,11 +277,13 @@ pub binding_found : (text : List ℕ) (r : Result StringBinding BindingFault) �
 binding_found text (Ok b) h = binding_stands text b h
 binding_found text (Err e) h = tt
 
-pub is_read : (r : Result StringBinding BindingFault) (text : List ℕ) (binding : StringBinding) → Gives (λ b. b) r (binding_of text) → binding_of text ≡ Ok binding → r ≡ Ok binding
+pub is_read : (r : Result StringBinding BindingFault) (text : List ℕ) (binding : StringBinding) → Gives (λ b. b) r (binding_of text)
+    → binding_of text ≡ Ok binding → r ≡ Ok binding
 is_read (Ok b) text binding h e = sym h ∙ e
 is_read (Err f) text binding h e = sym h ∙ e
 
-endpoint_lacks : (mark : ℕ) (part : List ℕ) (port : ℕ) → IsEndpointPart part port → port < 2 ^ 16 → is_ascii_digit mark ≡ false → lacks mark (91 ∷ 93 ∷ []) ≡ true → lacks mark part ≡ true
+endpoint_lacks : (mark : ℕ) (part : List ℕ) (port : ℕ) → IsEndpointPart part port → port < 2 ^ 16 → is_ascii_digit mark ≡ false
+    → lacks mark (91 ∷ 93 ∷ []) ≡ true → lacks mark part ≡ true
 endpoint_lacks mark part port (inl none) small other marks = rw none.0 refl
 endpoint_lacks mark part port (inr some) small other marks =
     let open_close = and_parts (not (eqb 91 mark)) (lacks mark (93 ∷ [])) marks in
@@ -279,7 +301,8 @@ binding_again text binding h =
     let lack_at : lacks 64 behind ≡ true =
     lacks-append 64 (protseq_name binding.protseq) (58 ∷ rest) (name_lacks 64 binding.protseq refl refl)
     (lacks-append 64 (58 ∷ []) rest refl
-    (lacks-append 64 address parts.1 (address_lacks 64 binding.address fits.four fits.octets refl refl) (endpoint_lacks 64 parts.1 binding.port parts.3 fits.port refl refl))) in
+    (lacks-append 64 address parts.1 (address_lacks 64 binding.address fits.four fits.octets refl refl)
+    (endpoint_lacks 64 parts.1 binding.port parts.3 fits.port refl refl))) in
     let object : object_at (parts.0 ++ behind) ≡ Ok (binding.object, behind) = object_again parts.0 binding.object behind parts.2 lack_at in
     let protseq : protseq_at behind ≡ Ok (binding.protseq, rest) = protseq_again binding.protseq rest in
     let endpoint = endpoint_again address parts.1 binding.port parts.3 fits.port (address_lacks 91 binding.address fits.four fits.octets refl refl) in
@@ -296,7 +319,12 @@ printed binding fits uuid =
     let object : IsObjectPart (object_text binding.object) binding.object =
     elim (cases_Bool (is_nil_bytes binding.object)) [
       | inl nil ↦ inl (rw nil refl, (bytes_eq-Decides binding.object zero_bytes).0 nil)
-      | inr some ↦ inr (hyphenated_text lower binding.object, rw some refl, sym (parses_hyphenated_text lower binding.object (inl refl) uuid.sixteen uuid.octets))
+      | inr some ↦ inr (
+        hyphenated_text lower binding.object,
+        rw some refl,
+        sym
+            (parses_hyphenated_text lower binding.object (inl refl) uuid.sixteen uuid.octets),
+      )
     ] in
     let endpoint : IsEndpointPart (endpoint_text binding.port) binding.port =
     elim (cases_eq binding.port 0) [

@@ -1,5 +1,6 @@
 -- Texts that are cut at their first mark.
-use Rattle.std.proofs.Common.{◌≡◌, ℕ, suc, ◌+◌, ◌<◌, ◌≤◌, Bool, true, false, not, eqb, ◌==◌, ◌&&◌, List, [], ◌∷◌, ◌++◌, length, get_or, take, drop, Option, Some, None, refl, sym, ap, subst, ◌∙◌, append_assoc, arith, inl, inr}
+use Rattle.std.proofs.Common.{◌≡◌, ℕ, suc, ◌+◌, ◌<◌, ◌≤◌, Bool, true, false, not, eqb, ◌==◌, ◌&&◌, List, [], ◌∷◌, ◌++◌, length, get_or, take, drop}
+use Rattle.std.proofs.Common.{Option, Some, None, refl, sym, ap, subst, ◌∙◌, append_assoc, arith, inl, inr}
 use Rattle.std.specs.Option.{option_map}
 use Rattle.std.proofs.lemmas.Bool.{eq-eqb, ne_eqb, cases_eq, and_parts, and_from, not-true, not_from_false}
 use Rattle.std.proofs.lemmas.List.{append-nil, take_more, drop_more, drop_all}
@@ -16,20 +17,25 @@ pub behind_none : (parts : Option (List ℕ × List ℕ)) → behind [] parts �
 behind_none None = refl
 behind_none (Some p) = refl
 
-behind_more : (front : List ℕ) (c : ℕ) (parts : Option (List ℕ × List ℕ)) → behind front (option_map (λ p. (c ∷ p.0, p.1)) parts) ≡ behind (front ++ c ∷ []) parts
+behind_more : (front : List ℕ) (c : ℕ) (parts : Option (List ℕ × List ℕ))
+    → behind front (option_map (λ p. (c ∷ p.0, p.1)) parts) ≡ behind (front ++ c ∷ []) parts
 behind_more front c None = refl
 behind_more front c (Some p) = ap (λ (x : List ℕ). Some (x, p.1)) (sym (append_assoc front (c ∷ []) p.0))
 
 -- One octet on, which is no mark.
-pub cut_on : (mark : ℕ) (text : List ℕ) (i : ℕ) → i < length text → (get_or text i 0 ≡ mark → ⊥) → behind (take (i + 1) text) (cut mark (drop (i + 1) text)) ≡ behind (take i text) (cut mark (drop i text))
+pub cut_on : (mark : ℕ) (text : List ℕ) (i : ℕ) → i < length text → (get_or text i 0 ≡ mark → ⊥)
+    → behind (take (i + 1) text) (cut mark (drop (i + 1) text)) ≡ behind (take i text) (cut mark (drop i text))
 unfolding cut
 cut_on mark text i within other =
     let test : eqb (get_or text i 0) mark ≡ false = ne_eqb (get_or text i 0) mark other in
-    let here : cut mark (drop i text) ≡ option_map (λ p. (get_or text i 0 ∷ p.0, p.1)) (cut mark (drop (i + 1) text)) = rw (drop_more text i 0 within, test) refl in
-    sym (ap (behind (take i text)) here ∙ behind_more (take i text) (get_or text i 0) (cut mark (drop (i + 1) text)) ∙ ap (λ (f : List ℕ). behind f (cut mark (drop (i + 1) text))) (sym (take_more text i 0 within)))
+    let here : cut mark (drop i text) ≡ option_map (λ p. (get_or text i 0 ∷ p.0, p.1))
+    (cut mark (drop (i + 1) text)) = rw (drop_more text i 0 within, test) refl in
+    sym (ap (behind (take i text)) here ∙ behind_more (take i text) (get_or text i 0) (cut mark (drop (i + 1) text))
+    ∙ ap (λ (f : List ℕ). behind f (cut mark (drop (i + 1) text))) (sym (take_more text i 0 within)))
 
 -- The mark is there.
-pub cut_here : (mark : ℕ) (text : List ℕ) (i : ℕ) → i < length text → get_or text i 0 ≡ mark → behind (take i text) (cut mark (drop i text)) ≡ Some (take i text, drop (i + 1) text)
+pub cut_here : (mark : ℕ) (text : List ℕ) (i : ℕ) → i < length text → get_or text i 0 ≡ mark
+    → behind (take i text) (cut mark (drop i text)) ≡ Some (take i text, drop (i + 1) text)
 unfolding cut
 cut_here mark text i within same =
     let test : eqb (get_or text i 0) mark ≡ true = eq-eqb (get_or text i 0) mark same in
@@ -79,7 +85,8 @@ abbrev CutSays : ℕ → List ℕ → Option (List ℕ × List ℕ) → Type 0
 CutSays mark text None = Unit {0}
 CutSays mark text (Some p) = text ≡ p.0 ++ mark ∷ p.1
 
-says_more : (mark c : ℕ) (text : List ℕ) (parts : Option (List ℕ × List ℕ)) → CutSays mark text parts → CutSays mark (c ∷ text) (option_map (λ p. (c ∷ p.0, p.1)) parts)
+says_more : (mark c : ℕ) (text : List ℕ) (parts : Option (List ℕ × List ℕ)) → CutSays mark text parts
+    → CutSays mark (c ∷ text) (option_map (λ p. (c ∷ p.0, p.1)) parts)
 says_more mark c text None h = tt
 says_more mark c text (Some p) h = ap (λ (x : List ℕ). c ∷ x) h
 

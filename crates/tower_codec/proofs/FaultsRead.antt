@@ -1,5 +1,6 @@
 -- What is no tower has its first fault, and no other.
-use Rattle.std.proofs.Common.{◌≡◌, ℕ, zero, suc, ◌+◌, ◌-◌, ◌*◌, ◌<◌, ◌≤◌, false, cond, eqb, List, [], ◌∷◌, ◌++◌, length, take, drop, Result, Ok, Err, inl, inr, lit<, refl, sym, ap, subst, arith}
+use Rattle.std.proofs.Common.{◌≡◌, ℕ, zero, suc, ◌+◌, ◌-◌, ◌*◌, ◌<◌, ◌≤◌, false, cond, eqb, List, [], ◌∷◌, ◌++◌, length, take, drop, Result, Ok, Err, inl}
+use Rattle.std.proofs.Common.{inr, lit<, refl, sym, ap, subst, arith}
 use Rattle.std.proofs.lemmas.Bool.{cases_lt, cases_eq, lt-ltb, le-ltb, ne_eqb, eq-eqb}
 use Rattle.tower_codec.specs.declared.fault.TowerFault.{TowerFault}
 use Rattle.tower_codec.specs.declared.fault.TowerFault.TheVariants.{ShortCount, ShortLength, ShortPart, EmptyLeft}
@@ -34,13 +35,15 @@ left_length_fails : (past : ℕ) (rest : List ℕ) → length rest < 2 → floor
 unfolding floor_at
 left_length_fails past rest short = rw (length_fails past rest short) refl
 
-left_part_fails : (past : ℕ) (field : List ℕ) (len : ℕ) (rest : List ℕ) → 0 < len → IsNumber field len rest → length rest < len → floor_at past field ≡ Err (ShortPart past)
+left_part_fails : (past : ℕ) (field : List ℕ) (len : ℕ) (rest : List ℕ) → 0 < len → IsNumber field len rest → length rest < len
+    → floor_at past field ≡ Err (ShortPart past)
 unfolding floor_at
 left_part_fails past field len rest some h short =
     let none : eqb len 0 ≡ false = ne_eqb len 0 (λ e. absurd (omega arith)) in
     rw (length_again past field len rest h, none, part_fails past len rest short) refl
 
-right_length_fails : (past : ℕ) (floor left rest : List ℕ) → 0 < length left → IsPart floor left rest → length rest < 2 → floor_at past floor ≡ Err (ShortLength past)
+right_length_fails : (past : ℕ) (floor left rest : List ℕ) → 0 < length left → IsPart floor left rest → length rest < 2
+    → floor_at past floor ≡ Err (ShortLength past)
 unfolding floor_at
 right_length_fails past floor left rest some h short =
     let none : eqb (length left) 0 ≡ false = ne_eqb (length left) 0 (λ e. absurd (omega arith)) in
@@ -51,7 +54,14 @@ right_part_fails : (past : ℕ) (floor left field : List ℕ) (len : ℕ) (rest 
 unfolding floor_at
 right_part_fails past floor left field len rest some h right short =
     let none : eqb (length left) 0 ≡ false = ne_eqb (length left) 0 (λ e. absurd (omega arith)) in
-    rw (length_again past floor (length left) (left ++ field) h, none, part_again past left field, length_again past field len rest right, part_fails past len rest short) refl
+    rw (
+      length_again past floor (length left) (left ++ field) h,
+      none,
+      part_again past left field,
+      length_again past field len rest right,
+      part_fails
+          past len rest short,
+    ) refl
 
 empty_left_fails : (past place : ℕ) (rest : List ℕ) → place + length (0 ∷ 0 ∷ rest) ≡ past → floor_at past (0 ∷ 0 ∷ rest) ≡ Err (EmptyLeft place)
 unfolding floor_at
@@ -70,7 +80,8 @@ floors_fault_again past count x (ShortPart place) h =
     let part = h.1.2 in
     rw h.0 (elim part.2 [
       | inl left ↦ due_fails past left.1.0 count x part.0 (ShortPart past) left.1.1 left.1.2 (left_part_fails past part.0 h.1.0 h.1.1 left.0 part.1 h.1.3)
-      | inr due ↦ due_fails past due.2.0 count x due.0 (ShortPart past) due.2.1 due.2.2 (right_part_fails past due.0 due.1 part.0 h.1.0 h.1.1 due.3 due.4 part.1 h.1.3)
+      | inr due ↦ due_fails past due.2.0 count x due.0 (ShortPart past) due.2.1 due.2.2
+          (right_part_fails past due.0 due.1 part.0 h.1.0 h.1.1 due.3 due.4 part.1 h.1.3)
     ])
 floors_fault_again past count x (EmptyLeft place) h =
     due_fails past h.1.0 count x (0 ∷ 0 ∷ h.0) (EmptyLeft place) h.1.1 h.1.2 (empty_left_fails past place h.0 h.2)
@@ -99,7 +110,8 @@ part_err past len x fault e =
 first_due : (count : ℕ) (x : List ℕ) → 0 < count → IsFloorDue count x x
 first_due count x some = ([], some, refl)
 
-zero_length : (past count : ℕ) (x : List ℕ) (rest : List ℕ) → 0 < count → length x ≤ past → IsNumber x 0 rest → IsFloorsFault past count x (EmptyLeft (past - length x))
+zero_length : (past count : ℕ) (x : List ℕ) (rest : List ℕ) → 0 < count → length x ≤ past → IsNumber x 0 rest
+    → IsFloorsFault past count x (EmptyLeft (past - length x))
 zero_length past count [] rest some within h = absurd h
 zero_length past count (a ∷ []) rest some within h = absurd h
 zero_length past count (low ∷ high ∷ x) rest some within h =
@@ -133,7 +145,8 @@ left_fault : (past count : ℕ) (x : List ℕ) (len : ℕ) (rest : List ℕ) (fa
 left_fault past count x len rest fault bytes some within h e =
     elim (cases_eq len 0) [
       | inl zero_len ↦ (let test = eq-eqb len 0 zero_len in
-          let fails : (cond (eqb len 0) (Err (EmptyLeft (past - length x))) (part_at past len rest) >>= right_steps past) ≡ Err (EmptyLeft (past - length x)) = rw test refl in
+          let fails : (cond (eqb len 0) (Err (EmptyLeft (past - length x))) (part_at past len rest) >>= right_steps past) ≡ Err
+          (EmptyLeft (past - length x)) = rw test refl in
           let same : EmptyLeft (past - length x) ≡ fault = cc in
           subst (IsFloorsFault past count x) same (zero_length past count x rest some within (subst (λ (n : ℕ). IsNumber x n rest) zero_len h)))
       | inr full ↦ (let test = ne_eqb len 0 full in
@@ -147,7 +160,8 @@ left_fault past count x len rest fault bytes some within h e =
           ])
     ]
 
-first_fault : (past count : ℕ) (x : List ℕ) (fault : TowerFault) → IsBytes x → 0 < count → length x ≤ past → floor_at past x ≡ Err fault → IsFloorsFault past count x fault
+first_fault : (past count : ℕ) (x : List ℕ) (fault : TowerFault) → IsBytes x → 0 < count → length x ≤ past → floor_at past x ≡ Err fault
+    → IsFloorsFault past count x fault
 unfolding floor_at
 first_fault past count x fault bytes some within e =
     elim (bind_err (length_at past x) (λ n. cond (eqb n.0 0) (Err (EmptyLeft (past - length x))) (part_at past n.0 n.1) >>= right_steps past) fault e) [
@@ -164,17 +178,34 @@ due_later count x floor y rest h due = (floor ∷ due.0, omega (arith, due.1), (
 right_later : (count : ℕ) (x : List ℕ) (floor : Floor) (y rest : List ℕ) → IsFloor x floor y → IsRightDue count y rest → IsRightDue (suc count) x rest
 right_later count x floor y rest h due = (due.0, due.1, due_later count x floor y due.0 h due.2, due.3, due.4)
 
-fault_later : (past count : ℕ) (x : List ℕ) (floor : Floor) (y : List ℕ) (fault : TowerFault) → IsFloor x floor y → IsFloorsFault past count y fault → IsFloorsFault past (suc count) x fault
+fault_later : (past count : ℕ) (x : List ℕ) (floor : Floor) (y : List ℕ) (fault : TowerFault) → IsFloor x floor y → IsFloorsFault past count y fault
+    → IsFloorsFault past (suc count) x fault
 fault_later past count x floor y (ShortCount place) h f = absurd f
 fault_later past count x floor y (ShortLength place) h f =
     (f.0, (f.1.0, elim f.1.1 [ inl due ↦ inl (due_later count x floor y f.1.0 h due) | inr due ↦ inr (right_later count x floor y f.1.0 h due) ], f.1.2))
 fault_later past count x floor y (ShortPart place) h f =
-    let part = f.1.2 in
-    (f.0, (f.1.0, f.1.1, (part.0, part.1, elim part.2 [ inl left ↦ inl (left.0, due_later count x floor y part.0 h left.1) | inr due ↦ inr (right_later count x floor y part.0 h due) ]), f.1.3))
+    let part = f.1.2 in (
+      f.0,
+      (
+        f.1.0,
+        f.1.1,
+        (
+          part.0,
+          part.1,
+          elim part.2 [
+            | inl left ↦ inl (left.0, due_later count x floor y part.0 h left.1)
+            | inr due ↦ inr
+                (right_later count x floor y part.0 h due)
+          ],
+        ),
+        f.1.3,
+      ),
+    )
 fault_later past count x floor y (EmptyLeft place) h f =
     (f.0, due_later count x floor y (0 ∷ 0 ∷ f.0) h f.1, f.2)
 
-floors_fault_read : (past count : ℕ) (x : List ℕ) (fault : TowerFault) → IsBytes x → length x ≤ past → after_floors past count x ≡ Err fault → IsFloorsFault past count x fault
+floors_fault_read : (past count : ℕ) (x : List ℕ) (fault : TowerFault) → IsBytes x → length x ≤ past → after_floors past count x ≡ Err fault
+    → IsFloorsFault past count x fault
 unfolding after_floors
 floors_fault_read past zero x fault bytes within e = absurd cc
 floors_fault_read past (suc count) x fault bytes within e =

@@ -24,7 +24,8 @@ unfolding known_floors
 known_floors_are x [] rest h = refl
 known_floors_are x (floor ∷ floors) rest h =
     let first = known_floor_is x floor h.0 h.1 in
-    let later : known_floors (length floors) (after_known_floor x) ≡ floors = ap (known_floors (length floors)) first.1 ∙ known_floors_are h.0 floors rest h.2 in
+    let later : known_floors (length floors) (after_known_floor x) ≡ floors = ap (known_floors (length floors)) first.1
+    ∙ known_floors_are h.0 floors rest h.2 in
     cc (first.0, later)
 
 pub length-known_floors : (count : ℕ) (x : List ℕ) → length (known_floors count x) ≡ count

@@ -1,5 +1,6 @@
 -- Numbers in decimal.
-use Rattle.std.proofs.Common.{◌≡◌, ℕ, ◌+◌, ◌-◌, ◌*◌, ◌<◌, ◌≤◌, ◌^◌, true, false, eqb, leb, ◌&&◌, List, [], ◌∷◌, length, get_or, drop, Option, Some, None, refl, sym, ap, ◌∙◌, arith, rules, lit<, not, inl, inr}
+use Rattle.std.proofs.Common.{◌≡◌, ℕ, ◌+◌, ◌-◌, ◌*◌, ◌<◌, ◌≤◌, ◌^◌, true, false, eqb, leb, ◌&&◌, List, [], ◌∷◌, length, get_or, drop, Option, Some, None}
+use Rattle.std.proofs.Common.{refl, sym, ap, ◌∙◌, arith, rules, lit<, not, inl, inr}
 use Rattle.std.specs.Prelude.{IfSome}
 use Rattle.std.proofs.lemmas.Option.{cond_some}
 use Rattle.std.specs.Char.{is_ascii_digit}
@@ -8,7 +9,8 @@ use Rattle.std.specs.Fmt.{decimal}
 use Rattle.std.proofs.lemmas.Str.Parse.{IsNumeralModel, numerals_by_fold, tells_all_ascii_digits}
 use Rattle.std.proofs.lemmas.Fmt.{digits_decimal, digits_value-decimal, decimal_nonempty, first_decimal, decimal_digit, decimal-digits_value}
 use Rattle.tower_codec.proofs.Cuts.{lacks}
-use Rattle.std.proofs.lemmas.Bool.{lt-leb, le-leb, leb-true, eq-eqb, ne_eqb, cases_eq, cases_lt, and_left, and_right, and_parts, and_from, not_from_false, false≢true}
+use Rattle.std.proofs.lemmas.Bool.{lt-leb, le-leb, leb-true, eq-eqb, ne_eqb, cases_eq, cases_lt, and_left, and_right, and_parts, and_from, not_from_false}
+use Rattle.std.proofs.lemmas.Bool.{false≢true}
 use Rattle.std.proofs.lemmas.List.{drop_more}
 use Rattle.tower_codec.specs.BindingReading.{value_after, digits_of, number_of}
 
@@ -18,7 +20,8 @@ value_grows n [] = omega arith
 value_grows n (c ∷ digits) = omega (arith, value_grows (10 * n + (c - 48)) digits)
 
 -- One digit on.
-pub value_more : (n : ℕ) (text : List ℕ) (i : ℕ) → i < length text → value_after n (drop i text) ≡ value_after (10 * n + (get_or text i 0 - 48)) (drop (i + 1) text)
+pub value_more : (n : ℕ) (text : List ℕ) (i : ℕ) → i < length text → value_after n (drop i text) ≡ value_after (10 * n + (get_or text i 0 - 48))
+    (drop (i + 1) text)
 value_more n text i within = ap (value_after n) (drop_more text i 0 within)
 
 pub no_digits : (most : ℕ) (text : List ℕ) → all_ascii_digits text ≡ false → None ≡ digits_of most text
@@ -60,7 +63,8 @@ first_zero n small first =
       | inr none ↦ (let zero_is : n ≡ 0 = omega arith in ap (λ (m : ℕ). length (decimal m)) zero_is ∙ ap length (decimal_digit 0 (lit< tt)))
     ]
 
-number_of_digits : (most n : ℕ) (ds : List ℕ) → all_ascii_digits ds ≡ true → value_after 0 ds ≡ n → 0 < length ds → (get_or ds 0 0 ≡ 48 → length ds ≡ 1) → n ≤ most → number_of most ds ≡ Some n
+number_of_digits : (most n : ℕ) (ds : List ℕ) → all_ascii_digits ds ≡ true → value_after 0 ds ≡ n → 0 < length ds
+    → (get_or ds 0 0 ≡ 48 → length ds ≡ 1) → n ≤ most → number_of most ds ≡ Some n
 unfolding number_of
 number_of_digits most n [] digits value some first within = absurd (omega arith)
 number_of_digits most n (c ∷ []) digits value some first within = sym (digits_found most (c ∷ []) digits (omega arith)) ∙ ap Some value
@@ -82,7 +86,8 @@ digits_are most n text e =
     let tests = and_parts (all_ascii_digits text) (leb value most) g.0 in
     (tests.0, g.1, omega (arith, leb-true value most tests.1, g.1))
 
-spelled : (most n : ℕ) (text : List ℕ) → most < 2 ^ 64 → digits_of most text ≡ Some n → (get_or text 0 0 ≡ 48 → length text ≡ 1) → 0 < length text → (text ≡ decimal n) × (n ≤ most)
+spelled : (most n : ℕ) (text : List ℕ) → most < 2 ^ 64 → digits_of most text ≡ Some n → (get_or text 0 0 ≡ 48 → length text ≡ 1) → 0 < length text
+    → (text ≡ decimal n) × (n ≤ most)
 spelled most n text fits e first some =
     let are = digits_are most n text e in
     (sym (decimal-digits_value own text are.0 some first (omega (arith, are.1, are.2))) ∙ ap decimal are.1, are.2)

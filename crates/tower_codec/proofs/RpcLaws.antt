@@ -1,5 +1,6 @@
 -- What is read of an RPC tower is spelled so, and what is spelled so is read.
-use Rattle.std.proofs.Common.{◌≡◌, ℕ, ◌+◌, ◌*◌, ◌/◌, ◌%◌, ◌<◌, ◌^◌, true, eqb, ◌&&◌, List, [], ◌∷◌, ◌++◌, length, get_or, take, drop, Option, Some, None, refl, sym, ap, subst, ◌∙◌, arith}
+use Rattle.std.proofs.Common.{◌≡◌, ℕ, ◌+◌, ◌*◌, ◌/◌, ◌%◌, ◌<◌, ◌^◌, true, eqb, ◌&&◌, List, [], ◌∷◌, ◌++◌, length, get_or, take, drop, Option, Some, None}
+use Rattle.std.proofs.Common.{refl, sym, ap, subst, ◌∙◌, arith}
 use Rattle.std.specs.Prelude.{IfSome, slice_get}
 use Rattle.std.specs.Int.{w16, to_le_bytes, to_be_bytes}
 use Rattle.std.proofs.lemmas.Bool.{eqb-true, eq-eqb, and_parts}
@@ -13,7 +14,8 @@ use Rattle.tower_codec.specs.declared.rpc.Protseq.TheVariants.{Tcp, Udp}
 use Rattle.tower_codec.specs.declared.rpc.RpcTower.{RpcTower}
 use Rattle.tower_codec.specs.Tower.{Floor, IsTower}
 use Rattle.tower_codec.specs.Spelling.{number_octets}
-use Rattle.tower_codec.specs.Rpc.{rpc_protocol, port_protocol, port_octets, interface_floor, rpc_floors, IsInterface, IsInterfaceFloor, IsPortFloor, FitsRpc, IsRpcTower}
+use Rattle.tower_codec.specs.Rpc.{rpc_protocol, port_protocol, port_octets, interface_floor, rpc_floors, IsInterface, IsInterfaceFloor, IsPortFloor}
+use Rattle.tower_codec.specs.Rpc.{FitsRpc, IsRpcTower}
 use Rattle.tower_codec.specs.RpcReading.{is_interface, interface_at, protseq_at, port_at, address_at, rpc_at}
 use Rattle.tower_codec.proofs.Grammar.{IsBytes, same_floor}
 use Rattle.tower_codec.proofs.SpellingLaws.{towers_apart}
@@ -64,7 +66,8 @@ fields_found left right left_bytes right_bytes left_len first right_len =
       two_of right right_len ∙ sym (number_of_two (get_or right 0 0) (get_or right 1 0) (right_bytes 0)),
     )
 
-pub interface_found : (r : Option Interface) (left right : List ℕ) → IsBytes left → IsBytes right → r ≡ interface_at left right → IfSome r (IsInterfaceFloor left right)
+pub interface_found : (r : Option Interface) (left right : List ℕ) → IsBytes left → IsBytes right → r ≡ interface_at left right
+    → IfSome r (IsInterfaceFloor left right)
 unfolding interface_at
 interface_found None left right left_bytes right_bytes e = tt
 interface_found (Some i) left right left_bytes right_bytes e =
@@ -124,7 +127,14 @@ floors_again : (tower : RpcTower) (any : List ℕ) → IsInterface tower.interfa
     → rpc_at (rpc_floors tower any) ≡ Some tower
 unfolding rpc_at
 floors_again tower any interface transfer address =
-    rw (interface_again tower.interface interface, interface_again tower.transfer transfer, protseq_again tower.protseq, port_again tower.protseq tower.port, address_again tower.address address) refl
+    rw (
+      interface_again tower.interface interface,
+      interface_again tower.transfer transfer,
+      protseq_again tower.protseq,
+      port_again tower.protseq
+          tower.port,
+      address_again tower.address address,
+    ) refl
 
 pub rpc_again : (floors : List Floor) (tower : RpcTower) → IsRpcTower floors tower → rpc_at floors ≡ Some tower
 rpc_again floors tower h = ap rpc_at h.1.1 ∙ floors_again tower h.1.0 h.0.interface h.0.transfer h.0.address
@@ -156,8 +166,10 @@ pub tower_of_floors : (floors : List Floor) (a b c d e : Floor) (tower : RpcTowe
 tower_of_floors floors a b c d e tower five first second third fourth fifth =
     let a_is : a ≡ interface_floor tower.interface = same_floor a (interface_floor tower.interface) first.1 first.2 in
     let b_is : b ≡ interface_floor tower.transfer = same_floor b (interface_floor tower.transfer) second.1 second.2 in
-    let c_is : c ≡ record { left = rpc_protocol tower.protseq ∷ []; right = c.right } = same_floor c (record { left = rpc_protocol tower.protseq ∷ []; right = c.right }) third refl in
-    let d_is : d ≡ record { left = port_protocol tower.protseq ∷ []; right = port_octets tower.port } = same_floor d (record { left = port_protocol tower.protseq ∷ []; right = port_octets tower.port }) fourth.1 fourth.2 in
+    let c_is : c ≡ record { left = rpc_protocol tower.protseq ∷ []; right = c.right } = same_floor c
+    (record { left = rpc_protocol tower.protseq ∷ []; right = c.right }) third refl in
+    let d_is : d ≡ record { left = port_protocol tower.protseq ∷ []; right = port_octets tower.port } = same_floor d
+    (record { left = port_protocol tower.protseq ∷ []; right = port_octets tower.port }) fourth.1 fourth.2 in
     let e_is : e ≡ record { left = 9 ∷ []; right = tower.address } = same_floor e (record { left = 9 ∷ []; right = tower.address }) fifth.0 fifth.1 in
     let all : a ∷ b ∷ c ∷ d ∷ e ∷ [] ≡ rpc_floors tower c.right = λ i. a_is i ∷ b_is i ∷ c_is i ∷ d_is i ∷ e_is i ∷ [] in
     (record { interface = first.0; transfer = second.0; port = fourth.0; address = fifth.2 }, (c.right, five ∙ all))

@@ -27,12 +27,16 @@ floor_spelled x floor rest h =
       left.1 ∙ ap (λ (y : List ℕ). part_octets floor.left ++ y) right.1 ∙ sym (append_assoc (part_octets floor.left) (part_octets floor.right) rest),
     )
 
-floors_spelled : (x : List ℕ) (floors : List Floor) (rest : List ℕ) → AreFloors x floors rest → AllByRecursion FloorFits floors × (x ≡ flat_map floor_octets floors ++ rest)
+floors_spelled : (x : List ℕ) (floors : List Floor) (rest : List ℕ) → AreFloors x floors rest → AllByRecursion FloorFits floors
+    × (x ≡ flat_map floor_octets floors ++ rest)
 floors_spelled x [] rest h = (tt, h)
 floors_spelled x (floor ∷ floors) rest h =
     let first = floor_spelled x floor h.0 h.1 in
-    let later = floors_spelled h.0 floors rest h.2 in
-    ((first.0, later.0), first.1 ∙ ap (λ (y : List ℕ). floor_octets floor ++ y) later.1 ∙ sym (append_assoc (floor_octets floor) (flat_map floor_octets floors) rest))
+    let later = floors_spelled h.0 floors rest h.2 in (
+      (first.0, later.0),
+      first.1 ∙ ap (λ (y : List ℕ). floor_octets floor ++ y) later.1
+          ∙ sym (append_assoc (floor_octets floor) (flat_map floor_octets floors) rest),
+    )
 
 pub tower_spelled : (floors : List Floor) (x : List ℕ) → IsTower floors x → HasSpelling floors × (x ≡ tower_octets floors)
 tower_spelled floors x h =
@@ -52,7 +56,8 @@ pub floor_again : (floor : Floor) (rest : List ℕ) → FloorFits floor → IsFl
 floor_again floor rest fits =
     let between = part_octets floor.right ++ rest in
     let left : IsPart (floor_octets floor ++ rest) floor.left between =
-    subst (λ (y : List ℕ). IsPart y floor.left between) (sym (append_assoc (part_octets floor.left) (part_octets floor.right) rest)) (part_again floor.left between fits.left) in
+    subst (λ (y : List ℕ). IsPart y floor.left between) (sym (append_assoc (part_octets floor.left) (part_octets floor.right) rest))
+    (part_again floor.left between fits.left) in
     (fits.some, (between, left, part_again floor.right rest fits.right))
 
 floors_again : (floors : List Floor) (rest : List ℕ) → AllByRecursion FloorFits floors → AreFloors (flat_map floor_octets floors ++ rest) floors rest
@@ -60,7 +65,8 @@ floors_again [] rest fits = refl
 floors_again (floor ∷ floors) rest fits =
     let between = flat_map floor_octets floors ++ rest in
     let first : IsFloor (flat_map floor_octets (floor ∷ floors) ++ rest) floor between =
-    subst (λ (y : List ℕ). IsFloor y floor between) (sym (append_assoc (floor_octets floor) (flat_map floor_octets floors) rest)) (floor_again floor between fits.0) in
+    subst (λ (y : List ℕ). IsFloor y floor between) (sym (append_assoc (floor_octets floor) (flat_map floor_octets floors) rest))
+    (floor_again floor between fits.0) in
     (between, first, floors_again floors rest fits.1)
 
 pub tower_again : (floors : List Floor) → HasSpelling floors → IsTower floors (tower_octets floors)
@@ -71,13 +77,16 @@ tower_again floors fits =
 
 -- ---- One more floor.
 
-push_behind : (x : List ℕ) (floors : List Floor) (behind : List ℕ) (floor : Floor) → AreFloors x floors behind → IsFloor behind floor [] → AreFloors x (floors ++ floor ∷ []) []
+push_behind : (x : List ℕ) (floors : List Floor) (behind : List ℕ) (floor : Floor) → AreFloors x floors behind → IsFloor behind floor []
+    → AreFloors x (floors ++ floor ∷ []) []
 push_behind x [] behind floor h one = ([], subst (λ (y : List ℕ). IsFloor y floor []) (sym h) one, refl)
 push_behind x (first ∷ floors) behind floor h one = (h.0, h.1, push_behind h.0 floors behind floor h.2 one)
 
-pub floors_push : (x : List ℕ) (floors : List Floor) (floor : Floor) → AreFloors x floors [] → FloorFits floor → AreFloors (x ++ floor_octets floor) (floors ++ floor ∷ []) []
+pub floors_push : (x : List ℕ) (floors : List Floor) (floor : Floor) → AreFloors x floors [] → FloorFits floor
+    → AreFloors (x ++ floor_octets floor) (floors ++ floor ∷ []) []
 floors_push x floors floor h fits =
-    let one : IsFloor (floor_octets floor) floor [] = subst (λ (y : List ℕ). IsFloor y floor []) (append-nil (floor_octets floor)) (floor_again floor [] fits) in
+    let one : IsFloor (floor_octets floor) floor [] = subst (λ (y : List ℕ). IsFloor y floor []) (append-nil (floor_octets floor))
+    (floor_again floor [] fits) in
     push_behind (x ++ floor_octets floor) floors (floor_octets floor) floor (floors_before x floors [] (floor_octets floor) h) one
 
 -- A writer's octets with one more floor behind them and counted are the tower of one more floor.
@@ -88,11 +97,13 @@ tower_push floors (a ∷ []) floor h room fits = absurd h.1
 tower_push floors (low ∷ high ∷ x) floor h room fits =
     let body = x ++ floor_octets floor in
     let are : AreFloors x floors [] = subst (λ (y : List ℕ). AreFloors y floors []) (sym h.1.3) h.2 in
-    let count = subst (λ (n : ℕ). IsNumber (number_octets (length floors + 1) ++ body) n body) (sym (length_push floors floor)) (number_again (length floors + 1) body room) in
+    let count = subst (λ (n : ℕ). IsNumber (number_octets (length floors + 1) ++ body) n body) (sym (length_push floors floor))
+    (number_again (length floors + 1) body room) in
     (body, count, floors_push x floors floor are fits)
 
 -- No tower begins another.
-pub towers_apart : (floors others : List Floor) (a b x y : List ℕ) → IsTower floors a → IsTower others b → a ++ x ≡ b ++ y → (floors ≡ others) × (a ≡ b) × (x ≡ y)
+pub towers_apart : (floors others : List Floor) (a b x y : List ℕ) → IsTower floors a → IsTower others b → a ++ x ≡ b ++ y → (floors ≡ others)
+    × (a ≡ b) × (x ≡ y)
 towers_apart floors others [] b x y g h e = absurd g.1
 towers_apart floors others (l ∷ []) b x y g h e = absurd g.1
 towers_apart floors others (low ∷ high ∷ a) [] x y g h e = absurd h.1

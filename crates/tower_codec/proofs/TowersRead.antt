@@ -1,5 +1,6 @@
 -- What is read is a tower, and a tower is read.
-use Rattle.std.proofs.Common.{◌≡◌, ℕ, zero, suc, ◌+◌, ◌-◌, ◌*◌, ◌≤◌, false, cond, eqb, ltb, List, [], ◌∷◌, ◌++◌, length, take, drop, Ok, Err, refl, sym, ap, subst, ◌∙◌, arith}
+use Rattle.std.proofs.Common.{◌≡◌, ℕ, zero, suc, ◌+◌, ◌-◌, ◌*◌, ◌≤◌, false, cond, eqb, ltb, List, [], ◌∷◌, ◌++◌, length, take, drop, Ok, Err, refl, sym}
+use Rattle.std.proofs.Common.{ap, subst, ◌∙◌, arith}
 use Rattle.std.proofs.lemmas.Bool.{ltb-false, le-ltb, eqb-false, ne_eqb}
 use Rattle.std.proofs.lemmas.List.{take_at, drop_at, take-append-drop, length-append, length-take-le}
 use Rattle.tower_codec.specs.declared.fault.TowerFault.TheVariants.{ShortPart, EmptyLeft}
@@ -44,8 +45,10 @@ floor_stands : (past : ℕ) (x : List ℕ) (y : Floor × List ℕ) → floor_at 
 unfolding floor_at
 floor_stands past x y e =
     let made : (left right : List ℕ) → Floor = λ left right. record { left = left; right = right } in
-    let a = bind_ok (length_at past x) (λ n. cond (eqb n.0 0) (Err (EmptyLeft (past - length x))) (part_at past n.0 n.1) >>= λ left. length_at past left.1 >>= λ m. part_at past m.0 m.1 >>= λ right. Ok (made left.0 right.0, right.1)) y e in
-    let b = bind_ok (cond (eqb a.0.0 0) (Err (EmptyLeft (past - length x))) (part_at past a.0.0 a.0.1)) (λ left. length_at past left.1 >>= λ m. part_at past m.0 m.1 >>= λ right. Ok (made left.0 right.0, right.1)) y a.2 in
+    let a = bind_ok (length_at past x) (λ n. cond (eqb n.0 0) (Err (EmptyLeft (past - length x)))
+    (part_at past n.0 n.1) >>= λ left. length_at past left.1 >>= λ m. part_at past m.0 m.1 >>= λ right. Ok (made left.0 right.0, right.1)) y e in
+    let b = bind_ok (cond (eqb a.0.0 0) (Err (EmptyLeft (past - length x))) (part_at past a.0.0 a.0.1))
+    (λ left. length_at past left.1 >>= λ m. part_at past m.0 m.1 >>= λ right. Ok (made left.0 right.0, right.1)) y a.2 in
     let g = guard_ok (eqb a.0.0 0) (EmptyLeft (past - length x)) (part_at past a.0.0 a.0.1) b.0 b.1 in
     let c = bind_ok (length_at past b.0.1) (λ m. part_at past m.0 m.1 >>= λ right. Ok (made b.0.0 right.0, right.1)) y b.2 in
     let d = bind_ok (part_at past c.0.0 c.0.1) (λ right. Ok (made b.0.0 right.0, right.1)) y c.2 in
@@ -57,8 +60,20 @@ floor_stands past x y e =
     (record {
       between = b.0.1;
       some = λ none. eqb-false a.0.0 0 g.0 (sym left.1 ∙ none);
-      left = record { low = left_len.low; high = left_len.high; octets = left_len.octets ∙ ap (λ (t : List ℕ). left_len.low ∷ left_len.high ∷ t) left.0; value = left.1 ∙ left_len.value };
-      right = record { low = right_len.low; high = right_len.high; octets = right_len.octets ∙ ap (λ (t : List ℕ). right_len.low ∷ right_len.high ∷ t) right.0; value = right.1 ∙ right_len.value };
+      left = record {
+        low = left_len.low;
+        high = left_len.high;
+        octets = left_len.octets
+            ∙ ap (λ (t : List ℕ). left_len.low ∷ left_len.high ∷ t) left.0;
+        value = left.1 ∙ left_len.value;
+      };
+      right = record {
+        low = right_len.low;
+        high = right_len.high;
+        octets = right_len.octets
+            ∙ ap (λ (t : List ℕ). right_len.low ∷ right_len.high ∷ t) right.0;
+        value = right.1 ∙ right_len.value;
+      };
     })
 
 pub floor_at_shorter : (past : ℕ) (x : List ℕ) (floor : Floor) (rest : List ℕ) → floor_at past x ≡ Ok (floor, rest) → length rest ≤ length x
@@ -68,8 +83,11 @@ floor_at_shorter past x floor rest e =
 
 is_number : (x : List ℕ) (n : ℕ) (rest : List ℕ) → IsBytes x → Spells x n rest → IsNumber x n rest × IsBytes rest
 is_number x n rest bytes s =
-    let fits = subst IsBytes s.octets bytes in
-    (subst (λ (t : List ℕ). IsNumber t n rest) (sym s.octets) (fits 0, fits 1, s.value, refl), IsBytes-tail s.high rest (IsBytes-tail s.low (s.high ∷ rest) fits))
+    let fits = subst IsBytes s.octets bytes in (
+      subst (λ (t : List ℕ). IsNumber t n rest) (sym s.octets) (fits 0, fits 1, s.value, refl),
+      IsBytes-tail s.high rest
+          (IsBytes-tail s.low (s.high ∷ rest) fits),
+    )
 
 pub length_read : (past : ℕ) (x : List ℕ) (y : ℕ × List ℕ) → IsBytes x → length_at past x ≡ Ok y → IsNumber x y.0 y.1 × IsBytes y.1
 length_read past x y bytes e = is_number x y.0 y.1 bytes (length_spells past x y e)
@@ -82,7 +100,8 @@ floor_read past x floor rest bytes e =
     let none = s.some in
     ((omega arith, (s.between, left.0, right.0)), IsBytes-rest floor.right rest right.1)
 
-pub floors_read : (past count : ℕ) (x rest : List ℕ) → IsBytes x → after_floors past count x ≡ Ok rest → (floors : List Floor) × (length floors ≡ count) × AreFloors x floors rest
+pub floors_read : (past count : ℕ) (x rest : List ℕ) → IsBytes x → after_floors past count x ≡ Ok rest → (floors : List Floor)
+    × (length floors ≡ count) × AreFloors x floors rest
 unfolding after_floors
 floors_read past zero x rest bytes e = ([], refl, ok_is x rest e)
 floors_read past (suc count) x rest bytes e =
@@ -114,7 +133,14 @@ pub floor_again : (past : ℕ) (x : List ℕ) (floor : Floor) (rest : List ℕ) 
 unfolding floor_at
 floor_again past x floor rest h =
     let some : eqb (length floor.left) 0 ≡ false = ne_eqb (length floor.left) 0 (λ none. absurd (omega arith)) in
-    rw (length_again past x (length floor.left) (floor.left ++ h.1.0) h.1.1, some, part_again past floor.left h.1.0, length_again past h.1.0 (length floor.right) (floor.right ++ rest) h.1.2, part_again past floor.right rest) refl
+    rw (
+      length_again past x (length floor.left) (floor.left ++ h.1.0) h.1.1,
+      some,
+      part_again past floor.left h.1.0,
+      length_again past h.1.0
+          (length floor.right) (floor.right ++ rest) h.1.2,
+      part_again past floor.right rest,
+    ) refl
 
 pub floors_again : (past : ℕ) (x : List ℕ) (floors : List Floor) (rest : List ℕ) → AreFloors x floors rest → after_floors past (length floors) x ≡ Ok rest
 unfolding after_floors
@@ -152,13 +178,20 @@ body_read (low ∷ high ∷ x) count body bytes e =
     let front_is = front_by_rest x front.0 a.0 front.1 in
     let count_is : count ≡ length all.0 = ap (λ (p : ℕ × List ℕ). p.0) (sym same) ∙ sym all.1 in
     let body_is : body ≡ front.0 = ap (λ (p : ℕ × List ℕ). p.1) (sym same) ∙ front_is in
-    let floors_are : known_floors count body ≡ all.0 = ap (λ (k : ℕ). known_floors k body) count_is ∙ ap (known_floors (length all.0)) body_is ∙ known_floors_are front.0 all.0 [] front.2 in
-    let known : AreFloors body (known_floors count body) [] = subst (λ (fs : List Floor). AreFloors body fs []) (sym floors_are) (subst (λ (y : List ℕ). AreFloors y all.0 []) (sym body_is) front.2) in
-    let cut : take (length body) x ≡ body = ap (λ (y : List ℕ). take (length y) x) body_is ∙ ap (take (length front.0)) front.1 ∙ take_at front.0 a.0 (length front.0) refl ∙ sym body_is in
+    let floors_are : known_floors count body ≡ all.0 = ap (λ (k : ℕ). known_floors k body) count_is ∙ ap (known_floors (length all.0)) body_is
+    ∙ known_floors_are front.0 all.0 [] front.2 in
+    let known : AreFloors body (known_floors count body) [] = subst (λ (fs : List Floor). AreFloors body fs []) (sym floors_are)
+    (subst (λ (y : List ℕ). AreFloors y all.0 []) (sym body_is) front.2) in
+    let cut : take (length body) x ≡ body = ap (λ (y : List ℕ). take (length y) x) body_is ∙ ap (take (length front.0)) front.1
+    ∙ take_at front.0 a.0 (length front.0) refl ∙ sym body_is in
     let counted : n ≡ length (known_floors count body) = sym all.1 ∙ ap length (sym floors_are) in
     record {
       within = omega (arith, ap length front.1, length-append front.0 a.0, ap length body_is);
-      tower = rw (add_two (length body)) (take (length body) x, (bytes 0, bytes 1, sym counted, refl), subst (λ (y : List ℕ). AreFloors y (known_floors count body) []) (sym cut) known);
+      tower = rw (add_two (length body)) (
+        take (length body) x,
+        (bytes 0, bytes 1, sym counted, refl),
+        subst (λ (y : List ℕ). AreFloors y (known_floors count body) []) (sym cut) known,
+      );
       known = known;
     }
 
@@ -177,7 +210,8 @@ body_again floors (low ∷ high ∷ body) rest h =
     let are : AreFloors body floors [] = rw h.1.3 h.2 in
     let n : low + 256 * high ≡ length floors = sym h.1.2 in
     let past = length (body ++ rest) + 3 in
-    let after : after_floors past (low + 256 * high) (body ++ rest) ≡ Ok rest = rw n (floors_again past (body ++ rest) floors rest (floors_before body floors [] rest are)) in
+    let after : after_floors past (low + 256 * high) (body ++ rest) ≡ Ok rest = rw n
+    (floors_again past (body ++ rest) floors rest (floors_before body floors [] rest are)) in
     let len : length (body ++ rest) - length rest ≡ length body = omega (arith, length-append body rest) in
     record {
       body = body;

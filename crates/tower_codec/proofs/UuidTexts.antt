@@ -1,5 +1,6 @@
 -- UUIDs in the hyphenated form.
-use Rattle.std.proofs.Common.{◌≡◌, ℕ, zero, suc, ◌<◌, Bool, true, false, cond, ◌==◌, ◌&&◌, List, [], ◌∷◌, length, get_or, Option, Some, None, Result, Ok, Err, IsOk, IfOk, ◌↔◌, ◌⊎◌, inl, inr, refl, sym, ap, subst, ◌∙◌, arith}
+use Rattle.std.proofs.Common.{◌≡◌, ℕ, zero, suc, ◌<◌, Bool, true, false, cond, ◌==◌, ◌&&◌, List, [], ◌∷◌, length, get_or, Option, Some, None, Result, Ok}
+use Rattle.std.proofs.Common.{Err, IsOk, IfOk, ◌↔◌, ◌⊎◌, inl, inr, refl, sym, ap, subst, ◌∙◌, arith}
 use Rattle.std.specs.Result.{result_ok}
 use Rattle.std.specs.List.{list_all}
 use Rattle.std.proofs.lemmas.Bool.{true≢false, false≢true, and_parts, eqb-true, cases_eq}
@@ -40,11 +41,13 @@ digit_is : (k : ℕ) → k < 36 → (k ≡ 8 → ⊥) → (k ≡ 13 → ⊥) →
 digit_is k within n8 n13 n18 n23 = grind (arith, nat_tests)
 
 -- Each octet is a hyphen or a hexadecimal digit.
-octets_of : (text uuid : List ℕ) → parsed_hyphenated text ≡ Some uuid → (length text ≡ 36) × ((k : ℕ) → k < 36 → (get_or text k 0 ≡ 45) ⊎ (is_hex_digit (get_or text k 0) ≡ true))
+octets_of : (text uuid : List ℕ) → parsed_hyphenated text ≡ Some uuid → (length text ≡ 36)
+    × ((k : ℕ) → k < 36 → (get_or text k 0 ≡ 45) ⊎ (is_hex_digit (get_or text k 0) ≡ true))
 octets_of text uuid e =
     let g = guard_some ((length text == 36) && has_hyphens text) (parsed_simple (digits_of text)) uuid e in
     let tests = and_parts (length text == 36) (has_hyphens text) g.0 in
-    let d = guard_some ((length (digits_of text) == 32) && list_all is_hex_digit (digits_of text)) (Some (by_index 16 (byte_of_digits (digits_of text)))) uuid g.1 in
+    let d = guard_some ((length (digits_of text) == 32) && list_all is_hex_digit (digits_of text))
+    (Some (by_index 16 (byte_of_digits (digits_of text)))) uuid g.1 in
     let digits = (and_parts (length (digits_of text) == 32) (list_all is_hex_digit (digits_of text)) d.0).1 in
     let c = and_parts ((get_or text 8 0 == 45) && (get_or text 13 0 == 45) && (get_or text 18 0 == 45)) (get_or text 23 0 == 45) tests.1 in
     let b = and_parts ((get_or text 8 0 == 45) && (get_or text 13 0 == 45)) (get_or text 18 0 == 45) c.0 in

@@ -18,16 +18,19 @@ pub record IsPushed (count : ℕ) (before after : List ℕ) (floor : Floor) : Ty
   pub view : known_floors (count + 1) (drop 2 after) ≡ known_floors count (drop 2 before) ++ floor ∷ []
   pub tower : IsTower (known_floors (count + 1) (drop 2 after)) after
 
-pub writer_push : (count : ℕ) (before after : List ℕ) (floor : Floor) → IsTower (known_floors count (drop 2 before)) before → count + 1 < 2 ^ 16 → FloorFits floor
+pub writer_push : (count : ℕ) (before after : List ℕ) (floor : Floor) → IsTower (known_floors count (drop 2 before)) before → count + 1 < 2 ^ 16
+    → FloorFits floor
     → after ≡ number_octets (count + 1) ++ drop 2 (before ++ floor_octets floor) → IsPushed count before after floor
 writer_push count before after floor h room fits e =
     let floors = known_floors count (drop 2 before) in
     let len : length floors ≡ count = length-known_floors count (drop 2 before) in
     let pushed = tower_push floors before floor h (omega (arith, len)) fits in
-    let same : number_octets (length floors + 1) ++ drop 2 (before ++ floor_octets floor) ≡ after = ap (λ (n : ℕ). number_octets (n + 1) ++ drop 2 (before ++ floor_octets floor)) len ∙ sym e in
+    let same : number_octets (length floors + 1) ++ drop 2 (before ++ floor_octets floor) ≡ after = ap (λ (n : ℕ). number_octets (n + 1) ++ drop 2
+    (before ++ floor_octets floor)) len ∙ sym e in
     let tower : IsTower (floors ++ floor ∷ []) after = subst (λ (x : List ℕ). IsTower (floors ++ floor ∷ []) x) same pushed in
     let more : count + 1 ≡ length (floors ++ floor ∷ []) = ap (λ (n : ℕ). n + 1) (sym len) ∙ sym (length_push floors floor) in
-    let view : known_floors (count + 1) (drop 2 after) ≡ floors ++ floor ∷ [] = ap (λ (n : ℕ). known_floors n (drop 2 after)) more ∙ tower_known (floors ++ floor ∷ []) after tower in
+    let view : known_floors (count + 1) (drop 2 after) ≡ floors ++ floor ∷ [] = ap (λ (n : ℕ). known_floors n (drop 2 after)) more
+    ∙ tower_known (floors ++ floor ∷ []) after tower in
     record {
       view = view;
       tower = subst (λ (fs : List Floor). IsTower fs after) (sym view) tower;

@@ -1,5 +1,6 @@
 -- Reading an RPC tower floor by floor, as the private readers do.
-use Rattle.std.specs.Prelude.{ℕ, ◌+◌, ◌*◌, List, [], ◌∷◌, length, take, drop, slice_index, slice_get, Bool, Option, Some, None, option_and_then, ◌==◌, ◌&&◌, if◌then◌else◌}
+use Rattle.std.specs.Prelude.{ℕ, ◌+◌, ◌*◌, List, [], ◌∷◌, length, take, drop, slice_index, slice_get, Bool, Option, Some, None, option_and_then, ◌==◌}
+use Rattle.std.specs.Prelude.{◌&&◌, if◌then◌else◌}
 use Rattle.uuid.specs.Parts.{swap_fields}
 use Rattle.tower_codec.specs.declared.rpc.Interface.{Interface}
 use Rattle.tower_codec.specs.declared.rpc.Protseq.{Protseq}

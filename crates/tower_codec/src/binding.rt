@@ -4,7 +4,8 @@ ghost use Rattle.uuid.specs.Text.{parsed_hyphenated};
 ghost use Rattle.tower_codec.specs.Steps.{Gives};
 ghost use Rattle.tower_codec.specs.Binding.{IsBinding, object_text, endpoint_text, binding_text};
 ghost use Rattle.tower_codec.specs.BindingFaults.{IsBindingFault};
-ghost use Rattle.tower_codec.specs.BindingReading.{cut, digits_of, number_of, object_at, protseq_named, protseq_at, endpoint_parts, octet_at, address_of, port_of, binding_of};
+ghost use Rattle.tower_codec.specs.BindingReading.{cut, digits_of, number_of, object_at, protseq_named, protseq_at, endpoint_parts, octet_at, address_of};
+ghost use Rattle.tower_codec.specs.BindingReading.{port_of, binding_of};
 
 use crate::{BindingFault, Protseq};
 use std::alloc::{AllocError, Global};

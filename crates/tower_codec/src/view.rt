@@ -1,8 +1,10 @@
-ghost use Rattle.std.specs.Prelude.{◌≡◌, ℕ, ◌+◌, ◌-◌, ◌≤◌, ◌<◌, List, [], ◌∷◌, ◌++◌, length, take, drop, Some, Ok, Err, IfOk, IfErr, IsOkAnd, IsErrOf, MatchOption, slice_get};
+ghost use Rattle.std.specs.Prelude.{◌≡◌, ℕ, ◌+◌, ◌-◌, ◌≤◌, ◌<◌, List, [], ◌∷◌, ◌++◌, length, take, drop, Some, Ok, Err, IfOk, IfErr, IsOkAnd, IsErrOf};
+ghost use Rattle.std.specs.Prelude.{MatchOption, slice_get};
 ghost use Rattle.std.specs.Option.{option_map};
 ghost use Rattle.tower_codec.specs.Tower.{Floor, IsPart, IsFloor, AreFloors, IsTower, IsFault};
 ghost use Rattle.tower_codec.specs.Steps.{Gives};
-ghost use Rattle.tower_codec.specs.Reading.{length_at, part_at, floor_at, after_floors, body_at, known_part, after_known_part, known_floor, after_known_floor, known_floors};
+ghost use Rattle.tower_codec.specs.Reading.{length_at, part_at, floor_at, after_floors, body_at, known_part, after_known_part, known_floor};
+ghost use Rattle.tower_codec.specs.Reading.{after_known_floor, known_floors};
 ghost use Rattle.tower_codec.specs.FloorView.{floor_of};
 
 use crate::TowerFault;

@@ -30,9 +30,11 @@ returns-then-octets-printable-eq10 c =
 pub returns-then-printable-eq-LONGEST : goal.returns-then-printable-eq-LONGEST
 returns-then-printable-eq-LONGEST c =
     let within : c.args.printable < length c.args.octets.now = omega (arith, prefix_len-le-length is_printable c.args.octets.now) in
-    sees_too_long _ _ c.args.printable c.requires within (omega arith) (few_when_some _ _ c.else-printable-gt0.either) (omega arith) c.if-octets-printable-eq10.false
+    sees_too_long _ _ c.args.printable c.requires within (omega arith) (few_when_some _ _ c.else-printable-gt0.either)
+    (omega arith) c.if-octets-printable-eq10.false
 
 pub returns : goal.returns
 returns c =
     let within : c.args.printable < length c.args.octets.now = omega (arith, prefix_len-le-length is_printable c.args.octets.now) in
-    sees_not_ascii _ _ c.args.printable c.requires within (omega arith) (few_when_some _ _ c.else-printable-gt0.either) c.if-printable-eq-LONGEST.false c.if-octets-printable-eq10.false
+    sees_not_ascii _ _ c.args.printable c.requires within (omega arith) (few_when_some _ _ c.else-printable-gt0.either)
+    c.if-printable-eq-LONGEST.false c.if-octets-printable-eq10.false

@@ -8,14 +8,22 @@ use Rattle.tower_codec.proofs.binding.digits_in.Goals as goal
 pub returns-then-not-is_ascii_digit : goal.returns-then-not-is_ascii_digit
 returns-then-not-is_ascii_digit c =
     let text = c.args.text.now in
-    no_digits c.args.most text (sym c.loop-c.invariant.digits ∙ digit_fails text c.loop-c.c-index c.loop-c-test.true (sym c.if-not-is_ascii_digit.ensures.value))
+    no_digits c.args.most text (sym c.loop-c.invariant.digits ∙ digit_fails text c.loop-c.c-index c.loop-c-test.true
+    (sym c.if-not-is_ascii_digit.ensures.value))
 
 pub returns-then-value-most : goal.returns-then-value-most
 returns-then-value-most c =
     let text = c.args.text.now in
     let i = c.loop-c.c-index in
     let more = value_more c.loop-c.value text i c.loop-c-test.true in
-    too_large c.args.most text (omega (arith, c.from.ensures, more, c.loop-c.invariant.value, value_grows (10 * c.loop-c.value + (get_or text i 0 - 48)) (drop (i + 1) text)))
+    too_large c.args.most text (omega (
+      arith,
+      c.from.ensures,
+      more,
+      c.loop-c.invariant.value,
+      value_grows
+          (10 * c.loop-c.value + (get_or text i 0 - 48)) (drop (i + 1) text),
+    ))
 
 pub returns : goal.returns
 returns c =

@@ -17,7 +17,8 @@ pub loop-preserved : goal.loop-preserved
 unfolding after_floors
 loop-preserved c =
     let k : c.args.count - c.loop.counter ≡ suc (c.args.count - (c.loop.counter + 1)) = omega arith in
-    let later : after_floors c.args.past (c.args.count - c.loop.counter) c.loop.rest.now ≡ after_floors c.args.past (c.args.count - (c.loop.counter + 1)) c.in_ok-after.after.now = rw (k, c.in_ok-after.ensures) refl in
+    let later : after_floors c.args.past (c.args.count - c.loop.counter) c.loop.rest.now ≡ after_floors c.args.past
+    (c.args.count - (c.loop.counter + 1)) c.in_ok-after.after.now = rw (k, c.in_ok-after.ensures) refl in
     record {
       shorter = omega (arith, floor_at_shorter c.args.past c.loop.rest.now (floor_of c.in_ok-after.field-0-0) c.in_ok-after.after.now c.in_ok-after.ensures);
       same = sym later ∙ c.loop.invariant.same;

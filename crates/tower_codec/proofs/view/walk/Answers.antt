@@ -10,4 +10,5 @@ take_floor-requires c =
 
 pub loop-preserved : goal.loop-preserved
 loop-preserved c =
-    rw c.take_floor.ensures.rest (walk_on c.args.count c.loop.counter c.loop.rest.now (known_floors c.args.count c.args.octets.now) (omega arith) c.loop.invariant)
+    rw c.take_floor.ensures.rest (walk_on c.args.count c.loop.counter c.loop.rest.now (known_floors c.args.count c.args.octets.now)
+    (omega arith) c.loop.invariant)

@@ -11,7 +11,8 @@ returns-in-Ok-clause-reads g c =
     let read = slice_range now s.end (s.end + c.in-Ok.count) in record {
       read = read;
       taken = c.in-Ok.ensures.bytes;
-      grown = between_more s.octets.items now s.start s.end c.in-Ok.count (omega arith) c.in-Ok.ensures.front ∙ ap (λ (l : List ℕ). l ++ read) c.make_room.ensures.same;
+      grown = between_more s.octets.items now s.start s.end c.in-Ok.count (omega arith) c.in-Ok.ensures.front
+          ∙ ap (λ (l : List ℕ). l ++ read) c.make_room.ensures.same;
     }
 
 pub returns-in-Err-clause-reads : goal.returns-in-Err-clause-reads

@@ -42,10 +42,12 @@ returns-clause-tower c =
 pub returns-clause-only : goal.returns-clause-only
 returns-clause-only c = λ floors front rest h e.
     let again = body_again floors front rest h in
-    is_read c.in_ok-count.count c.in_ok-count.body.now (length floors) again.body floors front (sym c.in_ok-count.ensures ∙ ap body_at e ∙ again.read) again.known again.len
+    is_read c.in_ok-count.count c.in_ok-count.body.now (length floors) again.body floors front
+    (sym c.in_ok-count.ensures ∙ ap body_at e ∙ again.read) again.known again.len
 
 pub returns-clause-each_fault : goal.returns-clause-each_fault
-returns-clause-each_fault c = λ fault h. absurd (never_both c.in_ok-count.count c.in_ok-count.body.now fault (sym c.in_ok-count.ensures ∙ fault_again c.args.octets.now fault h))
+returns-clause-each_fault c = λ fault h. absurd (never_both c.in_ok-count.count c.in_ok-count.body.now fault
+    (sym c.in_ok-count.ensures ∙ fault_again c.args.octets.now fault h))
 
 pub returns-in_err-count-clause-only : goal.returns-in_err-count-clause-only
 returns-in_err-count-clause-only c = λ floors front rest h e.

@@ -12,7 +12,8 @@ pub invariant_of-self : goal.invariant_of-self
 unfolding known_floors
 invariant_of-self c =
     let octets : c.write_count.new.octets.items ≡ 0 ∷ 0 ∷ [] =
-    c.write_count.ensures ∙ ap (λ (x : List ℕ). number_octets 0 ++ drop 2 x) c.truncate.ensures.items ∙ ap (λ (x : List ℕ). number_octets 0 ++ x) (none_behind c.self.inside.octets.items) in
+    c.write_count.ensures ∙ ap (λ (x : List ℕ). number_octets 0 ++ drop 2 x) c.truncate.ensures.items
+    ∙ ap (λ (x : List ℕ). number_octets 0 ++ x) (none_behind c.self.inside.octets.items) in
     rw octets ([], (lit< tt, lit< tt, refl, refl), refl)
 
 pub returns : goal.returns

@@ -27,4 +27,5 @@ pub invariant_of-self-2 : goal.invariant_of-self-2
 invariant_of-self-2 c = (pushed ((goal.at.invariant_of-self-2 c).After-write_count)).tower
 
 pub returns-clause-ok : goal.returns-clause-ok
-returns-clause-ok c = (pushed ((goal.at.returns-clause-ok c).After-write_count)).view ∙ ap (λ (fs : List Floor). fs ++ record { left = c.args.left.now; right = c.args.right.now } ∷ []) c.self.view_is
+returns-clause-ok c = (pushed ((goal.at.returns-clause-ok c).After-write_count)).view
+    ∙ ap (λ (fs : List Floor). fs ++ record { left = c.args.left.now; right = c.args.right.now } ∷ []) c.self.view_is
