@@ -1,4 +1,4 @@
-// Values in ascending order.
+// References to values, in ascending order.
 ghost use Rattle.std.specs.Prelude.{◌≡◌, map, IfOk};
 ghost use Rattle.cds_stamps.specs.Ascending.{ascending};
 

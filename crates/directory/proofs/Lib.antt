@@ -6,6 +6,7 @@ pub mod MemberLaws
 pub mod SeenLaws
 pub mod UpdateLaws
 pub mod ChangeLaws
+pub mod EntryChangeLaws
 pub mod Lookups
 pub mod FragmentLaws
 pub mod Leads

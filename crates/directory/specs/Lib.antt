@@ -6,4 +6,5 @@ pub mod EntryUndos
 pub mod Updates
 pub mod Histories
 pub mod Shown
+pub mod EntryChanges
 pub mod Purges

@@ -1,5 +1,5 @@
 // The laws of histories, tables and updates, each the contract of a function that does nothing.
-ghost use Rattle.std.specs.Prelude.{◌≡◌, ◌≢◌, ◌⊎◌, ℕ, List, [], ◌∷◌, ◌++◌, if◌then◌else◌, true, Some, None, IsSome, IfSome, IsSomeAnd};
+ghost use Rattle.std.specs.Prelude.{◌≡◌, ◌≢◌, ◌⊎◌, ℕ, List, [], ◌∷◌, ◌++◌, if◌then◌else◌, true, Some, None, IsSome, IfSome, IsSomeAnd, is_none};
 ghost use Rattle.std.specs.FinMap as map;
 ghost use Rattle.std.specs.List.{AllByRecursion, Contains};
 ghost use Rattle.cds_stamps.specs.Octets.{is_octets};
@@ -15,6 +15,7 @@ ghost use Rattle.directory.specs.declared.entry.Kind.TheVariants.{Object, Link, 
 ghost use Rattle.directory.specs.Kinds.{link_target, replicas};
 ghost use Rattle.directory.specs.Updates.{Change, Create, MakeLink, MakeChild, Delete, Add, Remove, Put, Clear, Repoint, changed_name};
 ghost use Rattle.directory.specs.Histories.{Mark, name_in, entry_of, table_of, HasBirths, IsHistory, IsBefore, SameMarks};
+ghost use Rattle.directory.specs.EntryChanges.{creation, ChangesValue, AreAccepted};
 ghost use Rattle.directory.specs.Shown.{is_readable, lead_of, shown, shown_in, shown_dir, refusal_of, marks_of, Shown, ChangesValues};
 
 /// The table of two histories together is the join of their tables.
@@ -93,4 +94,13 @@ pub fn accepted_updates_lead()
         IsHouses (record { master = master; others = others }) → IsSomeAnd (shown (h ++ marks_of (shown h n) (Repoint n master others) s) n) (λ f. lead_of f ≡ Some (pointer_octets p)) }
     ensures led { (h : List Mark) (n : List ℕ) (e : Shown) → shown h n ≡ Some e → e.kind ≢ Object → IsSome (lead_of e) }
     ensures read { (e : Shown) (v : List ℕ) → lead_of e ≡ Some v → is_readable e.kind v ≡ true }
+{}
+
+/// Changes of an entry's values are accepted one after the other where the entry shows, and behind its creation where it is
+/// absent.
+pub fn entry_changes_are_accepted()
+    ensures shown { (h : List Mark) (n : List ℕ) (e : Shown) (us : List Change) → shown h n ≡ Some e
+        → AllByRecursion (ChangesValue n) us → AreAccepted h us }
+    ensures created { (h : List Mark) (n : List ℕ) (us : List Change) → IsHistory h
+        → AllByRecursion (ChangesValue n) us → AreAccepted h (creation n (is_none (shown h n)) ++ us) }
 {}

@@ -13,4 +13,4 @@ mod update;
 pub use attr_map::AttrMap;
 pub use entry::{EntryCell, Fragment, Kind, LINK_TARGET, REPLICAS};
 pub use table::Table;
-pub use update::{Update, UpdateRefusal};
+pub use update::{Update, UpdateRefusal, creation};

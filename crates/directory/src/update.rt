@@ -1,6 +1,7 @@
 // Updates, and why one is refused.
 ghost use Rattle.std.specs.Prelude.{◌≡◌, IfOk};
 ghost use Rattle.directory.specs.Updates.{change_of, changed_name};
+ghost use Rattle.directory.specs.EntryChanges.{changes, creation};
 
 use attr_sets::Value;
 use cds_stamps::{AttrName, SimpleName};
@@ -77,6 +78,18 @@ impl Update {
             }
         })
     }
+}
+
+/// The update that creates an entry, if it is absent. Where it is not no memory is asked for.
+pub fn creation(alloc: Global, name: &SimpleName, absent: bool) -> Result<Vec<Update>, AllocError>
+    ensures { IfOk result (λ list. changes list.items ≡ creation name.now absent) }
+{
+    let mut updates = Vec::new(alloc);
+    if absent {
+        updates.push(Update::Create(name.copy(alloc)?))?;
+        return Ok(updates);
+    }
+    Ok(updates)
 }
 
 /// Why a house refuses an update.
