@@ -2,6 +2,7 @@
 -- A line is at most 4,096 octets from 0x20 to 0x7E and its end 0x0A; there are at most 16,777,216 lines.
 use Rattle.std.specs.Prelude.{◌≡◌, ◌≢◌, ℕ, ◌+◌, ◌≤◌, ◌<◌, List, [], ◌∷◌, ◌++◌, length, Bool, nat_lt, ◌==◌, ◌&&◌, if◌then◌else◌, None, Some, take, drop}
 use Rattle.std.specs.declared.option.Option.{Option}
+use Rattle.cds_base.specs.declared.scan.TheConstants.{LONGEST_LINE, MOST_LINES}
 use Rattle.cds_base.specs.declared.scan.LineFault.{LineFault}
 use Rattle.cds_base.specs.declared.scan.LineFault.TheVariants.{LineTooLong, NotAscii, TooManyLines}
 use Rattle.cds_base.specs.declared.scan.Seen.{Seen}
@@ -14,9 +15,9 @@ is_printable octet = nat_lt 31 octet && nat_lt octet 127
 -- the fault that an octet shows at this place of line number, both counted from 1
 unfoldable pub fault_at : ℕ → ℕ → ℕ → Option LineFault
 fault_at number place octet =
-    if octet == 10 then (if nat_lt 16777216 number then Some (TooManyLines number place) else None)
-    else (if nat_lt 4096 place then Some (LineTooLong number place)
-    else (if is_printable octet then (if nat_lt 16777216 number then Some (TooManyLines number place) else None)
+    if octet == 10 then (if nat_lt MOST_LINES number then Some (TooManyLines number place) else None)
+    else (if nat_lt LONGEST_LINE place then Some (LineTooLong number place)
+    else (if is_printable octet then (if nat_lt MOST_LINES number then Some (TooManyLines number place) else None)
     else Some (NotAscii number place)))
 
 -- octets from this place on, none of which ends the line or is at fault
@@ -49,4 +50,4 @@ ShowsAnswer number octets = ¬ (AreClean number 1 octets)
 abbrev pub Sees : ℕ → List ℕ → Seen → Type 0
 Sees number octets (Line n) = (n < length octets) × BeginsWithLine number (take n octets) (drop (n + 1) octets) octets
 Sees number octets (Fault fault) = ShowsFault number fault octets
-Sees number octets More = AreClean number 1 octets × (length octets ≤ 4096)
+Sees number octets More = AreClean number 1 octets × (length octets ≤ LONGEST_LINE)

@@ -10,6 +10,7 @@ use Rattle.cds_base.specs.Buffers.{octets_in}
 use Rattle.cds_base.specs.LineFaults.{AreClean, IsLine, ShowsFault, ShowsAnswer, BeginsWithLine}
 use Rattle.cds_base.specs.declared.scan.LineFault.{LineFault}
 use Rattle.cds_base.specs.declared.scan.LineFault.TheVariants.{NoLineEnd, ReadFault}
+use Rattle.cds_base.specs.declared.lines.TheConstants.{MOST_HELD}
 use Rattle.cds_base.specs.declared.lines.Lines.{Lines}
 use Rattle.cds_base.specs.declared.lines.Line.{Line}
 use Rattle.cds_base.specs.contracts.lines.Lines.{the_row}
@@ -122,7 +123,7 @@ pub record HasMoved {S : Type 0} (left : S → Option (List ℕ)) (faults : S �
   pub next : kept old ≡ None → IsNext (left source) (left source') old new result
   pub cause : kept old ≡ None → HasLineCause (faults source) (faults source') result
   pub ready : IsReady old → (source' ≡ source) × (kept old ≡ None → result ≢ Err ReadFault)
-  pub few : length (held new) ≤ 8192
+  pub few : length (held new) ≤ MOST_HELD
   pub again : IfSome (kept old) (λ fault. (result ≡ Err fault) × (new ≡ old) × (source' ≡ source))
 
 abbrev pub LeavesNext : {S : Type 0} → (S → Option (List ℕ)) → (S → ℕ) → MutBor Lines → S → S → Result (Option (ℕ × List ℕ)) LineFault → Fml

@@ -4,6 +4,7 @@
 
 mod buffer;
 mod ends;
+pub mod laws;
 mod lines;
 mod memory;
 mod scan;
@@ -13,8 +14,8 @@ mod tests;
 mod window;
 
 pub use ends::{Failed, PutFault, Sink, Source, put_all};
-pub use lines::{Line, Lines};
+pub use lines::{Line, Lines, MOST_HELD};
 pub use memory::{MemSink, MemSource};
-pub use scan::LineFault;
+pub use scan::{LONGEST_LINE, LineFault, MOST_LINES};
 pub use standard::{StdSink, StdSource};
 pub use window::Window;

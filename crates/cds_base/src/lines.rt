@@ -7,6 +7,8 @@ ghost use Rattle.cds_base.specs.Counts.{HasCause};
 ghost use Rattle.cds_base.specs.Reading.{GrowsByReading};
 ghost use Rattle.cds_base.specs.Buffers.{octets_in};
 ghost use Rattle.cds_base.specs.LineFaults.{is_printable};
+ghost use Rattle.cds_base.specs.declared.lines.TheConstants.{MOST_HELD};
+ghost use Rattle.cds_base.specs.declared.scan.TheConstants.{LONGEST_LINE, MOST_LINES};
 
 use crate::buffer::Buffer;
 use crate::scan::{LineFault, Seen, printable_len, scan};
@@ -14,7 +16,7 @@ use crate::{Failed, Source};
 use std::alloc::{AllocError, Global};
 
 /// How many octets are held at most that were not given yet.
-const ROOM: usize = 8192;
+pub const MOST_HELD: usize = 8192;
 
 /// A line without its end. Lines are counted from 1.
 #[derive(Clone, Copy, Debug, PartialEq, Eq)]
@@ -31,9 +33,9 @@ pub struct Lines {
     printable: usize,
     number: u32,
     fault: Option<LineFault>,
-    ghost room: { vec_len buffer.octets ≡ 8192 },
+    ghost room: { vec_len buffer.octets ≡ MOST_HELD },
     ghost measured: { printable ≡ prefix_len is_printable (octets_in buffer) },
-    ghost counted: { number ≤ 16777216 },
+    ghost counted: { number ≤ MOST_LINES },
 }
 
 impl Lines {
@@ -47,7 +49,7 @@ impl Lines {
         ensures { IfOk result IsFresh }
     {
         Ok(Lines {
-            buffer: Buffer::new(alloc, ROOM)?,
+            buffer: Buffer::new(alloc, MOST_HELD)?,
             printable: 0,
             number: 0,
             fault: None,
@@ -98,7 +100,7 @@ impl Lines {
         ensures next { IsNext (S.left source.old) (S.left source.new) self.old self.new (found_line self.new result) }
         ensures cause { HasLineCause (S.faults source.old) (S.faults source.new) result }
         ensures ready { ShowsAnswer (given self.old + 1) (held self.old) → (source.new ≡ source.old) × (result ≢ Err LineFault.ReadFault) }
-        ensures within { IfOk result (λ o. IfSome o (λ p. p.0 + p.1 ≤ 8192)) }
+        ensures within { IfOk result (λ o. IfSome o (λ p. p.0 + p.1 ≤ MOST_HELD)) }
     {
         match self.find_line(source) {
             Ok(Some(len)) => {
@@ -141,7 +143,7 @@ impl Lines {
 
     // Reads once, and answers how many octets came.
     fn read_more<S: Source>(&mut self, source: &mut S) -> Result<usize, Failed>
-        requires { length (held self.old) ≤ 4096 }
+        requires { length (held self.old) ≤ LONGEST_LINE }
         ensures reads { GrowsByReading (S.left source.old) (S.left source.new) (held self.old) (held self.new) }
         ensures count { IfOk result (λ n. length (held self.new) ≡ length (held self.old) + n) }
         ensures end { IfOk result (λ n. n ≡ 0 → IsAtEnd (S.left source.new)) }

@@ -6,10 +6,10 @@ ghost use Rattle.cds_base.specs.LineFaults.{Sees, is_printable};
 use thiserror::Error;
 
 /// Octets of the longest line.
-const LONGEST: usize = 4096;
+pub const LONGEST_LINE: usize = 4096;
 
 /// The number of the last line that is read.
-const MOST_LINES: u32 = 16_777_216;
+pub const MOST_LINES: u32 = 16_777_216;
 
 /// Why there is no next line: the number of the line that is at fault, and the place of the octet at
 /// fault in it, both counted from 1.
@@ -67,8 +67,8 @@ pub(crate) fn scan(number: u32, octets: &[u8], printable: usize) -> Seen
     if printable > 0 && number > MOST_LINES {
         return Seen::Fault(LineFault::TooManyLines(number, 1));
     }
-    if printable > LONGEST {
-        return Seen::Fault(LineFault::LineTooLong(number, LONGEST + 1));
+    if printable > LONGEST_LINE {
+        return Seen::Fault(LineFault::LineTooLong(number, LONGEST_LINE + 1));
     }
     if printable == octets.len() {
         return Seen::More;
@@ -79,8 +79,8 @@ pub(crate) fn scan(number: u32, octets: &[u8], printable: usize) -> Seen
         }
         return Seen::Line(printable);
     }
-    if printable == LONGEST {
-        return Seen::Fault(LineFault::LineTooLong(number, LONGEST + 1));
+    if printable == LONGEST_LINE {
+        return Seen::Fault(LineFault::LineTooLong(number, LONGEST_LINE + 1));
     }
     Seen::Fault(LineFault::NotAscii(number, printable + 1))
 }

@@ -7,8 +7,8 @@ use Rattle.cds_base.proofs.scan.scan.Goals as goal
 pub returns-then-number-gt-MOST_LINES : goal.returns-then-number-gt-MOST_LINES
 returns-then-number-gt-MOST_LINES c = sees_many _ _ (omega arith) (omega arith)
 
-pub returns-then-printable-gt-LONGEST : goal.returns-then-printable-gt-LONGEST
-returns-then-printable-gt-LONGEST c = sees_long _ _ (omega arith) (few_when_some _ _ c.else-printable-gt0.either (omega arith))
+pub returns-then-printable-gt-LONGEST_LINE : goal.returns-then-printable-gt-LONGEST_LINE
+returns-then-printable-gt-LONGEST_LINE c = sees_long _ _ (omega arith) (few_when_some _ _ c.else-printable-gt0.either (omega arith))
 
 pub returns-then-printable-octets : goal.returns-then-printable-octets
 returns-then-printable-octets c =
@@ -27,8 +27,8 @@ returns-then-octets-printable-eq10 c =
     let within : c.args.printable < length c.args.octets.now = omega (arith, prefix_len-le-length is_printable c.args.octets.now) in
     (within, sees_line _ _ c.args.printable c.requires within (omega arith) (few_when_some _ _ c.else-printable-gt0.either) (omega arith) (omega arith))
 
-pub returns-then-printable-eq-LONGEST : goal.returns-then-printable-eq-LONGEST
-returns-then-printable-eq-LONGEST c =
+pub returns-then-printable-eq-LONGEST_LINE : goal.returns-then-printable-eq-LONGEST_LINE
+returns-then-printable-eq-LONGEST_LINE c =
     let within : c.args.printable < length c.args.octets.now = omega (arith, prefix_len-le-length is_printable c.args.octets.now) in
     sees_too_long _ _ c.args.printable c.requires within (omega arith) (few_when_some _ _ c.else-printable-gt0.either)
     (omega arith) c.if-octets-printable-eq10.false
@@ -37,4 +37,4 @@ pub returns : goal.returns
 returns c =
     let within : c.args.printable < length c.args.octets.now = omega (arith, prefix_len-le-length is_printable c.args.octets.now) in
     sees_not_ascii _ _ c.args.printable c.requires within (omega arith) (few_when_some _ _ c.else-printable-gt0.either)
-    c.if-printable-eq-LONGEST.false c.if-octets-printable-eq10.false
+    c.if-printable-eq-LONGEST_LINE.false c.if-octets-printable-eq10.false
