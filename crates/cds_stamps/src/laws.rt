@@ -4,11 +4,13 @@ ghost use Rattle.std.specs.List.{Contains};
 ghost use Rattle.std.specs.List.Sorted.{IsStrictlySortedBy};
 ghost use Rattle.cds_stamps.specs.Octets.{octets_cmp};
 ghost use Rattle.cds_stamps.specs.Ascending.{ascending};
-ghost use Rattle.cds_stamps.specs.Names.{simple_name_fault, IsSimpleName, attr_fault, IsAttrName};
+ghost use Rattle.cds_stamps.specs.Names.{simple_name_fault, longest_component, IsSimpleName, attr_fault, longest_attr, IsAttrName};
 ghost use Rattle.cds_stamps.specs.Members.{Member, members_fault, most_members, IsMembers};
 ghost use Rattle.cds_stamps.specs.declared.members.TheConstants.{MOST_MEMBERS};
-ghost use Rattle.cds_stamps.specs.Numbers.{root_dir};
+ghost use Rattle.cds_stamps.specs.Numbers.{root_dir, node_bits};
 ghost use Rattle.cds_stamps.specs.declared.numbers.TheConstants.DirId.{ROOT};
+ghost use Rattle.cds_stamps.specs.declared.names.TheConstants.{LONGEST_COMPONENT, LONGEST_ATTR};
+ghost use Rattle.cds_stamps.specs.declared.stamp.TheConstants.{NODE_BITS};
 ghost use Rattle.cds_stamps.specs.Places.{each_place};
 
 /// No fault is found exactly where the octets are a simple name.
@@ -34,6 +36,9 @@ pub fn each_place_is_every_place()
 /// The limits and numbers that the code names are those of the definitions.
 pub fn named_numbers_are_those_of_the_definitions()
     ensures most_members { MOST_MEMBERS ≡ most_members }
+    ensures longest_component { LONGEST_COMPONENT ≡ longest_component }
+    ensures longest_attr { LONGEST_ATTR ≡ longest_attr }
+    ensures node_bits { NODE_BITS ≡ node_bits }
     ensures root { ROOT.0 ≡ root_dir }
 {}
 

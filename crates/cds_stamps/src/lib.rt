@@ -17,7 +17,10 @@ pub use alloc_or::AllocOr;
 pub use lattice::Lattice;
 pub use mask::MemberMask;
 pub use members::{MOST_MEMBERS, Member, MemberKind, Members, MembersFault};
-pub use names::{AttrFault, AttrName, NameFault, SimpleName, is_attr_octet, is_name_octet};
+pub use names::{
+    AttrFault, AttrName, LONGEST_ATTR, LONGEST_COMPONENT, NameFault, SimpleName, is_attr_octet,
+    is_name_octet,
+};
 pub use numbers::{DirId, EpochNo, HouseNo};
 pub use octets::Octets;
-pub use stamp::{Floor, Node, Stamp, later_of};
+pub use stamp::{Floor, NODE_BITS, Node, Stamp, later_of};

@@ -10,6 +10,12 @@ use std::alloc::{AllocError, Global};
 use std::marker::Model;
 use thiserror::Error;
 
+/// The most octets of a simple name, which is one component of a full name.
+pub const LONGEST_COMPONENT: usize = 254;
+
+/// The most octets of an attribute name.
+pub const LONGEST_ATTR: usize = 31;
+
 /// Why octets are no name. A place is counted from 1.
 #[derive(Clone, Copy, Debug, PartialEq, Eq, Drop, Error)]
 pub enum NameFault {
@@ -57,7 +63,7 @@ fn check_simple_name(octets: &[u8]) -> Result<(), NameFault>
         if !is_name_octet(*octet) {
             return Err(NameFault::BadOctet(i + 1));
         }
-        if i == 254 {
+        if i == LONGEST_COMPONENT {
             return Err(NameFault::ComponentTooLong(i + 1));
         }
     }
@@ -72,7 +78,7 @@ fn check_attr_name(octets: &[u8]) -> Result<(), AttrFault>
         return Err(AttrFault::BadAttr(1));
     }
     for (i, octet) in octets.iter().enumerate() {
-        if !is_attr_octet(*octet) || i == 31 {
+        if !is_attr_octet(*octet) || i == LONGEST_ATTR {
             return Err(AttrFault::BadAttr(i + 1));
         }
     }

@@ -1,9 +1,13 @@
 // Stamps, and the floor above which a house issues them.
 ghost use Rattle.std.specs.Prelude.{◌≡◌, ◌^◌, ◌<◌, max, SomeIff, MatchOption, Some, None};
+ghost use Rattle.cds_stamps.specs.Numbers.{node_bits};
 ghost use Rattle.cds_stamps.specs.Semilattice.{maybe};
 ghost use Rattle.cds_stamps.specs.Stamps.{next_stamp, later_stamp};
 
 use std::marker::Model;
+
+/// How many bits a node identifier has.
+pub const NODE_BITS: u32 = 48;
 
 /// A node identifier of 48 bits.
 #[derive(Clone, Copy, Debug, PartialEq, Eq, PartialOrd, Ord)]
@@ -13,12 +17,13 @@ pub struct Node {
 
 impl Model for Node {
     ghost use Rattle.std.specs.Prelude.{ℕ, ◌^◌, ◌<◌};
+    ghost use Rattle.cds_stamps.specs.Numbers.{node_bits};
 
     ghost Value = { ℕ };
 
     ghost view = { λ n. n.number };
 
-    ghost invariant = { λ n. n.number < 2 ^ 48 };
+    ghost invariant = { λ n. n.number < 2 ^ node_bits };
 
     ghost inverse = { λ n. record { number = n } };
 }
@@ -26,9 +31,9 @@ impl Model for Node {
 impl Node {
     /// The node of a number, None exactly from 2^48 on.
     pub fn new(number: u64) -> Option<Node>
-        ensures { SomeIff result (number < 2 ^ 48) number }
+        ensures { SomeIff result (number < 2 ^ node_bits) number }
     {
-        if number < 1 << 48 {
+        if number < 1 << NODE_BITS {
             Some(Node { number })
         } else {
             None
@@ -37,7 +42,7 @@ impl Node {
 
     pub fn number(&self) -> u64
         ensures same { result ≡ self.now }
-        ensures below { result < 2 ^ 48 }
+        ensures below { result < 2 ^ node_bits }
     {
         self.number
     }

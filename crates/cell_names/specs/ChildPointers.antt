@@ -28,6 +28,16 @@ pub record IsPointer (p : Pointer) : Type 0 where
 abbrev pub pointer_octets : Pointer → List ℕ
 pointer_octets p = to_be_bytes w32 p.dir ++ (1 + length p.others) ∷ p.master ∷ p.others
 
+-- the places of the number of houses, of the master and of the first other house, counted from 1 (own)
+abbrev pub count_place : ℕ
+count_place = 5
+
+abbrev pub master_place : ℕ
+master_place = 6
+
+abbrev pub others_place : ℕ
+others_place = 7
+
 -- the fault of the houses beside this master, from this place on: behind those that are in order, or behind as many as
 -- there are to be; none, where all are in order and as many (own)
 abbrev pub others_fault : (master place count : ℕ) → List ℕ → Option ChildFault
@@ -35,16 +45,16 @@ others_fault master place count others =
     let ordered = count_in_order master 0 others in
     if ordered == count && length others == count then None else Some (BadChild (place + min ordered count))
 
--- the fault of so many houses, of which the master stands at place 6 (own)
+-- the fault of so many houses, the master's first (own)
 abbrev pub houses_fault : (count : ℕ) → List ℕ → Option ChildFault
-houses_fault count [] = Some (BadChild 6)
-houses_fault count (master ∷ others) = others_fault master 7 (count - 1) others
+houses_fault count [] = Some (BadChild master_place)
+houses_fault count (master ∷ others) = others_fault master others_place (count - 1) others
 
 -- the fault of octets that are no child pointer: the first field that breaks the form, the first octet that is
 -- missing, or the first octet too many (own)
 abbrev pub pointer_fault : List ℕ → Option ChildFault
 pointer_fault (a ∷ b ∷ c ∷ d ∷ count ∷ houses) =
-    if count == 0 || nat_lt most_houses count then Some (BadChild 5) else houses_fault count houses
+    if count == 0 || nat_lt most_houses count then Some (BadChild count_place) else houses_fault count houses
 pointer_fault octets = Some (BadChild (length octets + 1))
 
 -- the octets are a child pointer (own)

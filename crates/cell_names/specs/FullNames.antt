@@ -29,13 +29,17 @@ spelling components = cell_root ++ behind_slashes components
 abbrev pub longest_name : ℕ
 longest_name = 1023
 
+-- the place of the first octet of the first component, counted from 1: behind `/.:/` (own)
+abbrev pub first_component : ℕ
+first_component = 5
+
 -- the octets are `/.:`, or begin with `/.:/` (own)
 abbrev pub is_local : List ℕ → Bool
 is_local octets = pointwise nat_eq octets cell_root || starts_with nat_eq octets (cell_root ++ slash ∷ [])
 
 -- what stands behind each slash after the root (own)
 abbrev pub components_of : List ℕ → List (List ℕ)
-components_of octets = drop 1 (slice_split (λ b. b == slash) (drop 3 octets))
+components_of octets = drop 1 (slice_split (λ b. b == slash) (drop (length cell_root) octets))
 
 -- the first fault of components of which the first begins at this place (own)
 abbrev pub components_fault : ℕ → List (List ℕ) → Option NameFault
@@ -59,7 +63,7 @@ abbrev pub name_fault : List ℕ → Option NameFault
 name_fault [] = Some (Empty 1)
 name_fault (b ∷ bs) =
     if not (is_local (b ∷ bs)) then Some NotLocal
-    else (if nat_lt longest_name (length (b ∷ bs)) then Some NameTooLong else components_fault 5 (components_of (b ∷ bs)))
+    else (if nat_lt longest_name (length (b ∷ bs)) then Some NameTooLong else components_fault first_component (components_of (b ∷ bs)))
 
 -- the octets are a full name (own)
 abbrev pub is_full_name : List ℕ → Bool

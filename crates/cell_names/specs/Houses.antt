@@ -3,6 +3,7 @@ use Rattle.std.specs.Prelude.{◌≢◌, ℕ, ◌+◌, ◌-◌, ◌≤◌, min, 
 use Rattle.std.specs.Cmp.Lexicographic.{pointwise}
 use Rattle.std.specs.List.{All}
 use Rattle.std.specs.List.Sorted.{IsStrictlyIncreasing}
+use Rattle.cds_stamps.specs.Members.{most_members}
 use Rattle.cell_names.specs.declared.houses.HousesFault.{HousesFault}
 use Rattle.cell_names.specs.declared.houses.HousesFault.TheVariants.{BadHouses}
 
@@ -11,9 +12,9 @@ pub record Houses : Type 0 where
   pub master : ℕ
   pub others : List ℕ
 
--- the most houses of a child pointer (own)
+-- the most houses of a child pointer: each is a member of the directory (own)
 abbrev pub most_houses : ℕ
-most_houses = 64
+most_houses = most_members
 
 -- the other houses ascend, the master is none of them, and all are not too many (own)
 pub record IsHouses (h : Houses) : Type 0 where

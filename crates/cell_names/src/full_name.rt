@@ -9,10 +9,10 @@ ghost use Rattle.cds_stamps.specs.Names.{simple_name_fault, IsSimpleName};
 ghost use Rattle.cds_stamps.specs.Octets.{is_octets};
 ghost use Rattle.cds_stamps.specs.Outcomes.{Answers, ok_unless};
 ghost use Rattle.cds_stamps.specs.declared.alloc_or.AllocOr.TheVariants.{Fault};
-ghost use Rattle.cell_names.specs.FullNames.{slash, behind_slashes, spelling, components_of, components_fault, name_fault, splice_fault, is_name, longest_name, IsComponentList};
+ghost use Rattle.cell_names.specs.FullNames.{slash, behind_slashes, spelling, components_of, components_fault, name_fault, splice_fault, first_component, longest_name, is_name, IsComponentList};
 
 use crate::spelled::spell;
-use cds_stamps::{AllocOr, NameFault, SimpleName, is_name_octet};
+use cds_stamps::{AllocOr, LONGEST_COMPONENT, NameFault, SimpleName, is_name_octet};
 use std::alloc::{AllocError, Global};
 use std::hash::{Hash, Hasher};
 use std::marker::Model;
@@ -24,14 +24,11 @@ pub const ROOT: &[u8] = b"/.:";
 // What stands before the first component.
 const ROOT_SLASH: &[u8] = b"/.:/";
 
-// The place of the first octet of the first component.
+// The place of the first octet of the first component, counted from 1.
 const FIRST_COMPONENT: usize = 5;
 
-// The most octets of a component.
-const MOST_OF_COMPONENT: usize = 254;
-
-// The most octets of a full name.
-const MOST_OCTETS: usize = 1023;
+/// The most octets of a full name.
+pub const LONGEST_NAME: usize = 1023;
 
 /// Why simple names behind a full name make no full name.
 #[derive(Clone, Copy, Debug, PartialEq, Eq, Drop, Error)]
@@ -99,7 +96,7 @@ impl FullName {
         if !octets.starts_with(ROOT_SLASH) {
             return Err(NameFault::NotLocal);
         }
-        if octets.len() > MOST_OCTETS {
+        if octets.len() > LONGEST_NAME {
             return Err(NameFault::NameTooLong);
         }
         check_components(&octets[ROOT_SLASH.len()..])
@@ -170,7 +167,7 @@ impl FullName {
         ensures within { result ≤ longest_name }
         ensures lawful { IsComponentList self.now }
     {
-        MOST_OCTETS - self.room()
+        LONGEST_NAME - self.room()
     }
 
     /// Whether octets spell the name. Takes no memory.
@@ -183,10 +180,10 @@ impl FullName {
 
     // How many octets more a full name may have.
     fn room(&self) -> usize
-        ensures value { result + length (spelling self.now) ≡ 1023 }
+        ensures value { result + length (spelling self.now) ≡ longest_name }
         ensures lawful { IsComponentList self.now }
     {
-        room_behind(MOST_OCTETS - ROOT.len(), &self.components).unwrap()
+        room_behind(LONGEST_NAME - ROOT.len(), &self.components).unwrap()
     }
 
     /// The name with these components behind its own.
@@ -283,7 +280,7 @@ fn room_behind(room: usize, components: &[SimpleName]) -> Option<usize>
 
 // Whether octets behind the first slash are components with a slash between any two.
 fn check_components(octets: &[u8]) -> Result<(), NameFault>
-    ensures { result ≡ ok_unless (components_fault 5 (slice_split (λ b. b == slash) octets.now)) tt }
+    ensures { result ≡ ok_unless (components_fault first_component (slice_split (λ b. b == slash) octets.now)) tt }
 {
     let mut taken = 0;
     for (i, octet) in octets.iter().enumerate() {
@@ -295,7 +292,7 @@ fn check_components(octets: &[u8]) -> Result<(), NameFault>
             taken = 0;
         } else if !is_name_octet(*octet) {
             return Err(NameFault::BadOctet(place));
-        } else if taken == MOST_OF_COMPONENT {
+        } else if taken == LONGEST_COMPONENT {
             return Err(NameFault::ComponentTooLong(place));
         } else {
             taken += 1;

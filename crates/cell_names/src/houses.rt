@@ -7,14 +7,17 @@ ghost use Rattle.std.specs.Cmp.Rules.{comparing, hashing};
 ghost use Rattle.std.specs.Hash as fed;
 ghost use Rattle.std.proofs.Common.{rules};
 
-use cds_stamps::{AllocOr, HouseNo};
+use cds_stamps::{AllocOr, HouseNo, MOST_MEMBERS};
 use std::alloc::{AllocError, Global};
 use std::hash::{Hash, Hasher};
 use std::marker::Model;
 use thiserror::Error;
 
+/// The most houses of a directory. Each is one of its members.
+pub const MOST_HOUSES: usize = MOST_MEMBERS;
+
 // The most houses beside the master's.
-const MOST_OTHERS: usize = 63;
+const MOST_OTHERS: usize = MOST_HOUSES - 1;
 
 /// Why houses are none of a child pointer. A place is counted from 1.
 #[derive(Clone, Copy, Debug, PartialEq, Eq, Drop, Error)]

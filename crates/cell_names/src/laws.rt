@@ -3,8 +3,10 @@ ghost use Rattle.std.specs.Prelude.{◌≡◌, ◌-◌, ◌<◌, ◌≤◌, ◌^
 ghost use Rattle.std.specs.List.{All};
 ghost use Rattle.cds_stamps.specs.Names.{IsSimpleName};
 ghost use Rattle.cell_names.specs.declared.houses.HousesFault.TheVariants.{BadHouses};
-ghost use Rattle.cell_names.specs.FullNames.{name_fault, spelling, components_of, splice_fault, is_name, IsComponentList, IsFullName};
-ghost use Rattle.cell_names.specs.Houses.{Houses, IsHouses, list_fault, is_houses};
+ghost use Rattle.cell_names.specs.declared.full_name.TheConstants.{LONGEST_NAME};
+ghost use Rattle.cell_names.specs.declared.houses.TheConstants.{MOST_HOUSES};
+ghost use Rattle.cell_names.specs.FullNames.{longest_name, name_fault, spelling, components_of, splice_fault, is_name, IsComponentList, IsFullName};
+ghost use Rattle.cell_names.specs.Houses.{Houses, most_houses, IsHouses, list_fault, is_houses};
 ghost use Rattle.cell_names.specs.ChildPointers.{Pointer, IsPointer, IsChildPointer, pointer_octets, pointer_fault, pointer_of};
 
 /// No fault is found exactly where the octets are the full name of some components.
@@ -57,4 +59,10 @@ pub fn child_pointers_read_back()
     ensures read { (p : Pointer) → IsPointer p → pointer_of (pointer_octets p) ≡ Some p }
     ensures lawful { (octets : List ℕ) (p : Pointer) → All (λ b. b < 2 ^ 8) octets → pointer_of octets ≡ Some p → IsPointer p }
     ensures written { (octets : List ℕ) (p : Pointer) → All (λ b. b < 2 ^ 8) octets → pointer_of octets ≡ Some p → octets ≡ pointer_octets p }
+{}
+
+/// The root and the limits that the code names are those of the definitions.
+pub fn named_limits_are_those_of_the_definitions()
+    ensures longest_name { LONGEST_NAME ≡ longest_name }
+    ensures most_houses { MOST_HOUSES ≡ most_houses }
 {}

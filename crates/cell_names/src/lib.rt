@@ -9,6 +9,6 @@ mod spelled;
 #[cfg(test)]
 mod tests;
 
-pub use full_name::{FullName, ROOT, SpliceFault};
-pub use houses::{HouseList, HousesFault};
+pub use full_name::{FullName, LONGEST_NAME, ROOT, SpliceFault};
+pub use houses::{HouseList, HousesFault, MOST_HOUSES};
 pub use pointer::{ChildFault, ChildPointer};

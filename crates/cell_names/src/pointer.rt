@@ -1,18 +1,22 @@
 // Child pointers.
-ghost use Rattle.std.specs.Prelude.{◌≡◌, Some, None, IfOk, IfErr, IfSome};
+ghost use Rattle.std.specs.Prelude.{◌≡◌, ◌<◌, ◌^◌, Some, None, IfOk, IfErr, IfSome};
+ghost use Rattle.std.specs.Int.{to_be_bytes, w32};
 ghost use Rattle.cds_stamps.specs.Outcomes.{ok_unless};
 ghost use Rattle.cds_stamps.specs.declared.alloc_or.AllocOr.TheVariants.{Fault, OutOfMemory};
-ghost use Rattle.cell_names.specs.ChildPointers.{others_fault, pointer_fault};
+ghost use Rattle.cell_names.specs.ChildPointers.{others_fault, others_place, pointer_fault};
 
-use crate::houses::{HouseList, is_misplaced};
+use crate::houses::{HouseList, MOST_HOUSES, is_misplaced};
+use byteorder::{BigEndian, ByteOrder};
 use cds_stamps::{AllocOr, DirId};
 use std::alloc::{AllocError, Global};
 use thiserror::Error;
 
-// The most houses of a child pointer.
-const MOST_HOUSES: u8 = 64;
+// How many octets the number of a directory has.
+const DIR_LEN: usize = 4;
 
-// The place of the first house behind the master's.
+// The place of the number of houses, and that of the first house behind the master's; counted from 1.
+const COUNT: usize = 5;
+
 const OTHERS: usize = 7;
 
 /// Why octets are no child pointer. A place is counted from 1.
@@ -39,8 +43,8 @@ impl ChildPointer {
         ensures { result ≡ ok_unless (pointer_fault octets.now) tt }
     {
         match octets {
-            [_, _, _, _, count, ..] if *count == 0 || *count > MOST_HOUSES => {
-                Err(ChildFault::BadChild(5))
+            [_, _, _, _, count, ..] if *count == 0 || usize::from(*count) > MOST_HOUSES => {
+                Err(ChildFault::BadChild(COUNT))
             }
             [_, _, _, _, count, master, others @ ..] => check_others(others, *master, *count - 1),
             _ => Err(ChildFault::BadChild(octets.len() + 1)),
@@ -78,8 +82,8 @@ impl ChildPointer {
         ensures readable { IfOk result (λ v. pointer_of v.items ≡ Some (pointer_in self.now)) }
     {
         let others = self.houses.others();
-        let mut octets = Vec::with_capacity(alloc, others.len() + 6)?;
-        octets.extend_from_slice(&self.dir.0.to_be_bytes())?;
+        let mut octets = Vec::with_capacity(alloc, OTHERS - 1 + others.len())?;
+        octets.extend_from_slice(&dir_octets(self.dir))?;
         octets.push(others.len() as u8 + 1)?;
         octets.push(self.houses.master().0)?;
         for house in others {
@@ -99,9 +103,19 @@ impl ChildPointer {
     }
 }
 
+// The octets of the number of a directory, the highest first.
+fn dir_octets(dir: DirId) -> [u8; DIR_LEN]
+    ensures octets { result ≡ to_be_bytes w32 dir.0 }
+    ensures range { dir.0 < 2 ^ 32 }
+{
+    let mut octets = [0; DIR_LEN];
+    BigEndian::write_u32(&mut octets, dir.0);
+    octets
+}
+
 // Whether the houses beside this master are as many, ascend and leave it out.
 fn check_others(others: &[u8], master: u8, count: u8) -> Result<(), ChildFault>
-    ensures { result ≡ ok_unless (others_fault master 7 count others.now) tt }
+    ensures { result ≡ ok_unless (others_fault master others_place count others.now) tt }
 {
     let mut least = 0;
     for (i, house) in others.iter().enumerate() {

@@ -8,4 +8,4 @@ pub returns-clause-readable : goal.returns-clause-readable
 returns-clause-readable c =
     let p = pointer_in c.args.self.now in
     let written : c.loop-house.octets.items ≡ pointer_octets p = grind (arith, common_steps) in
-    ap pointer_of written ∙ written_read p (omega arith) c.others-others.ensures.lawful
+    ap pointer_of written ∙ written_read p c.dir_octets.ensures.range c.others-others.ensures.lawful
