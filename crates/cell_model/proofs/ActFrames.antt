@@ -6,12 +6,14 @@ use Rattle.cds_stamps.specs.Members.{Member, master_of, others_of, since_in}
 use Rattle.directory.specs.Histories.{Mark, stamp_in}
 use Rattle.directory.specs.Updates.{Change}
 use Rattle.cell_model.specs.Sets.{In, IsPart}
-use Rattle.cell_model.specs.Cells.{Idle, Gathering, Spreading, Replica, Slot, Gone, Held, Copy, Body, Update, Gather, Gathered, Spread, SpreadAck, Advance, Join, Leave, Message, Cell, IsHeld}
+use Rattle.cell_model.specs.Cells.{Idle, Gathering, Spreading, Replica, Slot, Gone, Held, Copy, Body, Update, Gather, Gathered, Spread, SpreadAck}
+use Rattle.cell_model.specs.Cells.{Advance, Join, Leave, Message, Cell, IsHeld}
 use Rattle.cell_model.specs.Commands.{Accepted}
 use Rattle.cell_model.specs.Steps.{grown, copy_of, merged, to_each, raised, floor_after, reply, to_others, copied as copied_at, kept_at_join}
 use Rattle.cell_model.proofs.Lists.{In-append_left, In-append_right, In-append_cases, In-map}
 use Rattle.cell_model.proofs.Terms.{Listed, listed_once}
-use Rattle.cell_model.proofs.Facts.{View, view, IsPosted, Holds, Roll, marks_in, round_of, Reached, Kind, Sound, Turn, same, idle, begins, answered, turned, acked, Took, Past, grew, rose, copied, Came, own, sent, fresh, Answers, New, Frame}
+use Rattle.cell_model.proofs.Facts.{View, view, IsPosted, Holds, Roll, marks_in, round_of, Reached, Kind, Sound, Turn, same, idle, begins, answered}
+use Rattle.cell_model.proofs.Facts.{turned, acked, Took, Past, grew, rose, copied, Came, own, sent, fresh, Answers, New, Frame}
 use Rattle.cell_model.proofs.Bounds.{reached_held}
 use Rattle.cell_model.proofs.FirstRound.{slot_cases}
 use Rattle.cell_model.proofs.Marks.{marks_fit, stamp_next}
@@ -32,11 +34,15 @@ module _ (roll : Roll) (g : Cell) (m : Message) (s : Sound roll (view m.dir g)) 
   at_dir i = In-of_dir m.dir g.bag m i refl
 
   -- one of the receiver's epoch
-  taken_frame : (b : Body) (r q : Replica) (posts : List Message) → Taking g m b r → r.epoch ≡ q.epoch → q.members ≡ r.members → IsPart r.history q.history → Turn roll v m.receiver (floor_after g m) r q → ((k : Mark) → In k q.history → In k r.history ⊎ In k (marks_in b)) → IsPart (marks_in b) q.history → ((p : Message) → In p posts → New roll v (left (Held q) posts) [] p) → Frame roll v (left (Held q) posts) []
+  taken_frame : (b : Body) (r q : Replica) (posts : List Message) → Taking g m b r → r.epoch ≡ q.epoch → q.members ≡ r.members → IsPart r.history q.history
+      → Turn roll v m.receiver (floor_after g m) r q → ((k : Mark) → In k q.history → In k r.history ⊎ In k (marks_in b)) → IsPart (marks_in b) q.history
+      → ((p : Message) → In p posts → New roll v (left (Held q) posts) [] p) → Frame roll v (left (Held q) posts) []
   taken_frame b r q posts k e mem sub turn come adds post =
       altered_frame roll v [] m.receiver (floor_after g m) (Held q) posts v.top v.present s
       (grown_owed roll v [] m.receiver (floor_after g m) (Held q) posts v.top v.present s r q refl k.held (omega arith) e mem sub turn
-      (λ j i. ⊎_elim (λ l. inl l) (λ n. inr (sent m (at_dir k.posted) (k.epoch ∙ e) (subst (λ (z : Body). In j (marks_in z)) (sym k.is) n) (omega arith) (subst (λ (z : Body). IsPart (marks_in z) q.history) (sym k.is) adds))) (come j i)))
+      (λ j i. ⊎_elim (λ l. inl l)
+      (λ n. inr (sent m (at_dir k.posted) (k.epoch ∙ e) (subst (λ (z : Body). In j (marks_in z)) (sym k.is) n) (omega arith)
+      (subst (λ (z : Body). IsPart (marks_in z) q.history) (sym k.is) adds))) (come j i)))
       post (le_refl _) s.good s.present (λ e z. inl z)
 
   nothing : (q : Replica) (p : Message) → In p [] → New roll v (left (Held q) []) [] p
@@ -58,87 +64,124 @@ module _ (roll : Roll) (g : Cell) (m : Message) (s : Sound roll (view m.dir g)) 
     holds_epoch = sym k.epoch ∙ sym e;
   }
 
+  -- an update that is taken frames the step
   pub updates_frame : (marks : List Mark) (r : Replica) → Taking g m (Update marks) r → Frame roll v (left (Held (grown r marks)) []) []
-  updates_frame marks r k = taken_frame (Update marks) r (grown r marks) [] k refl refl (grows r marks) (same refl) (λ j i. In-append_cases j r.history marks i) (λ j i. In-append_right j r.history marks i) (nothing _)
+  updates_frame marks r k =
+      taken_frame (Update marks) r (grown r marks) [] k refl refl (grows r marks) (same refl) (λ j i. In-append_cases j r.history marks i)
+      (λ j i. In-append_right j r.history marks i) (nothing _)
 
+  -- so does a Gather that is answered
   pub gives_frame : (t : Stamp) (r : Replica) → Taking g m (Gather t) r → Frame roll v (left (Held r) (reply g m (Gathered t (copy_of r)))) []
   gives_frame t r k =
       taken_frame (Gather t) r r (reply g m (Gathered t (copy_of r))) k refl refl (λ j i. i) (same refl) (λ j i. inl i) (λ j i. elim i [ ])
       (one_post roll v [] m.receiver (floor_after g m) (Held r) _ v.top v.present s _
-      (new_post roll v [] m.receiver (floor_after g m) (Held r) _ v.top v.present s r refl m.dir m.sender m.epoch (floor_after g m) (Gathered t (copy_of r)) (sym k.epoch) refl (λ j i. i) (inl (λ j i. i)) (λ c e. cc)
+      (new_post roll v [] m.receiver (floor_after g m) (Held r) _ v.top v.present s r refl m.dir m.sender m.epoch (floor_after g m) (Gathered t (copy_of r))
+      (sym k.epoch) refl (λ j i. i) (inl (λ j i. i)) (λ c e. cc)
       (answer (Gather t) r _ k refl refl (omega arith), λ j i. i)))
 
-  pub gathers_frame : (t : Stamp) (copy : Copy) (a : List ℕ) (r : Replica) → Taking g m (Gathered t copy) r → r.phase ≡ Gathering t a → Frame roll v (left (Held (record (merged r copy) { phase = Gathering t (m.sender ∷ a) })) []) []
+  -- an answer in the first round, where others are still to come
+  pub gathers_frame : (t : Stamp) (copy : Copy) (a : List ℕ) (r : Replica) → Taking g m (Gathered t copy) r → r.phase ≡ Gathering t a
+      → Frame roll v (left (Held (record (merged r copy) { phase = Gathering t (m.sender ∷ a) })) []) []
   gathers_frame t copy a r k run =
       let q : Replica = record (merged r copy) { phase = Gathering t (m.sender ∷ a) } in
       taken_frame (Gathered t copy) r q [] k refl refl (grows r copy.history)
       (answered t a m copy run refl (at_dir k.posted) k.is (λ j i. In-append_right j r.history copy.history i))
       (λ j i. In-append_cases j r.history copy.history i) (λ j i. In-append_right j r.history copy.history i) (nothing q)
 
-  pub turns_frame : (t : Stamp) (copy : Copy) (a : List ℕ) (r : Replica) → Taking g m (Gathered t copy) r → r.phase ≡ Gathering t a → ((x : ℕ) → In x (others_of m.receiver r.members) → In x (m.sender ∷ a)) → Frame roll v (left (Held (record (merged r copy) { phase = Spreading t [] })) (to_others g m r (Spread t (copy_of (merged r copy))))) []
+  -- the last answer in the first round, with which the second begins
+  pub turns_frame : (t : Stamp) (copy : Copy) (a : List ℕ) (r : Replica) → Taking g m (Gathered t copy) r → r.phase ≡ Gathering t a
+      → ((x : ℕ) → In x (others_of m.receiver r.members) → In x (m.sender ∷ a))
+      → Frame roll v (left (Held (record (merged r copy) { phase = Spreading t [] })) (to_others g m r (Spread t (copy_of (merged r copy))))) []
   turns_frame t copy a r k run all =
       let q : Replica = record (merged r copy) { phase = Spreading t [] } in
       let head : master_of r.members ≡ m.receiver = ((s.held m.receiver r k.held).phase t (cc)).0 in
       taken_frame (Gathered t copy) r q (to_others g m r (Spread t (copy_of (merged r copy)))) k refl refl (grows r copy.history)
-      (turned t a m copy run refl (at_dir k.posted) k.is (λ j i. In-append_right j r.history copy.history i) (λ y o. all y (subst (λ (z : ℕ). In y (others_of z r.members)) head o)))
+      (turned t a m copy run refl (at_dir k.posted) k.is (λ j i. In-append_right j r.history copy.history i)
+      (λ y o. all y (subst (λ (z : ℕ). In y (others_of z r.members)) head o)))
       (λ j i. In-append_cases j r.history copy.history i) (λ j i. In-append_right j r.history copy.history i)
-      (new_each roll v [] m.receiver (floor_after g m) (Held q) _ v.top v.present s q refl (others_of m.receiver r.members) m.dir r.epoch (floor_after g m) (Spread t (copy_of (merged r copy))) refl refl (λ j i. i) (inl (λ j i. i)) (λ c e. cc) (λ _ _. (refl, λ j i. i)))
+      (new_each roll v [] m.receiver (floor_after g m) (Held q) _ v.top v.present s q refl (others_of m.receiver r.members) m.dir r.epoch (floor_after g m)
+      (Spread t (copy_of (merged r copy))) refl refl (λ j i. i) (inl (λ j i. i)) (λ c e. cc) (λ _ _. (refl, λ j i. i)))
 
+  -- an answer of the first round that comes in the second
   pub gathers_again_frame : (t : Stamp) (copy : Copy) (r : Replica) → Taking g m (Gathered t copy) r → Frame roll v (left (Held (merged r copy)) []) []
   gathers_again_frame t copy r k =
-      taken_frame (Gathered t copy) r (merged r copy) [] k refl refl (grows r copy.history) (same refl) (λ j i. In-append_cases j r.history copy.history i) (λ j i. In-append_right j r.history copy.history i) (nothing (merged r copy))
+      taken_frame (Gathered t copy) r (merged r copy) [] k refl refl (grows r copy.history) (same refl) (λ j i. In-append_cases j r.history copy.history i)
+      (λ j i. In-append_right j r.history copy.history i) (nothing (merged r copy))
 
-  pub spreads_frame : (t : Stamp) (copy : Copy) (r : Replica) → Taking g m (Spread t copy) r → Frame roll v (left (Held (merged r copy)) (reply g m (SpreadAck t))) []
+  -- a Spread that is taken and answered
+  pub spreads_frame : (t : Stamp) (copy : Copy) (r : Replica) → Taking g m (Spread t copy) r
+      → Frame roll v (left (Held (merged r copy)) (reply g m (SpreadAck t))) []
   spreads_frame t copy r k =
-      taken_frame (Spread t copy) r (merged r copy) (reply g m (SpreadAck t)) k refl refl (grows r copy.history) (same refl) (λ j i. In-append_cases j r.history copy.history i) (λ j i. In-append_right j r.history copy.history i)
+      taken_frame (Spread t copy) r (merged r copy) (reply g m (SpreadAck t)) k refl refl (grows r copy.history) (same refl)
+      (λ j i. In-append_cases j r.history copy.history i) (λ j i. In-append_right j r.history copy.history i)
       (one_post roll v [] m.receiver (floor_after g m) (Held (merged r copy)) _ v.top v.present s _
-      (new_post roll v [] m.receiver (floor_after g m) (Held (merged r copy)) _ v.top v.present s (merged r copy) refl m.dir m.sender m.epoch (floor_after g m) (SpreadAck t) (sym k.epoch) refl (λ j i. elim i [ ]) (inr (λ j i. elim i [ ])) (λ c e. cc)
+      (new_post roll v [] m.receiver (floor_after g m) (Held (merged r copy)) _ v.top v.present s (merged r copy) refl m.dir m.sender m.epoch (floor_after g m)
+      (SpreadAck t) (sym k.epoch) refl (λ j i. elim i [ ]) (inr (λ j i. elim i [ ])) (λ c e. cc)
       (copy, answer (Spread t copy) r _ k refl refl (omega arith), λ j i. In-append_right j r.history copy.history i)))
 
+  -- an answer of the second round that comes in the first
   pub acks_early_frame : (t : Stamp) (r : Replica) → Taking g m (SpreadAck t) r → Frame roll v (left (Held r) []) []
   acks_early_frame t r k = taken_frame (SpreadAck t) r r [] k refl refl (λ j i. i) (same refl) (λ j i. inl i) (λ j i. elim i [ ]) (nothing r)
 
-  pub acks_frame : (t : Stamp) (a : List ℕ) (r : Replica) → Taking g m (SpreadAck t) r → r.phase ≡ Spreading t a → Frame roll v (left (Held (record r { phase = Spreading t (m.sender ∷ a) })) []) []
+  -- an answer in the second round, where others are still to come
+  pub acks_frame : (t : Stamp) (a : List ℕ) (r : Replica) → Taking g m (SpreadAck t) r → r.phase ≡ Spreading t a
+      → Frame roll v (left (Held (record r { phase = Spreading t (m.sender ∷ a) })) []) []
   acks_frame t a r k run =
       let q : Replica = record r { phase = Spreading t (m.sender ∷ a) } in
       taken_frame (SpreadAck t) r q [] k refl refl (λ j i. i) (acked t a m run refl (at_dir k.posted) k.is) (λ j i. inl i) (λ j i. elim i [ ]) (nothing q)
 
-  pub completes_frame : (t : Stamp) (r : Replica) → Taking g m (SpreadAck t) r → Frame roll v (left (Held (record r { all_up_to = raised r.all_up_to t; phase = Idle })) (to_others g m r (Advance t))) []
+  -- the last answer in the second round, with which the skulk completes
+  pub completes_frame : (t : Stamp) (r : Replica) → Taking g m (SpreadAck t) r
+      → Frame roll v (left (Held (record r { all_up_to = raised r.all_up_to t; phase = Idle })) (to_others g m r (Advance t))) []
   completes_frame t r k =
       let q : Replica = record r { all_up_to = raised r.all_up_to t; phase = Idle } in
       taken_frame (SpreadAck t) r q (to_others g m r (Advance t)) k refl refl (λ j i. i) (idle refl) (λ j i. inl i) (λ j i. elim i [ ])
-      (new_each roll v [] m.receiver (floor_after g m) (Held q) _ v.top v.present s q refl (others_of m.receiver r.members) m.dir r.epoch (floor_after g m) (Advance t) refl refl (λ j i. elim i [ ]) (inr (λ j i. elim i [ ])) (λ c e. cc)
+      (new_each roll v [] m.receiver (floor_after g m) (Held q) _ v.top v.present s q refl (others_of m.receiver r.members) m.dir r.epoch (floor_after g m)
+      (Advance t) refl refl (λ j i. elim i [ ]) (inr (λ j i. elim i [ ])) (λ c e. cc)
       (λ _ _. (m, at_dir k.posted, k.is, k.epoch, omega arith)))
 
+  -- an Advance that is taken
   pub advances_frame : (t : Stamp) (r : Replica) → Taking g m (Advance t) r → Frame roll v (left (Held (record r { all_up_to = raised r.all_up_to t })) []) []
   advances_frame t r k =
       let q : Replica = record r { all_up_to = raised r.all_up_to t } in
       taken_frame (Advance t) r q [] k refl refl (λ j i. i) (same refl) (λ j i. inl i) (λ j i. elim i [ ]) (nothing q)
 
   -- a Join
-  entered_frame : (ms : List Member) (copy : Copy) (q : Replica) → ((e : ℕ) → Reached e (v.house m.receiver).slot → e ≤ q.epoch) → Past roll v (left (Held q) []) m.receiver (floor_after g m) q → ((k : Mark) → In k q.history → Came roll v (left (Held q) []) [] m.receiver (floor_after g m) q k) → Frame roll v (left (Held q) []) []
+  entered_frame : (ms : List Member) (copy : Copy) (q : Replica) → ((e : ℕ) → Reached e (v.house m.receiver).slot → e ≤ q.epoch)
+      → Past roll v (left (Held q) []) m.receiver (floor_after g m) q
+      → ((k : Mark) → In k q.history → Came roll v (left (Held q) []) [] m.receiver (floor_after g m) q k) → Frame roll v (left (Held q) []) []
   entered_frame ms copy q up past come =
       altered_frame roll v [] m.receiver (floor_after g m) (Held q) [] v.top v.present s
       (held_owed roll v [] m.receiver (floor_after g m) (Held q) [] v.top v.present s q refl (omega arith) up past come)
       (nothing q) (le_refl _) s.good s.present (λ e z. inl z)
 
   -- the list of a Join, and the since of the receiver in it
-  join_since : (ms : List Member) (copy : Copy) → Entering g m (Join ms copy) → (ms ≡ roll.list m.epoch) × Listed (roll.list m.epoch) m.receiver (since_in ms m.receiver 0)
+  join_since : (ms : List Member) (copy : Copy) → Entering g m (Join ms copy)
+      → (ms ≡ roll.list m.epoch) × Listed (roll.list m.epoch) m.receiver (since_in ms m.receiver 0)
   join_since ms copy en =
-      let k : (ms ≡ roll.list m.epoch) × ((b : ℕ) × Listed (roll.list m.epoch) m.receiver b) = subst (λ (b : Body). Kind roll m b) en.is (s.messages m (at_dir en.posted)).kind in
+      let k : (ms ≡ roll.list m.epoch) × ((b : ℕ) × Listed (roll.list m.epoch) m.receiver b) =
+      subst (λ (b : Body). Kind roll m b) en.is (s.messages m (at_dir en.posted)).kind in
       (k.0, (k.1.1.0, ap (λ (z : List Member). since_in z m.receiver 0) (sym k.0)))
 
-  took_join : (ms : List Member) (copy : Copy) (q : Replica) → Entering g m (Join ms copy) → m.epoch ≡ q.epoch → q.members ≡ ms → IsPart copy.history q.history → q.phase ≡ Idle → Took v m ms copy q (floor_after g m)
+  took_join : (ms : List Member) (copy : Copy) (q : Replica) → Entering g m (Join ms copy) → m.epoch ≡ q.epoch → q.members ≡ ms
+      → IsPart copy.history q.history → q.phase ≡ Idle → Took v m ms copy q (floor_after g m)
   took_join ms copy q en e mem sub i = record { posted = at_dir en.posted; is = en.is; epoch = e; members = mem; marks = sub; raised = omega arith; idle = i }
 
-  came_by : (ms : List Member) (copy : Copy) (q : Replica) (k : Mark) → Entering g m (Join ms copy) → m.epoch ≡ q.epoch → IsPart copy.history q.history → In k copy.history → Came roll v (left (Held q) []) [] m.receiver (floor_after g m) q k
-  came_by ms copy q k en e adds i = sent m (at_dir en.posted) e (subst (λ (b : Body). In k (marks_in b)) (sym en.is) i) (omega arith) (subst (λ (b : Body). IsPart (marks_in b) q.history) (sym en.is) adds)
+  came_by : (ms : List Member) (copy : Copy) (q : Replica) (k : Mark) → Entering g m (Join ms copy) → m.epoch ≡ q.epoch → IsPart copy.history q.history
+      → In k copy.history → Came roll v (left (Held q) []) [] m.receiver (floor_after g m) q k
+  came_by ms copy q k en e adds i =
+      sent m (at_dir en.posted) e (subst (λ (b : Body). In k (marks_in b)) (sym en.is) i) (omega arith)
+      (subst (λ (b : Body). IsPart (marks_in b) q.history) (sym en.is) adds)
 
-  pub copies_frame : (ms : List Member) (copy : Copy) → Entering g m (Join ms copy) → ((r : Replica) → IsHeld g m.receiver m.dir r → (r.epoch ≤ m.epoch) × (r.epoch < since_in ms m.receiver 0)) → Frame roll v (left (Held (copied_at m ms copy)) []) []
+  -- a Join that is taken as a copy
+  pub copies_frame : (ms : List Member) (copy : Copy) → Entering g m (Join ms copy)
+      → ((r : Replica) → IsHeld g m.receiver m.dir r → (r.epoch ≤ m.epoch) × (r.epoch < since_in ms m.receiver 0))
+      → Frame roll v (left (Held (copied_at m ms copy)) []) []
   copies_frame ms copy en low =
       entered_frame ms copy (copied_at m ms copy)
       (λ e up. let z = lower e up in omega arith)
-      (copied m ms copy refl lower (λ r b at l. let z = low r at in let w = listed_once (roll.list m.epoch) m.receiver b (since_in ms m.receiver 0) l j.1 in omega (arith, z.1)) (took_join ms copy (copied_at m ms copy) en refl refl (λ k i. i) refl))
+      (copied m ms copy refl lower (λ r b at l. let z = low r at in let w = listed_once (roll.list m.epoch) m.receiver b (since_in ms m.receiver 0) l j.1 in
+      omega (arith, z.1)) (took_join ms copy (copied_at m ms copy) en refl refl (λ k i. i) refl))
       (λ k i. came_by ms copy (copied_at m ms copy) k en refl (λ j z. z) i)
     where
       j : (ms ≡ roll.list m.epoch) × Listed (roll.list m.epoch) m.receiver (since_in ms m.receiver 0)
@@ -151,7 +194,9 @@ module _ (roll : Roll) (g : Cell) (m : Message) (s : Sound roll (view m.dir g)) 
           (λ (w : (d : ℕ) × ((v.house m.receiver).slot ≡ Gone d) × (e ≤ d)). omega (arith, en.gone w.0 w.1, w.2))
           (slot_cases e _ up)
 
-  pub keeps_frame : (ms : List Member) (copy : Copy) (r : Replica) → Entering g m (Join ms copy) → IsHeld g m.receiver m.dir r → r.epoch ≤ m.epoch → since_in ms m.receiver 0 ≤ r.epoch → Frame roll v (left (Held (kept_at_join m ms copy r)) []) []
+  -- a Join that is joined into the replica
+  pub keeps_frame : (ms : List Member) (copy : Copy) (r : Replica) → Entering g m (Join ms copy) → IsHeld g m.receiver m.dir r → r.epoch ≤ m.epoch
+      → since_in ms m.receiver 0 ≤ r.epoch → Frame roll v (left (Held (kept_at_join m ms copy r)) []) []
   keeps_frame ms copy r en at le since =
       entered_frame ms copy (kept_at_join m ms copy r)
       (λ e up. let z = reached_held e _ r at up in omega arith)
@@ -161,7 +206,9 @@ module _ (roll : Roll) (g : Cell) (m : Message) (s : Sound roll (view m.dir g)) 
       let e : r.epoch ≡ m.epoch = omega arith in
       grew r at e (j.0 ∙ ap roll.list (sym e) ∙ sym (s.held m.receiver r at).members) (λ k i. In-append_left k r.history copy.history i) (idle refl))
       (cases_lt r.epoch m.epoch))
-      (λ k i. ⊎_elim (λ l. own r at l le cont (λ j z. In-append_left j r.history copy.history z)) (λ n. came_by ms copy (kept_at_join m ms copy r) k en refl (λ j z. In-append_right j r.history copy.history z) n) (In-append_cases k r.history copy.history i))
+      (λ k i. ⊎_elim (λ l. own r at l le cont (λ j z. In-append_left j r.history copy.history z))
+      (λ n. came_by ms copy (kept_at_join m ms copy r) k en refl (λ j z. In-append_right j r.history copy.history z) n)
+      (In-append_cases k r.history copy.history i))
     where
       j : (ms ≡ roll.list m.epoch) × Listed (roll.list m.epoch) m.receiver (since_in ms m.receiver 0)
       j = join_since ms copy en
@@ -191,7 +238,8 @@ module _ (roll : Roll) (g : Cell) (m : Message) (s : Sound roll (view m.dir g)) 
 
 -- ---- a house issues a stamp
 
-module _ (roll : Roll) (g : Cell) (h d : ℕ) (r : Replica) (t : Stamp) (i : Issuing g h d r t) (home : roll.home (g.house h).node ≡ h) (s : Sound roll (view d g)) where
+module _ (roll : Roll) (g : Cell) (h d : ℕ) (r : Replica) (t : Stamp) (i : Issuing g h d r t) (home : roll.home (g.house h).node ≡ h)
+    (s : Sound roll (view d g)) where
   abbrev u : View
   u = view d g
 
@@ -204,12 +252,17 @@ module _ (roll : Roll) (g : Cell) (h d : ℕ) (r : Replica) (t : Stamp) (i : Iss
   later : (g.house h).floor ≤ t.time
   later = omega (arith, issued.0)
 
-  pub accepts_frame : d ≡ roll.dir → (c : Change) → Frame roll u (altered u h t.time (Held (grown r (new_marks r c t))) (to_each (others_of h r.members) d h r.epoch t.time (Update (new_marks r c t))) u.top u.present) (accepting h d c r t ∷ [])
+  -- a house that accepts an update
+  pub accepts_frame : d ≡ roll.dir → (c : Change)
+      → Frame roll u (altered u h t.time (Held (grown r (new_marks r c t))) (to_each (others_of h r.members) d h r.epoch t.time (Update (new_marks r c t))) u.top
+      u.present) (accepting h d c r t ∷ [])
   accepts_frame dir c =
       altered_frame roll u new h t.time (Held q) posts u.top u.present s
       (grown_owed roll u new h t.time (Held q) posts u.top u.present s r q refl i.held later refl refl (λ k z. In-append_left k r.history marks z) (same refl)
       (λ k z. ⊎_elim (λ l. inl l) (come k) (In-append_cases k r.history marks z)))
-      (new_each roll u new h t.time (Held q) posts u.top u.present s q refl (others_of h r.members) d r.epoch t.time (Update marks) refl refl (λ k z. In-append_right k r.history marks z) (inr (λ k z. record { by = accepting h d c r t; logged = inl refl; dir = dir; has = z; part = λ j y. y })) (λ c' e. cc) (λ _ _. tt))
+      (new_each roll u new h t.time (Held q) posts u.top u.present s q refl (others_of h r.members) d r.epoch t.time (Update marks) refl refl
+      (λ k z. In-append_right k r.history marks z) (inr (λ k z. record { by = accepting h d c r t; logged = inl refl; dir = dir; has = z; part = λ j y. y }))
+      (λ c' e. cc) (λ _ _. tt))
       (le_refl _) s.good s.present (λ e z. inl z)
     where
       marks : List Mark
@@ -226,7 +279,8 @@ module _ (roll : Roll) (g : Cell) (h d : ℕ) (r : Replica) (t : Stamp) (i : Iss
 
       quiet : (m : Message) (a : Stamp) → IsPosted (altered u h t.time (Held q) posts u.top u.present) m → round_of m.body ≡ Some a → IsPosted u m
       quiet m a z e = ⊎_elim (λ was. was)
-          (λ n. let w = In-map (λ (x : ℕ). record { receiver = x; dir = d; sender = h; epoch = r.epoch; floor = t.time; body = Update (new_marks r c t) }) m (others_of h r.members) n in
+          (λ n. let w = In-map (λ (x : ℕ). record { receiver = x; dir = d; sender = h; epoch = r.epoch; floor = t.time; body = Update (new_marks r c t) }) m
+          (others_of h r.members) n in
           let is : m.body ≡ Update (new_marks r c t) = ap (λ (y : Message). y.body) w.2 in
           let none : None ≡ Some a = subst (λ (b : Body). round_of b ≡ Some a) is e in
           absurd (cc))
@@ -241,15 +295,21 @@ module _ (roll : Roll) (g : Cell) (h d : ℕ) (r : Replica) (t : Stamp) (i : Iss
           (λ old. inl old)
           (marks_fit r.history c t k z)
 
-  pub skulks_frame : master_of r.members ≡ h → Frame roll u (altered u h t.time (Held (record r { phase = Gathering t [] })) (to_each (others_of h r.members) d h r.epoch t.time (Gather t)) u.top u.present) []
+  -- a master that begins a skulk with others
+  pub skulks_frame : master_of r.members ≡ h
+      → Frame roll u (altered u h t.time (Held (record r { phase = Gathering t [] })) (to_each (others_of h r.members) d h r.epoch t.time (Gather t)) u.top
+      u.present) []
   skulks_frame head =
       let q : Replica = record r { phase = Gathering t [] } in
       let posts : List Message = to_each (others_of h r.members) d h r.epoch t.time (Gather t) in
       altered_frame roll u [] h t.time (Held q) posts u.top u.present s
-      (grown_owed roll u [] h t.time (Held q) posts u.top u.present s r q refl i.held later refl refl (λ k z. z) (begins t refl head at_home issued.0 (le_refl _) (λ k z. z)) (λ k z. inl z))
-      (new_each roll u [] h t.time (Held q) posts u.top u.present s q refl (others_of h r.members) d r.epoch t.time (Gather t) refl refl (λ k z. elim z [ ]) (inr (λ k z. elim z [ ])) (λ c e. cc) (λ _ _. refl))
+      (grown_owed roll u [] h t.time (Held q) posts u.top u.present s r q refl i.held later refl refl (λ k z. z)
+      (begins t refl head at_home issued.0 (le_refl _) (λ k z. z)) (λ k z. inl z))
+      (new_each roll u [] h t.time (Held q) posts u.top u.present s q refl (others_of h r.members) d r.epoch t.time (Gather t) refl refl (λ k z. elim z [ ])
+      (inr (λ k z. elim z [ ])) (λ c e. cc) (λ _ _. refl))
       (le_refl _) s.good s.present (λ e z. inl z)
 
+  -- a master without others, whose skulk begins and completes at once
   pub lone_frame : Frame roll u (altered u h t.time (Held (record r { all_up_to = raised r.all_up_to t; phase = Idle })) [] u.top u.present) []
   lone_frame =
       let q : Replica = record r { all_up_to = raised r.all_up_to t; phase = Idle } in

@@ -1,5 +1,6 @@
 -- Each AllUpTo is the stamp of a completed skulk.
-use Rattle.std.proofs.Common.{◌≡◌, ℕ, ◌≤◌, ◌⊎◌, inl, inr, List, [], ◌∷◌, ◌++◌, Option, Some, None, refl, sym, ap, ◌∙◌, subst, ⊎_elim, le_refl, le_trans, append_assoc}
+use Rattle.std.proofs.Common.{◌≡◌, ℕ, ◌≤◌, ◌⊎◌, inl, inr, List, [], ◌∷◌, ◌++◌, Option, Some, None, refl, sym, ap, ◌∙◌, subst, ⊎_elim, le_refl}
+use Rattle.std.proofs.Common.{le_trans, append_assoc}
 use Rattle.cds_stamps.specs.declared.stamp.Stamp.{Stamp}
 use Rattle.directory.specs.Histories.{Mark}
 use Rattle.cell_model.specs.Sets.{In}
@@ -45,17 +46,22 @@ abbrev dir_in : Option (ℕ × ℕ) → ℕ
 dir_in None = 0
 dir_in (Some z) = z.1
 
+-- a house and a directory, as one value
 abbrev pub place : ℕ → ℕ → Option (ℕ × ℕ)
 place h d = Some (h, d)
 
+-- equal places are of one house and one directory
 pub same_place : (a b c d : ℕ) → place a b ≡ place c d → (a ≡ c) × (b ≡ d)
 same_place a b c d e = (ap house_in e, ap dir_in e)
 
 -- what the step that completed left, at the place where it did
-at_place : (d : ℕ) (all early : List Command) (t : Stamp) (k : ℕ) (c : IsCompleted early d t k) → Finished all c.early c.command t → (marks : List Mark) × Done (roll_of d all) (view d (replay (c.early ++ c.command ∷ []))) k t marks
+at_place : (d : ℕ) (all early : List Command) (t : Stamp) (k : ℕ) (c : IsCompleted early d t k) → Finished all c.early c.command t
+    → (marks : List Mark) × Done (roll_of d all) (view d (replay (c.early ++ c.command ∷ []))) k t marks
 at_place d all early t k c f =
     let same_at = same_place f.house f.dir c.house d (sym f.at ∙ c.place) in
-    let held : IsHeld (replay (c.early ++ c.command ∷ [])) c.house d f.replica = subst (λ (x : ℕ). IsHeld (replay (c.early ++ c.command ∷ [])) x d f.replica) same_at.0 (subst (λ (z : ℕ). IsHeld (replay (c.early ++ c.command ∷ [])) f.house z f.replica) same_at.1 f.holds) in
+    let held : IsHeld (replay (c.early ++ c.command ∷ [])) c.house d f.replica =
+    subst (λ (x : ℕ). IsHeld (replay (c.early ++ c.command ∷ [])) x d f.replica) same_at.0
+    (subst (λ (z : ℕ). IsHeld (replay (c.early ++ c.command ∷ [])) f.house z f.replica) same_at.1 f.holds) in
     let same : f.replica ≡ c.replica = same_held _ f.replica c.replica held c.held in
     let epoch : f.replica.epoch ≡ k = ap (λ (z : Replica). z.epoch) same ∙ c.epoch in (
       f.replica.history,
@@ -64,9 +70,11 @@ at_place d all early t k c f =
     )
 
 -- and it holds ever after
-pub completed_done : (d : ℕ) (all early late : List Command) (t : Stamp) (k : ℕ) → early ++ late ≡ all → IsCompleted early d t k → (marks : List Mark) × Done (roll_of d all) (view d (replay early)) k t marks
+pub completed_done : (d : ℕ) (all early late : List Command) (t : Stamp) (k : ℕ) → early ++ late ≡ all → IsCompleted early d t k
+    → (marks : List Mark) × Done (roll_of d all) (view d (replay early)) k t marks
 completed_done d all early late t k e c =
-    let parts : c.early ++ c.command ∷ (c.late ++ late) ≡ all = sym (append_assoc c.early (c.command ∷ c.late) late) ∙ ap (λ (l : List Command). l ++ late) c.parts ∙ e in
+    let parts : c.early ++ c.command ∷ (c.late ++ late) ≡ all = sym (append_assoc c.early (c.command ∷ c.late) late)
+    ∙ ap (λ (l : List Command). l ++ late) c.parts ∙ e in
     let here = at_place d all early t k c (finished all c.early (c.late ++ late) c.command t c.serials parts c.answer) in
     let split : (c.early ++ c.command ∷ []) ++ (c.late ++ late) ≡ all = append_assoc c.early (c.command ∷ []) (c.late ++ late) ∙ parts in
     let now = done_run d all (c.early ++ c.command ∷ []) c.late late k t here.0 split here.1 in
@@ -75,11 +83,14 @@ completed_done d all early late t k e c =
 -- a step keeps it
 advances_step : (all early late : List Command) (c : Command) → early ++ c ∷ late ≡ all → AdvancesHold early → AdvancesHold (early ++ c ∷ [])
 advances_step all early late c e a = record {
-  houses = λ x d r t at u. lifted x d r.epoch t (λ z. completed_here d x r t (subst (λ (y : Cell). IsHeld y x d r) cell at) z) ((lifts d).held x r t (subst (λ (y : Cell). IsHeld y x d r) cell at) u);
+  houses = λ x d r t at u. lifted x d r.epoch t (λ z. completed_here d x r t (subst (λ (y : Cell). IsHeld y x d r) cell at) z)
+      ((lifts d).held x r t (subst (λ (y : Cell). IsHeld y x d r) cell at) u);
   messages = λ m t i u.
       let i' = subst (λ (y : Cell). In m y.bag) cell i in
       ⊎_elim (λ was. let w = a.messages m t was u in (w.0, w.1, completed_on early (c ∷ []) m.dir t w.0 w.2))
-      (λ l. by_post m t i' u l (passage_posts (roll_of m.dir all) _ _ _ (step_passage m.dir all early late c e (reaching_at m.dir all early (c ∷ late) e)) m (In-of_dir m.dir (outcome (replay early) c).cell.bag m i' refl)))
+      (λ l. by_post m t i' u l
+      (passage_posts (roll_of m.dir all) _ _ _ (step_passage m.dir all early late c e (reaching_at m.dir all early (c ∷ late) e)) m
+      (In-of_dir m.dir (outcome (replay early) c).cell.bag m i' refl)))
       ((lifts m.dir).posts m t i' refl u);
 }
   where
@@ -90,10 +101,12 @@ advances_step all early late c e a = record {
     plain = (run_onward early empty_cell empty_plain).plain
 
     lifts : (d : ℕ) → Lifts (replay early) (outcome (replay early) c).cell (outcome (replay early) c).answer (place_of (replay early) c) d
-    lifts d = steps_lifts (replay early) (outcome (replay early) c).cell (place_of (replay early) c) (outcome (replay early) c).answer (outcome (replay early) c).accepted d
+    lifts d = steps_lifts (replay early) (outcome (replay early) c).cell (place_of (replay early) c) (outcome (replay early) c).answer
+        (outcome (replay early) c).accepted d
         (λ x r k at. ((reaching_at k all early (c ∷ late) e).sound.held x r at).top) plain.unmade (outcome_steps (replay early) c)
 
-    completed_here : (d x : ℕ) (r : Replica) (t : Stamp) → IsHeld (outcome (replay early) c).cell x d r → Ended (outcome (replay early) c).answer (place_of (replay early) c) d x t → IsCompleted (early ++ c ∷ []) d t r.epoch
+    completed_here : (d x : ℕ) (r : Replica) (t : Stamp) → IsHeld (outcome (replay early) c).cell x d r
+        → Ended (outcome (replay early) c).answer (place_of (replay early) c) d x t → IsCompleted (early ++ c ∷ []) d t r.epoch
     completed_here d x r t at z = record {
       early = early;
       command = c;
@@ -108,14 +121,22 @@ advances_step all early late c e a = record {
       epoch = refl;
     }
 
-    lifted : (x d k : ℕ) (t : Stamp) → (Ended (outcome (replay early) c).answer (place_of (replay early) c) d x t → IsCompleted (early ++ c ∷ []) d t k) → Lift (replay early) (outcome (replay early) c).answer (place_of (replay early) c) d x k t → (j : ℕ) × (j ≤ k) × IsCompleted (early ++ c ∷ []) d t j
+    lifted : (x d k : ℕ) (t : Stamp) → (Ended (outcome (replay early) c).answer (place_of (replay early) c) d x t → IsCompleted (early ++ c ∷ []) d t k)
+        → Lift (replay early) (outcome (replay early) c).answer (place_of (replay early) c) d x k t → (j : ℕ) × (j ≤ k) × IsCompleted (early ++ c ∷ []) d t j
     lifted x d k t ends (of_house y r at u le) = let w = a.houses y d r t at u in (w.0, le_trans w.1 le, completed_on early (c ∷ []) d t w.0 w.2)
-    lifted x d k t ends (of_message m i dir u le) = let w = a.messages m t i u in (w.0, le_trans w.1 le, completed_on early (c ∷ []) d t w.0 (subst (λ (z : ℕ). IsCompleted early z t w.0) dir w.2))
+    lifted x d k t ends (of_message m i dir u le) = let w = a.messages m t i u in
+        (w.0, le_trans w.1 le, completed_on early (c ∷ []) d t w.0 (subst (λ (z : ℕ). IsCompleted early z t w.0) dir w.2))
     lifted x d k t ends (of_end z) = (k, le_refl _, ends z)
 
-    by_post : (m : Message) (t : Stamp) → In m (outcome (replay early) c).cell.bag → up_to_in m.body ≡ Some t → Lift (replay early) (outcome (replay early) c).answer (place_of (replay early) c) m.dir m.sender m.epoch t → IsPosted (view m.dir (replay early)) m ⊎ PostedBy (view m.dir (outcome (replay early) c).cell) m → (j : ℕ) × (j ≤ m.epoch) × IsCompleted (early ++ c ∷ []) m.dir t j
-    by_post m t i u l (inl was) = let w = a.messages m t (In-from_dir m.dir (replay early).bag m was).0 u in (w.0, w.1, completed_on early (c ∷ []) m.dir t w.0 w.2)
-    by_post m t i u l (inr p) = lifted m.sender m.dir m.epoch t (λ z. subst (λ (k : ℕ). IsCompleted (early ++ c ∷ []) m.dir t k) p.epoch (completed_here m.dir m.sender p.replica t p.held z)) l
+    by_post : (m : Message) (t : Stamp) → In m (outcome (replay early) c).cell.bag → up_to_in m.body ≡ Some t
+        → Lift (replay early) (outcome (replay early) c).answer (place_of (replay early) c) m.dir m.sender m.epoch t
+        → IsPosted (view m.dir (replay early)) m ⊎ PostedBy (view m.dir (outcome (replay early) c).cell) m
+        → (j : ℕ) × (j ≤ m.epoch) × IsCompleted (early ++ c ∷ []) m.dir t j
+    by_post m t i u l (inl was) = let w = a.messages m t (In-from_dir m.dir (replay early).bag m was).0 u in
+        (w.0, w.1, completed_on early (c ∷ []) m.dir t w.0 w.2)
+    by_post m t i u l (inr p) =
+        lifted m.sender m.dir m.epoch t
+        (λ z. subst (λ (k : ℕ). IsCompleted (early ++ c ∷ []) m.dir t k) p.epoch (completed_here m.dir m.sender p.replica t p.held z)) l
 
 advances_run : (all early mid late : List Command) → early ++ (mid ++ late) ≡ all → AdvancesHold early → AdvancesHold (early ++ mid)
 advances_run all early [] late e a = subst (λ (l : List Command). AdvancesHold l) (sym (append_nil early)) a
@@ -125,4 +146,5 @@ advances_run all early (c ∷ mid) late e a =
 
 -- so it is at each moment of a run
 pub advances_lem : (commands : List Command) → AdvancesHold commands
-advances_lem commands = advances_run commands [] commands [] (append_nil commands) (record { houses = λ x d r t at. absurd (cc); messages = λ m t i. elim i [ ] })
+advances_lem commands =
+    advances_run commands [] commands [] (append_nil commands) (record { houses = λ x d r t at. absurd (cc); messages = λ m t i. elim i [ ] })

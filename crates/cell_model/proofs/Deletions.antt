@@ -53,7 +53,8 @@ module _ {K : Type 0} {R : K → K → Ordering} (o : IsTotalOrder R) (exact : I
       go Less x Greater y Greater v a b = absurd (grind (arith, o.antisymm w z, o.antisymm u w, o.antisymm u z, o.trans z w u, o.trans u z w, o.trans w u z))
 
   -- no item is above the greatest
-  pub greatest : {A : Type 0} (p : A → Option K) (xs : List A) (y : K) → join_of (greater R) p xs ≡ Some y → (x : A) → In x xs → (z : K) → p x ≡ Some z → is_lt (R y z) ≡ false
+  pub greatest : {A : Type 0} (p : A → Option K) (xs : List A) (y : K) → join_of (greater R) p xs ≡ Some y → (x : A) → In x xs → (z : K) → p x ≡ Some z
+      → is_lt (R y z) ≡ false
   greatest p [] y e x i z q = elim i [ ]
   greatest {A} p (c ∷ xs) y e x i z q = go (p c) refl (join_of (greater R) p xs) refl e i (λ w g. greatest p xs w g x)
     where
@@ -69,7 +70,8 @@ module _ {K : Type 0} {R : K → K → Ordering} (o : IsTotalOrder R) (exact : I
       pick u w false l m (inl s) = subst (λ (k : K). is_lt (R k z) ≡ false) m (subst (λ (k : K). is_lt (R u k) ≡ false) (sym s) (lt_itself u))
       pick u w false l m (inr n) = subst (λ (k : K). is_lt (R k z) ≡ false) m (not_below u w z n l)
 
-      go : (a : Option K) → p c ≡ a → (b : Option K) → join_of (greater R) p xs ≡ b → maybe (greater R) a b ≡ Some y → (x ≡ c) ⊎ In x xs → ((w : K) → join_of (greater R) p xs ≡ Some w → In x xs → (z : K) → p x ≡ Some z → is_lt (R w z) ≡ false) → is_lt (R y z) ≡ false
+      go : (a : Option K) → p c ≡ a → (b : Option K) → join_of (greater R) p xs ≡ b → maybe (greater R) a b ≡ Some y → (x ≡ c) ⊎ In x xs
+          → ((w : K) → join_of (greater R) p xs ≡ Some w → In x xs → (z : K) → p x ≡ Some z → is_lt (R w z) ≡ false) → is_lt (R y z) ≡ false
       go None a b g m (inl s) rest = let n : None ≡ Some z = sym a ∙ ap p (sym s) ∙ q in absurd (cc)
       go None a b g m (inr j) rest = rest y (g ∙ m) j z q
       go (Some u) a None g m (inl s) rest =
@@ -101,19 +103,23 @@ In-filter_map {A} {B} p (z ∷ xs) x y (inr i) e = go (p z) (In-filter_map p xs 
     go None j = j
     go (Some u) j = inr j
 
+-- octets are the same as themselves
 pub same_octets : (n : List ℕ) → is_octets n n ≡ true
 same_octets n = (Equal-is (octets_cmp n n)).1 (tied_itself nat_list_cmp_total n)
 
+-- a stamp is the same as itself
 pub same_stamp : (s : Stamp) → is_stamp s s ≡ true
 same_stamp s = (Equal-is (stamp_cmp s s)).1 (tied_itself stamp_total s)
 
+-- two tests that hold both hold
 pub both_true : (a b : Bool) → a ≡ true → b ≡ true → (a && b) ≡ true
 both_true true b e f = f
 both_true false b e f = e
 
 in_attr_history : (h : List Mark) (n : List ℕ) (c : Stamp) (a : List ℕ) (x : AttrMark) → In (Attr n c a x) h → In x (attr_history h n c a)
 in_attr_history h n c a x i =
-    let all : ((is_octets n n && is_stamp c c) && is_octets a a) ≡ true = both_true (is_octets n n && is_stamp c c) (is_octets a a) (both_true (is_octets n n) (is_stamp c c) (same_octets n) (same_stamp c)) (same_octets a) in
+    let all : ((is_octets n n && is_stamp c c) && is_octets a a) ≡ true =
+    both_true (is_octets n n && is_stamp c c) (is_octets a a) (both_true (is_octets n n) (is_stamp c c) (same_octets n) (same_stamp c)) (same_octets a) in
     In-filter_map (attr_mark_in n c a) h (Attr n c a x) x i (ap (λ (b : Bool). cond b (Some x) None) all)
 
 -- ---- what deletions do
@@ -129,17 +135,21 @@ covered_by_death : (h : List Mark) (n : List ℕ) (c s : Stamp) (k : Mark) → I
 covered_by_death h n c s (Birth o kind d) i e f live = no_death h n c s i (subst (λ (z : List ℕ). IsLive h z c) e (subst (λ (z : Stamp). IsLive h o z) f live))
 covered_by_death h n c s (Death o d t) i e f live = live
 covered_by_death h n c s (Attr o d a (Cleared t)) i e f live = live
-covered_by_death h n c s (Attr o d a (Marked v m)) i e f live = no_death h n c s i (subst (λ (z : List ℕ). IsLive h z c) e (subst (λ (z : Stamp). IsLive h o z) f live.0))
+covered_by_death h n c s (Attr o d a (Marked v m)) i e f live =
+    no_death h n c s i (subst (λ (z : List ℕ). IsLive h z c) e (subst (λ (z : Stamp). IsLive h o z) f live.0))
 
 -- what is kept is what was there, and not earlier than the clear
-kept_is : (c : Option Stamp) (m : Option ValueMark) (p : ValueMark) → kept c m ≡ Some p → (m ≡ Some p) × ((t : Stamp) → c ≡ Some t → is_earlier p.stamp t ≡ false)
+kept_is : (c : Option Stamp) (m : Option ValueMark) (p : ValueMark) → kept c m ≡ Some p
+    → (m ≡ Some p) × ((t : Stamp) → c ≡ Some t → is_earlier p.stamp t ≡ false)
 kept_is c None p e = absurd (cc)
 kept_is None (Some m) p e = (e, λ t f. absurd (cc))
 kept_is (Some s) (Some m) p e = go (is_earlier m.stamp s) refl e
   where
-    go : (b : Bool) → is_earlier m.stamp s ≡ b → cond b None (Some m) ≡ Some p → (Some m ≡ Some p) × ((t : Stamp) → Some s ≡ Some t → is_earlier p.stamp t ≡ false)
+    go : (b : Bool) → is_earlier m.stamp s ≡ b → cond b None (Some m) ≡ Some p
+        → (Some m ≡ Some p) × ((t : Stamp) → Some s ≡ Some t → is_earlier p.stamp t ≡ false)
     go true q f = absurd (cc)
-    go false q f = let mp : m ≡ p = cc in (f, λ t g. let st : s ≡ t = cc in subst (λ (z : Stamp). is_earlier p.stamp z ≡ false) st (subst (λ (z : ValueMark). is_earlier z.stamp s ≡ false) mp q))
+    go false q f = let mp : m ≡ p = cc in
+        (f, λ t g. let st : s ≡ t = cc in subst (λ (z : Stamp). is_earlier p.stamp z ≡ false) st (subst (λ (z : ValueMark). is_earlier z.stamp s ≡ false) mp q))
 
 -- a present mark that is not later than an absent one of its value is below it
 present_below : (p m : ValueMark) → p.present ≡ true → m.present ≡ false → IsUpTo p.stamp m.stamp → is_lt (mark_cmp p m) ≡ true
@@ -147,7 +157,8 @@ present_below p m a b u = go (stamp_cmp p.stamp m.stamp) refl
   where
     go : (r : Ordering) → stamp_cmp p.stamp m.stamp ≡ r → is_lt (mark_cmp p m) ≡ true
     go Less e = ap (λ (z : Ordering). is_lt (ordering_then z (bool_cmp m.present p.present))) e
-    go Equal e = ap (λ (z : Ordering). is_lt (ordering_then z (bool_cmp m.present p.present))) e ∙ ap (λ (z : Bool). is_lt (bool_cmp z p.present)) b ∙ ap (λ (z : Bool). is_lt (bool_cmp false z)) a
+    go Equal e = ap (λ (z : Ordering). is_lt (ordering_then z (bool_cmp m.present p.present))) e ∙ ap (λ (z : Bool). is_lt (bool_cmp z p.present)) b
+        ∙ ap (λ (z : Bool). is_lt (bool_cmp false z)) a
     go Greater e =
         let turned : stamp_cmp m.stamp p.stamp ≡ Less = grind (arith, stamp_total.antisymm p.stamp m.stamp, stamp_total.antisymm m.stamp p.stamp) in
         let late : not (is_lt (stamp_cmp m.stamp p.stamp)) ≡ false = ap (λ (z : Ordering). not (is_lt z)) turned in
@@ -156,6 +167,7 @@ present_below p m a b u = go (stamp_cmp p.stamp m.stamp) refl
 not_later : (p s t : Stamp) → is_earlier p s ≡ true → is_earlier t s ≡ false → is_earlier p t ≡ false → ⊥
 not_later p s t a b c = let z = not_below stamp_total stamp_exact p t s b c in cc
 
+-- a mark that is covered by another of its history does not show
 pub deleted : (h : List Mark) (c k : Mark) → In c h → Covers c k → IsShown h k → ⊥
 deleted h c k i (of_death n b s _ e f) shown = covered_by_death h n b s k i e f shown
 deleted h c k i (of_absence n b a v m p off on up) shown =

@@ -24,7 +24,8 @@ pub record Whole (home : ℕ → ℕ) (g : Cell) : Type 0 where
 
 -- ---- one more epoch
 
-good_next : (roll : Roll) (top k m : ℕ) (rs : List ℕ) → k ≡ suc top → Good roll top → roll.list k ≡ listing (roll.list top) k m rs → (1 ≤ top → (b : ℕ) × Listed (roll.list top) m b) → Good roll k
+good_next : (roll : Roll) (top k m : ℕ) (rs : List ℕ) → k ≡ suc top → Good roll top → roll.list k ≡ listing (roll.list top) k m rs
+    → (1 ≤ top → (b : ℕ) × Listed (roll.list top) m b) → Good roll k
 good_next roll top k m rs next g new head = record {
   none = g.none;
   order = λ e x s le l. ⊎_elim
@@ -56,18 +57,21 @@ good_next roll top k m rs next g new head = record {
     at_new x s l = listed_before (roll.list top) k m x s rs (subst (λ (z : List Member). Listed z x s) new l)
 
 -- the heads of the epochs, after one more at the house m
-heads_next : (roll : Roll) (v : View) (m floor k : ℕ) (q : Replica) → k ≡ suc v.top → q.epoch ≡ k → master_of (roll.list k) ≡ m → (e : ℕ) → suc e ≤ k → (suc e ≤ v.top) ⊎ Reached (suc e) (put v.house m (record { floor = floor; slot = Held q }) (master_of (roll.list (suc e)))).slot
+heads_next : (roll : Roll) (v : View) (m floor k : ℕ) (q : Replica) → k ≡ suc v.top → q.epoch ≡ k → master_of (roll.list k) ≡ m → (e : ℕ) → suc e ≤ k
+    → (suc e ≤ v.top) ⊎ Reached (suc e) (put v.house m (record { floor = floor; slot = Held q }) (master_of (roll.list (suc e)))).slot
 heads_next roll v m floor k q next ep head e le = ⊎_elim
     (λ (old : suc e < k). inl (omega arith))
     (λ (ge : k ≤ suc e).
     let is : suc e ≡ k = omega arith in
     let at : master_of (roll.list (suc e)) ≡ m = ap (λ (z : ℕ). master_of (roll.list z)) is ∙ head in
     let low : suc e ≤ q.epoch = omega arith in
-    inr (subst (λ (z : ℕ). Reached (suc e) (put v.house m (record { floor = floor; slot = Held q }) z).slot) (sym at) (put_back (λ (y : Seat). Reached (suc e) y.slot) v.house m (record { floor = floor; slot = Held q }) low)))
+    inr (subst (λ (z : ℕ). Reached (suc e) (put v.house m (record { floor = floor; slot = Held q }) z).slot) (sym at)
+    (put_back (λ (y : Seat). Reached (suc e) y.slot) v.house m (record { floor = floor; slot = Held q }) low)))
     (cases_lt (suc e) k)
 
 -- a new directory
-module _ (roll : Roll) (g : Cell) (d m : ℕ) (rs : List ℕ) (w : Whole roll.home g) (s : Sound roll (view d g)) (none : g.top d ≡ 0) (fit : listing [] 1 m rs ≡ roll.list 1) where
+module _ (roll : Roll) (g : Cell) (d m : ℕ) (rs : List ℕ) (w : Whole roll.home g) (s : Sound roll (view d g)) (none : g.top d ≡ 0)
+    (fit : listing [] 1 m rs ≡ roll.list 1) where
   abbrev v : View
   v = view d g
 
@@ -92,6 +96,7 @@ module _ (roll : Roll) (g : Cell) (d m : ℕ) (rs : List ℕ) (w : Whole roll.ho
   empty : [] ≡ roll.list 0
   empty = sym (w.bare d none) ∙ s.present ∙ ap roll.list none
 
+  -- a new directory frames the step
   pub founds_frame : Frame roll v after []
   founds_frame =
       altered_frame roll v [] m (g.house m).floor (Held q) (first_joins g d m ms) 1 ms s
@@ -103,15 +108,19 @@ module _ (roll : Roll) (g : Cell) (d m : ℕ) (rs : List ℕ) (w : Whole roll.ho
         next = λ _ _. inl (q, refl);
         gone = λ e z. absurd (cc);
       })
-      (new_each roll v [] m (g.house m).floor (Held q) (first_joins g d m ms) 1 ms s q refl (others_of m ms) d 1 (g.house m).floor (Join ms (copy_of q)) refl refl (λ k i. i) (inl (λ k i. i)) (λ c e. cc)
-      (λ x o. let l = listed_at ms x (In-others_of x m ms o).1 in (fit, (since_in ms x 0, subst (λ (z : List Member). Listed z x (since_in ms x 0)) fit l), λ k i. i)))
+      (new_each roll v [] m (g.house m).floor (Held q) (first_joins g d m ms) 1 ms s q refl (others_of m ms) d 1 (g.house m).floor (Join ms (copy_of q)) refl
+      refl (λ k i. i) (inl (λ k i. i)) (λ c e. cc)
+      (λ x o. let l = listed_at ms x (In-others_of x m ms o).1 in
+      (fit, (since_in ms x 0, subst (λ (z : List Member). Listed z x (since_in ms x 0)) fit l), λ k i. i)))
       (omega (arith, none))
-      (good_next roll 0 1 m rs refl (subst (λ (z : ℕ). Good roll z) none s.good) (sym fit ∙ ap (λ (z : List Member). listing z 1 m rs) empty) (λ z. absurd (omega arith)))
+      (good_next roll 0 1 m rs refl (subst (λ (z : ℕ). Good roll z) none s.good) (sym fit
+      ∙ ap (λ (z : List Member). listing z 1 m rs) empty) (λ z. absurd (omega arith)))
       fit
       (heads_next roll v m (g.house m).floor 1 q (ap suc (sym none)) refl (ap master_of (sym fit) ∙ master_new [] 1 m rs))
 
 -- a new epoch
-module _ (roll : Roll) (g : Cell) (d m k : ℕ) (rs : List ℕ) (r : Replica) (next : k ≡ suc (g.top d)) (s : Sound roll (view d g)) (at : IsHeld g m d r) (l : is_listed m (g.present d) ≡ true) (since : since_in (g.present d) m 0 ≤ r.epoch) (fit : listing (g.present d) k m rs ≡ roll.list k) where
+module _ (roll : Roll) (g : Cell) (d m k : ℕ) (rs : List ℕ) (r : Replica) (next : k ≡ suc (g.top d)) (s : Sound roll (view d g)) (at : IsHeld g m d r)
+    (l : is_listed m (g.present d) ≡ true) (since : since_in (g.present d) m 0 ≤ r.epoch) (fit : listing (g.present d) k m rs ≡ roll.list k) where
   abbrev v2 : View
   v2 = view d g
 
@@ -138,13 +147,18 @@ module _ (roll : Roll) (g : Cell) (d m k : ℕ) (rs : List ℕ) (r : Replica) (n
       omega (arith, lb'.1, e, f, since)
 
   joins : (p : Message) → In p (to_each (others_of m ms2) d m k (g.house m).floor (Join ms2 (copy_of r))) → New roll v2 after2 [] p
-  joins p i = new_each roll v2 [] m (g.house m).floor (Held q2) (epoch_posts g d m k ms2 r) k ms2 s q2 refl (others_of m ms2) d k (g.house m).floor (Join ms2 (copy_of r)) refl refl (λ j z. z) (inl (λ j z. z)) (λ c e. cc)
-      (λ x o. let lx = listed_at ms2 x (In-others_of x m ms2 o).1 in (fit, (since_in ms2 x 0, subst (λ (z : List Member). Listed z x (since_in ms2 x 0)) fit lx), λ j z. z)) p i
+  joins p i = new_each roll v2 [] m (g.house m).floor (Held q2) (epoch_posts g d m k ms2 r) k ms2 s q2 refl (others_of m ms2) d k (g.house m).floor
+      (Join ms2 (copy_of r)) refl refl (λ j z. z) (inl (λ j z. z)) (λ c e. cc)
+      (λ x o. let lx = listed_at ms2 x (In-others_of x m ms2 o).1 in
+      (fit, (since_in ms2 x 0, subst (λ (z : List Member). Listed z x (since_in ms2 x 0)) fit lx), λ j z. z)) p i
 
   leavers : (p : Message) → In p (to_each (leaving (g.present d) ms2) d m k (g.house m).floor Leave) → New roll v2 after2 [] p
-  leavers p i = new_each roll v2 [] m (g.house m).floor (Held q2) (epoch_posts g d m k ms2 r) k ms2 s q2 refl (leaving (g.present d) ms2) d k (g.house m).floor Leave refl refl (λ j z. elim z [ ]) (inr (λ j z. elim z [ ])) (λ c e. cc)
-      (λ x o b lb. let out = leaving_out x (g.present d) ms2 o in let lb' : Listed ms2 x b = subst (λ (z : List Member). Listed z x b) (sym fit) lb in let within : is_listed x ms2 ≡ true = lb'.0 in absurd (cc)) p i
+  leavers p i = new_each roll v2 [] m (g.house m).floor (Held q2) (epoch_posts g d m k ms2 r) k ms2 s q2 refl (leaving (g.present d) ms2) d k
+      (g.house m).floor Leave refl refl (λ j z. elim z [ ]) (inr (λ j z. elim z [ ])) (λ c e. cc)
+      (λ x o b lb. let out = leaving_out x (g.present d) ms2 o in let lb' : Listed ms2 x b = subst (λ (z : List Member). Listed z x b) (sym fit) lb in
+      let within : is_listed x ms2 ≡ true = lb'.0 in absurd (cc)) p i
 
+  -- so does a new epoch
   pub crowns_frame : Frame roll v2 after2 []
   crowns_frame =
       altered_frame roll v2 [] m (g.house m).floor (Held q2) (epoch_posts g d m k ms2 r) k ms2 s
@@ -154,6 +168,7 @@ module _ (roll : Roll) (g : Cell) (d m k : ℕ) (rs : List ℕ) (r : Replica) (n
       (λ j i. own r at i (omega (arith, low)) cont (λ k z. z)))
       (λ p i. ⊎_elim (joins p) (leavers p) (In-append_cases p _ _ i))
       (omega (arith, next))
-      (good_next roll (g.top d) k m rs next s.good (sym fit ∙ ap (λ (z : List Member). listing z k m rs) s.present) (λ _. (since_in (g.present d) m 0, subst (λ (z : List Member). Listed z m (since_in (g.present d) m 0)) s.present (listed_at (g.present d) m l))))
+      (good_next roll (g.top d) k m rs next s.good (sym fit ∙ ap (λ (z : List Member). listing z k m rs) s.present)
+      (λ _. (since_in (g.present d) m 0, subst (λ (z : List Member). Listed z m (since_in (g.present d) m 0)) s.present (listed_at (g.present d) m l))))
       fit
       (heads_next roll v2 m (g.house m).floor k q2 next refl (ap master_of (sym fit) ∙ master_new (g.present d) k m rs))

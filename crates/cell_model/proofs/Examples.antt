@@ -75,7 +75,8 @@ value_shows : IsShown entry (Attr (codes "e") (at 1 10) (codes "A") (Marked (1 �
 value_shows = ((_, refl, refl), refl, refl)
 
 removal_covers : Covers removal (Attr (codes "e") (at 1 10) (codes "A") (Marked (1 ∷ []) (record { present = true; stamp = at 2 10 })))
-removal_covers = of_absence (codes "e") (at 1 10) (codes "A") (1 ∷ []) (record { present = false; stamp = at 3 10 }) (record { present = true; stamp = at 2 10 }) refl refl refl
+removal_covers = of_absence (codes "e") (at 1 10) (codes "A") (1 ∷ []) (record { present = false; stamp = at 3 10 })
+    (record { present = true; stamp = at 2 10 }) refl refl refl
 
 -- of two answers of a house the first counts, and one about another directory does not
 abbrev answer : ℕ → ℕ → List Mark → Message

@@ -4,7 +4,8 @@ use Rattle.cds_stamps.specs.declared.stamp.Stamp.{Stamp}
 use Rattle.cds_stamps.specs.Members.{Member, master_of}
 use Rattle.directory.specs.Histories.{Mark, stamp_in}
 use Rattle.cell_model.specs.Sets.{In, IsPart}
-use Rattle.cell_model.specs.Cells.{Idle, Gathering, Spreading, Replica, Slot, Absent, Gone, Held, Copy, Body, Update, Gather, Gathered, Spread, SpreadAck, Advance, Join, Leave, Message, Cell}
+use Rattle.cell_model.specs.Cells.{Idle, Gathering, Spreading, Replica, Slot, Absent, Gone, Held, Copy, Body, Update, Gather, Gathered, Spread}
+use Rattle.cell_model.specs.Cells.{SpreadAck, Advance, Join, Leave, Message, Cell}
 pub use Rattle.cell_model.specs.Bodies.{marks_in, round_of, up_to_in, copy_in}
 use Rattle.cell_model.specs.Commands.{Accepted}
 use Rattle.cell_model.specs.Steps.{running, copy_of}
@@ -17,6 +18,7 @@ pub record Seat : Type 0 where
   pub floor : ℕ
   pub slot : Slot
 
+-- one directory of a cell: a seat for each house, its messages, its last epoch and its present list
 pub record View : Type 0 where
   pub house : ℕ → Seat
   pub bag : List Message
@@ -28,12 +30,15 @@ abbrev pub of_dir : ℕ → List Message → List Message
 of_dir d [] = []
 of_dir d (m ∷ ms) = cond (eqb m.dir d) (m ∷ of_dir d ms) (of_dir d ms)
 
+-- how a house of a cell is seated at a directory
 abbrev pub seat : ℕ → Cell → ℕ → Seat
 seat d g x = record { floor = (g.house x).floor; slot = (g.house x).slots d }
 
+-- a cell, as one directory sees it
 abbrev pub view : ℕ → Cell → View
 view d g = record { house = seat d g; bag = of_dir d g.bag; top = g.top d; present = g.present d }
 
+-- the message is in the bag
 abbrev pub IsPosted : View → Message → Type 0
 IsPosted g m = In m g.bag
 
@@ -74,6 +79,7 @@ pub record HeldOk (roll : Roll) (g : View) (x : ℕ) (r : Replica) : Type 0 wher
   pub phase : (t : Stamp) → running r.phase ≡ Some t → (master_of r.members ≡ x) × (roll.home t.node ≡ x) × (t.time ≤ (g.house x).floor)
   pub own : (t : Stamp) → running r.phase ≡ Some t → (m : Message) → IsPosted g m → round_of m.body ≡ Some t → m.epoch ≡ r.epoch
 
+-- what a posted message is, by its body
 abbrev pub Kind : Roll → Message → Body → Type 0
 Kind roll m (Update marks) = Unit {0}
 Kind roll m (Gather t) = Unit {0}
@@ -95,6 +101,7 @@ pub record Lawful (roll : Roll) (g : View) (m : Message) : Type 0 where
   pub round : (t : Stamp) → round_of m.body ≡ Some t → (t.time ≤ m.floor) × (t.time ≤ (g.house (roll.home t.node)).floor)
   pub kind : Kind roll m m.body
 
+-- what holds of a directory in every cell that is reached
 pub record Sound (roll : Roll) (g : View) : Type 0 where
   pub good : Good roll g.top
   pub present : g.present ≡ roll.list g.top
@@ -109,10 +116,14 @@ pub record Sound (roll : Roll) (g : View) : Type 0 where
 pub data Turn (roll : Roll) (g : View) (x floor : ℕ) (r r' : Replica) : Type 0 where
   same : r'.phase ≡ r.phase → Turn roll g x floor r r'
   idle : r'.phase ≡ Idle → Turn roll g x floor r r'
-  begins : (t : Stamp) → r'.phase ≡ Gathering t [] → master_of r.members ≡ x → roll.home t.node ≡ x → (g.house x).floor < t.time → t.time ≤ floor → IsPart r'.history r.history → Turn roll g x floor r r'
-  answered : (t : Stamp) (a : List ℕ) (m : Message) (copy : Copy) → r.phase ≡ Gathering t a → r'.phase ≡ Gathering t (m.sender ∷ a) → IsPosted g m → m.body ≡ Gathered t copy → IsPart copy.history r'.history → Turn roll g x floor r r'
-  turned : (t : Stamp) (a : List ℕ) (m : Message) (copy : Copy) → r.phase ≡ Gathering t a → r'.phase ≡ Spreading t [] → IsPosted g m → m.body ≡ Gathered t copy → IsPart copy.history r'.history → ((y : ℕ) → In y (others r.members) → In y (m.sender ∷ a)) → Turn roll g x floor r r'
-  acked : (t : Stamp) (a : List ℕ) (m : Message) → r.phase ≡ Spreading t a → r'.phase ≡ Spreading t (m.sender ∷ a) → IsPosted g m → m.body ≡ SpreadAck t → Turn roll g x floor r r'
+  begins : (t : Stamp) → r'.phase ≡ Gathering t [] → master_of r.members ≡ x → roll.home t.node ≡ x → (g.house x).floor < t.time → t.time ≤ floor
+      → IsPart r'.history r.history → Turn roll g x floor r r'
+  answered : (t : Stamp) (a : List ℕ) (m : Message) (copy : Copy) → r.phase ≡ Gathering t a → r'.phase ≡ Gathering t (m.sender ∷ a) → IsPosted g m
+      → m.body ≡ Gathered t copy → IsPart copy.history r'.history → Turn roll g x floor r r'
+  turned : (t : Stamp) (a : List ℕ) (m : Message) (copy : Copy) → r.phase ≡ Gathering t a → r'.phase ≡ Spreading t [] → IsPosted g m
+      → m.body ≡ Gathered t copy → IsPart copy.history r'.history → ((y : ℕ) → In y (others r.members) → In y (m.sender ∷ a)) → Turn roll g x floor r r'
+  acked : (t : Stamp) (a : List ℕ) (m : Message) → r.phase ≡ Spreading t a → r'.phase ≡ Spreading t (m.sender ∷ a) → IsPosted g m → m.body ≡ SpreadAck t
+      → Turn roll g x floor r r'
 
 -- a house takes a Join: its marks, its list, its floor
 pub record Took (g : View) (m : Message) (ms : List Member) (copy : Copy) (r' : Replica) (floor : ℕ) : Type 0 where
@@ -126,17 +137,27 @@ pub record Took (g : View) (m : Message) (ms : List Member) (copy : Copy) (r' : 
 
 -- how a house that holds the directory after a step came to do so
 pub data Past (roll : Roll) (g g' : View) (x floor : ℕ) (r' : Replica) : Type 0 where
-  grew : (r : Replica) → Holds g x r → r.epoch ≡ r'.epoch → r'.members ≡ r.members → IsPart r.history r'.history → Turn roll g x floor r r' → Past roll g g' x floor r'
-  rose : (r : Replica) (m : Message) (ms : List Member) (copy : Copy) → Holds g x r → r.epoch < r'.epoch → IsPart r.history r'.history → m.receiver ≡ x → ((s : ℕ) → Listed (roll.list r'.epoch) x s → s ≤ r.epoch) → Took g m ms copy r' floor → Past roll g g' x floor r'
-  crowned : (r : Replica) → Holds g x r → r.epoch < r'.epoch → IsPart r.history r'.history → ((s : ℕ) → Listed (roll.list r'.epoch) x s → s ≤ r.epoch) → g.top < r'.epoch → r'.epoch ≡ g'.top → r'.members ≡ g'.present → ((s : ℕ) × Listed (roll.list r'.epoch) x s) → r'.phase ≡ Idle → Past roll g g' x floor r'
-  copied : (m : Message) (ms : List Member) (copy : Copy) → m.receiver ≡ x → ((e : ℕ) → Reached e (g.house x).slot → e < r'.epoch) → ((r : Replica) (s : ℕ) → Holds g x r → Listed (roll.list r'.epoch) x s → r.epoch < s) → Took g m ms copy r' floor → Past roll g g' x floor r'
-  founded : g.top ≡ 0 → r'.epoch ≡ g'.top → r'.members ≡ g'.present → r'.history ≡ [] → ((s : ℕ) × Listed (roll.list r'.epoch) x s) → r'.phase ≡ Idle → Past roll g g' x floor r'
+  grew : (r : Replica) → Holds g x r → r.epoch ≡ r'.epoch → r'.members ≡ r.members → IsPart r.history r'.history → Turn roll g x floor r r'
+      → Past roll g g' x floor r'
+  rose : (r : Replica) (m : Message) (ms : List Member) (copy : Copy) → Holds g x r → r.epoch < r'.epoch → IsPart r.history r'.history → m.receiver ≡ x
+      → ((s : ℕ) → Listed (roll.list r'.epoch) x s → s ≤ r.epoch) → Took g m ms copy r' floor → Past roll g g' x floor r'
+  crowned : (r : Replica) → Holds g x r → r.epoch < r'.epoch → IsPart r.history r'.history → ((s : ℕ) → Listed (roll.list r'.epoch) x s → s ≤ r.epoch)
+      → g.top < r'.epoch → r'.epoch ≡ g'.top → r'.members ≡ g'.present → ((s : ℕ) × Listed (roll.list r'.epoch) x s) → r'.phase ≡ Idle
+      → Past roll g g' x floor r'
+  copied : (m : Message) (ms : List Member) (copy : Copy) → m.receiver ≡ x → ((e : ℕ) → Reached e (g.house x).slot → e < r'.epoch)
+      → ((r : Replica) (s : ℕ) → Holds g x r → Listed (roll.list r'.epoch) x s → r.epoch < s) → Took g m ms copy r' floor → Past roll g g' x floor r'
+  founded : g.top ≡ 0 → r'.epoch ≡ g'.top → r'.members ≡ g'.present → r'.history ≡ [] → ((s : ℕ) × Listed (roll.list r'.epoch) x s) → r'.phase ≡ Idle
+      → Past roll g g' x floor r'
 
 -- where a mark that a house holds after a step comes from
 pub data Came (roll : Roll) (g g' : View) (new : List Accepted) (x floor : ℕ) (r' : Replica) (k : Mark) : Type 0 where
-  own : (r : Replica) → Holds g x r → In k r.history → r.epoch ≤ r'.epoch → ((s : ℕ) → Listed (roll.list r'.epoch) x s → s ≤ r.epoch) → IsPart r.history r'.history → Came roll g g' new x floor r' k
-  sent : (m : Message) → IsPosted g m → m.epoch ≡ r'.epoch → In k (marks_in m.body) → m.floor ≤ floor → IsPart (marks_in m.body) r'.history → Came roll g g' new x floor r' k
-  fresh : (r : Replica) (a : Accepted) → Holds g x r → r.epoch ≡ r'.epoch → (g.house x).floor < (stamp_in k).time → (stamp_in k).time ≤ floor → In a new → a.dir ≡ roll.dir → In k a.marks → stamp_in k ≡ a.stamp → IsPart a.marks r'.history → ((m : Message) (t : Stamp) → IsPosted g' m → round_of m.body ≡ Some t → IsPosted g m) → Came roll g g' new x floor r' k
+  own : (r : Replica) → Holds g x r → In k r.history → r.epoch ≤ r'.epoch → ((s : ℕ) → Listed (roll.list r'.epoch) x s → s ≤ r.epoch)
+      → IsPart r.history r'.history → Came roll g g' new x floor r' k
+  sent : (m : Message) → IsPosted g m → m.epoch ≡ r'.epoch → In k (marks_in m.body) → m.floor ≤ floor → IsPart (marks_in m.body) r'.history
+      → Came roll g g' new x floor r' k
+  fresh : (r : Replica) (a : Accepted) → Holds g x r → r.epoch ≡ r'.epoch → (g.house x).floor < (stamp_in k).time → (stamp_in k).time ≤ floor → In a new
+      → a.dir ≡ roll.dir → In k a.marks → stamp_in k ≡ a.stamp → IsPart a.marks r'.history
+      → ((m : Message) (t : Stamp) → IsPosted g' m → round_of m.body ≡ Some t → IsPosted g m) → Came roll g g' new x floor r' k
 
 -- a message that answers another: that one, and what the sender held when it took it
 pub record Answers (g : View) (m : Message) (b : Body) : Type 0 where
@@ -149,6 +170,7 @@ pub record Answers (g : View) (m : Message) (b : Body) : Type 0 where
   pub holds : Holds g m.sender held
   pub holds_epoch : held.epoch ≡ m.epoch
 
+-- what a message that a step posts is, by its body, and from which replica
 abbrev pub NewKind : Roll → View → Message → Replica → Body → Type 0
 NewKind roll g m q (Update marks) = Unit {0}
 NewKind roll g m q (Gather t) = q.phase ≡ Gathering t []
@@ -185,7 +207,8 @@ pub record Frame (roll : Roll) (g g' : View) (new : List Accepted) : Type 0 wher
   pub past : (x : ℕ) (r' : Replica) → Holds g' x r' → Past roll g g' x (g'.house x).floor r'
   pub comes : (x : ℕ) (r' : Replica) (k : Mark) → Holds g' x r' → In k r'.history → Came roll g g' new x (g'.house x).floor r' k
   pub next : (x : ℕ) (r : Replica) → Holds g x r → ((r' : Replica) × Holds g' x r') ⊎ ((e : ℕ) × ((g'.house x).slot ≡ Gone e))
-  pub gone : (x e : ℕ) → (g'.house x).slot ≡ Gone e → ((g.house x).slot ≡ Gone e) ⊎ ((m : Message) × IsPosted g m × (m.body ≡ Leave) × (m.epoch ≡ e) × (m.receiver ≡ x))
+  pub gone : (x e : ℕ) → (g'.house x).slot ≡ Gone e → ((g.house x).slot ≡ Gone e)
+      ⊎ ((m : Message) × IsPosted g m × (m.body ≡ Leave) × (m.epoch ≡ e) × (m.receiver ≡ x))
   pub stays : (m : Message) → IsPosted g m → IsPosted g' m
   pub posts : (m : Message) → IsPosted g' m → IsPosted g m ⊎ New roll g g' new m
   pub top : g.top ≤ g'.top

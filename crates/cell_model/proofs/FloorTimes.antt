@@ -20,7 +20,8 @@ use Rattle.cell_model.proofs.NeverComes.{reaching_last, lawful}
 -- ---- floors
 
 -- an AllUpTo that a house has is not above its floor
-up_to_below : (commands : List Command) (x d : ℕ) (r : Replica) (t : Stamp) → IsHeld (replay commands) x d r → r.all_up_to ≡ Some t → t.time ≤ ((replay commands).house x).floor
+up_to_below : (commands : List Command) (x d : ℕ) (r : Replica) (t : Stamp) → IsHeld (replay commands) x d r → r.all_up_to ≡ Some t
+    → t.time ≤ ((replay commands).house x).floor
 up_to_below commands x d r t at e =
     let w = (advances_lem commands).houses x d r t at e in
     let done = completed_done d commands commands [] t w.0 (append_nil commands) w.2 in
@@ -50,13 +51,17 @@ up_tos_step early late c below m t i e =
     let u : p.replica.all_up_to ≡ Some t = ap (λ (z : Copy). z.all_up_to) (sym (p.copied w.0 w.1)) ∙ w.2 in
     let low = up_to_below (early ++ c ∷ []) m.sender m.dir p.replica t (subst (λ (z : Cell). IsHeld z m.sender m.dir p.replica) (sym cell) p.held) u in
     omega (arith, p.floor, subst (λ (z : Cell). t.time ≤ (z.house m.sender).floor) cell low))
-    (passage_posts (roll_of m.dir (early ++ c ∷ [])) _ _ _ (step_passage m.dir (early ++ c ∷ []) early [] c refl (reaching_at m.dir (early ++ c ∷ []) early (c ∷ []) refl)) m (In-of_dir m.dir (outcome (replay early) c).cell.bag m (subst (λ (z : Cell). In m z.bag) cell i) refl)))
+    (passage_posts (roll_of m.dir (early ++ c ∷ [])) _ _ _
+    (step_passage m.dir (early ++ c ∷ []) early [] c refl (reaching_at m.dir (early ++ c ∷ []) early (c ∷ []) refl)) m
+    (In-of_dir m.dir (outcome (replay early) c).cell.bag m (subst (λ (z : Cell). In m z.bag) cell i) refl)))
     (⊎_elim (λ l. inr l) (λ r. inl r) (up_to_source m.body t e))
 
 up_tos_run : (early mid : List Command) → UpTosBelow early → UpTosBelow (early ++ mid)
 up_tos_run early [] below = subst (λ (l : List Command). UpTosBelow l) (sym (append_nil early)) below
-up_tos_run early (c ∷ mid) below = subst (λ (l : List Command). UpTosBelow l) (append_assoc early (c ∷ []) mid) (up_tos_run (early ++ c ∷ []) mid (up_tos_step early mid c below))
+up_tos_run early (c ∷ mid) below =
+    subst (λ (l : List Command). UpTosBelow l) (append_assoc early (c ∷ []) mid) (up_tos_run (early ++ c ∷ []) mid (up_tos_step early mid c below))
 
+-- no time stands above its house's floor or its message's
 pub floors_lem : (commands : List Command) → FloorsHold (replay commands)
 floors_lem commands = record {
   houses = λ x d r at.
@@ -84,11 +89,14 @@ floors_lem commands = record {
       };
 }
 
+-- no floor falls
 pub rises_lem : (commands : List Command) (c : Command) → FloorsRise (replay commands) (outcome (replay commands) c).cell
 rises_lem commands c = record {
   rises = (step_onward (replay commands) c (run_onward commands empty_cell empty_plain).plain).rises;
   posts = λ m i. ⊎_elim (λ was. inl (In-from_dir m.dir (replay commands).bag m was).0) (λ p. inr (at_floor m p))
-      (passage_posts (roll_of m.dir (commands ++ c ∷ [])) _ _ _ (step_passage m.dir (commands ++ c ∷ []) commands [] c refl (reaching_at m.dir (commands ++ c ∷ []) commands (c ∷ []) refl)) m (In-of_dir m.dir (outcome (replay commands) c).cell.bag m i refl));
+      (passage_posts (roll_of m.dir (commands ++ c ∷ [])) _ _ _
+      (step_passage m.dir (commands ++ c ∷ []) commands [] c refl (reaching_at m.dir (commands ++ c ∷ []) commands (c ∷ []) refl)) m
+      (In-of_dir m.dir (outcome (replay commands) c).cell.bag m i refl));
 }
   where
     at_floor : (m : Message) → PostedBy (view m.dir (outcome (replay commands) c).cell) m → m.floor ≡ ((outcome (replay commands) c).cell.house m.sender).floor

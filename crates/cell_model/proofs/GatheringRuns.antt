@@ -1,11 +1,13 @@
 -- The first round of a skulk, at every moment of a run.
-use Rattle.std.proofs.Common.{◌≡◌, ℕ, ◌≤◌, ◌⊎◌, inl, inr, Bool, true, false, ◌&&◌, eqb, cond, List, [], ◌∷◌, Option, Some, None, refl, sym, ap, ◌∙◌, subst, le_trans}
+use Rattle.std.proofs.Common.{◌≡◌, ℕ, ◌≤◌, ◌⊎◌, inl, inr, Bool, true, false, ◌&&◌, eqb, cond, List, [], ◌∷◌, Option, Some, None, refl, sym, ap, ◌∙◌}
+use Rattle.std.proofs.Common.{subst, le_trans}
 use Rattle.cds_stamps.specs.declared.stamp.Stamp.{Stamp}
 use Rattle.cds_stamps.specs.Members.{Member, master_of, others_of, since_in}
 use Rattle.cds_stamps.specs.Stamps.{is_stamp}
 use Rattle.directory.specs.Histories.{Mark, stamp_in}
 use Rattle.cell_model.specs.Sets.{In}
-use Rattle.cell_model.specs.Cells.{Phase, Gathering, Replica, Copy, Body, Update, Gather, Gathered, Spread, SpreadAck, Advance, Join, Leave, Message, Cell, IsHeld}
+use Rattle.cell_model.specs.Cells.{Phase, Gathering, Replica, Copy, Body, Update, Gather, Gathered, Spread, SpreadAck, Advance, Join, Leave, Message}
+use Rattle.cell_model.specs.Cells.{Cell, IsHeld}
 use Rattle.cell_model.specs.Commands.{Command, Accepted}
 use Rattle.cell_model.specs.Steps.{running, replay, accepted}
 use Rattle.cell_model.specs.Provenance.{HasPassed}
@@ -40,18 +42,24 @@ answer_is (Advance u) t copy e = absurd (cc)
 answer_is (Join ms own) t copy e = absurd (cc)
 answer_is Leave t copy e = absurd (cc)
 
-first_posted : (ms : List Message) (d y : ℕ) (t : Stamp) (copy : Copy) → first_answer ms d y t ≡ Some copy → (m : Message) × In m ms × (m.dir ≡ d) × (m.sender ≡ y) × (m.body ≡ Gathered t copy)
+first_posted : (ms : List Message) (d y : ℕ) (t : Stamp) (copy : Copy) → first_answer ms d y t ≡ Some copy
+    → (m : Message) × In m ms × (m.dir ≡ d) × (m.sender ≡ y) × (m.body ≡ Gathered t copy)
 first_posted [] d y t copy e = absurd (cc)
 first_posted (m ∷ ms) d y t copy e = go ((eqb m.dir d) && (eqb m.sender y)) refl (answer_in m.body t) refl e (first_posted ms d y t copy)
   where
-    go : (b : Bool) → ((eqb m.dir d) && (eqb m.sender y)) ≡ b → (o : Option Copy) → answer_in m.body t ≡ o → or_first b o (first_answer ms d y t) ≡ Some copy → (first_answer ms d y t ≡ Some copy → (p : Message) × In p ms × (p.dir ≡ d) × (p.sender ≡ y) × (p.body ≡ Gathered t copy)) → (p : Message) × In p (m ∷ ms) × (p.dir ≡ d) × (p.sender ≡ y) × (p.body ≡ Gathered t copy)
-    go true q (Some l) w e' rest = let z : l ≡ copy = cc in (m, inl refl, eq_from _ _ (and_left _ (eqb m.sender y) q), eq_from _ _ (and_right (eqb m.dir d) _ q), answer_is m.body t copy (w ∙ ap Some z))
+    go : (b : Bool) → ((eqb m.dir d) && (eqb m.sender y)) ≡ b → (o : Option Copy) → answer_in m.body t ≡ o → or_first b o (first_answer ms d y t) ≡ Some copy
+        → (first_answer ms d y t ≡ Some copy → (p : Message) × In p ms × (p.dir ≡ d) × (p.sender ≡ y) × (p.body ≡ Gathered t copy))
+        → (p : Message) × In p (m ∷ ms) × (p.dir ≡ d) × (p.sender ≡ y) × (p.body ≡ Gathered t copy)
+    go true q (Some l) w e' rest = let z : l ≡ copy = cc in
+        (m, inl refl, eq_from _ _ (and_left _ (eqb m.sender y) q), eq_from _ _ (and_right (eqb m.dir d) _ q), answer_is m.body t copy (w ∙ ap Some z))
     go true q None w e' rest = let r = rest e' in (r.0, inr r.1, r.2, r.3, r.4)
     go false q o w e' rest = let r = rest e' in (r.0, inr r.1, r.2, r.3, r.4)
 
-none_posted : (ms : List Message) (d y : ℕ) (t : Stamp) (p : Message) (copy : Copy) → first_answer ms d y t ≡ None → In p ms → p.dir ≡ d → p.sender ≡ y → p.body ≡ Gathered t copy → ⊥
+none_posted : (ms : List Message) (d y : ℕ) (t : Stamp) (p : Message) (copy : Copy) → first_answer ms d y t ≡ None → In p ms → p.dir ≡ d → p.sender ≡ y
+    → p.body ≡ Gathered t copy → ⊥
 none_posted [] d y t p copy e i dir by is = i
-none_posted (m ∷ ms) d y t p copy e i dir by is = go ((eqb m.dir d) && (eqb m.sender y)) refl (answer_in m.body t) refl e i (λ z j. none_posted ms d y t p copy z j dir by is)
+none_posted (m ∷ ms) d y t p copy e i dir by is =
+    go ((eqb m.dir d) && (eqb m.sender y)) refl (answer_in m.body t) refl e i (λ z j. none_posted ms d y t p copy z j dir by is)
   where
     answers : m ≡ p → answer_in m.body t ≡ Some copy
     answers s = ap (λ (z : Message). answer_in z.body t) s ∙ ap (λ (z : Body). answer_in z t) is ∙ ap (λ (b : Bool). cond b (Some copy) None) (same_stamp t)
@@ -61,7 +69,8 @@ none_posted (m ∷ ms) d y t p copy e i dir by is = go ((eqb m.dir d) && (eqb m.
         let a : eqb m.dir d ≡ true = eq_to m.dir d (ap (λ (z : Message). z.dir) s ∙ dir) in
         ap (λ (b : Bool). b && eqb m.sender y) a ∙ eq_to m.sender y (ap (λ (z : Message). z.sender) s ∙ by)
 
-    go : (b : Bool) → ((eqb m.dir d) && (eqb m.sender y)) ≡ b → (o : Option Copy) → answer_in m.body t ≡ o → or_first b o (first_answer ms d y t) ≡ None → (p ≡ m) ⊎ In p ms → (first_answer ms d y t ≡ None → In p ms → ⊥) → ⊥
+    go : (b : Bool) → ((eqb m.dir d) && (eqb m.sender y)) ≡ b → (o : Option Copy) → answer_in m.body t ≡ o → or_first b o (first_answer ms d y t) ≡ None
+        → (p ≡ m) ⊎ In p ms → (first_answer ms d y t ≡ None → In p ms → ⊥) → ⊥
     go true q (Some l) w e' i' rest = absurd (cc)
     go true q None w e' (inl s) rest = let h = answers (sym s) in absurd (cc)
     go true q None w e' (inr i') rest = rest e' i'
@@ -71,12 +80,14 @@ none_posted (m ∷ ms) d y t p copy e i dir by is = go ((eqb m.dir d) && (eqb m.
 -- ---- the sentences
 
 -- the updates that a house accepted in its present term stand in its history
-pub own_updates : (roll : Roll) (v : View) (log : List Accepted) → Sound roll v → Known roll v log → (a : Accepted) (q : Replica) → In a log → a.dir ≡ roll.dir → Holds v a.by q → a.since ≡ since_in q.members a.by 0 → (j : Mark) → In j a.marks → In j q.history
+pub own_updates : (roll : Roll) (v : View) (log : List Accepted) → Sound roll v → Known roll v log → (a : Accepted) (q : Replica) → In a log
+    → a.dir ≡ roll.dir → Holds v a.by q → a.since ≡ since_in q.members a.by 0 → (j : Mark) → In j a.marks → In j q.history
 own_updates roll v log s k a q i dir at since j ij =
     let ok = s.held a.by q at in
     k.all a q i dir at (ok.listed.1.0, ap (λ (z : List Member). since_in z a.by 0) (sym ok.members) ∙ sym since) j ij
 
-module _ (commands : List Command) (h d : ℕ) (r : Replica) (t : Stamp) (a : List ℕ) (at : IsHeld (replay commands) h d r) (run : r.phase ≡ Gathering t a) (p : (y : ℕ) → In y (others_of h r.members) → HasPassed (replay commands) y d r.epoch → TookGather (replay commands) d t y) where
+module _ (commands : List Command) (h d : ℕ) (r : Replica) (t : Stamp) (a : List ℕ) (at : IsHeld (replay commands) h d r) (run : r.phase ≡ Gathering t a)
+    (p : (y : ℕ) → In y (others_of h r.members) → HasPassed (replay commands) y d r.epoch → TookGather (replay commands) d t y) where
   abbrev g : Cell
   g = replay commands
 
@@ -120,7 +131,8 @@ module _ (commands : List Command) (h d : ℕ) (r : Replica) (t : Stamp) (a : Li
           let silent : TookGather g d t w.0 → ⊥ = λ m. none_posted g.bag d w.0 t m.message m.copy e m.posted m.dir m.sender m.body in
           let stays = w.1.stay (λ up. silent (p w.0 (other w.0 w.1.other) (reached_passed r.epoch _ up))) in
           let l = listed-others w.0 (roll.list r.epoch) w.1.other in
-          let since : since_in r.members w.0 0 ≤ (stays.0).epoch = subst (λ (z : ℕ). z ≤ (stays.0).epoch) (sym l.1.1 ∙ ap (λ (z : List Member). since_in z w.0 0) (sym ok.members)) (stays.3 l.0 l.1) in
+          let since : since_in r.members w.0 0 ≤ (stays.0).epoch =
+          subst (λ (z : ℕ). z ≤ (stays.0).epoch) (sym l.1.1 ∙ ap (λ (z : List Member). since_in z w.0 0) (sym ok.members)) (stays.3 l.0 l.1) in
           at_member w.0 stays.0 (other w.0 w.1.other) stays.1 since silent stays.2
 
   while_gathering : WhileGathering commands h d r t
@@ -130,15 +142,18 @@ module _ (commands : List Command) (h d : ℕ) (r : Replica) (t : Stamp) (a : Li
       messages = λ m j i dir le ij up. found j (covered.within_m m j (In-of_dir d g.bag m i dir) le ij up);
       updates = λ u q j i dir hq le since up ij.
           let stamped = (here.known.well u i dir).stamped j ij in
-          found j (covered.within u.by q j hq le (own_updates roll v (accepted commands) here.sound here.known u q i dir hq since j ij) (up_to_trans (stamp_in j) u.stamp t stamped up));
+          found j (covered.within u.by q j hq le (own_updates roll v (accepted commands) here.sound here.known u q i dir hq since j ij)
+          (up_to_trans (stamp_in j) u.stamp t stamped up));
       later_houses = λ x q hq lt. covered.high x q hq lt;
       later_messages = λ m i dir lt. covered.sent m (In-of_dir d g.bag m i dir) lt;
     };
     master = head.2;
     answered = λ y o w.
         let l = here.sound.messages w.message (In-of_dir d g.bag w.message w.posted w.dir) in
-        le_trans (l.round t (round_at w.message (Gathered t w.copy) t w.body refl)).0 (subst (λ (z : ℕ). (w.message).floor ≤ (g.house z).floor) w.sender l.floor);
+        le_trans (l.round t (round_at w.message (Gathered t w.copy) t w.body refl)).0
+        (subst (λ (z : ℕ). (w.message).floor ≤ (g.house z).floor) w.sender l.floor);
   }
 
+-- what holds while a master gathers holds in every run
 pub gathering_lem : (commands : List Command) → GatheringHolds commands
 gathering_lem commands h d r t a at run p = while_gathering commands h d r t a at run p

@@ -1,5 +1,6 @@
 -- The stamps that houses issue.
-use Rattle.std.proofs.Common.{◌≡◌, ℕ, ◌<◌, ◌≤◌, ◌+◌, append_assoc, inl, inr, true, List, [], ◌∷◌, ◌++◌, Option, refl, sym, ap, ◌∙◌, subst, arith, ⊎_elim, le_refl, le_trans}
+use Rattle.std.proofs.Common.{◌≡◌, ℕ, ◌<◌, ◌≤◌, ◌+◌, append_assoc, inl, inr, true, List, [], ◌∷◌, ◌++◌, Option, refl, sym, ap, ◌∙◌, subst, arith}
+use Rattle.std.proofs.Common.{⊎_elim, le_refl, le_trans}
 use Rattle.cds_stamps.specs.declared.stamp.Stamp.{Stamp}
 use Rattle.cds_stamps.specs.Members.{others_of}
 use Rattle.cell_model.specs.Sets.{In}
@@ -21,7 +22,8 @@ pub record Issued (g g' : Cell) (h : ℕ) (s : Stamp) : Type 0 where
   pub within : s.time ≤ (g'.house h).floor
   pub node : s.node ≡ (g.house h).node
 
-floor_after_act : (g : Cell) (h d : ℕ) (s : Stamp) (o : Slot) (posts : List Message) → s.time ≤ ((moved g h (holding (g.house h) d s.time o) posts).house h).floor
+floor_after_act : (g : Cell) (h d : ℕ) (s : Stamp) (o : Slot) (posts : List Message)
+    → s.time ≤ ((moved g h (holding (g.house h) d s.time o) posts).house h).floor
 floor_after_act g h d s o posts = put_back (λ (v : House). s.time ≤ v.floor) g.house h (holding (g.house h) d s.time o) (le_refl _)
 
 pub issuing_issued : (g g' : Cell) (h d : ℕ) (r : Replica) (s : Stamp) → Plain g → Issuing g h d r s → s.time ≤ (g'.house h).floor → Issued g g' h s
@@ -30,9 +32,11 @@ issuing_issued g g' h d r s p i within =
     record { made = up_made g h p i.up; above = z.0; within = within; node = z.1 }
 
 -- each accepted update has a stamp that its house issued, and is the only one of the step
-act_accepted : (g : Cell) (h d floor : ℕ) (o : Slot) (posts : List Message) (a : Answer) (n : List Accepted) → Plain g → Act g h d floor o posts a n → (b : Accepted) → In b n → Issued g (moved g h (holding (g.house h) d floor o) posts) b.by b.stamp × ((c : Accepted) → In c n → c ≡ b)
+act_accepted : (g : Cell) (h d floor : ℕ) (o : Slot) (posts : List Message) (a : Answer) (n : List Accepted) → Plain g → Act g h d floor o posts a n
+    → (b : Accepted) → In b n → Issued g (moved g h (holding (g.house h) d floor o) posts) b.by b.stamp × ((c : Accepted) → In c n → c ≡ b)
 act_accepted g h d floor o posts a n p (accepts _ _ u r s ns i fine) b (inl e) = (
-  subst (λ (z : Accepted). Issued g (moved g h (holding (g.house h) d floor o) posts) z.by z.stamp) (sym e) (issuing_issued g _ h d r s p i (floor_after_act g h d s o posts)),
+  subst (λ (z : Accepted). Issued g (moved g h (holding (g.house h) d floor o) posts) z.by z.stamp) (sym e)
+      (issuing_issued g _ h d r s p i (floor_after_act g h d s o posts)),
   λ c ic. only c ic,
 )
   where
@@ -42,17 +46,20 @@ act_accepted g h d floor o posts a n p (accepts _ _ u r s ns i fine) b (inl e) =
 act_accepted g h d floor o posts a n p (accepts _ _ u r s ns i fine) b (inr z) = elim z [ ]
 act_accepted g h d floor o posts a n p _ b i = elim i [ ]
 
-move_accepted : (g g' : Cell) (pl : Option (ℕ × ℕ)) (a : Answer) (n : List Accepted) → Plain g → Move g pl g' a n → (b : Accepted) → In b n → Issued g g' b.by b.stamp × ((c : Accepted) → In c n → c ≡ b)
+move_accepted : (g g' : Cell) (pl : Option (ℕ × ℕ)) (a : Answer) (n : List Accepted) → Plain g → Move g pl g' a n → (b : Accepted) → In b n
+    → Issued g g' b.by b.stamp × ((c : Accepted) → In c n → c ≡ b)
 move_accepted g g' pl a n p (acts h d at floor o posts x l act) b i = act_accepted g h d floor o posts x l p act b i
 move_accepted g g' pl a n p _ b i = elim i [ ]
 
-pub steps_accepted : (g g' : Cell) (pl : Option (ℕ × ℕ)) (a : Answer) (n : List Accepted) → Plain g → Steps g pl g' a n → (b : Accepted) → In b n → Issued g g' b.by b.stamp × ((c : Accepted) → In c n → c ≡ b)
+pub steps_accepted : (g g' : Cell) (pl : Option (ℕ × ℕ)) (a : Answer) (n : List Accepted) → Plain g → Steps g pl g' a n → (b : Accepted) → In b n
+    → Issued g g' b.by b.stamp × ((c : Accepted) → In c n → c ≡ b)
 steps_accepted g g' pl a n p (one _ _ _ m) b i = move_accepted g g' pl a n p m b i
 steps_accepted g g' pl a n p (mkdirs h d m u rs r s ns at is fine up known) b i =
     let w = act_accepted g h d s.time _ _ _ n p (accepts h d u r s ns is fine) b i in
     let o : Slot = Held (grown r (new_marks r u s)) in
     let posts : List Message = to_each (others_of h r.members) d h r.epoch s.time (Update (new_marks r u s)) in
-    let first = moved_onward g h (holding (g.house h) d s.time o) posts p (up_made g h p is.up) refl (act_rises g h d s.time _ _ _ n (accepts h d u r s ns is fine)) in
+    let first = moved_onward g h (holding (g.house h) d s.time o) posts p (up_made g h p is.up) refl
+    (act_rises g h d s.time _ _ _ n (accepts h d u r s ns is fine)) in
     let lt : g.next_dir < g.next_dir + 1 = omega arith in
     let le : g.next_dir ≤ g.next_dir + 1 = omega arith in
     let second = founded_onward _ g.next_dir m _ (g.next_dir + 1) first.plain (up_made g m p up) (p.unknown g.next_dir (le_refl _)) lt le in
@@ -73,11 +80,13 @@ new_stamp g g' log a b p l i is e =
     let low : a.stamp.time ≤ (g.house b.by).floor = subst (λ (x : ℕ). a.stamp.time ≤ (g.house x).floor) same (l.below a i) in
     omega (arith, is.above, ap (λ (z : Stamp). z.time) e)
 
-logged_kept : (g g' : Cell) (n log : List Accepted) → Plain g → Onward g g' → ((b : Accepted) → In b n → Issued g g' b.by b.stamp × ((c : Accepted) → In c n → c ≡ b)) → Logged g log → Logged g' (log ++ n)
+logged_kept : (g g' : Cell) (n log : List Accepted) → Plain g → Onward g g'
+    → ((b : Accepted) → In b n → Issued g g' b.by b.stamp × ((c : Accepted) → In c n → c ≡ b)) → Logged g log → Logged g' (log ++ n)
 logged_kept g g' n log p o new l = record {
   made = λ a i. ⊎_elim (λ was. (o.kept a.by (l.made a was)).0) (λ z. (o.kept a.by (new a z).0.made).0) (In-append_cases a log n i);
   below = λ a i. ⊎_elim (λ was. le_trans (l.below a was) (o.rises a.by)) (λ z. (new a z).0.within) (In-append_cases a log n i);
-  node = λ a i. ⊎_elim (λ was. l.node a was ∙ sym (o.kept a.by (l.made a was)).1) (λ z. (new a z).0.node ∙ sym (o.kept a.by (new a z).0.made).1) (In-append_cases a log n i);
+  node = λ a i. ⊎_elim (λ was. l.node a was ∙ sym (o.kept a.by (l.made a was)).1) (λ z. (new a z).0.node
+      ∙ sym (o.kept a.by (new a z).0.made).1) (In-append_cases a log n i);
   once = λ a b i j e. ⊎_elim
       (λ was. ⊎_elim (λ was'. l.once a b was was' e) (λ z. absurd (new_stamp g g' log a b p l was (new b z).0 e)) (In-append_cases b log n j))
       (λ z. ⊎_elim (λ was'. absurd (new_stamp g g' log b a p l was' (new a z).0 (sym e))) (λ z'. (new b z').1 a z) (In-append_cases b log n j))
@@ -90,7 +99,10 @@ logged_run (c ∷ cs) g log p l =
     let o = outcome g c in
     let on = step_onward g c p in
     let l' = logged_kept g o.cell o.accepted log p on (steps_accepted g o.cell (place_of g c) o.answer o.accepted p (outcome_steps g c)) l in
-    subst (λ (z : List Accepted). Logged (replay_from o.cell cs) z) (append_assoc log o.accepted (accepted_from o.cell cs)) (logged_run cs o.cell (log ++ o.accepted) on.plain l')
+    subst (λ (z : List Accepted). Logged (replay_from o.cell cs) z) (append_assoc log o.accepted (accepted_from o.cell cs))
+    (logged_run cs o.cell (log ++ o.accepted) on.plain l')
 
+-- what the accepted updates of a run say of its cell
 pub logged_at : (cs : List Command) → Logged (replay cs) (accepted cs)
-logged_at cs = logged_run cs empty_cell [] empty_plain (record { made = λ a i. elim i [ ]; below = λ a i. elim i [ ]; node = λ a i. elim i [ ]; once = λ a b i. elim i [ ] })
+logged_at cs = logged_run cs empty_cell [] empty_plain
+    (record { made = λ a i. elim i [ ]; below = λ a i. elim i [ ]; node = λ a i. elim i [ ]; once = λ a b i. elim i [ ] })

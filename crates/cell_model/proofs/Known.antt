@@ -7,7 +7,8 @@ use Rattle.cell_model.specs.Cells.{Replica, Slot, Gone, Held, Message}
 use Rattle.cell_model.specs.Commands.{Accepted}
 use Rattle.cell_model.proofs.Lists.{In-append_left, In-append_right, In-append_cases}
 use Rattle.cell_model.proofs.Terms.{Listed}
-use Rattle.cell_model.proofs.Facts.{View, IsPosted, Holds, Roll, marks_in, Reached, Sound, Past, grew, rose, crowned, copied, founded, Came, own, sent, fresh, Brings, New, Frame}
+use Rattle.cell_model.proofs.Facts.{View, IsPosted, Holds, Roll, marks_in, Reached, Sound, Past, grew, rose, crowned, copied, founded, Came, own}
+use Rattle.cell_model.proofs.Facts.{sent, fresh, Brings, New, Frame}
 use Rattle.cell_model.proofs.Bounds.{held_reached, same_held}
 use Rattle.cell_model.proofs.FirstRound.{slot_cases}
 use Rattle.cell_model.proofs.Marks.{WellMade}
@@ -20,6 +21,7 @@ pub record Whence (d : ℕ) (log : List Accepted) (h : List Mark) (k : Mark) : T
   pub has : In k by.marks
   pub part : IsPart by.marks h
 
+-- each mark of a history came by an accepted update, of which the history has all
 abbrev pub Closed : ℕ → List Accepted → List Mark → Type 0
 Closed d log h = (k : Mark) → In k h → Whence d log h k
 
@@ -31,6 +33,7 @@ pub record Origin (d : ℕ) (log : List Accepted) (k : Mark) : Type 0 where
   pub has : In k by.marks
   pub stamp : stamp_in k ≡ by.stamp
 
+-- what holds of the accepted updates in every cell that is reached
 pub record Known (roll : Roll) (g : View) (log : List Accepted) : Type 0 where
   pub only : (x : ℕ) (r : Replica) → Holds g x r → Closed roll.dir log r.history
   pub only_m : (m : Message) → IsPosted g m → Closed roll.dir log (marks_in m.body)
@@ -54,16 +57,19 @@ pub record Accepting (g g' : View) (b : Accepted) : Type 0 where
   pub well : WellMade b.stamp b.marks
   pub fresh : (g.house b.by).floor < b.stamp.time
 
+-- each update of a step in this directory is one that the step accepts
 abbrev pub AllAccepting : ℕ → View → View → List Accepted → Type 0
 AllAccepting d g g' new = (b : Accepted) → In b new → b.dir ≡ d → Accepting g g' b
 
 pub more_known : (d : ℕ) (log new : List Accepted) (h h' : List Mark) (k : Mark) → IsPart h h' → Whence d log h k → Whence d (log ++ new) h' k
-more_known d log new h h' k sub w = record { by = w.by; logged = In-append_left w.by log new w.logged; dir = w.dir; has = w.has; part = λ j i. sub j (w.part j i) }
+more_known d log new h h' k sub w =
+    record { by = w.by; logged = In-append_left w.by log new w.logged; dir = w.dir; has = w.has; part = λ j i. sub j (w.part j i) }
 
 pub more_origin : (d : ℕ) (log new : List Accepted) (k : Mark) → Origin d log k → Origin d (log ++ new) k
 more_origin d log new k o = record { by = o.by; logged = In-append_left o.by log new o.logged; dir = o.dir; has = o.has; stamp = o.stamp }
 
-module _ (roll : Roll) (g g' : View) (new log : List Accepted) (s : Sound roll g) (s' : Sound roll g') (f : Frame roll g g' new) (acc : AllAccepting roll.dir g g' new) (w : Known roll g log) where
+module _ (roll : Roll) (g g' : View) (new log : List Accepted) (s : Sound roll g) (s' : Sound roll g') (f : Frame roll g g' new)
+    (acc : AllAccepting roll.dir g g' new) (w : Known roll g log) where
   known_came : (x floor : ℕ) (r' : Replica) (k : Mark) → Came roll g g' new x floor r' k → Whence roll.dir (log ++ new) r'.history k
   known_came x floor r' k (own r h i _ _ sub) = more_known roll.dir log new r.history r'.history k sub (w.only x r h k i)
   known_came x floor r' k (sent m at _ i _ sub) = more_known roll.dir log new (marks_in m.body) r'.history k sub (w.only_m m at k i)
@@ -75,10 +81,13 @@ module _ (roll : Roll) (g g' : View) (new log : List Accepted) (s : Sound roll g
   origin_came x floor r' k (fresh r a _ _ _ _ i dir ik e sub _) = record { by = a; logged = In-append_right a log new i; dir = dir; has = ik; stamp = e }
 
   -- a house keeps the updates of its present term
-  all_past : (b : Accepted) (r' : Replica) → In b log → b.dir ≡ roll.dir → Holds g' b.by r' → Listed (roll.list r'.epoch) b.by b.since → Past roll g g' b.by (g'.house b.by).floor r' → IsPart b.marks r'.history
+  all_past : (b : Accepted) (r' : Replica) → In b log → b.dir ≡ roll.dir → Holds g' b.by r' → Listed (roll.list r'.epoch) b.by b.since
+      → Past roll g g' b.by (g'.house b.by).floor r' → IsPart b.marks r'.history
   all_past b r' i dir h' l (grew r h e _ sub _) = λ k ik. sub k (w.all b r i dir h (subst (λ (z : ℕ). Listed (roll.list z) b.by b.since) (sym e) l) k ik)
-  all_past b r' i dir h' l (rose r _ _ _ h lt sub _ cont _) = λ k ik. sub k (w.all b r i dir h (s'.good.term r.epoch r'.epoch b.by b.since (omega arith) (s'.held b.by r' h').top (cont b.since l) l) k ik)
-  all_past b r' i dir h' l (crowned r h lt sub cont _ _ _ _ _) = λ k ik. sub k (w.all b r i dir h (s'.good.term r.epoch r'.epoch b.by b.since (omega arith) (s'.held b.by r' h').top (cont b.since l) l) k ik)
+  all_past b r' i dir h' l (rose r _ _ _ h lt sub _ cont _) =
+      λ k ik. sub k (w.all b r i dir h (s'.good.term r.epoch r'.epoch b.by b.since (omega arith) (s'.held b.by r' h').top (cont b.since l) l) k ik)
+  all_past b r' i dir h' l (crowned r h lt sub cont _ _ _ _ _) =
+      λ k ik. sub k (w.all b r i dir h (s'.good.term r.epoch r'.epoch b.by b.since (omega arith) (s'.held b.by r' h').top (cont b.since l) l) k ik)
   all_past b r' i dir h' l (founded none _ _ _ _ _) =
       let t = w.term b i dir in
       let zero_epoch : b.epoch ≡ 0 = omega (arith, t.0, none) in
@@ -117,7 +126,8 @@ module _ (roll : Roll) (g g' : View) (new log : List Accepted) (s : Sound roll g
     only = only';
     only_m = λ m at k i. ⊎_elim (λ was. more_known roll.dir log new (marks_in m.body) (marks_in m.body) k (λ j z. z) (w.only_m m was k i))
         (λ (n : New roll g g' new m). posted_known m n k i) (f.posts m at);
-    up = λ b i dir. ⊎_elim (λ was. f.climbs b.by b.epoch (w.up b was dir)) (λ n. let z = acc b n dir in held_reached b.epoch _ z.now z.holds (omega (arith, z.epoch'))) (In-append_cases b log new i);
+    up = λ b i dir. ⊎_elim (λ was. f.climbs b.by b.epoch (w.up b was dir)) (λ n. let z = acc b n dir in
+        held_reached b.epoch _ z.now z.holds (omega (arith, z.epoch'))) (In-append_cases b log new i);
     term = λ b i dir. ⊎_elim (λ was. let z = w.term b was dir in (le_trans z.0 f.top, z.1)) (λ n. new_term b (acc b n dir)) (In-append_cases b log new i);
     all = λ b r' i dir h' l. ⊎_elim
         (λ was. all_past b r' was dir h' l (f.past b.by r' h'))

@@ -1,5 +1,6 @@
 -- The marks of an update: each has its stamp, or is the birth that the history has.
-use Rattle.std.proofs.Common.{◌≡◌, ℕ, ◌+◌, ◌<◌, max, ◌⊎◌, inl, inr, Bool, true, false, cond, eqb, List, [], ◌∷◌, Option, Some, None, refl, sym, ap, ◌∙◌, subst, arith, ⊎_elim}
+use Rattle.std.proofs.Common.{◌≡◌, ℕ, ◌+◌, ◌<◌, max, ◌⊎◌, inl, inr, Bool, true, false, cond, eqb, List, [], ◌∷◌, Option, Some, None, refl, sym, ap}
+use Rattle.std.proofs.Common.{◌∙◌, subst, arith, ⊎_elim}
 use Rattle.std.specs.declared.cmp.Ordering.{Ordering}
 use Rattle.std.specs.Ordering.{is_lt}
 use Rattle.std.specs.Option.{option_and_then}
@@ -18,11 +19,13 @@ use Rattle.cell_model.specs.Sets.{In, IsUpTo}
 use Rattle.cell_model.proofs.Lists.{up_to_itself}
 
 -- the join of a list by a choice is what one of its items has
-chosen : {A X : Type 0} (f : X → X → X) → ((x y : X) → (f x y ≡ x) ⊎ (f x y ≡ y)) → (p : A → Option X) (xs : List A) (y : X) → join_of f p xs ≡ Some y → (x : A) × In x xs × (p x ≡ Some y)
+chosen : {A X : Type 0} (f : X → X → X) → ((x y : X) → (f x y ≡ x) ⊎ (f x y ≡ y)) → (p : A → Option X) (xs : List A) (y : X) → join_of f p xs ≡ Some y
+    → (x : A) × In x xs × (p x ≡ Some y)
 chosen f choice p [] y e = absurd (cc)
 chosen {A} {X} f choice p (x ∷ xs) y e = go (p x) refl (join_of f p xs) refl e (λ q. let w = chosen f choice p xs y q in (w.0, inr w.1, w.2))
   where
-    go : (o : Option X) → p x ≡ o → (q : Option X) → join_of f p xs ≡ q → maybe f o q ≡ Some y → (join_of f p xs ≡ Some y → (z : A) × In z (x ∷ xs) × (p z ≡ Some y)) → (z : A) × In z (x ∷ xs) × (p z ≡ Some y)
+    go : (o : Option X) → p x ≡ o → (q : Option X) → join_of f p xs ≡ q → maybe f o q ≡ Some y
+        → (join_of f p xs ≡ Some y → (z : A) × In z (x ∷ xs) × (p z ≡ Some y)) → (z : A) × In z (x ∷ xs) × (p z ≡ Some y)
     go None a q b e' there = there (b ∙ e')
     go (Some u) a None b e' there = (x, inl refl, a ∙ e')
     go (Some u) a (Some w) b e' there = ⊎_elim
@@ -30,6 +33,7 @@ chosen {A} {X} f choice p (x ∷ xs) y e = go (p x) refl (join_of f p xs) refl e
         (λ (r : f u w ≡ w). let z : w ≡ y = cc in there (b ∙ ap Some z))
         (choice u w)
 
+-- the greater of two is one of them
 pub greater_choice : {K : Type 0} (R : K → K → Ordering) (x y : K) → (greater R x y ≡ x) ⊎ (greater R x y ≡ y)
 greater_choice {K} R x y = go (is_lt (R x y))
   where
@@ -41,7 +45,8 @@ birth_is : (n : List ℕ) (m : Mark) (b : Born) → birth_in n m ≡ Some b → 
 birth_is n (Birth o kind c) b e = go (is_octets n o) refl e
   where
     go : (t : Bool) → is_octets n o ≡ t → cond t (Some (record { at = c; kind = kind })) None ≡ Some b → Birth o kind c ≡ Birth n b.kind b.at
-    go true q e' = let s : n ≡ o = tied octets_exact n o q in let z : record { at = c; kind = kind } ≡ b = cc in ap (λ (l : List ℕ). Birth l kind c) (sym s) ∙ ap (λ (y : Born). Birth n y.kind y.at) z
+    go true q e' = let s : n ≡ o = tied octets_exact n o q in let z : record { at = c; kind = kind } ≡ b = cc in ap (λ (l : List ℕ). Birth l kind c) (sym s)
+        ∙ ap (λ (y : Born). Birth n y.kind y.at) z
     go false q e' = absurd (cc)
 birth_is n (Death o c s) b e = absurd (cc)
 birth_is n (Attr o c a x) b e = absurd (cc)
@@ -53,10 +58,12 @@ birth_stands h n b e =
     subst (λ (z : Mark). In z h) (birth_is n w.0 b w.2) w.1
 
 -- an entry that shows is that of the greatest birth
-pub shown_is : (h : List Mark) (n : List ℕ) (e : Shown) → shown h n ≡ Some e → (b : Born) × (birth_of h n ≡ Some b) × (b.at ≡ e.birth) × (b.kind ≡ e.kind) × (death_of h n e.birth ≡ None)
+pub shown_is : (h : List Mark) (n : List ℕ) (e : Shown) → shown h n ≡ Some e
+    → (b : Born) × (birth_of h n ≡ Some b) × (b.at ≡ e.birth) × (b.kind ≡ e.kind) × (death_of h n e.birth ≡ None)
 shown_is h n e q = go (birth_of h n) refl q
   where
-    live : (b : Born) (o : Option Stamp) → death_of h n b.at ≡ o → (s : Shown) → (s.birth ≡ b.at) × (s.kind ≡ b.kind) → shown_if_live o s ≡ Some e → (b.at ≡ e.birth) × (b.kind ≡ e.kind) × (death_of h n e.birth ≡ None)
+    live : (b : Born) (o : Option Stamp) → death_of h n b.at ≡ o → (s : Shown) → (s.birth ≡ b.at) × (s.kind ≡ b.kind) → shown_if_live o s ≡ Some e
+        → (b.at ≡ e.birth) × (b.kind ≡ e.kind) × (death_of h n e.birth ≡ None)
     live b None d s is e' = test (leads s.kind s.values) refl e'
       where
         test : (t : Bool) → leads s.kind s.values ≡ t → cond t (Some s) None ≡ Some e → (b.at ≡ e.birth) × (b.kind ≡ e.kind) × (death_of h n e.birth ≡ None)
@@ -67,10 +74,12 @@ shown_is h n e q = go (birth_of h n) refl q
         test false r e'' = absurd (cc)
     live b (Some t) d s is e' = absurd (cc)
 
-    go : (o : Option Born) → birth_of h n ≡ o → option_and_then (shown_born h n) o ≡ Some e → (b : Born) × (birth_of h n ≡ Some b) × (b.at ≡ e.birth) × (b.kind ≡ e.kind) × (death_of h n e.birth ≡ None)
+    go : (o : Option Born) → birth_of h n ≡ o → option_and_then (shown_born h n) o ≡ Some e
+        → (b : Born) × (birth_of h n ≡ Some b) × (b.at ≡ e.birth) × (b.kind ≡ e.kind) × (death_of h n e.birth ≡ None)
     go None b e' = absurd (cc)
     go (Some b) q' e' = let l = live b (death_of h n b.at) refl _ (refl, refl) e' in (b, q', l.0, l.1, l.2)
 
+-- the history has the birth of an entry that shows
 pub shown_birth : (h : List Mark) (n : List ℕ) (e : Shown) → shown h n ≡ Some e → In (Birth n e.kind e.birth) h
 shown_birth h n e q =
     let w = shown_is h n e q in
@@ -89,11 +98,13 @@ two_fit : (h : List Mark) (s : Stamp) (m n : Mark) → stamp_in m ≡ s → stam
 two_fit h s m n e f k (inl q) = inl (ap stamp_in q ∙ e)
 two_fit h s m n e f k (inr i) = one_fits h s n f k i
 
-birth_fits : (h : List Mark) (n : List ℕ) (s : Stamp) (o : Option Shown) (ms : Shown → List Mark) → shown h n ≡ o → ((e : Shown) → Fits h s (ms e)) → Fits h s (with_birth n o ms)
+birth_fits : (h : List Mark) (n : List ℕ) (s : Stamp) (o : Option Shown) (ms : Shown → List Mark) → shown h n ≡ o → ((e : Shown) → Fits h s (ms e))
+    → Fits h s (with_birth n o ms)
 birth_fits h n s None ms q f k i = elim i [ ]
 birth_fits h n s (Some e) ms q f k (inl b) = inr (subst (λ (z : Mark). In z h) (sym b) (shown_birth h n e q))
 birth_fits h n s (Some e) ms q f k (inr i) = f e k i
 
+-- the marks of an update fit to the history, with their stamp
 pub marks_fit : (h : List Mark) (u : Change) (s : Stamp) → Fits h s (marks_of (shown h (changed_name u)) u s)
 marks_fit h (Create n) s = one_fits h s _ refl
 marks_fit h (MakeLink n target) s = two_fit h s _ _ refl refl
@@ -154,7 +165,14 @@ module _ (n : List ℕ) (kind : Kind) (c s : Stamp) (rest : List Mark) (up : IsU
   kind_is o j b (inr i) = absurd ((about (Birth o j b) i).other o j b refl)
 
   well_made : (k : Mark) × In k made × (stamp_in k ≡ s) → WellMade s made
-  well_made own = record { own = own; stamped = none_later; births = its_birth; ordered = in_order; kinds = λ o b j k i i'. kind_is o j b i ∙ sym (kind_is o k b i') }
+  well_made own = record {
+    own = own;
+    stamped = none_later;
+    births = its_birth;
+    ordered = in_order;
+    kinds = λ o b j k i i'. kind_is o j b i
+        ∙ sym (kind_is o k b i');
+  }
 
 no_about : (n : List ℕ) (c s : Stamp) (k : Mark) → In k [] → About n c s k
 no_about n c s k i = elim i [ ]
@@ -174,20 +192,28 @@ death_about : (n : List ℕ) (c s : Stamp) → About n c s (Death n c s)
 death_about n c s = record { name = refl; born = refl; stamp = refl; other = λ o j b q. cc }
 
 -- the marks of an update of an entry that shows
-shown_made : (n : List ℕ) (s : Stamp) (e : Shown) (rest : List Mark) → IsUpTo e.birth s → ((k : Mark) → In k rest → About n e.birth s k) → (k : Mark) × In k rest × (stamp_in k ≡ s) → WellMade s (Birth n e.kind e.birth ∷ rest)
+shown_made : (n : List ℕ) (s : Stamp) (e : Shown) (rest : List Mark) → IsUpTo e.birth s → ((k : Mark) → In k rest → About n e.birth s k)
+    → (k : Mark) × In k rest × (stamp_in k ≡ s) → WellMade s (Birth n e.kind e.birth ∷ rest)
 shown_made n s e rest up about own = well_made n e.kind e.birth s rest up about (own.0, inr own.1, own.2)
 
 -- the marks of an update that is not refused
-pub marks_made : (o : Option Shown) (u : Change) (s : Stamp) → refusal_of o u ≡ None → ((e : Shown) → o ≡ Some e → IsUpTo e.birth s) → WellMade s (marks_of o u s)
+pub marks_made : (o : Option Shown) (u : Change) (s : Stamp) → refusal_of o u ≡ None → ((e : Shown) → o ≡ Some e → IsUpTo e.birth s)
+    → WellMade s (marks_of o u s)
 marks_made o (Create n) s fine up = well_made n Object s s [] (up_to_itself s) (no_about n s s) (_, inl refl, refl)
 marks_made o (MakeLink n target) s fine up = well_made n Link s s _ (up_to_itself s) (λ k. one_about n s s _ k (attr_about n s _ _ s refl)) (_, inl refl, refl)
-marks_made o (MakeChild n pointer) s fine up = well_made n Child s s _ (up_to_itself s) (λ k. one_about n s s _ k (attr_about n s _ _ s refl)) (_, inl refl, refl)
+marks_made o (MakeChild n pointer) s fine up =
+    well_made n Child s s _ (up_to_itself s) (λ k. one_about n s s _ k (attr_about n s _ _ s refl)) (_, inl refl, refl)
 marks_made (Some e) (Delete n) s fine up = shown_made n s e _ (up e refl) (λ k. one_about n e.birth s _ k (death_about n e.birth s)) (_, inl refl, refl)
-marks_made (Some e) (Add n a v) s fine up = shown_made n s e _ (up e refl) (λ k. one_about n e.birth s _ k (attr_about n e.birth a _ s refl)) (_, inl refl, refl)
-marks_made (Some e) (Remove n a v) s fine up = shown_made n s e _ (up e refl) (λ k. one_about n e.birth s _ k (attr_about n e.birth a _ s refl)) (_, inl refl, refl)
-marks_made (Some e) (Put n a v) s fine up = shown_made n s e _ (up e refl) (λ k. two_about n e.birth s _ _ k (attr_about n e.birth a _ s refl) (attr_about n e.birth a _ s refl)) (_, inl refl, refl)
-marks_made (Some e) (Clear n a) s fine up = shown_made n s e _ (up e refl) (λ k. one_about n e.birth s _ k (attr_about n e.birth a _ s refl)) (_, inl refl, refl)
-marks_made (Some e) (Repoint n master others) s fine up = shown_made n s e _ (up e refl) (λ k. two_about n e.birth s _ _ k (attr_about n e.birth _ _ s refl) (attr_about n e.birth _ _ s refl)) (_, inl refl, refl)
+marks_made (Some e) (Add n a v) s fine up =
+    shown_made n s e _ (up e refl) (λ k. one_about n e.birth s _ k (attr_about n e.birth a _ s refl)) (_, inl refl, refl)
+marks_made (Some e) (Remove n a v) s fine up =
+    shown_made n s e _ (up e refl) (λ k. one_about n e.birth s _ k (attr_about n e.birth a _ s refl)) (_, inl refl, refl)
+marks_made (Some e) (Put n a v) s fine up =
+    shown_made n s e _ (up e refl) (λ k. two_about n e.birth s _ _ k (attr_about n e.birth a _ s refl) (attr_about n e.birth a _ s refl)) (_, inl refl, refl)
+marks_made (Some e) (Clear n a) s fine up =
+    shown_made n s e _ (up e refl) (λ k. one_about n e.birth s _ k (attr_about n e.birth a _ s refl)) (_, inl refl, refl)
+marks_made (Some e) (Repoint n master others) s fine up =
+    shown_made n s e _ (up e refl) (λ k. two_about n e.birth s _ _ k (attr_about n e.birth _ _ s refl) (attr_about n e.birth _ _ s refl)) (_, inl refl, refl)
 marks_made None (Delete n) s fine up = absurd (cc)
 marks_made None (Add n a v) s fine up = absurd (cc)
 marks_made None (Remove n a v) s fine up = absurd (cc)

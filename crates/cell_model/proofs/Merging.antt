@@ -1,5 +1,6 @@
 -- Whatever a message adds can be merged.
-use Rattle.std.proofs.Common.{◌≡◌, ℕ, zero, suc, length, ◌<◌, ◌≤◌, ◌⊎◌, inl, inr, Bool, true, false, ◌||◌, cond, List, [], ◌∷◌, ◌++◌, Option, Some, None, refl, sym, ap, ◌∙◌, subst, arith, ⊎_elim, le_trans}
+use Rattle.std.proofs.Common.{◌≡◌, ℕ, zero, suc, length, ◌<◌, ◌≤◌, ◌⊎◌, inl, inr, Bool, true, false, ◌||◌, cond, List, [], ◌∷◌, ◌++◌, Option, Some}
+use Rattle.std.proofs.Common.{None, refl, sym, ap, ◌∙◌, subst, arith, ⊎_elim, le_trans}
 use Rattle.std.specs.List.{filter, list_any, AllByRecursion}
 use Rattle.std.specs.Bool.{IsTrue}
 use Rattle.std.specs.Prelude.{slice_index_or}
@@ -36,7 +37,9 @@ use Rattle.cell_model.proofs.NeverComes.{reaching_last}
 -- ---- what a receiver lacks
 
 -- a message that a house joins in has no mark up to t that the house lacks
-premise : (roll : Roll) (g : View) (k : ℕ) (t : Stamp) (all : List Mark) (m : Message) (x : ℕ) (q : Replica) (j : Mark) → Sound roll g → Done roll g k t all → IsPosted g m → k ≤ m.epoch → Holds g x q → (b : ℕ) → Listed (roll.list m.epoch) x b → b ≤ q.epoch → In j (marks_in m.body) → IsUpTo (stamp_in j) t → In j q.history
+premise : (roll : Roll) (g : View) (k : ℕ) (t : Stamp) (all : List Mark) (m : Message) (x : ℕ) (q : Replica) (j : Mark) → Sound roll g
+    → Done roll g k t all → IsPosted g m → k ≤ m.epoch → Holds g x q → (b : ℕ) → Listed (roll.list m.epoch) x b → b ≤ q.epoch → In j (marks_in m.body)
+    → IsUpTo (stamp_in j) t → In j q.history
 premise roll g k t all m x q j s d at le h b l cont i up =
     let high : k ≤ q.epoch = ⊎_elim
     (λ (low : q.epoch < k).
@@ -50,7 +53,8 @@ In-filter : (t : Stamp) (h : List Mark) (k : Mark) → In k (filter (λ m. is_up
 In-filter t [] k i = elim i [ ]
 In-filter t (m ∷ h) k i = go (is_up_to t (stamp_in m)) refl i (In-filter t h k)
   where
-    go : (b : Bool) → is_up_to t (stamp_in m) ≡ b → In k (cond b (m ∷ filter (λ z. is_up_to t (stamp_in z)) h) (filter (λ z. is_up_to t (stamp_in z)) h)) → (In k (filter (λ z. is_up_to t (stamp_in z)) h) → In k h × IsUpTo (stamp_in k) t) → In k (m ∷ h) × IsUpTo (stamp_in k) t
+    go : (b : Bool) → is_up_to t (stamp_in m) ≡ b → In k (cond b (m ∷ filter (λ z. is_up_to t (stamp_in z)) h) (filter (λ z. is_up_to t (stamp_in z)) h))
+        → (In k (filter (λ z. is_up_to t (stamp_in z)) h) → In k h × IsUpTo (stamp_in k) t) → In k (m ∷ h) × IsUpTo (stamp_in k) t
     go true e (inl s) rest = (inl s, subst (λ (z : Mark). IsUpTo (stamp_in z) t) (sym s) e)
     go true e (inr j) rest = let w = rest j in (inr w.0, w.1)
     go false e j rest = let w = rest j in (inr w.0, w.1)
@@ -76,17 +80,21 @@ contains_at (m ∷ h) k zero lt e = inl (sym e)
 contains_at (m ∷ h) k (suc n) lt e = inr (contains_at h k n (omega arith) e)
 
 -- marks that have their births, in order and of one kind are a history
-pub is_history : (h : List Mark) → ((k : Mark) → In k h → (j : Kind) × In (Birth (name_in k) j (born_in k)) h) → ((k : Mark) → In k h → IsUpTo (born_in k) (stamp_in k)) → ((n : List ℕ) (c : Stamp) (j k : Kind) → In (Birth n j c) h → In (Birth n k c) h → j ≡ k) → IsHistory h
+pub is_history : (h : List Mark) → ((k : Mark) → In k h → (j : Kind) × In (Birth (name_in k) j (born_in k)) h)
+    → ((k : Mark) → In k h → IsUpTo (born_in k) (stamp_in k)) → ((n : List ℕ) (c : Stamp) (j k : Kind) → In (Birth n j c) h → In (Birth n k c) h → j ≡ k)
+    → IsHistory h
 is_history h births order kinds = record {
   births = all_of (λ k. list_any (is_birth (name_in k) (born_in k)) h ≡ true) h (λ k i.
       let b = births k i in
-      any_of (is_birth (name_in k) (born_in k)) h (Birth (name_in k) b.0 (born_in k)) b.1 (both_true (is_octets (name_in k) (name_in k)) (is_stamp (born_in k) (born_in k)) (same_octets (name_in k)) (same_stamp (born_in k))));
+      any_of (is_birth (name_in k) (born_in k)) h (Birth (name_in k) b.0 (born_in k)) b.1
+      (both_true (is_octets (name_in k) (name_in k)) (is_stamp (born_in k) (born_in k)) (same_octets (name_in k)) (same_stamp (born_in k))));
   ordered = all_of (λ k. IsTrue (is_up_to (stamp_in k) (born_in k))) h (λ k i. order k i);
   kinds = λ n c j k a b. kinds n c j k (contains_at h (Birth n j c) a.0 a.1 a.2) (contains_at h (Birth n k c) b.0 b.1 b.2);
 }
 
 -- marks of accepted updates, each whole, are a history
-module _ (d : ℕ) (log : List Accepted) (well : (a : Accepted) → In a log → a.dir ≡ d → WellMade a.stamp a.marks) (once : (a b : Accepted) → In a log → In b log → a.stamp ≡ b.stamp → a ≡ b) where
+module _ (d : ℕ) (log : List Accepted) (well : (a : Accepted) → In a log → a.dir ≡ d → WellMade a.stamp a.marks) (once : (a b : Accepted) → In a log
+    → In b log → a.stamp ≡ b.stamp → a ≡ b) where
   pub closed_history : (h : List Mark) → Closed d log h → ((k : Mark) → In k h → Origin d log k) → IsHistory h
   closed_history h closed origin =
       is_history h
@@ -115,17 +123,40 @@ record Added (m : Message) (r : Replica) (marks : List Mark) (t : Option Stamp) 
 
 adds_known : (m : Message) (r : Replica) (marks : List Mark) (t : Option Stamp) → Adds m r marks t → Added m r marks t
 adds_known m r marks t (of_update _ is e) = record { same = sym (ap marks_in is); behind = omega arith; sources = λ s q. inl q }
-adds_known m r marks t (of_gathered u copy is e) = record { same = sym (ap marks_in is); behind = omega arith; sources = λ s q. ⊎_elim (λ l. inl l) (λ l. inr (ap up_to_in is ∙ l)) (later_is r.all_up_to copy.all_up_to s q) }
-adds_known m r marks t (of_spread u copy is e) = record { same = sym (ap marks_in is); behind = omega arith; sources = λ s q. ⊎_elim (λ l. inl l) (λ l. inr (ap up_to_in is ∙ l)) (later_is r.all_up_to copy.all_up_to s q) }
-adds_known m r marks t (of_join ms copy is le since) = record { same = sym (ap marks_in is); behind = le; sources = λ s q. ⊎_elim (λ l. inl l) (λ l. inr (ap up_to_in is ∙ l)) (later_is r.all_up_to copy.all_up_to s q) }
+adds_known m r marks t (of_gathered u copy is e) =
+    record {
+      same = sym (ap marks_in is);
+      behind = omega arith;
+      sources =
+          λ s q. ⊎_elim (λ l. inl l) (λ l. inr (ap up_to_in is ∙ l)) (later_is r.all_up_to copy.all_up_to s q);
+    }
+adds_known m r marks t (of_spread u copy is e) =
+    record {
+      same = sym (ap marks_in is);
+      behind = omega arith;
+      sources =
+          λ s q. ⊎_elim (λ l. inl l) (λ l. inr (ap up_to_in is ∙ l)) (later_is r.all_up_to copy.all_up_to s q);
+    }
+adds_known m r marks t (of_join ms copy is le since) =
+    record {
+      same = sym (ap marks_in is);
+      behind = le;
+      sources =
+          λ s q. ⊎_elim (λ l. inl l) (λ l. inr (ap up_to_in is ∙ l)) (later_is r.all_up_to copy.all_up_to s q);
+    }
 
 -- the receiver was listed in the message's epoch since its own or an earlier one
-own_term : (roll : Roll) (v : View) (m : Message) (r : Replica) → Sound roll v → Holds v m.receiver r → m.epoch ≡ r.epoch → (b : ℕ) × Listed (roll.list m.epoch) m.receiver b × (b ≤ r.epoch)
+own_term : (roll : Roll) (v : View) (m : Message) (r : Replica) → Sound roll v → Holds v m.receiver r → m.epoch ≡ r.epoch
+    → (b : ℕ) × Listed (roll.list m.epoch) m.receiver b × (b ≤ r.epoch)
 own_term roll v m r s at e =
-    let ok = s.held m.receiver r at in
-    (ok.listed.0, subst (λ (k : ℕ). Listed (roll.list k) m.receiver ok.listed.0) (sym e) ok.listed.1, s.good.order r.epoch m.receiver ok.listed.0 ok.top ok.listed.1)
+    let ok = s.held m.receiver r at in (
+      ok.listed.0,
+      subst (λ (k : ℕ). Listed (roll.list k) m.receiver ok.listed.0) (sym e) ok.listed.1,
+      s.good.order r.epoch m.receiver ok.listed.0 ok.top ok.listed.1,
+    )
 
-adds_term : (roll : Roll) (v : View) (m : Message) (r : Replica) (marks : List Mark) (t : Option Stamp) → Sound roll v → IsPosted v m → Holds v m.receiver r → Adds m r marks t → (b : ℕ) × Listed (roll.list m.epoch) m.receiver b × (b ≤ r.epoch)
+adds_term : (roll : Roll) (v : View) (m : Message) (r : Replica) (marks : List Mark) (t : Option Stamp) → Sound roll v → IsPosted v m
+    → Holds v m.receiver r → Adds m r marks t → (b : ℕ) × Listed (roll.list m.epoch) m.receiver b × (b ≤ r.epoch)
 adds_term roll v m r marks t s i at (of_update _ is e) = own_term roll v m r s at e
 adds_term roll v m r marks t s i at (of_gathered u copy is e) = own_term roll v m r s at e
 adds_term roll v m r marks t s i at (of_spread u copy is e) = own_term roll v m r s at e
@@ -139,7 +170,8 @@ merges_lem commands m r marks t i at a = record {
   covered = cover t refl;
   mine = closed_history m.dir (accepted commands) here.known.well once r.history mine (here.known.origin m.receiver r at);
   theirs = closed_history m.dir (accepted commands) here.known.well once marks theirs its;
-  both = closed_history m.dir (accepted commands) here.known.well once (r.history ++ marks) (closed_both m.dir (accepted commands) here.known.well once r.history marks mine theirs)
+  both = closed_history m.dir (accepted commands) here.known.well once (r.history ++ marks)
+      (closed_both m.dir (accepted commands) here.known.well once r.history marks mine theirs)
       (λ k ik. ⊎_elim (here.known.origin m.receiver r at k) (its k) (In-append_cases k r.history marks ik));
 }
   where
@@ -159,10 +191,12 @@ merges_lem commands m r marks t i at a = record {
     mine = (reaching_last commands m.dir).known.only m.receiver r at
 
     theirs : Closed m.dir (accepted commands) marks
-    theirs = subst (λ (z : List Mark). Closed m.dir (accepted commands) z) (sym (adds_known m r marks t a).same) ((reaching_last commands m.dir).known.only_m m (In-of_dir m.dir (replay commands).bag m i refl))
+    theirs = subst (λ (z : List Mark). Closed m.dir (accepted commands) z) (sym (adds_known m r marks t a).same)
+        ((reaching_last commands m.dir).known.only_m m (In-of_dir m.dir (replay commands).bag m i refl))
 
     its : (k : Mark) → In k marks → Origin m.dir (accepted commands) k
-    its k ik = (reaching_last commands m.dir).known.origin_m m (In-of_dir m.dir (replay commands).bag m i refl) k (subst (λ (z : List Mark). In k z) (adds_known m r marks t a).same ik)
+    its k ik = (reaching_last commands m.dir).known.origin_m m (In-of_dir m.dir (replay commands).bag m i refl) k
+        (subst (λ (z : List Mark). In k z) (adds_known m r marks t a).same ik)
 
     -- the skulk of an AllUpTo of the receiver or the message
     skulk : (s : Stamp) → t ≡ Some s → (k : ℕ) × (k ≤ m.epoch) × IsCompleted commands m.dir s k
@@ -177,5 +211,8 @@ merges_lem commands m r marks t i at a = record {
         let w = In-filter s marks k ik in
         let c = skulk s e in
         let done = completed_done m.dir commands commands [] s c.0 (append_nil commands) c.2 in
-        let term = adds_term (roll_of m.dir commands) (view m.dir (replay commands)) m r marks t (reaching_last commands m.dir).sound (In-of_dir m.dir (replay commands).bag m i refl) at a in
-        premise (roll_of m.dir commands) (view m.dir (replay commands)) c.0 s done.0 m m.receiver r k (reaching_last commands m.dir).sound done.1 (In-of_dir m.dir (replay commands).bag m i refl) c.1 at term.0 term.1 term.2 (subst (λ (z : List Mark). In k z) (adds_known m r marks t a).same w.0) w.1
+        let term = adds_term (roll_of m.dir commands) (view m.dir (replay commands)) m r marks t (reaching_last commands m.dir).sound
+        (In-of_dir m.dir (replay commands).bag m i refl) at a in
+        premise (roll_of m.dir commands) (view m.dir (replay commands)) c.0 s done.0 m m.receiver r k (reaching_last commands m.dir).sound done.1
+        (In-of_dir m.dir (replay commands).bag m i refl) c.1 at term.0 term.1 term.2 (subst (λ (z : List Mark). In k z) (adds_known m r marks t a).same w.0)
+        w.1

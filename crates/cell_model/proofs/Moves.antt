@@ -1,5 +1,6 @@
 -- Each command is one of these moves, or two of them.
-use Rattle.std.proofs.Common.{◌≡◌, ◌≢◌, ℕ, ◌+◌, ◌-◌, ◌<◌, ◌≤◌, Bool, true, false, ◌&&◌, ◌||◌, not, eqb, cond, List, [], ◌∷◌, Option, Some, None, refl, subst, arith, nat_lt, nat_le}
+use Rattle.std.proofs.Common.{◌≡◌, ◌≢◌, ℕ, ◌+◌, ◌-◌, ◌<◌, ◌≤◌, Bool, true, false, ◌&&◌, ◌||◌, not, eqb, cond, List, [], ◌∷◌, Option, Some, None}
+use Rattle.std.proofs.Common.{refl, subst, arith, nat_lt, nat_le}
 use Rattle.std.specs.Prelude.{slice_get}
 use Rattle.std.specs.Option.{option_map}
 use Rattle.cds_stamps.specs.declared.stamp.Stamp.{Stamp}
@@ -11,10 +12,16 @@ use Rattle.directory.specs.Shown.{shown, marks_of}
 use Rattle.directory.specs.Updates as changes
 use Rattle.directory.specs.Updates.{Change, changed_name}
 use Rattle.cell_model.specs.Sets.{In}
-use Rattle.cell_model.specs.Cells.{Phase, Idle, Gathering, Spreading, Replica, Slot, Absent, Gone, Held, Copy, Body, Update, Gather, Gathered, Spread, SpreadAck, Advance, Join, Leave, Message, Cell, IsHeld}
+use Rattle.cell_model.specs.Cells.{Phase, Idle, Gathering, Spreading, Replica, Slot, Absent, Gone, Held, Copy, Body, Update, Gather, Gathered}
+use Rattle.cell_model.specs.Cells.{Spread, SpreadAck, Advance, Join, Leave, Message, Cell, IsHeld}
 use Rattle.cell_model.specs.Commands as commands
-use Rattle.cell_model.specs.Commands.{Command, Refusal, NoHouse, NoDirectory, BadMembers, NotMember, Down, Answer, Done, Posted, Made, Stamped, NewEpoch, Taken, Late, Early, Stale, Foreign, Complete, Refused, Accepted}
-use Rattle.cell_model.specs.Steps.{Outcome, first_refusal, unless, has, is_missing, is_taken, is_down, is_unknown, moved, holding, grown, copy_of, merged, to_each, serials_of, stamp_at, ascending, listing, new_house, set_clock, founded, accept_at, update_refusal, accept, with_directory, raised, begin, skulk_at, skulk, promote, new_epoch, floor_after, reply, to_others, all_answered, take_gathered, take_ack, take_own, take_other, copied, kept_at_join, unless_late, take_join, take_leave, take, message_at, deliver, lose, crash, start, refusals_of, effect, outcome}
+use Rattle.cell_model.specs.Commands.{Command, Refusal, NoHouse, NoDirectory, BadMembers, NotMember, Down, Answer, Done, Posted, Made, Stamped}
+use Rattle.cell_model.specs.Commands.{NewEpoch, Taken, Late, Early, Stale, Foreign, Complete, Refused, Accepted}
+use Rattle.cell_model.specs.Steps.{Outcome, first_refusal, unless, has, is_missing, is_taken, is_down, is_unknown, moved, holding, grown, copy_of}
+use Rattle.cell_model.specs.Steps.{merged, to_each, serials_of, stamp_at, ascending, listing, new_house, set_clock, founded, accept_at}
+use Rattle.cell_model.specs.Steps.{update_refusal, accept, with_directory, raised, begin, skulk_at, skulk, promote, new_epoch, floor_after, reply}
+use Rattle.cell_model.specs.Steps.{to_others, all_answered, take_gathered, take_ack, take_own, take_other, copied, kept_at_join, unless_late}
+use Rattle.cell_model.specs.Steps.{take_join, take_leave, take, message_at, deliver, lose, crash, start, refusals_of, effect, outcome}
 use Rattle.cell_model.specs.Agreement.{place_of}
 use Rattle.cell_model.proofs.Lists.{In-from_get, or_left, or_right, not_true, eq_from, stamp_from, answered_all}
 
@@ -22,6 +29,7 @@ use Rattle.cell_model.proofs.Lists.{In-from_get, or_left, or_right, not_true, eq
 abbrev pub new_marks : Replica → Change → Stamp → List Mark
 new_marks r u s = marks_of (shown r.history (changed_name u)) u s
 
+-- the house is up
 abbrev pub IsUp : Cell → ℕ → Type 0
 IsUp g h = (g.house h).up ≡ true
 
@@ -53,22 +61,44 @@ accepting h d u r s = record { by = h; dir = d; epoch = r.epoch; since = since_i
 
 -- what a house does in one directory: its new floor and slot, what it posts, the answer, and what it accepted
 pub data Act (g : Cell) : (h d floor : ℕ) → Slot → List Message → Answer → List Accepted → Type 0 where
-  accepts : (h d : ℕ) (u : Change) (r : Replica) (s : Stamp) (ns : List ℕ) → Issuing g h d r s → update_refusal h u r ≡ None → Act g h d s.time (Held (grown r (new_marks r u s))) (to_each (others_of h r.members) d h r.epoch s.time (Update (new_marks r u s))) (Stamped s ns) (accepting h d u r s ∷ [])
-  skulks : (h d : ℕ) (r : Replica) (t : Stamp) (ns : List ℕ) → Issuing g h d r t → master_of r.members ≡ h → Act g h d t.time (Held (record r { phase = Gathering t [] })) (to_each (others_of h r.members) d h r.epoch t.time (Gather t)) (Stamped t ns) []
-  lone : (h d : ℕ) (r : Replica) (t : Stamp) → Issuing g h d r t → master_of r.members ≡ h → others_of h r.members ≡ [] → Act g h d t.time (Held (record r { all_up_to = raised r.all_up_to t; phase = Idle })) [] (Complete t []) []
-  updates : (m : Message) (marks : List Mark) (r : Replica) (ns : List ℕ) → Taking g m (Update marks) r → Act g m.receiver m.dir (floor_after g m) (Held (grown r marks)) [] (Taken ns) []
-  gives : (m : Message) (t : Stamp) (r : Replica) (ns : List ℕ) → Taking g m (Gather t) r → Act g m.receiver m.dir (floor_after g m) (Held r) (reply g m (Gathered t (copy_of r))) (Taken ns) []
-  gathers : (m : Message) (t : Stamp) (copy : Copy) (a : List ℕ) (r : Replica) (ns : List ℕ) → Taking g m (Gathered t copy) r → r.phase ≡ Gathering t a → Act g m.receiver m.dir (floor_after g m) (Held (record (merged r copy) { phase = Gathering t (m.sender ∷ a) })) [] (Taken ns) []
-  turns : (m : Message) (t : Stamp) (copy : Copy) (a : List ℕ) (r : Replica) (ns : List ℕ) → Taking g m (Gathered t copy) r → r.phase ≡ Gathering t a → ((x : ℕ) → In x (others_of m.receiver r.members) → In x (m.sender ∷ a)) → Act g m.receiver m.dir (floor_after g m) (Held (record (merged r copy) { phase = Spreading t [] })) (to_others g m r (Spread t (copy_of (merged r copy)))) (Taken ns) []
-  gathers_again : (m : Message) (t : Stamp) (copy : Copy) (a : List ℕ) (r : Replica) (ns : List ℕ) → Taking g m (Gathered t copy) r → r.phase ≡ Spreading t a → Act g m.receiver m.dir (floor_after g m) (Held (merged r copy)) [] (Taken ns) []
-  spreads : (m : Message) (t : Stamp) (copy : Copy) (r : Replica) (ns : List ℕ) → Taking g m (Spread t copy) r → Act g m.receiver m.dir (floor_after g m) (Held (merged r copy)) (reply g m (SpreadAck t)) (Taken ns) []
-  acks_early : (m : Message) (t : Stamp) (a : List ℕ) (r : Replica) (ns : List ℕ) → Taking g m (SpreadAck t) r → r.phase ≡ Gathering t a → Act g m.receiver m.dir (floor_after g m) (Held r) [] (Taken ns) []
-  acks : (m : Message) (t : Stamp) (a : List ℕ) (r : Replica) (ns : List ℕ) → Taking g m (SpreadAck t) r → r.phase ≡ Spreading t a → Act g m.receiver m.dir (floor_after g m) (Held (record r { phase = Spreading t (m.sender ∷ a) })) [] (Taken ns) []
-  completes : (m : Message) (t : Stamp) (a : List ℕ) (r : Replica) (ns : List ℕ) → Taking g m (SpreadAck t) r → r.phase ≡ Spreading t a → ((x : ℕ) → In x (others_of m.receiver r.members) → In x (m.sender ∷ a)) → Act g m.receiver m.dir (floor_after g m) (Held (record r { all_up_to = raised r.all_up_to t; phase = Idle })) (to_others g m r (Advance t)) (Complete t ns) []
-  advances : (m : Message) (t : Stamp) (r : Replica) (ns : List ℕ) → Taking g m (Advance t) r → Act g m.receiver m.dir (floor_after g m) (Held (record r { all_up_to = raised r.all_up_to t })) [] (Taken ns) []
-  copies : (m : Message) (ms : List Member) (copy : Copy) (ns : List ℕ) → Entering g m (Join ms copy) → ((r : Replica) → IsHeld g m.receiver m.dir r → (r.epoch ≤ m.epoch) × (r.epoch < since_in ms m.receiver 0)) → Act g m.receiver m.dir (floor_after g m) (Held (copied m ms copy)) [] (Taken ns) []
-  keeps : (m : Message) (ms : List Member) (copy : Copy) (r : Replica) (ns : List ℕ) → Entering g m (Join ms copy) → IsHeld g m.receiver m.dir r → r.epoch ≤ m.epoch → since_in ms m.receiver 0 ≤ r.epoch → Act g m.receiver m.dir (floor_after g m) (Held (kept_at_join m ms copy r)) [] (Taken ns) []
-  leaves : (m : Message) (ns : List ℕ) → Entering g m Leave → ((r : Replica) → IsHeld g m.receiver m.dir r → r.epoch < m.epoch) → Act g m.receiver m.dir (floor_after g m) (Gone m.epoch) [] (Taken ns) []
+  accepts : (h d : ℕ) (u : Change) (r : Replica) (s : Stamp) (ns : List ℕ) → Issuing g h d r s → update_refusal h u r ≡ None
+      → Act g h d s.time (Held (grown r (new_marks r u s))) (to_each (others_of h r.members) d h r.epoch s.time (Update (new_marks r u s))) (Stamped s ns)
+      (accepting h d u r s ∷ [])
+  skulks : (h d : ℕ) (r : Replica) (t : Stamp) (ns : List ℕ) → Issuing g h d r t → master_of r.members ≡ h
+      → Act g h d t.time (Held (record r { phase = Gathering t [] })) (to_each (others_of h r.members) d h r.epoch t.time (Gather t)) (Stamped t ns) []
+  lone : (h d : ℕ) (r : Replica) (t : Stamp) → Issuing g h d r t → master_of r.members ≡ h → others_of h r.members ≡ []
+      → Act g h d t.time (Held (record r { all_up_to = raised r.all_up_to t; phase = Idle })) [] (Complete t []) []
+  updates : (m : Message) (marks : List Mark) (r : Replica) (ns : List ℕ) → Taking g m (Update marks) r
+      → Act g m.receiver m.dir (floor_after g m) (Held (grown r marks)) [] (Taken ns) []
+  gives : (m : Message) (t : Stamp) (r : Replica) (ns : List ℕ) → Taking g m (Gather t) r
+      → Act g m.receiver m.dir (floor_after g m) (Held r) (reply g m (Gathered t (copy_of r))) (Taken ns) []
+  gathers : (m : Message) (t : Stamp) (copy : Copy) (a : List ℕ) (r : Replica) (ns : List ℕ) → Taking g m (Gathered t copy) r → r.phase ≡ Gathering t a
+      → Act g m.receiver m.dir (floor_after g m) (Held (record (merged r copy) { phase = Gathering t (m.sender ∷ a) })) [] (Taken ns) []
+  turns : (m : Message) (t : Stamp) (copy : Copy) (a : List ℕ) (r : Replica) (ns : List ℕ) → Taking g m (Gathered t copy) r → r.phase ≡ Gathering t a
+      → ((x : ℕ) → In x (others_of m.receiver r.members) → In x (m.sender ∷ a))
+      → Act g m.receiver m.dir (floor_after g m) (Held (record (merged r copy) { phase = Spreading t [] }))
+      (to_others g m r (Spread t (copy_of (merged r copy)))) (Taken ns) []
+  gathers_again : (m : Message) (t : Stamp) (copy : Copy) (a : List ℕ) (r : Replica) (ns : List ℕ) → Taking g m (Gathered t copy) r → r.phase ≡ Spreading t a
+      → Act g m.receiver m.dir (floor_after g m) (Held (merged r copy)) [] (Taken ns) []
+  spreads : (m : Message) (t : Stamp) (copy : Copy) (r : Replica) (ns : List ℕ) → Taking g m (Spread t copy) r
+      → Act g m.receiver m.dir (floor_after g m) (Held (merged r copy)) (reply g m (SpreadAck t)) (Taken ns) []
+  acks_early : (m : Message) (t : Stamp) (a : List ℕ) (r : Replica) (ns : List ℕ) → Taking g m (SpreadAck t) r → r.phase ≡ Gathering t a
+      → Act g m.receiver m.dir (floor_after g m) (Held r) [] (Taken ns) []
+  acks : (m : Message) (t : Stamp) (a : List ℕ) (r : Replica) (ns : List ℕ) → Taking g m (SpreadAck t) r → r.phase ≡ Spreading t a
+      → Act g m.receiver m.dir (floor_after g m) (Held (record r { phase = Spreading t (m.sender ∷ a) })) [] (Taken ns) []
+  completes : (m : Message) (t : Stamp) (a : List ℕ) (r : Replica) (ns : List ℕ) → Taking g m (SpreadAck t) r → r.phase ≡ Spreading t a
+      → ((x : ℕ) → In x (others_of m.receiver r.members) → In x (m.sender ∷ a))
+      → Act g m.receiver m.dir (floor_after g m) (Held (record r { all_up_to = raised r.all_up_to t; phase = Idle })) (to_others g m r (Advance t))
+      (Complete t ns) []
+  advances : (m : Message) (t : Stamp) (r : Replica) (ns : List ℕ) → Taking g m (Advance t) r
+      → Act g m.receiver m.dir (floor_after g m) (Held (record r { all_up_to = raised r.all_up_to t })) [] (Taken ns) []
+  copies : (m : Message) (ms : List Member) (copy : Copy) (ns : List ℕ) → Entering g m (Join ms copy)
+      → ((r : Replica) → IsHeld g m.receiver m.dir r → (r.epoch ≤ m.epoch) × (r.epoch < since_in ms m.receiver 0))
+      → Act g m.receiver m.dir (floor_after g m) (Held (copied m ms copy)) [] (Taken ns) []
+  keeps : (m : Message) (ms : List Member) (copy : Copy) (r : Replica) (ns : List ℕ) → Entering g m (Join ms copy) → IsHeld g m.receiver m.dir r
+      → r.epoch ≤ m.epoch → since_in ms m.receiver 0 ≤ r.epoch → Act g m.receiver m.dir (floor_after g m) (Held (kept_at_join m ms copy r)) [] (Taken ns) []
+  leaves : (m : Message) (ns : List ℕ) → Entering g m Leave → ((r : Replica) → IsHeld g m.receiver m.dir r → r.epoch < m.epoch)
+      → Act g m.receiver m.dir (floor_after g m) (Gone m.epoch) [] (Taken ns) []
 
 -- answers with no stamp that was issued and none of a skulk that completed
 abbrev pub IsQuiet : Answer → Type 0
@@ -85,14 +115,23 @@ pub data Move (g : Cell) (p : Option (ℕ × ℕ)) : Cell → Answer → List Ac
   loses : (n : ℕ) → Move g p (record g { lost = n ∷ g.lost }) Done []
   crashes : (h : ℕ) → IsUp g h → Move g p (crash g h) Done []
   starts : (h : ℕ) → has h g.made ≡ true → Move g p (start g h) Done []
-  acts : (h d : ℕ) → p ≡ Some (h, d) → (floor : ℕ) (s : Slot) (posts : List Message) (a : Answer) (n : List Accepted) → Act g h d floor s posts a n → Move g p (moved g h (holding (g.house h) d floor s) posts) a n
+  acts : (h d : ℕ) → p ≡ Some (h, d) → (floor : ℕ) (s : Slot) (posts : List Message) (a : Answer) (n : List Accepted) → Act g h d floor s posts a n
+      → Move g p (moved g h (holding (g.house h) d floor s) posts) a n
   founds : (d m : ℕ) (rs ns : List ℕ) → d ≡ 1 → IsUp g m → g.top d ≡ 0 → Move g p (founded g d m (listing [] 1 m rs)) (Posted ns) []
-  crowns : (d m : ℕ) (rs : List ℕ) (r : Replica) → IsUp g m → g.top d ≢ 0 → IsHeld g m d r → is_listed m (g.present d) ≡ true → since_in (g.present d) m 0 ≤ r.epoch → Move g p (promote g d m (g.top d + 1) (listing (g.present d) (g.top d + 1) m rs) r).cell (promote g d m (g.top d + 1) (listing (g.present d) (g.top d + 1) m rs) r).answer []
+  crowns : (d m : ℕ) (rs : List ℕ) (r : Replica) → IsUp g m → g.top d ≢ 0 → IsHeld g m d r → is_listed m (g.present d) ≡ true
+      → since_in (g.present d) m 0 ≤ r.epoch
+      → Move g p (promote g d m (g.top d + 1) (listing (g.present d) (g.top d + 1) m rs) r).cell
+      (promote g d m (g.top d + 1) (listing (g.present d) (g.top d + 1) m rs) r).answer []
 
 -- a command is a move; or the update of a parent, and then the directory of the child
 pub data Steps (g : Cell) (p : Option (ℕ × ℕ)) : Cell → Answer → List Accepted → Type 0 where
   one : (g' : Cell) (a : Answer) (n : List Accepted) → Move g p g' a n → Steps g p g' a n
-  mkdirs : (h d m : ℕ) (u : Change) (rs : List ℕ) (r : Replica) (s : Stamp) (ns : List ℕ) → p ≡ Some (h, d) → Issuing g h d r s → update_refusal h u r ≡ None → IsUp g m → g.top d ≢ 0 → Steps g p (record (founded (moved g h (holding (g.house h) d s.time (Held (grown r (new_marks r u s)))) (to_each (others_of h r.members) d h r.epoch s.time (Update (new_marks r u s)))) g.next_dir m (listing [] 1 m rs)) { next_dir = g.next_dir + 1 }) (Made g.next_dir s ns) (accepting h d u r s ∷ [])
+  mkdirs : (h d m : ℕ) (u : Change) (rs : List ℕ) (r : Replica) (s : Stamp) (ns : List ℕ) → p ≡ Some (h, d) → Issuing g h d r s → update_refusal h u r ≡ None
+      → IsUp g m → g.top d ≢ 0
+      → Steps g p (record (founded
+      (moved g h (holding (g.house h) d s.time (Held (grown r (new_marks r u s))))
+      (to_each (others_of h r.members) d h r.epoch s.time (Update (new_marks r u s)))) g.next_dir m (listing [] 1 m rs)) { next_dir = g.next_dir + 1 })
+      (Made g.next_dir s ns) (accepting h d u r s ∷ [])
 
 abbrev pub Moves : Cell → Option (ℕ × ℕ) → Outcome → Type 0
 Moves g p o = Move g p o.cell o.answer o.accepted
@@ -138,31 +177,37 @@ not_passed : (k e : ℕ) (b : Bool) → nat_lt k e ≡ b → cond b (Some e) Non
 not_passed k e true q z = absurd (cc)
 not_passed k e false q z = lt_not k e q
 
-gathered_moves : (g : Cell) (m : Message) (t : Stamp) (copy : Copy) (r : Replica) (p : Phase) → Taking g m (Gathered t copy) r → r.phase ≡ p → Moves g (Some (m.receiver, m.dir)) (take_gathered g m t copy r p)
+gathered_moves : (g : Cell) (m : Message) (t : Stamp) (copy : Copy) (r : Replica) (p : Phase) → Taking g m (Gathered t copy) r → r.phase ≡ p
+    → Moves g (Some (m.receiver, m.dir)) (take_gathered g m t copy r p)
 gathered_moves g m t copy r Idle k phase = stays _ tt
 gathered_moves g m t copy r (Gathering u a) k phase =
     if_moves g _ (is_stamp t u) _ _
     (λ e. let k' = subst (λ (s : Stamp). Taking g m (Gathered s copy) r) (stamp_from t u e) k in
     if_moves g _ (all_answered (others_of m.receiver r.members) (m.sender ∷ a)) _ _
-    (λ all. acts m.receiver m.dir refl (floor_after g m) _ _ _ [] (turns m u copy a r _ k' phase (answered_all (others_of m.receiver r.members) (m.sender ∷ a) all)))
+    (λ all. acts m.receiver m.dir refl (floor_after g m) _ _ _ []
+    (turns m u copy a r _ k' phase (answered_all (others_of m.receiver r.members) (m.sender ∷ a) all)))
     (λ _. acts m.receiver m.dir refl (floor_after g m) _ [] _ [] (gathers m u copy a r _ k' phase)))
     (λ _. stays _ tt)
 gathered_moves g m t copy r (Spreading u a) k phase =
     if_moves g _ (is_stamp t u) _ _
-    (λ e. acts m.receiver m.dir refl (floor_after g m) _ [] _ [] (gathers_again m u copy a r _ (subst (λ (s : Stamp). Taking g m (Gathered s copy) r) (stamp_from t u e) k) phase))
+    (λ e. acts m.receiver m.dir refl (floor_after g m) _ [] _ []
+    (gathers_again m u copy a r _ (subst (λ (s : Stamp). Taking g m (Gathered s copy) r) (stamp_from t u e) k) phase))
     (λ _. stays _ tt)
 
-ack_moves : (g : Cell) (m : Message) (t : Stamp) (r : Replica) (p : Phase) → Taking g m (SpreadAck t) r → r.phase ≡ p → Moves g (Some (m.receiver, m.dir)) (take_ack g m t r p)
+ack_moves : (g : Cell) (m : Message) (t : Stamp) (r : Replica) (p : Phase) → Taking g m (SpreadAck t) r → r.phase ≡ p
+    → Moves g (Some (m.receiver, m.dir)) (take_ack g m t r p)
 ack_moves g m t r Idle k phase = stays _ tt
 ack_moves g m t r (Gathering u a) k phase =
     if_moves g _ (is_stamp t u) _ _
-    (λ e. acts m.receiver m.dir refl (floor_after g m) _ [] _ [] (acks_early m u a r _ (subst (λ (s : Stamp). Taking g m (SpreadAck s) r) (stamp_from t u e) k) phase))
+    (λ e. acts m.receiver m.dir refl (floor_after g m) _ [] _ []
+    (acks_early m u a r _ (subst (λ (s : Stamp). Taking g m (SpreadAck s) r) (stamp_from t u e) k) phase))
     (λ _. stays _ tt)
 ack_moves g m t r (Spreading u a) k phase =
     if_moves g _ (is_stamp t u) _ _
     (λ e. let k' = subst (λ (s : Stamp). Taking g m (SpreadAck s) r) (stamp_from t u e) k in
     if_moves g _ (all_answered (others_of m.receiver r.members) (m.sender ∷ a)) _ _
-    (λ all. acts m.receiver m.dir refl (floor_after g m) _ _ _ [] (completes m u a r _ k' phase (answered_all (others_of m.receiver r.members) (m.sender ∷ a) all)))
+    (λ all. acts m.receiver m.dir refl (floor_after g m) _ _ _ []
+    (completes m u a r _ k' phase (answered_all (others_of m.receiver r.members) (m.sender ∷ a) all)))
     (λ _. acts m.receiver m.dir refl (floor_after g m) _ [] _ [] (acks m u a r _ k' phase)))
     (λ _. stays _ tt)
 
@@ -176,25 +221,36 @@ own_moves g m r (Advance t) k = acts m.receiver m.dir refl (floor_after g m) _ [
 own_moves g m r (Join ms copy) k = stays Foreign tt
 own_moves g m r Leave k = stays Foreign tt
 
-other_moves : (g : Cell) (m : Message) (b : Body) (s : Slot) → In m g.bag → m.body ≡ b → IsUp g m.receiver → (g.house m.receiver).slots m.dir ≡ s → Moves g (Some (m.receiver, m.dir)) (take_other g m b s)
+other_moves : (g : Cell) (m : Message) (b : Body) (s : Slot) → In m g.bag → m.body ≡ b → IsUp g m.receiver → (g.house m.receiver).slots m.dir ≡ s
+    → Moves g (Some (m.receiver, m.dir)) (take_other g m b s)
 other_moves g m b Absent at is up e = stays commands.NoReplica tt
 other_moves g m b (Gone d) at is up e = stays commands.NoReplica tt
 other_moves g m b (Held r) at is up e =
     if_moves g _ (nat_lt m.epoch r.epoch) _ _ (λ _. stays _ tt)
     (λ low. if_moves g _ (nat_lt r.epoch m.epoch) _ _ (λ _. stays _ tt)
     (λ high. if_moves g _ (is_listed m.sender r.members) _ _
-    (λ member. let p = lt_not _ _ low in let q = lt_not _ _ high in own_moves g m r b (record { posted = at; is = is; up = up; held = e; epoch = omega arith; member = member }))
+    (λ member. let p = lt_not _ _ low in let q = lt_not _ _ high in
+    own_moves g m r b (record { posted = at; is = is; up = up; held = e; epoch = omega arith; member = member }))
     (λ _. stays Foreign tt)))
 
-join_moves : (g : Cell) (m : Message) (ms : List Member) (copy : Copy) (s : Slot) → In m g.bag → m.body ≡ Join ms copy → IsUp g m.receiver → (g.house m.receiver).slots m.dir ≡ s → Moves g (Some (m.receiver, m.dir)) (take_join g m ms copy s)
+join_moves : (g : Cell) (m : Message) (ms : List Member) (copy : Copy) (s : Slot) → In m g.bag → m.body ≡ Join ms copy → IsUp g m.receiver
+    → (g.house m.receiver).slots m.dir ≡ s → Moves g (Some (m.receiver, m.dir)) (take_join g m ms copy s)
 join_moves g m ms copy Absent at is up e =
     if_moves g _ (is_listed m.receiver ms && is_listed m.sender ms) _ _
-    (λ _. acts m.receiver m.dir refl (floor_after g m) _ [] _ [] (copies m ms copy _ (record { posted = at; is = is; up = up; gone = λ d q. absurd (cc) }) (λ r q. absurd (cc))))
+    (λ _. acts m.receiver m.dir refl (floor_after g m) _ [] _ []
+    (copies m ms copy _ (record { posted = at; is = is; up = up; gone = λ d q. absurd (cc) }) (λ r q. absurd (cc))))
     (λ _. stays Foreign tt)
 join_moves g m ms copy (Gone d) at is up e =
     late_moves g _ m (cond (nat_le m.epoch d) (Some d) None) _
     (λ late. if_moves g _ (is_listed m.receiver ms && is_listed m.sender ms) _ _
-    (λ _. acts m.receiver m.dir refl (floor_after g m) _ [] _ [] (copies m ms copy _ (record { posted = at; is = is; up = up; gone = λ d' e'. let same : d ≡ d' = cc in subst (λ (z : ℕ). z < m.epoch) same (not_reached m.epoch d (nat_le m.epoch d) refl late) }) (λ r q. absurd (cc))))
+    (λ _. acts m.receiver m.dir refl (floor_after g m) _ [] _ []
+    (copies m ms copy _ (record {
+      posted = at;
+      is = is;
+      up = up;
+      gone = λ d' e'. let same : d ≡ d' = cc in
+          subst (λ (z : ℕ). z < m.epoch) same (not_reached m.epoch d (nat_le m.epoch d) refl late);
+    }) (λ r q. absurd (cc))))
     (λ _. stays Foreign tt))
 join_moves g m ms copy (Held r) at is up e =
     late_moves g _ m (cond (nat_lt m.epoch r.epoch) (Some r.epoch) None) _
@@ -205,20 +261,43 @@ join_moves g m ms copy (Held r) at is up e =
     en : Entering g m (Join ms copy)
     en = record { posted = at; is = is; up = up; gone = λ d e'. absurd (cc) }
 
-    by_since : (b : Bool) → nat_le (since_in ms m.receiver 0) r.epoch ≡ b → r.epoch ≤ m.epoch → Moves g (Some (m.receiver, m.dir)) (record { cell = moved g m.receiver (holding (g.house m.receiver) m.dir (floor_after g m) (Held (cond b (kept_at_join m ms copy r) (copied m ms copy)))) []; answer = Taken (serials_of g []); accepted = [] })
+    by_since : (b : Bool) → nat_le (since_in ms m.receiver 0) r.epoch ≡ b → r.epoch ≤ m.epoch
+        → Moves g (Some (m.receiver, m.dir))
+        (record {
+          cell = moved g m.receiver (holding (g.house m.receiver) m.dir (floor_after g m) (Held (cond b (kept_at_join m ms copy r) (copied m ms copy))))
+              [];
+          answer = Taken (serials_of g []);
+          accepted = [];
+        })
     by_since true q le = acts m.receiver m.dir refl (floor_after g m) _ [] _ [] (keeps m ms copy r _ en e le (le_from _ _ q))
-    by_since false q le = acts m.receiver m.dir refl (floor_after g m) _ [] _ [] (copies m ms copy _ en (λ r' e'. let same : r ≡ r' = cc in subst (λ (z : Replica). (z.epoch ≤ m.epoch) × (z.epoch < since_in ms m.receiver 0)) same (le, le_not _ _ q)))
+    by_since false q le =
+        acts m.receiver m.dir refl (floor_after g m) _ [] _ []
+        (copies m ms copy _ en (λ r' e'. let same : r ≡ r' = cc in
+        subst (λ (z : Replica). (z.epoch ≤ m.epoch) × (z.epoch < since_in ms m.receiver 0)) same (le, le_not _ _ q)))
 
-leave_moves : (g : Cell) (m : Message) (s : Slot) → In m g.bag → m.body ≡ Leave → IsUp g m.receiver → (g.house m.receiver).slots m.dir ≡ s → Moves g (Some (m.receiver, m.dir)) (take_leave g m s)
-leave_moves g m Absent at is up e = acts m.receiver m.dir refl (floor_after g m) _ [] _ [] (leaves m _ (record { posted = at; is = is; up = up; gone = λ d q. absurd (cc) }) (λ r q. absurd (cc)))
+leave_moves : (g : Cell) (m : Message) (s : Slot) → In m g.bag → m.body ≡ Leave → IsUp g m.receiver → (g.house m.receiver).slots m.dir ≡ s
+    → Moves g (Some (m.receiver, m.dir)) (take_leave g m s)
+leave_moves g m Absent at is up e =
+    acts m.receiver m.dir refl (floor_after g m) _ [] _ []
+    (leaves m _ (record { posted = at; is = is; up = up; gone = λ d q. absurd (cc) }) (λ r q. absurd (cc)))
 leave_moves g m (Gone d) at is up e =
     late_moves g _ m (cond (nat_le m.epoch d) (Some d) None) _
-    (λ late. acts m.receiver m.dir refl (floor_after g m) _ [] _ [] (leaves m _ (record { posted = at; is = is; up = up; gone = λ d' e'. let same : d ≡ d' = cc in subst (λ (z : ℕ). z < m.epoch) same (not_reached m.epoch d (nat_le m.epoch d) refl late) }) (λ r q. absurd (cc))))
+    (λ late. acts m.receiver m.dir refl (floor_after g m) _ [] _ []
+    (leaves m _ (record {
+      posted = at;
+      is = is;
+      up = up;
+      gone = λ d' e'. let same : d ≡ d' = cc in
+          subst (λ (z : ℕ). z < m.epoch) same (not_reached m.epoch d (nat_le m.epoch d) refl late);
+    }) (λ r q. absurd (cc))))
 leave_moves g m (Held r) at is up e =
     late_moves g _ m (cond (nat_le m.epoch r.epoch) (Some r.epoch) None) _
-    (λ late. acts m.receiver m.dir refl (floor_after g m) _ [] _ [] (leaves m _ (record { posted = at; is = is; up = up; gone = λ d q. absurd (cc) }) (λ r' e'. let same : r ≡ r' = cc in subst (λ (z : Replica). z.epoch < m.epoch) same (not_reached m.epoch r.epoch (nat_le m.epoch r.epoch) refl late))))
+    (λ late. acts m.receiver m.dir refl (floor_after g m) _ [] _ []
+    (leaves m _ (record { posted = at; is = is; up = up; gone = λ d q. absurd (cc) }) (λ r' e'. let same : r ≡ r' = cc in
+    subst (λ (z : Replica). z.epoch < m.epoch) same (not_reached m.epoch r.epoch (nat_le m.epoch r.epoch) refl late))))
 
-take_moves : (g : Cell) (m : Message) (b : Body) → In m g.bag → m.body ≡ b → IsUp g m.receiver → Moves g (Some (m.receiver, m.dir)) (take g m b ((g.house m.receiver).slots m.dir))
+take_moves : (g : Cell) (m : Message) (b : Body) → In m g.bag → m.body ≡ b → IsUp g m.receiver
+    → Moves g (Some (m.receiver, m.dir)) (take g m b ((g.house m.receiver).slots m.dir))
 take_moves g m (Update marks) at is up = other_moves g m (Update marks) _ at is up refl
 take_moves g m (Gather t) at is up = other_moves g m (Gather t) _ at is up refl
 take_moves g m (Gathered t copy) at is up = other_moves g m (Gathered t copy) _ at is up refl
@@ -246,48 +325,71 @@ none_of : (o : Option UpdateRefusal) → option_map commands.Update o ≡ None �
 none_of None e = refl
 none_of (Some r) e = absurd (cc)
 
-accept_at_moves : (g : Cell) (h d : ℕ) (u : Change) (r : Replica) (o : Option Stamp) → IsUp g h → IsHeld g h d r → update_refusal h u r ≡ None → stamp_at (g.house h) ≡ o → Moves g (Some (h, d)) (accept_at g h d u r o)
+accept_at_moves : (g : Cell) (h d : ℕ) (u : Change) (r : Replica) (o : Option Stamp) → IsUp g h → IsHeld g h d r → update_refusal h u r ≡ None
+    → stamp_at (g.house h) ≡ o → Moves g (Some (h, d)) (accept_at g h d u r o)
 accept_at_moves g h d u r None up at fine e = stays _ tt
 accept_at_moves g h d u r (Some s) up at fine e = acts h d refl s.time _ _ _ _ (accepts h d u r s _ (record { up = up; held = at; next = e }) fine)
 
 accept_moves : (g : Cell) (h d : ℕ) (u : Change) (s : Slot) → IsUp g h → (g.house h).slots d ≡ s → Moves g (Some (h, d)) (accept g h d u s)
 accept_moves g h d u Absent up e = stays _ tt
 accept_moves g h d u (Gone k) up e = stays _ tt
-accept_moves g h d u (Held r) up e = unless_moves g _ (option_map commands.Update (update_refusal h u r)) _ (λ fine. accept_at_moves g h d u r (stamp_at (g.house h)) up e (none_of (update_refusal h u r) fine) refl)
+accept_moves g h d u (Held r) up e =
+    unless_moves g _ (option_map commands.Update (update_refusal h u r)) _
+    (λ fine. accept_at_moves g h d u r (stamp_at (g.house h)) up e (none_of (update_refusal h u r) fine) refl)
 
-begin_moves : (g : Cell) (h d : ℕ) (r : Replica) (t : Stamp) (os : List ℕ) → Issuing g h d r t → master_of r.members ≡ h → others_of h r.members ≡ os → Moves g (Some (h, d)) (begin g h d r t os)
+begin_moves : (g : Cell) (h d : ℕ) (r : Replica) (t : Stamp) (os : List ℕ) → Issuing g h d r t → master_of r.members ≡ h → others_of h r.members ≡ os
+    → Moves g (Some (h, d)) (begin g h d r t os)
 begin_moves g h d r t [] i head o = acts h d refl t.time _ [] _ [] (lone h d r t i head o)
 begin_moves g h d r t (y ∷ ys) i head o =
-    subst (λ (l : List ℕ). Moves g (Some (h, d)) (record { cell = moved g h (holding (g.house h) d t.time (Held (record r { phase = Gathering t [] }))) (to_each l d h r.epoch t.time (Gather t)); answer = Stamped t (serials_of g (to_each l d h r.epoch t.time (Gather t))); accepted = [] }))
+    subst (λ (l : List ℕ).
+    Moves g (Some (h, d))
+    (record {
+      cell = moved g h (holding (g.house h) d t.time (Held (record r { phase = Gathering t [] }))) (to_each l d h r.epoch t.time (Gather t));
+      answer =
+          Stamped t (serials_of g (to_each l d h r.epoch t.time (Gather t)));
+      accepted = [];
+    }))
     o (acts h d refl t.time _ _ _ [] (skulks h d r t _ i head))
 
-skulk_at_moves : (g : Cell) (h d : ℕ) (r : Replica) (o : Option Stamp) → IsUp g h → IsHeld g h d r → master_of r.members ≡ h → stamp_at (g.house h) ≡ o → Moves g (Some (h, d)) (skulk_at g h d r o)
+skulk_at_moves : (g : Cell) (h d : ℕ) (r : Replica) (o : Option Stamp) → IsUp g h → IsHeld g h d r → master_of r.members ≡ h → stamp_at (g.house h) ≡ o
+    → Moves g (Some (h, d)) (skulk_at g h d r o)
 skulk_at_moves g h d r None up at head e = stays _ tt
 skulk_at_moves g h d r (Some t) up at head e = begin_moves g h d r t (others_of h r.members) (record { up = up; held = at; next = e }) head refl
 
 skulk_moves : (g : Cell) (h d : ℕ) (s : Slot) → IsUp g h → (g.house h).slots d ≡ s → Moves g (Some (h, d)) (skulk g h d s)
 skulk_moves g h d Absent up e = stays _ tt
 skulk_moves g h d (Gone k) up e = stays _ tt
-skulk_moves g h d (Held r) up e = if_moves g _ (eqb (master_of r.members) h) _ _ (λ q. skulk_at_moves g h d r (stamp_at (g.house h)) up e (eq_from _ _ q) refl) (λ _. stays _ tt)
+skulk_moves g h d (Held r) up e =
+    if_moves g _ (eqb (master_of r.members) h) _ _ (λ q. skulk_at_moves g h d r (stamp_at (g.house h)) up e (eq_from _ _ q) refl) (λ _. stays _ tt)
 
-epoch_moves : (g : Cell) (d m : ℕ) (rs : List ℕ) (s : Slot) → IsUp g m → g.top d ≢ 0 → is_listed m (g.present d) ≡ true → (g.house m).slots d ≡ s → Moves g (Some (m, d)) (new_epoch g d m rs s)
+epoch_moves : (g : Cell) (d m : ℕ) (rs : List ℕ) (s : Slot) → IsUp g m → g.top d ≢ 0 → is_listed m (g.present d) ≡ true → (g.house m).slots d ≡ s
+    → Moves g (Some (m, d)) (new_epoch g d m rs s)
 epoch_moves g d m rs Absent up known l e = stays _ tt
 epoch_moves g d m rs (Gone k) up known l e = stays _ tt
-epoch_moves g d m rs (Held r) up known l e = if_moves g _ (nat_le (since_in (g.present d) m 0) r.epoch) _ _ (λ q. crowns d m rs r up known e l (le_from _ _ q)) (λ _. stays _ tt)
+epoch_moves g d m rs (Held r) up known l e =
+    if_moves g _ (nat_le (since_in (g.present d) m 0) r.epoch) _ _ (λ q. crowns d m rs r up known e l (le_from _ _ q)) (λ _. stays _ tt)
 
 -- the update of a parent, and then the directory
-mkdir_stamp : (g : Cell) (h d m : ℕ) (u : Change) (rs : List ℕ) (r : Replica) (o : Option Stamp) → IsUp g h → IsUp g m → g.top d ≢ 0 → IsHeld g h d r → update_refusal h u r ≡ None → stamp_at (g.house h) ≡ o → StepsOf g (Some (h, d)) (with_directory (accept_at g h d u r o) g.next_dir m (listing [] 1 m rs) (accept_at g h d u r o).answer)
+mkdir_stamp : (g : Cell) (h d m : ℕ) (u : Change) (rs : List ℕ) (r : Replica) (o : Option Stamp) → IsUp g h → IsUp g m → g.top d ≢ 0 → IsHeld g h d r
+    → update_refusal h u r ≡ None → stamp_at (g.house h) ≡ o
+    → StepsOf g (Some (h, d)) (with_directory (accept_at g h d u r o) g.next_dir m (listing [] 1 m rs) (accept_at g h d u r o).answer)
 mkdir_stamp g h d m u rs r None up up' known at fine e = one _ _ _ (stays _ tt)
 mkdir_stamp g h d m u rs r (Some s) up up' known at fine e = mkdirs h d m u rs r s _ refl (record { up = up; held = at; next = e }) fine up' known
 
-mkdir_unless : (g : Cell) (h d m : ℕ) (u : Change) (rs : List ℕ) (r : Replica) (q : Option Refusal) → IsUp g h → IsUp g m → g.top d ≢ 0 → IsHeld g h d r → (q ≡ None → update_refusal h u r ≡ None) → StepsOf g (Some (h, d)) (with_directory (unless g q (accept_at g h d u r (stamp_at (g.house h)))) g.next_dir m (listing [] 1 m rs) (unless g q (accept_at g h d u r (stamp_at (g.house h)))).answer)
+mkdir_unless : (g : Cell) (h d m : ℕ) (u : Change) (rs : List ℕ) (r : Replica) (q : Option Refusal) → IsUp g h → IsUp g m → g.top d ≢ 0 → IsHeld g h d r
+    → (q ≡ None → update_refusal h u r ≡ None)
+    → StepsOf g (Some (h, d))
+    (with_directory (unless g q (accept_at g h d u r (stamp_at (g.house h)))) g.next_dir m (listing [] 1 m rs)
+    (unless g q (accept_at g h d u r (stamp_at (g.house h)))).answer)
 mkdir_unless g h d m u rs r None up up' known at fine = mkdir_stamp g h d m u rs r (stamp_at (g.house h)) up up' known at (fine refl) refl
 mkdir_unless g h d m u rs r (Some q) up up' known at fine = one _ _ _ (stays _ tt)
 
-mkdir_steps : (g : Cell) (h d m : ℕ) (u : Change) (rs : List ℕ) (s : Slot) → IsUp g h → IsUp g m → g.top d ≢ 0 → (g.house h).slots d ≡ s → StepsOf g (Some (h, d)) (with_directory (accept g h d u s) g.next_dir m (listing [] 1 m rs) (accept g h d u s).answer)
+mkdir_steps : (g : Cell) (h d m : ℕ) (u : Change) (rs : List ℕ) (s : Slot) → IsUp g h → IsUp g m → g.top d ≢ 0 → (g.house h).slots d ≡ s
+    → StepsOf g (Some (h, d)) (with_directory (accept g h d u s) g.next_dir m (listing [] 1 m rs) (accept g h d u s).answer)
 mkdir_steps g h d m u rs Absent up up' known e = one _ _ _ (stays _ tt)
 mkdir_steps g h d m u rs (Gone k) up up' known e = one _ _ _ (stays _ tt)
-mkdir_steps g h d m u rs (Held r) up up' known e = mkdir_unless g h d m u rs r (option_map commands.Update (update_refusal h u r)) up up' known e (none_of (update_refusal h u r))
+mkdir_steps g h d m u rs (Held r) up up' known e =
+    mkdir_unless g h d m u rs r (option_map commands.Update (update_refusal h u r)) up up' known e (none_of (update_refusal h u r))
 
 unless_steps : (g : Cell) (p : Option (ℕ × ℕ)) (r : Option Refusal) (x : Outcome) → (r ≡ None → StepsOf g p x) → StepsOf g p (unless g r x)
 unless_steps g p None x k = k refl
@@ -319,7 +421,9 @@ effect_steps g (commands.House h node) p = one_of g _ _ (houses h node p.0)
 effect_steps g (commands.Clock h time) p = one_of g _ _ (clocks h time (made_of g h p.0))
 effect_steps g (commands.Root m rs) p = one_of g _ _ (founds 1 m rs _ refl (not_true _ p.1.1.1.0) (is_new g 1 p.0))
 effect_steps g (commands.Mkdir h d n m rs) p =
-    let down = p.1.1.1.0 in mkdir_steps g h d m (changes.MakeChild n (record { dir = g.next_dir; master = m; others = ascending rs })) rs _ (not_true _ (or_left _ (is_down g m) down)) (not_true _ (or_right (is_down g h) _ down)) (is_known g d p.0) refl
+    let down = p.1.1.1.0 in
+    mkdir_steps g h d m (changes.MakeChild n (record { dir = g.next_dir; master = m; others = ascending rs })) rs _ (not_true _ (or_left _ (is_down g m) down))
+    (not_true _ (or_right (is_down g h) _ down)) (is_known g d p.0) refl
 effect_steps g (commands.Repoint h d n m rs) p = one_of g _ _ (accept_moves g h d (changes.Repoint n m (ascending rs)) _ (not_true _ p.1.1.1.0) refl)
 effect_steps g (commands.Accept h d u) p = one_of g _ _ (accept_moves g h d u _ (not_true _ p.1.1.0) refl)
 effect_steps g (commands.Epoch d m rs) p = one_of g _ _ (epoch_moves g d m rs _ (not_true _ p.1.1.1.1.0) (is_known g d p.0) (not_true _ p.1.1.1.0) refl)

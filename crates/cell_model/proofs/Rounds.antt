@@ -8,25 +8,30 @@ use Rattle.cell_model.specs.Commands.{Accepted}
 use Rattle.cell_model.specs.Steps.{running}
 use Rattle.cell_model.proofs.Lists.{eq_from}
 use Rattle.cell_model.proofs.Terms.{others}
-use Rattle.cell_model.proofs.Facts.{View, IsPosted, Holds, Roll, Reached, Sound, Turn, same, idle, begins, answered, turned, acked, Past, grew, rose, crowned, copied, founded, New, Frame}
+use Rattle.cell_model.proofs.Facts.{View, IsPosted, Holds, Roll, Reached, Sound, Turn, same, idle, begins, answered, turned, acked, Past, grew, rose}
+use Rattle.cell_model.proofs.Facts.{crowned, copied, founded, New, Frame}
 use Rattle.cell_model.proofs.Bounds.{same_held, kind_at, round_at}
 use Rattle.cell_model.proofs.SecondRound.{Spreads, spreads_kept}
 use Rattle.cell_model.proofs.FirstRound.{Gathers, GatheredBy, Waits, gathers_kept, gathers_begin, spreads_begin}
 
+-- what holds of a replica in its phase
 abbrev pub Round : Roll → View → ℕ → Replica → Phase → Type 0
 Round roll g h r Idle = Unit {0}
 Round roll g h r (Gathering t a) = Gathers roll g h r t a
 Round roll g h r (Spreading t a) = Spreads roll g h r t a
 
+-- what holds of each replica in its phase
 abbrev pub Rounds : Roll → View → Type 0
 Rounds roll g = (h : ℕ) (r : Replica) → Holds g h r → Round roll g h r r.phase
 
 round_as : (roll : Roll) (g : View) (h : ℕ) (r : Replica) (p q : Phase) → p ≡ q → Round roll g h r q → Round roll g h r p
 round_as roll g h r p q e v = subst (λ (z : Phase). Round roll g h r z) (sym e) v
 
-module _ (roll : Roll) (g g' : View) (new : List Accepted) (s : Sound roll g) (s' : Sound roll g') (f : Frame roll g g' new) (h : ℕ) (r r' : Replica) (at_h : Holds g h r) (at_h' : Holds g' h r') (epoch : r.epoch ≡ r'.epoch) (grows : IsPart r.history r'.history) where
+module _ (roll : Roll) (g g' : View) (new : List Accepted) (s : Sound roll g) (s' : Sound roll g') (f : Frame roll g g' new) (h : ℕ) (r r' : Replica)
+    (at_h : Holds g h r) (at_h' : Holds g' h r') (epoch : r.epoch ≡ r'.epoch) (grows : IsPart r.history r'.history) where
   -- a new spread of the round of this house has its history
-  said : (t : Stamp) → roll.home t.node ≡ h → (m : Message) (copy : Copy) → IsPosted g' m → m.body ≡ Spread t copy → IsPosted g m ⊎ IsPart r'.history copy.history
+  said : (t : Stamp) → roll.home t.node ≡ h → (m : Message) (copy : Copy) → IsPosted g' m → m.body ≡ Spread t copy
+      → IsPosted g m ⊎ IsPart r'.history copy.history
   said t node m copy at is = ⊎_elim (λ was. inl was)
       (λ (n : New roll g g' new m).
       let k = kind_at roll g g' new m (Spread t copy) n is in
@@ -47,7 +52,8 @@ module _ (roll : Roll) (g g' : View) (new : List Accepted) (s : Sound roll g) (s
       (said t ((s.held h r at_h).phase t (subst (λ (z : Phase). running z ≡ Some t) (sym e) refl)).1)
 
   -- an answer that is taken
-  module _ (t : Stamp) (a : List ℕ) (m : Message) (copy : Copy) (e : r.phase ≡ Gathering t a) (at : IsPosted g m) (is : m.body ≡ Gathered t copy) (sub : IsPart copy.history r'.history) (v : Gathers roll g h r t a) where
+  module _ (t : Stamp) (a : List ℕ) (m : Message) (copy : Copy) (e : r.phase ≡ Gathering t a) (at : IsPosted g m) (is : m.body ≡ Gathered t copy)
+      (sub : IsPart copy.history r'.history) (v : Gathers roll g h r t a) where
     runs : running r.phase ≡ Some t
     runs = subst (λ (z : Phase). running z ≡ Some t) (sym e) refl
 
@@ -74,9 +80,13 @@ module _ (roll : Roll) (g g' : View) (new : List Accepted) (s : Sound roll g) (s
     round_answered e' = gathers_kept roll g g' new s s' f h r r' t a (m.sender ∷ a) at_h at_h' runs epoch grows v more heard' gained (λ turn. cc)
 
     round_turned : r'.phase ≡ Spreading t [] → ((y : ℕ) → In y (others r.members) → In y (m.sender ∷ a)) → Spreads roll g' h r' t []
-    round_turned e' all = spreads_begin roll g g' new s s' f h r r' t a (m.sender ∷ a) at_h at_h' runs epoch grows v more heard' gained (subst (λ (z : Phase). running z ≡ Some t) (sym e') refl) all
+    round_turned e' all =
+        spreads_begin roll g g' new s s' f h r r' t a (m.sender ∷ a) at_h at_h' runs epoch grows v more heard' gained
+        (subst (λ (z : Phase). running z ≡ Some t) (sym e') refl) all
 
-  pub round_acked : (t : Stamp) (a : List ℕ) (m : Message) → r.phase ≡ Spreading t a → IsPosted g m → m.body ≡ SpreadAck t → Spreads roll g h r t a → Spreads roll g' h r' t (m.sender ∷ a)
+  -- an answer of the second round keeps what holds in that round
+  pub round_acked : (t : Stamp) (a : List ℕ) (m : Message) → r.phase ≡ Spreading t a → IsPosted g m → m.body ≡ SpreadAck t → Spreads roll g h r t a
+      → Spreads roll g' h r' t (m.sender ∷ a)
   round_acked t a m e at is v =
       spreads_kept roll g g' new s s' f h r r' t a (m.sender ∷ a) at_h at_h' runs epoch grows v
       (λ y i. ⊎_elim (λ q. inr (m, at, sym q, is)) (λ o. inl o) i)
@@ -94,7 +104,8 @@ module _ (roll : Roll) (g g' : View) (new : List Accepted) (s : Sound roll g) (s
   round_turn (idle e) v = round_as roll g' h r' r'.phase Idle e tt
   round_turn (begins t e head node low _ _) v = round_as roll g' h r' r'.phase (Gathering t []) e (gathers_begin roll g g' new h r' t s s' f at_h' node low e)
   round_turn (answered t a m copy e e' at is sub) v =
-      round_as roll g' h r' r'.phase (Gathering t (m.sender ∷ a)) e' (round_answered t a m copy e at is sub (round_as roll g h r (Gathering t a) r.phase (sym e) v) e')
+      round_as roll g' h r' r'.phase (Gathering t (m.sender ∷ a)) e'
+      (round_answered t a m copy e at is sub (round_as roll g h r (Gathering t a) r.phase (sym e) v) e')
   round_turn (turned t a m copy e e' at is sub all) v =
       round_as roll g' h r' r'.phase (Spreading t []) e' (round_turned t a m copy e at is sub (round_as roll g h r (Gathering t a) r.phase (sym e) v) e' all)
   round_turn (acked t a m e e' at is) v =

@@ -12,13 +12,16 @@ use Rattle.cell_model.proofs.Moves.{outcome_steps}
 use Rattle.cell_model.proofs.Wholes.{Plain, Ends, stay, next, step_onward, run_onward, empty_plain, home_of, home_right}
 use Rattle.cell_model.proofs.Passages.{Fit, Passage, passage, Reaching, reaching_kept}
 
+-- commands run one list after the other
 pub replay-append : (cs ds : List Command) (g : Cell) → replay_from g (cs ++ ds) ≡ replay_from (replay_from g cs) ds
 replay-append [] ds g = refl
 replay-append (c ∷ cs) ds g = replay-append cs ds (outcome g c).cell
 
+-- and so do their accepted updates come
 pub accepted-append : (cs ds : List Command) (g : Cell) → accepted_from g (cs ++ ds) ≡ accepted_from g cs ++ accepted_from (replay_from g cs) ds
 accepted-append [] ds g = refl
-accepted-append (c ∷ cs) ds g = ap (λ (l : List Accepted). (outcome g c).accepted ++ l) (accepted-append cs ds (outcome g c).cell) ∙ sym (append_assoc (outcome g c).accepted (accepted_from (outcome g c).cell cs) (accepted_from (replay_from (outcome g c).cell cs) ds))
+accepted-append (c ∷ cs) ds g = ap (λ (l : List Accepted). (outcome g c).accepted ++ l) (accepted-append cs ds (outcome g c).cell)
+    ∙ sym (append_assoc (outcome g c).accepted (accepted_from (outcome g c).cell cs) (accepted_from (replay_from (outcome g c).cell cs) ds))
 
 -- ---- what a run says of a directory
 
@@ -29,19 +32,24 @@ lists_of d (c ∷ cs) g e = cond (eqb e (g.top d)) (g.present d) (lists_of d cs 
 
 lists_here : (d : ℕ) (cs : List Command) (g : Cell) → lists_of d cs g (g.top d) ≡ g.present d
 lists_here d [] g = refl
-lists_here d (c ∷ cs) g = let q : eqb (g.top d) (g.top d) ≡ true = grind arith in ap (λ (b : Bool). cond b (g.present d) (lists_of d cs (outcome g c).cell (g.top d))) q
+lists_here d (c ∷ cs) g = let q : eqb (g.top d) (g.top d) ≡ true = grind arith in
+    ap (λ (b : Bool). cond b (g.present d) (lists_of d cs (outcome g c).cell (g.top d))) q
 
-lists_step : (d : ℕ) (g g' : Cell) (rest : List Member) (b : Bool) → eqb (g'.top d) (g.top d) ≡ b → Ends d g g' → rest ≡ g'.present d → cond b (g.present d) rest ≡ g'.present d
+lists_step : (d : ℕ) (g g' : Cell) (rest : List Member) (b : Bool) → eqb (g'.top d) (g.top d) ≡ b → Ends d g g' → rest ≡ g'.present d
+    → cond b (g.present d) rest ≡ g'.present d
 lists_step d g g' rest false q e h = h
 lists_step d g g' rest true q (stay e p) h = sym p
 lists_step d g g' rest true q (next lt) h = let n : g'.top d ≡ g.top d = grind arith in absurd (omega arith)
 
-lists_fit : (d : ℕ) (early late : List Command) (g : Cell) → Plain g → lists_of d (early ++ late) g ((replay_from g early).top d) ≡ (replay_from g early).present d
+lists_fit : (d : ℕ) (early late : List Command) (g : Cell) → Plain g
+    → lists_of d (early ++ late) g ((replay_from g early).top d) ≡ (replay_from g early).present d
 lists_fit d [] late g p = lists_here d late g
 lists_fit d (c ∷ cs) late g p =
     let o = step_onward g c p in
-    lists_step d g (replay_from (outcome g c).cell cs) (lists_of d (cs ++ late) (outcome g c).cell ((replay_from (outcome g c).cell cs).top d)) (eqb ((replay_from (outcome g c).cell cs).top d) (g.top d)) refl ((run_onward (c ∷ cs) g p).ends d) (lists_fit d cs late (outcome g c).cell o.plain)
+    lists_step d g (replay_from (outcome g c).cell cs) (lists_of d (cs ++ late) (outcome g c).cell ((replay_from (outcome g c).cell cs).top d))
+    (eqb ((replay_from (outcome g c).cell cs).top d) (g.top d)) refl ((run_onward (c ∷ cs) g p).ends d) (lists_fit d cs late (outcome g c).cell o.plain)
 
+-- what a run says of a directory: its member lists, and the house of each node
 abbrev pub roll_of : ℕ → List Command → Roll
 roll_of d all = record { dir = d; list = lists_of d all empty_cell; home = home_of (replay all) }
 
@@ -53,8 +61,10 @@ fit_at d all early late e =
     let last : replay_from (replay early) late ≡ replay all = sym (replay-append early late empty_cell) ∙ ap replay e in
     record {
       plain = here.plain;
-      homes = λ x m. subst (λ (z : Cell). home_of z ((replay early).house x).node ≡ x) last (home_right (replay early) (replay_from (replay early) late) rest.plain rest x m);
-      present = sym (subst (λ (l : List Command). lists_of d l empty_cell ((replay early).top d) ≡ (replay early).present d) e (lists_fit d early late empty_cell empty_plain));
+      homes = λ x m. subst (λ (z : Cell). home_of z ((replay early).house x).node ≡ x) last
+          (home_right (replay early) (replay_from (replay early) late) rest.plain rest x m);
+      present = sym (subst (λ (l : List Command). lists_of d l empty_cell ((replay early).top d) ≡ (replay early).present d) e
+          (lists_fit d early late empty_cell empty_plain));
     }
 
 -- ---- the invariant at each cell of a run
@@ -94,7 +104,9 @@ empty_reaching roll none = record {
     at_zero e x s le l = let z : e ≡ 0 = omega arith in no_member x s (subst (λ (y : List Member). Listed y x s) (ap roll.list z ∙ sym none) l)
 
 -- a step of the run
-pub step_passage : (d : ℕ) (all early late : List Command) (c : Command) → early ++ c ∷ late ≡ all → Reaching (roll_of d all) (view d (replay early)) (accepted early) → Passage (roll_of d all) (view d (replay early)) (view d (outcome (replay early) c).cell) (outcome (replay early) c).accepted
+pub step_passage : (d : ℕ) (all early late : List Command) (c : Command) → early ++ c ∷ late ≡ all
+    → Reaching (roll_of d all) (view d (replay early)) (accepted early)
+    → Passage (roll_of d all) (view d (replay early)) (view d (outcome (replay early) c).cell) (outcome (replay early) c).accepted
 step_passage d all early late c e r =
     let g = replay early in
     let o = outcome g c in
@@ -102,7 +114,8 @@ step_passage d all early late c e r =
     let f' = subst (λ (z : Cell). Fit (roll_of d all) z) after (fit_at d all (early ++ c ∷ []) late (append_assoc early (c ∷ []) late ∙ e)) in
     passage (roll_of d all) g o.cell (place_of g c) o.answer o.accepted (fit_at d all early (c ∷ late) e) f' r.sound (outcome_steps g c)
 
-pub run_reaching : (d : ℕ) (all early mid late : List Command) → early ++ (mid ++ late) ≡ all → Reaching (roll_of d all) (view d (replay early)) (accepted early) → Reaching (roll_of d all) (view d (replay (early ++ mid))) (accepted (early ++ mid))
+pub run_reaching : (d : ℕ) (all early mid late : List Command) → early ++ (mid ++ late) ≡ all
+    → Reaching (roll_of d all) (view d (replay early)) (accepted early) → Reaching (roll_of d all) (view d (replay (early ++ mid))) (accepted (early ++ mid))
 run_reaching d all early [] late e r = subst (λ (l : List Command). Reaching (roll_of d all) (view d (replay l)) (accepted l)) (sym (append_nil early)) r
 run_reaching d all early (c ∷ mid) late e r =
     let g = replay early in
@@ -110,9 +123,11 @@ run_reaching d all early (c ∷ mid) late e r =
     let p = step_passage d all early (mid ++ late) c e r in
     let r' = reaching_kept (roll_of d all) (view d g) (view d o.cell) o.accepted (accepted early) p r in
     let cell : replay (early ++ c ∷ []) ≡ o.cell = replay-append early (c ∷ []) empty_cell in
-    let log : accepted (early ++ c ∷ []) ≡ accepted early ++ o.accepted = accepted-append early (c ∷ []) empty_cell ∙ ap (λ (l : List Accepted). accepted early ++ l) (append_nil o.accepted) in
+    let log : accepted (early ++ c ∷ []) ≡ accepted early ++ o.accepted = accepted-append early (c ∷ []) empty_cell
+    ∙ ap (λ (l : List Accepted). accepted early ++ l) (append_nil o.accepted) in
     let here : Reaching (roll_of d all) (view d (replay (early ++ c ∷ []))) (accepted (early ++ c ∷ [])) =
-    subst (λ (z : Cell). Reaching (roll_of d all) (view d z) (accepted (early ++ c ∷ []))) (sym cell) (subst (λ (l : List Accepted). Reaching (roll_of d all) (view d o.cell) l) (sym log) r') in
+    subst (λ (z : Cell). Reaching (roll_of d all) (view d z) (accepted (early ++ c ∷ []))) (sym cell)
+    (subst (λ (l : List Accepted). Reaching (roll_of d all) (view d o.cell) l) (sym log) r') in
     subst (λ (l : List Command). Reaching (roll_of d all) (view d (replay l)) (accepted l)) (append_assoc early (c ∷ []) mid)
     (run_reaching d all (early ++ c ∷ []) mid late (append_assoc early (c ∷ []) (mid ++ late) ∙ e) here)
 

@@ -4,7 +4,8 @@ use Rattle.std.specs.Prelude.{false, Some, None, codes, take}
 use Rattle.cds_stamps.specs.declared.members.MemberKind.TheVariants.{Master, ReadOnly}
 use Rattle.directory.specs.declared.update.UpdateRefusal.TheVariants as why
 use Rattle.directory.specs.Updates.{Create, Delete}
-use Rattle.cell_model.specs.Commands.{Command, House, Clock, Root, Accept, Epoch, Skulk, Deliver, Crash, Start, Down, NotJoined, Update, Done, Posted, Stamped, NewEpoch, Taken, Late, Early, Stale, Complete, Refused}
+use Rattle.cell_model.specs.Commands.{Command, House, Clock, Root, Accept, Epoch, Skulk, Deliver, Crash, Start, Down, NotJoined, Update, Done}
+use Rattle.cell_model.specs.Commands.{Posted, Stamped, NewEpoch, Taken, Late, Early, Stale, Complete, Refused}
 use Rattle.cell_model.specs.Steps.{answers, replay}
 use Rattle.cell_model.specs.Readings.{at, listed, value_at, state_at, left_at}
 
@@ -65,7 +66,8 @@ purged_deletion-read_1 = refl
 purged_deletion-read_2 : value_at (replay (take 20 purged_deletion)) 3 1 (codes "e") (codes "A") (1 ∷ []) ≡ None
 purged_deletion-read_2 = refl
 
-purged_deletion-dump_3 : state_at (replay (take 20 purged_deletion)) 2 1 ≡ Some (1, Some (at 3 10), listed 1 1 Master ∷ listed 2 1 ReadOnly ∷ listed 3 1 ReadOnly ∷ [])
+purged_deletion-dump_3 : state_at (replay (take 20 purged_deletion)) 2 1
+    ≡ Some (1, Some (at 3 10), listed 1 1 Master ∷ listed 2 1 ReadOnly ∷ listed 3 1 ReadOnly ∷ [])
 purged_deletion-dump_3 = refl
 
 purged_deletion-dump_3_left : left_at (replay (take 20 purged_deletion)) 2 1 (codes "e") ≡ None

@@ -9,7 +9,8 @@ use Rattle.cell_model.specs.Cells.{Phase, Replica, Gone, Copy, Body, Update, Gat
 use Rattle.cell_model.specs.Commands.{Accepted}
 use Rattle.cell_model.specs.Steps.{running}
 use Rattle.cell_model.proofs.Terms.{Listed}
-use Rattle.cell_model.proofs.Facts.{View, IsPosted, Holds, Roll, marks_in, round_of, HeldOk, Kind, Lawful, Sound, Took, Past, grew, rose, crowned, copied, founded, Came, own, sent, fresh, Answers, NewKind, New, Frame}
+use Rattle.cell_model.proofs.Facts.{View, IsPosted, Holds, Roll, marks_in, round_of, HeldOk, Kind, Lawful, Sound, Took, Past, grew, rose, crowned}
+use Rattle.cell_model.proofs.Facts.{copied, founded, Came, own, sent, fresh, Answers, NewKind, New, Frame}
 use Rattle.cell_model.proofs.Bounds.{Begun, past_round, reached_held, held_reached, same_held, round_at}
 
 -- a message of the skulk t that the new one answers, or the skulk t runs at its sender
@@ -23,7 +24,9 @@ pub record Earlier (g : View) (m : Message) (t : Stamp) : Type 0 where
 pub earlier : (g : View) (m : Message) (t : Stamp) (b : Body) → Answers g m b → round_of b ≡ Some t → Earlier g m t
 earlier g m t b a e = record { it = a.to; posted = a.posted; round = round_at a.to b t a.is e; epoch = a.epoch; floor = a.floor }
 
-pub new_round : (roll : Roll) (g : View) (m : Message) (q : Replica) (b : Body) (t : Stamp) → NewKind roll g m q b → round_of b ≡ Some t → Earlier g m t ⊎ (running q.phase ≡ Some t)
+-- a message of a round answers an earlier one of that round, or its sender runs the round
+pub new_round : (roll : Roll) (g : View) (m : Message) (q : Replica) (b : Body) (t : Stamp) → NewKind roll g m q b → round_of b ≡ Some t
+    → Earlier g m t ⊎ (running q.phase ≡ Some t)
 new_round roll g m q (Update marks) t k e = absurd (cc)
 new_round roll g m q (Gather u) t k e = inr (subst (λ (z : Phase). running z ≡ Some t) (sym k) e)
 new_round roll g m q (Gathered u copy) t k e = inl (earlier g m t (Gather u) k.0 e)
@@ -44,7 +47,8 @@ new_kind roll g m q (Join ms marks) k = (k.0, k.1)
 new_kind roll g m q Leave k = k
 
 module _ (roll : Roll) (g g' : View) (new : List Accepted) (s : Sound roll g) (f : Frame roll g g' new) where
-  took_members : (x floor : ℕ) (r' : Replica) (m : Message) (ms : List Member) (copy : Copy) → Took g m ms copy r' floor → m.receiver ≡ x → (r'.epoch ≤ g'.top) × (r'.members ≡ roll.list r'.epoch) × ((b : ℕ) × Listed (roll.list r'.epoch) x b)
+  took_members : (x floor : ℕ) (r' : Replica) (m : Message) (ms : List Member) (copy : Copy) → Took g m ms copy r' floor → m.receiver ≡ x
+      → (r'.epoch ≤ g'.top) × (r'.members ≡ roll.list r'.epoch) × ((b : ℕ) × Listed (roll.list r'.epoch) x b)
   took_members x floor r' m ms copy took to =
       let l = s.messages m took.posted in
       let k : (ms ≡ roll.list m.epoch) × ((b : ℕ) × Listed (roll.list m.epoch) m.receiver b) = subst (λ (b : Body). Kind roll m b) took.is l.kind in (
@@ -53,7 +57,8 @@ module _ (roll : Roll) (g g' : View) (new : List Accepted) (s : Sound roll g) (f
         (k.1.0, subst (λ (z : ℕ). Listed (roll.list r'.epoch) z k.1.0) to (subst (λ (z : ℕ). Listed (roll.list z) m.receiver k.1.0) took.epoch k.1.1)),
       )
 
-  past_members : (x floor : ℕ) (r' : Replica) → Past roll g g' x floor r' → (r'.epoch ≤ g'.top) × (r'.members ≡ roll.list r'.epoch) × ((b : ℕ) × Listed (roll.list r'.epoch) x b)
+  past_members : (x floor : ℕ) (r' : Replica) → Past roll g g' x floor r'
+      → (r'.epoch ≤ g'.top) × (r'.members ≡ roll.list r'.epoch) × ((b : ℕ) × Listed (roll.list r'.epoch) x b)
   past_members x floor r' (grew r h e m _ _) =
       let ok = s.held x r h in
       (omega (arith, ok.top, f.top), m ∙ ok.members ∙ ap roll.list e, (ok.listed.0, subst (λ (z : ℕ). Listed (roll.list z) x ok.listed.0) e ok.listed.1))
@@ -62,7 +67,8 @@ module _ (roll : Roll) (g g' : View) (new : List Accepted) (s : Sound roll g) (f
   past_members x floor r' (crowned _ _ _ _ _ _ e m l _) = (omega (arith, e), m ∙ f.present ∙ ap roll.list (sym e), l)
   past_members x floor r' (founded _ e m _ l _) = (omega (arith, e), m ∙ f.present ∙ ap roll.list (sym e), l)
 
-  phase' : (x : ℕ) (r' : Replica) (t : Stamp) → Holds g' x r' → running r'.phase ≡ Some t → (master_of r'.members ≡ x) × (roll.home t.node ≡ x) × (t.time ≤ (g'.house x).floor)
+  phase' : (x : ℕ) (r' : Replica) (t : Stamp) → Holds g' x r' → running r'.phase ≡ Some t
+      → (master_of r'.members ≡ x) × (roll.home t.node ≡ x) × (t.time ≤ (g'.house x).floor)
   phase' x r' t h q =
       let p = past_round roll g g' x (g'.house x).floor r' t (f.past x r' h) q in
       let m : master_of r'.members ≡ master_of (p.0).members = ap master_of p.3 in
@@ -76,12 +82,14 @@ module _ (roll : Roll) (g g' : View) (new : List Accepted) (s : Sound roll g) (f
   floors_came x r' k (sent m at _ i le _) = le_trans ((s.messages m at).bound k i) le
   floors_came x r' k (fresh r _ h _ _ le _ _ _ _ _ _) = le
 
-  old_round : (x : ℕ) (r' : Replica) (t : Stamp) (m : Message) → Holds g' x r' → running r'.phase ≡ Some t → IsPosted g m → round_of m.body ≡ Some t → m.epoch ≡ r'.epoch
+  old_round : (x : ℕ) (r' : Replica) (t : Stamp) (m : Message) → Holds g' x r' → running r'.phase ≡ Some t → IsPosted g m → round_of m.body ≡ Some t
+      → m.epoch ≡ r'.epoch
   old_round x r' t m h q at e =
       let p = past_round roll g g' x (g'.house x).floor r' t (f.past x r' h) q in
       ⊎_elim
       (λ was. (s.held x p.0 p.1).own t was m at e ∙ p.2)
-      (λ (b : Begun roll g x (g'.house x).floor p.0 t). absurd (omega (arith, b.2, subst (λ (z : ℕ). t.time ≤ (g.house z).floor) b.1 ((s.messages m at).round t e).1)))
+      (λ (b : Begun roll g x (g'.house x).floor p.0 t).
+      absurd (omega (arith, b.2, subst (λ (z : ℕ). t.time ≤ (g.house z).floor) b.1 ((s.messages m at).round t e).1)))
       p.4
 
   held' : (x : ℕ) (r' : Replica) → Holds g' x r' → HeldOk roll g' x r'
@@ -105,7 +113,8 @@ module _ (roll : Roll) (g g' : View) (new : List Accepted) (s : Sound roll g) (f
             (f.posts m at);
       }
 
-  held_past : (m : Message) (r' : Replica) → Lawful roll g m → r'.epoch ≡ m.epoch → Past roll g g' m.sender (g'.house m.sender).floor r' → IsPart (marks_in m.body) r'.history
+  held_past : (m : Message) (r' : Replica) → Lawful roll g m → r'.epoch ≡ m.epoch → Past roll g g' m.sender (g'.house m.sender).floor r'
+      → IsPart (marks_in m.body) r'.history
   held_past m r' l e (grew r h e' _ sub _) = λ k i. sub k (l.held r h (e' ∙ e) k i)
   held_past m r' l e (rose r _ _ _ h lt _ _ _ _) = let up = reached_held m.epoch _ r h l.sent in absurd (omega (arith, up, lt, e))
   held_past m r' l e (crowned r h lt _ _ _ _ _ _ _) = let up = reached_held m.epoch _ r h l.sent in absurd (omega (arith, up, lt, e))

@@ -32,6 +32,7 @@ pub record Covering (g : View) (k : ℕ) (t : Stamp) (x : List Mark) : Type 0 wh
 abbrev pub AllAcked : Roll → View → ℕ → Stamp → Type 0
 AllAcked roll g k t = (y : ℕ) → In y (others (roll.list k)) → Reached (suc k) (g.house y).slot → Acked g t y
 
+-- what holds from the start of the second round on: the marks x of the master, where they are told, and who has them
 pub record Started (roll : Roll) (g : View) (h k : ℕ) (t : Stamp) (x : List Mark) : Type 0 where
   pub bounded : Bounded roll g k t x
   pub head : master_of (roll.list k) ≡ h
@@ -44,11 +45,13 @@ pub record Started (roll : Roll) (g : View) (h k : ℕ) (t : Stamp) (x : List Ma
   pub master : (q : Replica) → Holds g h q → q.epoch ≡ k → UpTo t x q.history
   pub covers : AllAcked roll g k t → Covering g k t x
 
-module _ (roll : Roll) (g g' : View) (new : List Accepted) (s : Sound roll g) (s' : Sound roll g') (f : Frame roll g g' new) (h k : ℕ) (t : Stamp) (x : List Mark) (v : Started roll g h k t x) where
+module _ (roll : Roll) (g g' : View) (new : List Accepted) (s : Sound roll g) (s' : Sound roll g') (f : Frame roll g g' new) (h k : ℕ) (t : Stamp)
+    (x : List Mark) (v : Started roll g h k t x) where
   part : (a b : List Mark) → IsPart a b → UpTo t x a → UpTo t x b
   part a b sub u j i up = sub j (u j i up)
 
-  runs_past : (y floor : ℕ) (q' : Replica) → Holds g' y q' → (g.house y).floor ≤ floor → running q'.phase ≡ Some t → Past roll g g' y floor q' → (r : Replica) × Holds g y r × (r.epoch ≡ q'.epoch) × IsPart r.history q'.history
+  runs_past : (y floor : ℕ) (q' : Replica) → Holds g' y q' → (g.house y).floor ≤ floor → running q'.phase ≡ Some t → Past roll g g' y floor q'
+      → (r : Replica) × Holds g y r × (r.epoch ≡ q'.epoch) × IsPart r.history q'.history
   runs_past y floor q' h' le run (grew r hr e _ sub _) = (r, hr, e, sub)
   runs_past y floor q' h' le run (rose _ _ _ _ _ _ _ _ _ took) = absurd (not_idle _ t took.idle run)
   runs_past y floor q' h' le run (crowned _ _ _ _ _ _ _ _ _ i) = absurd (not_idle _ t i run)
@@ -96,7 +99,8 @@ module _ (roll : Roll) (g g' : View) (new : List Accepted) (s : Sound roll g) (s
 
   -- an answer that is new comes from a house in epoch k
   new_ack : (m : Message) (n : New roll g g' new m) → m.body ≡ SpreadAck t → m.epoch ≡ k
-  new_ack m n is = let e = kind_at roll g g' new m (SpreadAck t) n is in sym e.1.epoch ∙ v.epochs e.1.to e.1.posted (round_at e.1.to (Spread t e.0) t e.1.is refl)
+  new_ack m n is = let e = kind_at roll g g' new m (SpreadAck t) n is in sym e.1.epoch
+      ∙ v.epochs e.1.to e.1.posted (round_at e.1.to (Spread t e.0) t e.1.is refl)
 
   acked_back : (y : ℕ) → Acked g' t y → Reached (suc k) (g.house y).slot → Acked g t y
   acked_back y w up = ⊎_elim (λ was. (w.0, was, w.2, w.3))
@@ -124,10 +128,13 @@ module _ (roll : Roll) (g g' : View) (new : List Accepted) (s : Sound roll g) (s
       part copy.history q'.history took.marks (c.joins m ms copy took.posted took.is (omega (arith, took.epoch)))
   took_past c y q' a h' (founded none _ _ _ _ _) = absurd (omega (arith, none, v.bounded.low, v.bounded.top))
 
-  later_past : Covering g k t x → AllAcked roll g' k t → (y : ℕ) (q' : Replica) → Holds g' y q' → k < q'.epoch → Past roll g g' y (g'.house y).floor q' → UpTo t x q'.history
+  later_past : Covering g k t x → AllAcked roll g' k t → (y : ℕ) (q' : Replica) → Holds g' y q' → k < q'.epoch → Past roll g g' y (g'.house y).floor q'
+      → UpTo t x q'.history
   later_past c p y q' h' lt (grew r hr e _ sub _) = part r.history q'.history sub (c.later y r hr (omega arith))
-  later_past c p y q' h' lt (rose r m ms copy hr _ _ _ _ took) = part copy.history q'.history took.marks (c.joins m ms copy took.posted took.is (omega (arith, took.epoch)))
-  later_past c p y q' h' lt (copied m ms copy _ _ _ took) = part copy.history q'.history took.marks (c.joins m ms copy took.posted took.is (omega (arith, took.epoch)))
+  later_past c p y q' h' lt (rose r m ms copy hr _ _ _ _ took) =
+      part copy.history q'.history took.marks (c.joins m ms copy took.posted took.is (omega (arith, took.epoch)))
+  later_past c p y q' h' lt (copied m ms copy _ _ _ took) =
+      part copy.history q'.history took.marks (c.joins m ms copy took.posted took.is (omega (arith, took.epoch)))
   later_past c p y q' h' lt (founded none _ _ _ _ _) = absurd (omega (arith, none, v.bounded.low, v.bounded.top))
   later_past c p y q' h' lt (crowned r hr _ sub cont _ _ _ _ _) = ⊎_elim
       (λ (above : k < r.epoch). part r.history q'.history sub (c.later y r hr above))
@@ -162,7 +169,8 @@ module _ (roll : Roll) (g g' : View) (new : List Accepted) (s : Sound roll g) (s
             (f.posts a.0 a.1);
         later = λ y q' h' lt. later_past c p y q' h' lt (f.past y q' h');
         joins = λ m ms copy at is lt. ⊎_elim (λ was. c.joins m ms copy was is lt)
-            (λ (n : New roll g g' new m). part n.q.history copy.history (kind_at roll g g' new m (Join ms copy) n is).2 (later_past c p m.sender n.q n.held (omega (arith, n.epoch)) (f.past m.sender n.q n.held)))
+            (λ (n : New roll g g' new m). part n.q.history copy.history (kind_at roll g g' new m (Join ms copy) n is).2
+            (later_past c p m.sender n.q n.held (omega (arith, n.epoch)) (f.past m.sender n.q n.held)))
             (f.posts m at);
       }
 
@@ -184,7 +192,8 @@ module _ (roll : Roll) (g g' : View) (new : List Accepted) (s : Sound roll g) (s
 -- ---- the start
 
 -- the second round of a skulk whose first is over
-pub started_turned : (roll : Roll) (g : View) (h : ℕ) (r : Replica) (t : Stamp) → Sound roll g → Holds g h r → r.phase ≡ Spreading t [] → Spreads roll g h r t [] → Started roll g h r.epoch t r.history
+pub started_turned : (roll : Roll) (g : View) (h : ℕ) (r : Replica) (t : Stamp) → Sound roll g → Holds g h r → r.phase ≡ Spreading t []
+    → Spreads roll g h r t [] → Started roll g h r.epoch t r.history
 started_turned roll g h r t s at phase v = record {
   bounded = v.bounded;
   head = ap master_of (sym ok.members) ∙ run.0;
@@ -216,7 +225,9 @@ started_turned roll g h r t s at phase v = record {
     run = (s.held h r at).phase t (subst (λ (z : Phase). running z ≡ Some t) (sym phase) refl)
 
 -- a skulk that completes in the step that begins it
-pub started_alone : (roll : Roll) (g g' : View) (new : List Accepted) (h : ℕ) (r : Replica) (t : Stamp) → Sound roll g → Sound roll g' → Frame roll g g' new → Holds g' h r → r.phase ≡ Idle → master_of r.members ≡ h → roll.home t.node ≡ h → (g.house h).floor < t.time → t.time ≤ (g'.house h).floor → Done roll g' r.epoch t r.history → Started roll g' h r.epoch t r.history
+pub started_alone : (roll : Roll) (g g' : View) (new : List Accepted) (h : ℕ) (r : Replica) (t : Stamp) → Sound roll g → Sound roll g'
+    → Frame roll g g' new → Holds g' h r → r.phase ≡ Idle → master_of r.members ≡ h → roll.home t.node ≡ h → (g.house h).floor < t.time
+    → t.time ≤ (g'.house h).floor → Done roll g' r.epoch t r.history → Started roll g' h r.epoch t r.history
 started_alone roll g g' new h r t s s' f at still head home fresh high done = record {
   bounded = done.bounded;
   head = ap master_of (sym (s'.held h r at).members) ∙ head;
@@ -245,5 +256,6 @@ started_alone roll g g' new h r t s s' f at still head home fresh high done = re
 
     no_message : (m : Message) → IsPosted g' m → round_of m.body ≡ Some t → ⊥
     no_message m im e = ⊎_elim (λ was. old m was e)
-        (λ (n : New roll g g' new m). ⊎_elim (λ (w : Earlier g m t). old w.it w.posted w.round) (λ run. no_run m.sender n.q n.held run) (new_round roll g m n.q m.body t n.kind e))
+        (λ (n : New roll g g' new m). ⊎_elim (λ (w : Earlier g m t). old w.it w.posted w.round) (λ run. no_run m.sender n.q n.held run)
+        (new_round roll g m n.q m.body t n.kind e))
         (f.posts m im)

@@ -1,5 +1,6 @@
 -- Member lists from epoch to epoch.
-use Rattle.std.proofs.Common.{◌≡◌, ◌≢◌, ℕ, ◌⊎◌, inl, inr, Bool, true, false, ◌||◌, eqb, cond, List, [], ◌∷◌, map, refl, sym, ap, ◌∙◌, subst, arith, ⊎_elim, nat_lt}
+use Rattle.std.proofs.Common.{◌≡◌, ◌≢◌, ℕ, ◌⊎◌, inl, inr, Bool, true, false, ◌||◌, eqb, cond, List, [], ◌∷◌, map, refl, sym, ap, ◌∙◌, subst, arith}
+use Rattle.std.proofs.Common.{⊎_elim, nat_lt}
 use Rattle.cds_stamps.specs.declared.members.MemberKind.TheVariants.{Master, ReadOnly}
 use Rattle.cds_stamps.specs.Members.{Member, is_master, master_of, others_of, is_listed, since_in}
 use Rattle.cell_model.specs.Sets.{In}
@@ -14,13 +15,16 @@ Listed ms x s = (is_listed x ms ≡ true) × (since_in ms x 0 ≡ s)
 abbrev pub others : List Member → List ℕ
 others ms = others_of (master_of ms) ms
 
+-- a house on a list is listed with the since that the list has of it
 pub listed_at : (ms : List Member) (x : ℕ) → is_listed x ms ≡ true → Listed ms x (since_in ms x 0)
 listed_at ms x e = (e, refl)
 
+-- a house is listed with one since
 pub listed_once : (ms : List Member) (x s s' : ℕ) → Listed ms x s → Listed ms x s' → s ≡ s'
 listed_once ms x s s' a b = sym a.1 ∙ b.1
 
-since_step : (x d : ℕ) (y : Member) (ys : List Member) (t : Bool) → (is_listed x ys ≡ true → since_in ys x d ≡ since_in ys x 0) → (t || is_listed x ys) ≡ true → cond t y.since (since_in ys x d) ≡ cond t y.since (since_in ys x 0)
+since_step : (x d : ℕ) (y : Member) (ys : List Member) (t : Bool) → (is_listed x ys ≡ true → since_in ys x d ≡ since_in ys x 0)
+    → (t || is_listed x ys) ≡ true → cond t y.since (since_in ys x d) ≡ cond t y.since (since_in ys x 0)
 since_step x d y ys true rest e = refl
 since_step x d y ys false rest e = rest e
 
@@ -29,7 +33,8 @@ pub since_listed : (x d : ℕ) (ms : List Member) → is_listed x ms ≡ true �
 since_listed x d [] e = absurd (cc)
 since_listed x d (y ∷ ys) e = since_step x d y ys (eqb y.house x) (since_listed x d ys) e
 
-unlisted_step : (x d : ℕ) (y : Member) (ys : List Member) (t : Bool) → (is_listed x ys ≡ false → since_in ys x d ≡ d) → (t || is_listed x ys) ≡ false → cond t y.since (since_in ys x d) ≡ d
+unlisted_step : (x d : ℕ) (y : Member) (ys : List Member) (t : Bool) → (is_listed x ys ≡ false → since_in ys x d ≡ d) → (t || is_listed x ys) ≡ false
+    → cond t y.since (since_in ys x d) ≡ d
 unlisted_step x d y ys true rest e = absurd (cc)
 unlisted_step x d y ys false rest e = rest e
 
@@ -38,32 +43,41 @@ since_unlisted x d [] e = refl
 since_unlisted x d (y ∷ ys) e = unlisted_step x d y ys (eqb y.house x) (since_unlisted x d ys) e
 
 -- a listed house is this one, or among the others
-others_step : (x h : ℕ) (y : Member) (ys : List Member) (b : Bool) → eqb y.house h ≡ b → (is_listed x ys ≡ true → (x ≡ h) ⊎ In x (others_of h ys)) → (eqb y.house x || is_listed x ys) ≡ true → (x ≡ h) ⊎ In x (cond b (others_of h ys) (y.house ∷ others_of h ys))
+others_step : (x h : ℕ) (y : Member) (ys : List Member) (b : Bool) → eqb y.house h ≡ b → (is_listed x ys ≡ true → (x ≡ h) ⊎ In x (others_of h ys))
+    → (eqb y.house x || is_listed x ys) ≡ true → (x ≡ h) ⊎ In x (cond b (others_of h ys) (y.house ∷ others_of h ys))
 others_step x h y ys true q rest e = ⊎_elim (λ s. inl (sym (eq_from y.house x s) ∙ eq_from y.house h q)) rest (or_cases (eqb y.house x) (is_listed x ys) e)
-others_step x h y ys false q rest e = ⊎_elim (λ s. inr (inl (sym (eq_from y.house x s)))) (λ r. ⊎_elim (λ s. inl s) (λ o. inr (inr o)) (rest r)) (or_cases (eqb y.house x) (is_listed x ys) e)
+others_step x h y ys false q rest e =
+    ⊎_elim (λ s. inr (inl (sym (eq_from y.house x s)))) (λ r. ⊎_elim (λ s. inl s) (λ o. inr (inr o)) (rest r)) (or_cases (eqb y.house x) (is_listed x ys) e)
 
+-- a house on a list is this one or one of the others
 pub listed_or : (x h : ℕ) (ms : List Member) → is_listed x ms ≡ true → (x ≡ h) ⊎ In x (others_of h ms)
 listed_or x h [] e = absurd (cc)
 listed_or x h (y ∷ ys) e = others_step x h y ys (eqb y.house h) refl (listed_or x h ys) e
 
-in_others_step : (x h : ℕ) (y : Member) (ys : List Member) (b : Bool) → eqb y.house h ≡ b → (In x (others_of h ys) → (x ≢ h) × (is_listed x ys ≡ true)) → In x (cond b (others_of h ys) (y.house ∷ others_of h ys)) → (x ≢ h) × ((eqb y.house x || is_listed x ys) ≡ true)
+in_others_step : (x h : ℕ) (y : Member) (ys : List Member) (b : Bool) → eqb y.house h ≡ b → (In x (others_of h ys) → (x ≢ h) × (is_listed x ys ≡ true))
+    → In x (cond b (others_of h ys) (y.house ∷ others_of h ys)) → (x ≢ h) × ((eqb y.house x || is_listed x ys) ≡ true)
 in_others_step x h y ys true q rest i = let w = rest i in (w.0, or_true (eqb y.house x) _ w.1)
-in_others_step x h y ys false q rest (inl e) = let n : x ≢ h = grind arith in let t : eqb y.house x ≡ true = eq_to y.house x (sym e) in (n, ap (λ (b : Bool). b || is_listed x ys) t)
+in_others_step x h y ys false q rest (inl e) = let n : x ≢ h = grind arith in let t : eqb y.house x ≡ true = eq_to y.house x (sym e) in
+    (n, ap (λ (b : Bool). b || is_listed x ys) t)
 in_others_step x h y ys false q rest (inr i) = let w = rest i in (w.0, or_true (eqb y.house x) _ w.1)
 
+-- one of the others is another house, and on the list
 pub In-others_of : (x h : ℕ) (ms : List Member) → In x (others_of h ms) → (x ≢ h) × (is_listed x ms ≡ true)
 In-others_of x h [] i = elim i [ ]
 In-others_of x h (y ∷ ys) i = in_others_step x h y ys (eqb y.house h) refl (In-others_of x h ys) i
 
+-- a house on a list is its master or one of the others
 pub In-others : (x s : ℕ) (ms : List Member) → Listed ms x s → (x ≡ master_of ms) ⊎ In x (others ms)
 In-others x s ms l = listed_or x (master_of ms) ms l.0
 
+-- one of the others is listed
 pub listed-others : (x : ℕ) (ms : List Member) → In x (others ms) → (s : ℕ) × Listed ms x s
 listed-others x ms i = (since_in ms x 0, listed_at ms x (In-others_of x (master_of ms) ms i).1)
 
 -- ---- the list of a new epoch
 
-has_insert_step : (x y z : ℕ) (zs : List ℕ) (b : Bool) → has x (insert_house y zs) ≡ (eqb x y || has x zs) → has x (cond b (z ∷ insert_house y zs) (y ∷ z ∷ zs)) ≡ (eqb x y || has x (z ∷ zs))
+has_insert_step : (x y z : ℕ) (zs : List ℕ) (b : Bool) → has x (insert_house y zs) ≡ (eqb x y || has x zs)
+    → has x (cond b (z ∷ insert_house y zs) (y ∷ z ∷ zs)) ≡ (eqb x y || has x (z ∷ zs))
 has_insert_step x y z zs true ih = ap (λ (b : Bool). eqb x z || b) ih ∙ turned (eqb x z) (eqb x y) (has x zs)
   where
     turned : (a b c : Bool) → (a || (b || c)) ≡ (b || (a || c))
@@ -85,14 +99,18 @@ has_ascending x (z ∷ zs) = has_insert x z (ascending zs) ∙ ap (λ (b : Bool)
 abbrev member_at : List Member → (k m x : ℕ) → Member
 member_at old k m x = record { house = x; since = since_in old x k; kind = cond (eqb x m) Master ReadOnly }
 
+-- the test of numbers does not ask for their order
 pub flip_eq : (a b : ℕ) → eqb a b ≡ eqb b a
 flip_eq a b = grind arith
 
 listed_map : (old : List Member) (k m x : ℕ) (hs : List ℕ) → is_listed x (map (member_at old k m) hs) ≡ has x hs
 listed_map old k m x [] = refl
-listed_map old k m x (h ∷ hs) = ap (λ (b : Bool). b || is_listed x (map (member_at old k m) hs)) (flip_eq h x) ∙ ap (λ (b : Bool). eqb x h || b) (listed_map old k m x hs)
+listed_map old k m x (h ∷ hs) = ap (λ (b : Bool). b || is_listed x (map (member_at old k m) hs)) (flip_eq h x)
+    ∙ ap (λ (b : Bool). eqb x h || b) (listed_map old k m x hs)
 
-since_map_step : (old : List Member) (k m x h : ℕ) (hs : List ℕ) (b : Bool) → eqb h x ≡ b → (has x hs ≡ true → since_in (map (member_at old k m) hs) x 0 ≡ since_in old x k) → (b || has x hs) ≡ true → cond b (since_in old h k) (since_in (map (member_at old k m) hs) x 0) ≡ since_in old x k
+since_map_step : (old : List Member) (k m x h : ℕ) (hs : List ℕ) (b : Bool) → eqb h x ≡ b
+    → (has x hs ≡ true → since_in (map (member_at old k m) hs) x 0 ≡ since_in old x k) → (b || has x hs) ≡ true
+    → cond b (since_in old h k) (since_in (map (member_at old k m) hs) x 0) ≡ since_in old x k
 since_map_step old k m x h hs true q rest e = ap (λ (z : ℕ). since_in old z k) (eq_from h x q)
 since_map_step old k m x h hs false q rest e = rest e
 
@@ -100,9 +118,11 @@ since_map : (old : List Member) (k m x : ℕ) (hs : List ℕ) → has x hs ≡ t
 since_map old k m x [] e = absurd (cc)
 since_map old k m x (h ∷ hs) e = since_map_step old k m x h hs (eqb h x) refl (since_map old k m x hs) (ap (λ (b : Bool). b || has x hs) (flip_eq h x) ∙ e)
 
-master_step : (old : List Member) (k m h : ℕ) (hs : List ℕ) (b : Bool) → eqb h m ≡ b → (has m hs ≡ true → master_of (map (member_at old k m) hs) ≡ m) → (eqb m h || has m hs) ≡ true → cond (is_master (cond b Master ReadOnly)) h (master_of (map (member_at old k m) hs)) ≡ m
+master_step : (old : List Member) (k m h : ℕ) (hs : List ℕ) (b : Bool) → eqb h m ≡ b → (has m hs ≡ true → master_of (map (member_at old k m) hs) ≡ m)
+    → (eqb m h || has m hs) ≡ true → cond (is_master (cond b Master ReadOnly)) h (master_of (map (member_at old k m) hs)) ≡ m
 master_step old k m h hs true q rest e = eq_from h m q
-master_step old k m h hs false q rest e = rest (subst (λ (b : Bool). (b || has m hs) ≡ true) (sym (flip_eq h m) ∙ q) (subst (λ (b : Bool). (b || has m hs) ≡ true) refl e))
+master_step old k m h hs false q rest e =
+    rest (subst (λ (b : Bool). (b || has m hs) ≡ true) (sym (flip_eq h m) ∙ q) (subst (λ (b : Bool). (b || has m hs) ≡ true) refl e))
 
 master_map : (old : List Member) (k m : ℕ) (hs : List ℕ) → has m hs ≡ true → master_of (map (member_at old k m) hs) ≡ m
 master_map old k m [] e = absurd (cc)
@@ -118,6 +138,7 @@ self m rs = has-from_In m (m ∷ rs) (inl refl)
 pub master_new : (old : List Member) (k m : ℕ) (rs : List ℕ) → master_of (listing old k m rs) ≡ m
 master_new old k m rs = master_map old k m (ascending (m ∷ rs)) (has_ascending m (m ∷ rs) ∙ self m rs)
 
+-- the master of a new list is on it
 pub master_listed : (old : List Member) (k m : ℕ) (rs : List ℕ) → is_listed m (listing old k m rs) ≡ true
 master_listed old k m rs = listed_new old k m m rs ∙ self m rs
 
@@ -125,6 +146,7 @@ master_listed old k m rs = listed_new old k m m rs ∙ self m rs
 pub since_new : (old : List Member) (k m x : ℕ) (rs : List ℕ) → is_listed x (listing old k m rs) ≡ true → since_in (listing old k m rs) x 0 ≡ since_in old x k
 since_new old k m x rs e = since_map old k m x (ascending (m ∷ rs)) (sym (listed_map old k m x (ascending (m ∷ rs))) ∙ e)
 
+-- a house on a new list was on the old one with that since, or its since is the new epoch
 pub listed_before : (old : List Member) (k m x s : ℕ) (rs : List ℕ) → Listed (listing old k m rs) x s → Listed old x s ⊎ (s ≡ k)
 listed_before old k m x s rs l = go (is_listed x old) refl
   where
@@ -135,7 +157,8 @@ listed_before old k m x s rs l = go (is_listed x old) refl
     go true e = inl (e, sym (since_listed x k old e) ∙ from)
     go false e = inr (sym from ∙ since_unlisted x k old e)
 
-leaving_step : (x : ℕ) (y : Member) (ys now : List Member) (t : Bool) → is_listed y.house now ≡ t → (In x (leaving ys now) → is_listed x now ≡ false) → In x (cond t (leaving ys now) (y.house ∷ leaving ys now)) → is_listed x now ≡ false
+leaving_step : (x : ℕ) (y : Member) (ys now : List Member) (t : Bool) → is_listed y.house now ≡ t → (In x (leaving ys now) → is_listed x now ≡ false)
+    → In x (cond t (leaving ys now) (y.house ∷ leaving ys now)) → is_listed x now ≡ false
 leaving_step x y ys now true q rest i = rest i
 leaving_step x y ys now false q rest (inl e) = ap (λ (z : ℕ). is_listed z now) e ∙ q
 leaving_step x y ys now false q rest (inr i) = rest i

@@ -4,7 +4,9 @@ use Rattle.std.specs.Prelude.{true, false, Some, codes, take}
 use Rattle.cds_stamps.specs.Stamps.{last_time}
 use Rattle.directory.specs.declared.update.UpdateRefusal.TheVariants as why
 use Rattle.directory.specs.Updates.{Create, Delete, Add, Remove, Put}
-use Rattle.cell_model.specs.Commands.{Command, House, Clock, Root, Accept, Epoch, Skulk, Deliver, Lose, Crash, Start, HouseExists, DirectoryExists, NoHouse, NoDirectory, BadMembers, NotMember, Down, Up, NoMessage, Update, Done, Posted, Stamped, NewEpoch, Taken, NoReplica, Refused}
+use Rattle.cell_model.specs.Commands.{Command, House, Clock, Root, Accept, Epoch, Skulk, Deliver, Lose, Crash, Start, HouseExists, DirectoryExists}
+use Rattle.cell_model.specs.Commands.{NoHouse, NoDirectory, BadMembers, NotMember, Down, Up, NoMessage, Update, Done, Posted, Stamped, NewEpoch}
+use Rattle.cell_model.specs.Commands.{Taken, NoReplica, Refused}
 use Rattle.cell_model.specs.Steps.{answers, replay}
 use Rattle.cell_model.specs.Readings.{at, value_at}
 

@@ -1,5 +1,6 @@
 -- Houses, nodes and directory numbers over a run.
-use Rattle.std.proofs.Common.{◌≡◌, ◌≢◌, ℕ, ◌+◌, ◌<◌, ◌≤◌, ◌⊎◌, inl, inr, Bool, true, false, ◌||◌, eqb, cond, List, [], ◌∷◌, ◌++◌, refl, sym, ap, ◌∙◌, subst, arith, ⊎_elim, le_refl, le_trans}
+use Rattle.std.proofs.Common.{◌≡◌, ◌≢◌, ℕ, ◌+◌, ◌<◌, ◌≤◌, ◌⊎◌, inl, inr, Bool, true, false, ◌||◌, eqb, cond, List, [], ◌∷◌, ◌++◌, refl, sym, ap, ◌∙◌}
+use Rattle.std.proofs.Common.{subst, arith, ⊎_elim, le_refl, le_trans}
 use Rattle.std.proofs.lemmas.Bool.{cases_lt}
 use Rattle.cds_stamps.specs.Members.{Member}
 use Rattle.cell_model.specs.Cells.{Slot, Absent, House, Message, Cell, put, no_house, empty_cell}
@@ -11,7 +12,9 @@ use Rattle.cell_model.proofs.Lists.{eq_from, eq_to, or_cases, or_left, or_right,
 use Rattle.cell_model.proofs.Views.{put_at, put_same, put_other}
 use Rattle.cell_model.proofs.EpochFrames.{Whole}
 use Rattle.cell_model.proofs.MoveFrames.{taken_not, act_rises}
-use Rattle.cell_model.proofs.Moves.{IsUp, Act, accepts, skulks, lone, updates, gives, gathers, turns, gathers_again, spreads, acks_early, acks, completes, advances, copies, keeps, leaves, Move, stays, houses, clocks, loses, crashes, starts, acts, founds, crowns, Steps, one, mkdirs, outcome_steps}
+use Rattle.cell_model.proofs.Moves.{IsUp, Act, accepts, skulks, lone, updates, gives, gathers, turns, gathers_again, spreads, acks_early, acks}
+use Rattle.cell_model.proofs.Moves.{completes, advances, copies, keeps, leaves, Move, stays, houses, clocks, loses, crashes, starts, acts, founds}
+use Rattle.cell_model.proofs.Moves.{crowns, Steps, one, mkdirs, outcome_steps}
 
 -- what holds of every cell that is reached, but for the house of each node
 pub record Plain (g : Cell) : Type 0 where
@@ -21,6 +24,7 @@ pub record Plain (g : Cell) : Type 0 where
   pub bare : (d : ℕ) → g.top d ≡ 0 → g.present d ≡ []
   pub nodes : (x y : ℕ) → has x g.made ≡ true → has y g.made ≡ true → (g.house x).node ≡ (g.house y).node → x ≡ y
 
+-- what holds of houses at large, with the house of each node
 pub whole_of : (home : ℕ → ℕ) (g : Cell) → Plain g → ((x : ℕ) → has x g.made ≡ true → home (g.house x).node ≡ x) → Whole home g
 whole_of home g p h = record { two = p.two; unmade = p.unmade; at_home = h; unknown = p.unknown; bare = p.bare }
 
@@ -29,6 +33,7 @@ pub data Ends (d : ℕ) (g g' : Cell) : Type 0 where
   stay : g'.top d ≡ g.top d → g'.present d ≡ g.present d → Ends d g g'
   next : g.top d < g'.top d → Ends d g g'
 
+-- what each step keeps of houses and directories at large
 pub record Onward (g g' : Cell) : Type 0 where
   pub plain : Plain g'
   pub kept : (x : ℕ) → has x g.made ≡ true → (has x g'.made ≡ true) × ((g'.house x).node ≡ (g.house x).node)
@@ -52,6 +57,7 @@ onward_trans g g1 g2 a b = record {
 pub onward_same : (g : Cell) → Plain g → Onward g g
 onward_same g p = record { plain = p; kept = λ x m. (m, refl); ends = λ d. stay refl refl; rises = λ x. le_refl _ }
 
+-- a house that is up was made
 pub up_made : (g : Cell) (h : ℕ) → Plain g → IsUp g h → has h g.made ≡ true
 up_made g h p up = go (has h g.made) refl
   where
@@ -60,7 +66,9 @@ up_made g h p up = go (has h g.made) refl
     go false e = let z : (g.house h).up ≡ false = ap (λ (v : House). v.up) (p.unmade h e) in absurd (cc)
 
 -- a house that was made changes, but for its node
-changed : (g : Cell) (h : ℕ) (now : House) (bag : List Message) (lost : List ℕ) (top : ℕ → ℕ) (present : ℕ → List Member) (nd : ℕ) → Plain g → has h g.made ≡ true → now.node ≡ (g.house h).node → (g.house h).floor ≤ now.floor → 2 ≤ nd → ((d : ℕ) → nd ≤ d → top d ≡ 0) → ((d : ℕ) → top d ≡ 0 → present d ≡ []) → ((d : ℕ) → ((top d ≡ g.top d) × (present d ≡ g.present d)) ⊎ (g.top d < top d))
+changed : (g : Cell) (h : ℕ) (now : House) (bag : List Message) (lost : List ℕ) (top : ℕ → ℕ) (present : ℕ → List Member) (nd : ℕ) → Plain g
+    → has h g.made ≡ true → now.node ≡ (g.house h).node → (g.house h).floor ≤ now.floor → 2 ≤ nd → ((d : ℕ) → nd ≤ d → top d ≡ 0)
+    → ((d : ℕ) → top d ≡ 0 → present d ≡ []) → ((d : ℕ) → ((top d ≡ g.top d) × (present d ≡ g.present d)) ⊎ (g.top d < top d))
     → Onward g (record { made = g.made; house = put g.house h now; bag = bag; lost = lost; top = top; present = present; next_dir = nd })
 changed g h now bag lost top present nd p made same le two unknown bare ends = record {
   plain = record {
@@ -78,18 +86,23 @@ changed g h now bag lost top present nd p made same le two unknown bare ends = r
     node : (x : ℕ) → (put g.house h now x).node ≡ (g.house x).node
     node = put_at (λ x v. v.node ≡ (g.house x).node) g.house h now same (λ x _. refl)
 
-pub moved_onward : (g : Cell) (h : ℕ) (now : House) (posts : List Message) → Plain g → has h g.made ≡ true → now.node ≡ (g.house h).node → (g.house h).floor ≤ now.floor → Onward g (moved g h now posts)
-moved_onward g h now posts p made same le = changed g h now (g.bag ++ posts) g.lost g.top g.present g.next_dir p made same le p.two p.unknown p.bare (λ d. inl (refl, refl))
+-- a change of one house keeps it
+pub moved_onward : (g : Cell) (h : ℕ) (now : House) (posts : List Message) → Plain g → has h g.made ≡ true → now.node ≡ (g.house h).node
+    → (g.house h).floor ≤ now.floor → Onward g (moved g h now posts)
+moved_onward g h now posts p made same le =
+    changed g h now (g.bag ++ posts) g.lost g.top g.present g.next_dir p made same le p.two p.unknown p.bare (λ d. inl (refl, refl))
 
 -- the last epoch and the list of one directory were set
-set_ends : (top : ℕ → ℕ) (present : ℕ → List Member) (d k : ℕ) (ms : List Member) → top d < k → (e : ℕ) → ((put top d k e ≡ top e) × (put present d ms e ≡ present e)) ⊎ (top e < put top d k e)
+set_ends : (top : ℕ → ℕ) (present : ℕ → List Member) (d k : ℕ) (ms : List Member) → top d < k → (e : ℕ)
+    → ((put top d k e ≡ top e) × (put present d ms e ≡ present e)) ⊎ (top e < put top d k e)
 set_ends top present d k ms lt e = go (eqb e d) refl
   where
     go : (b : Bool) → eqb e d ≡ b → ((cond b k (top e) ≡ top e) × (cond b ms (present e) ≡ present e)) ⊎ (top e < cond b k (top e))
     go true q = inr (subst (λ (z : ℕ). top z < k) (sym (eq_from e d q)) lt)
     go false q = inl (refl, refl)
 
-set_bare : (top : ℕ → ℕ) (present : ℕ → List Member) (d k : ℕ) (ms : List Member) → 0 < k → ((e : ℕ) → top e ≡ 0 → present e ≡ []) → (e : ℕ) → put top d k e ≡ 0 → put present d ms e ≡ []
+set_bare : (top : ℕ → ℕ) (present : ℕ → List Member) (d k : ℕ) (ms : List Member) → 0 < k → ((e : ℕ) → top e ≡ 0 → present e ≡ []) → (e : ℕ)
+    → put top d k e ≡ 0 → put present d ms e ≡ []
 set_bare top present d k ms lt bare e = go (eqb e d)
   where
     go : (b : Bool) → cond b k (top e) ≡ 0 → cond b ms (present e) ≡ []
@@ -99,7 +112,9 @@ set_bare top present d k ms lt bare e = go (eqb e d)
 set_unknown : (top : ℕ → ℕ) (d k nd : ℕ) → d < nd → ((e : ℕ) → nd ≤ e → top e ≡ 0) → (e : ℕ) → nd ≤ e → put top d k e ≡ 0
 set_unknown top d k nd lt unknown e le = let n : e ≢ d = grind arith in put_other top d k e n ∙ unknown e le
 
-pub founded_onward : (g : Cell) (d m : ℕ) (ms : List Member) (nd : ℕ) → Plain g → has m g.made ≡ true → g.top d ≡ 0 → d < nd → g.next_dir ≤ nd → Onward g (record (founded g d m ms) { next_dir = nd })
+-- a new directory keeps it
+pub founded_onward : (g : Cell) (d m : ℕ) (ms : List Member) (nd : ℕ) → Plain g → has m g.made ≡ true → g.top d ≡ 0 → d < nd → g.next_dir ≤ nd
+    → Onward g (record (founded g d m ms) { next_dir = nd })
 founded_onward g d m ms nd p made none lt le =
     changed g m _ _ g.lost (put g.top d 1) (put g.present d ms) nd p made refl (le_refl _) (le_trans p.two le)
     (set_unknown g.top d 1 nd lt (λ e z. p.unknown e (le_trans le z)))
@@ -192,11 +207,21 @@ module _ (g : Cell) (h node : ℕ) (p : Plain g) (new : has h g.made ≡ false) 
 move_onward : (g g' : Cell) (pl : Option (ℕ × ℕ)) (a : Answer) (n : List Accepted) → Plain g → Move g pl g' a n → Onward g g'
 move_onward g g' pl a n p (stays b q) = onward_same g p
 move_onward g g' pl a n p (houses h node free) = let z = taken_not g h node g.made free in houses_onward g h node p z.0 z.1
-move_onward g g' pl a n p (clocks h time made) = changed g h (record (g.house h) { clock = time }) g.bag g.lost g.top g.present g.next_dir p made refl (le_refl _) p.two p.unknown p.bare (λ d. inl (refl, refl))
-move_onward g g' pl a n p (loses i) = record { plain = record { two = p.two; unmade = p.unmade; unknown = p.unknown; bare = p.bare; nodes = p.nodes }; kept = λ x m. (m, refl); ends = λ d. stay refl refl; rises = λ x. le_refl _ }
+move_onward g g' pl a n p (clocks h time made) =
+    changed g h (record (g.house h) { clock = time }) g.bag g.lost g.top g.present g.next_dir p made refl (le_refl _) p.two p.unknown p.bare
+    (λ d. inl (refl, refl))
+move_onward g g' pl a n p (loses i) =
+    record {
+      plain = record { two = p.two; unmade = p.unmade; unknown = p.unknown; bare = p.bare; nodes = p.nodes };
+      kept = λ x m. (m, refl);
+      ends =
+          λ d. stay refl refl;
+      rises = λ x. le_refl _;
+    }
 move_onward g g' pl a n p (crashes h up) = moved_onward g h _ [] p (up_made g h p up) refl (le_refl _)
 move_onward g g' pl a n p (starts h made) = moved_onward g h _ [] p made refl (le_refl _)
-move_onward g g' pl a n p (acts h d _ floor o posts b l act) = moved_onward g h (holding (g.house h) d floor o) posts p (up_made g h p (act_up g h d floor o posts b l act)) refl (act_rises g h d floor o posts b l act)
+move_onward g g' pl a n p (acts h d _ floor o posts b l act) =
+    moved_onward g h (holding (g.house h) d floor o) posts p (up_made g h p (act_up g h d floor o posts b l act)) refl (act_rises g h d floor o posts b l act)
 move_onward g g' pl a n p (founds d m rs ns root up none) = founded_onward g d m _ g.next_dir p (up_made g m p up) none (omega (arith, root, p.two)) (le_refl _)
 move_onward g g' pl a n p (crowns d m rs r up known at l since) =
     let lt : d < g.next_dir = ⊎_elim (λ z. z) (λ (ge : g.next_dir ≤ d). absurd (known (p.unknown d ge))) (cases_lt d g.next_dir) in
@@ -210,15 +235,19 @@ steps_onward g g' pl a n p (one _ _ _ m) = move_onward g g' pl a n p m
 steps_onward g g' pl a n p (mkdirs h d m u rs r s ns at i fine up known) =
     let made = up_made g h p i.up in
     let first = moved_onward g h _ _ p made refl (act_rises g h d s.time _ _ _ n (accepts h d u r s ns i fine)) in
-    onward_trans g _ _ first (founded_onward _ g.next_dir m _ (g.next_dir + 1) first.plain (up_made g m p up) (p.unknown g.next_dir (le_refl _)) (omega arith) (omega arith))
+    onward_trans g _ _ first (founded_onward _ g.next_dir m _ (g.next_dir + 1) first.plain (up_made g m p up) (p.unknown g.next_dir (le_refl _)) (omega arith)
+    (omega arith))
 
+-- each command keeps it
 pub step_onward : (g : Cell) (c : Command) → Plain g → Onward g (outcome g c).cell
 step_onward g c p = steps_onward g (outcome g c).cell (place_of g c) (outcome g c).answer (outcome g c).accepted p (outcome_steps g c)
 
+-- and so does a list of commands
 pub run_onward : (cs : List Command) (g : Cell) → Plain g → Onward g (replay_from g cs)
 run_onward [] g p = onward_same g p
 run_onward (c ∷ cs) g p = let o = step_onward g c p in onward_trans g (outcome g c).cell _ o (run_onward cs (outcome g c).cell o.plain)
 
+-- it holds of the empty cell
 pub empty_plain : Plain empty_cell
 empty_plain = record { two = le_refl _; unmade = λ x e. refl; unknown = λ d le. refl; bare = λ d e. refl; nodes = λ x y mx. absurd (cc) }
 
@@ -228,10 +257,12 @@ abbrev pub home_in : (ℕ → House) → List ℕ → ℕ → ℕ
 home_in f [] node = 0
 home_in f (x ∷ xs) node = cond (eqb (f x).node node) x (home_in f xs node)
 
+-- the house of each node, among those that were made
 abbrev pub home_of : Cell → ℕ → ℕ
 home_of g = home_in g.house g.made
 
-home_found : (f : ℕ → House) (xs : List ℕ) (x : ℕ) → ((y : ℕ) → has y xs ≡ true → (f y).node ≡ (f x).node → y ≡ x) → has x xs ≡ true → home_in f xs (f x).node ≡ x
+home_found : (f : ℕ → House) (xs : List ℕ) (x : ℕ) → ((y : ℕ) → has y xs ≡ true → (f y).node ≡ (f x).node → y ≡ x) → has x xs ≡ true
+    → home_in f xs (f x).node ≡ x
 home_found f [] x only e = absurd (cc)
 home_found f (y ∷ xs) x only e = go (eqb (f y).node (f x).node) refl (home_found f xs x (λ z m. only z (or_true (eqb z y) _ m)))
   where
@@ -240,7 +271,8 @@ home_found f (y ∷ xs) x only e = go (eqb (f y).node (f x).node) refl (home_fou
 
     go : (b : Bool) → eqb (f y).node (f x).node ≡ b → (has x xs ≡ true → home_in f xs (f x).node ≡ x) → cond b y (home_in f xs (f x).node) ≡ x
     go true q rest = only y self (eq_from _ _ q)
-    go false q rest = rest (⊎_elim (λ z. let same : x ≡ y = eq_from x y z in let n : (f y).node ≢ (f x).node = grind arith in absurd (n (ap (λ (k : ℕ). (f k).node) (sym same)))) (λ z. z) (or_cases (eqb x y) (has x xs) e))
+    go false q rest = rest (⊎_elim (λ z. let same : x ≡ y = eq_from x y z in let n : (f y).node ≢ (f x).node = grind arith in
+        absurd (n (ap (λ (k : ℕ). (f k).node) (sym same)))) (λ z. z) (or_cases (eqb x y) (has x xs) e))
 
 -- in a later cell each house that was made is the house of its node
 pub home_right : (g g' : Cell) → Plain g' → Onward g g' → (x : ℕ) → has x g.made ≡ true → home_of g' (g.house x).node ≡ x

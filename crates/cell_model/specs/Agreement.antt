@@ -48,8 +48,10 @@ IsShown h (Attr n c a (Marked v m)) =
 -- and not later; a clear those of its attribute's values that are earlier (own)
 pub data Covers : Mark → Mark → Type 0 where
   of_death : (n : List ℕ) (c s : Stamp) (k : Mark) → name_in k ≡ n → born_in k ≡ c → Covers (Death n c s) k
-  of_absence : (n : List ℕ) (c : Stamp) (a v : List ℕ) (m p : ValueMark) → m.present ≡ false → p.present ≡ true → IsUpTo p.stamp m.stamp → Covers (Attr n c a (Marked v m)) (Attr n c a (Marked v p))
-  of_clear : (n : List ℕ) (c : Stamp) (a v : List ℕ) (s : Stamp) (p : ValueMark) → is_earlier p.stamp s ≡ true → Covers (Attr n c a (Cleared s)) (Attr n c a (Marked v p))
+  of_absence : (n : List ℕ) (c : Stamp) (a v : List ℕ) (m p : ValueMark) → m.present ≡ false → p.present ≡ true → IsUpTo p.stamp m.stamp
+      → Covers (Attr n c a (Marked v m)) (Attr n c a (Marked v p))
+  of_clear : (n : List ℕ) (c : Stamp) (a v : List ℕ) (s : Stamp) (p : ValueMark) → is_earlier p.stamp s ≡ true
+      → Covers (Attr n c a (Cleared s)) (Attr n c a (Marked v p))
 
 -- a replica r of the house x agrees up to t with the updates that stand in this history, of those accepted so far
 pub record Agrees (d : ℕ) (t : Stamp) (so_far all : List Accepted) (history : List Mark) (x : ℕ) (r : Replica) : Type 0 where

@@ -16,7 +16,8 @@ pub data Adds (m : Message) (r : Replica) : List Mark → Option Stamp → Type 
   of_update : (marks : List Mark) → m.body ≡ Update marks → m.epoch ≡ r.epoch → Adds m r marks r.all_up_to
   of_gathered : (t : Stamp) (copy : Copy) → m.body ≡ Gathered t copy → m.epoch ≡ r.epoch → Adds m r copy.history (maybe later_stamp r.all_up_to copy.all_up_to)
   of_spread : (t : Stamp) (copy : Copy) → m.body ≡ Spread t copy → m.epoch ≡ r.epoch → Adds m r copy.history (maybe later_stamp r.all_up_to copy.all_up_to)
-  of_join : (members : List Member) (copy : Copy) → m.body ≡ Join members copy → r.epoch ≤ m.epoch → since_in members m.receiver 0 ≤ r.epoch → Adds m r copy.history (maybe later_stamp r.all_up_to copy.all_up_to)
+  of_join : (members : List Member) (copy : Copy) → m.body ≡ Join members copy → r.epoch ≤ m.epoch → since_in members m.receiver 0 ≤ r.epoch
+      → Adds m r copy.history (maybe later_stamp r.all_up_to copy.all_up_to)
 
 -- these marks can be merged into this history: up to t it has them, and both and their union are histories (own)
 pub record CanMerge (history marks : List Mark) (t : Option Stamp) : Type 0 where
@@ -28,4 +29,5 @@ pub record CanMerge (history marks : List Mark) (t : Option Stamp) : Type 0 wher
 -- whatever a posted message adds to its receiver's replica can be merged (own)
 abbrev pub MergesHold : List Command → Type 0
 MergesHold commands =
-    (m : Message) (r : Replica) (marks : List Mark) (t : Option Stamp) → In m (replay commands).bag → IsHeld (replay commands) m.receiver m.dir r → Adds m r marks t → CanMerge r.history marks t
+    (m : Message) (r : Replica) (marks : List Mark) (t : Option Stamp) → In m (replay commands).bag → IsHeld (replay commands) m.receiver m.dir r
+    → Adds m r marks t → CanMerge r.history marks t

@@ -49,7 +49,8 @@ first_answer (m ∷ ms) d y t = or_first ((m.dir == d) && (m.sender == y)) (answ
 -- not answered, or in a member's first answer (own)
 pub data InGathering (g : Cell) (h d : ℕ) (r : Replica) (t : Stamp) (j : Mark) : Type 0 where
   at_master : In j r.history → InGathering g h d r t j
-  at_member : (y : ℕ) (q : Replica) → In y (others_of h r.members) → IsHeld g y d q → since_in r.members y 0 ≤ q.epoch → (TookGather g d t y → ⊥) → In j q.history → InGathering g h d r t j
+  at_member : (y : ℕ) (q : Replica) → In y (others_of h r.members) → IsHeld g y d q → since_in r.members y 0 ≤ q.epoch → (TookGather g d t y → ⊥)
+      → In j q.history → InGathering g h d r t j
   in_answer : (y : ℕ) (copy : Copy) → In y (others_of h r.members) → first_answer g.bag d y t ≡ Some copy → In j copy.history → InGathering g h d r t j
 
 -- of the marks up to t, houses and messages of epoch k and later have those of W alone, so do the updates that such a
@@ -57,7 +58,8 @@ pub data InGathering (g : Cell) (h d : ℕ) (r : Replica) (t : Stamp) (j : Mark)
 pub record Sentences (commands : List Command) (d k : ℕ) (t : Stamp) (W : Mark → Type 0) : Type 0 where
   pub houses : (x : ℕ) (q : Replica) (j : Mark) → IsHeld (replay commands) x d q → k ≤ q.epoch → In j q.history → IsUpTo (stamp_in j) t → W j
   pub messages : (m : Message) (j : Mark) → In m (replay commands).bag → m.dir ≡ d → k ≤ m.epoch → In j (marks_in m.body) → IsUpTo (stamp_in j) t → W j
-  pub updates : (a : Accepted) (q : Replica) (j : Mark) → In a (accepted commands) → a.dir ≡ d → IsHeld (replay commands) a.by d q → k ≤ q.epoch → a.since ≡ since_in q.members a.by 0 → IsUpTo a.stamp t → In j a.marks → W j
+  pub updates : (a : Accepted) (q : Replica) (j : Mark) → In a (accepted commands) → a.dir ≡ d → IsHeld (replay commands) a.by d q → k ≤ q.epoch
+      → a.since ≡ since_in q.members a.by 0 → IsUpTo a.stamp t → In j a.marks → W j
   pub later_houses : (x : ℕ) (q : Replica) → IsHeld (replay commands) x d q → k < q.epoch → t.time ≤ ((replay commands).house x).floor
   pub later_messages : (m : Message) → In m (replay commands).bag → m.dir ≡ d → k < m.epoch → t.time ≤ m.floor
 
@@ -77,8 +79,10 @@ GatheringHolds commands =
 -- the step c starts the second round of t at the house h, which then holds r: with the last answer of the first round,
 -- or, at a master that is alone, with the skulk itself (own)
 pub data StartsSecond (early : List Command) (c : Command) (h d : ℕ) (r : Replica) (t : Stamp) : Type 0 where
-  with_last : (q : Replica) (answered : List ℕ) → IsHeld (replay early) h d q → q.phase ≡ Gathering t answered → IsHeld (replay (early ++ c ∷ [])) h d r → r.phase ≡ Spreading t [] → StartsSecond early c h d r t
-  alone : (ns : List ℕ) → c ≡ Skulk h d → (outcome (replay early) c).answer ≡ Complete t ns → IsHeld (replay (early ++ c ∷ [])) h d r → StartsSecond early c h d r t
+  with_last : (q : Replica) (answered : List ℕ) → IsHeld (replay early) h d q → q.phase ≡ Gathering t answered → IsHeld (replay (early ++ c ∷ [])) h d r
+      → r.phase ≡ Spreading t [] → StartsSecond early c h d r t
+  alone : (ns : List ℕ) → c ≡ Skulk h d → (outcome (replay early) c).answer ≡ Complete t ns → IsHeld (replay (early ++ c ∷ [])) h d r
+      → StartsSecond early c h d r t
 
 -- the house held the directory at epoch k at some moment of the run (own)
 pub record HasHeld (commands : List Command) (y d k : ℕ) : Type 0 where
@@ -98,7 +102,8 @@ pub record FromSecond (commands : List Command) (d : ℕ) (r : Replica) (t : Sta
 -- at each moment from the start of a second round on (own)
 abbrev pub SecondHolds : List Command → Type 0
 SecondHolds all =
-    (early late : List Command) (c : Command) (h d : ℕ) (r : Replica) (t : Stamp) → early ++ c ∷ late ≡ all → StartsSecond early c h d r t → FromSecond all d r t
+    (early late : List Command) (c : Command) (h d : ℕ) (r : Replica) (t : Stamp) → early ++ c ∷ late ≡ all → StartsSecond early c h d r t
+    → FromSecond all d r t
 
 -- the history has each mark of x up to t (own)
 abbrev pub HasUpTo : Stamp → List Mark → List Mark → Type 0
@@ -110,7 +115,8 @@ pub record WhileSpreading (g : Cell) (h d : ℕ) (r : Replica) (t : Stamp) : Typ
   pub master : (q : Replica) → IsHeld g h d q → HasUpTo t r.history q.history
   pub members : (y : ℕ) (q : Replica) → TookSpread g d t y → IsHeld g y d q → HasUpTo t r.history q.history
   pub later : (x : ℕ) (q : Replica) → IsHeld g x d q → r.epoch < q.epoch → HasUpTo t r.history q.history
-  pub joins : (m : Message) (members : List Member) (copy : Copy) → In m g.bag → m.dir ≡ d → m.body ≡ Join members copy → r.epoch < m.epoch → HasUpTo t r.history copy.history
+  pub joins : (m : Message) (members : List Member) (copy : Copy) → In m g.bag → m.dir ≡ d → m.body ≡ Join members copy → r.epoch < m.epoch
+      → HasUpTo t r.history copy.history
 
 -- from the start on, while no other member passed the epoch without taking the Spread of t (own)
 abbrev pub SpreadingHolds : List Command → Type 0
@@ -122,7 +128,8 @@ SpreadingHolds all =
 -- what a skulk that completed leaves for good: the houses of its epoch and of later ones, and the Joins of later ones (own)
 pub record AfterSpreading (g : Cell) (d : ℕ) (r : Replica) (t : Stamp) : Type 0 where
   pub houses : (x : ℕ) (q : Replica) → IsHeld g x d q → r.epoch ≤ q.epoch → HasUpTo t r.history q.history
-  pub joins : (m : Message) (members : List Member) (copy : Copy) → In m g.bag → m.dir ≡ d → m.body ≡ Join members copy → r.epoch < m.epoch → HasUpTo t r.history copy.history
+  pub joins : (m : Message) (members : List Member) (copy : Copy) → In m g.bag → m.dir ≡ d → m.body ≡ Join members copy → r.epoch < m.epoch
+      → HasUpTo t r.history copy.history
 
 -- from completion on: in the step that starts the second round, or in a later one (own)
 abbrev pub CompletedHolds : List Command → Type 0

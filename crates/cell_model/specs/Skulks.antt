@@ -24,7 +24,8 @@ pub record IsCompleted (commands : List Command) (d : ℕ) (t : Stamp) (k : ℕ)
 
 -- each AllUpTo of a house or a message of epoch e is the stamp of a completed skulk of epoch e or an earlier one (own)
 pub record AdvancesHold (commands : List Command) : Type 0 where
-  pub houses : (x d : ℕ) (r : Replica) (t : Stamp) → IsHeld (replay commands) x d r → r.all_up_to ≡ Some t → (k : ℕ) × (k ≤ r.epoch) × IsCompleted commands d t k
+  pub houses : (x d : ℕ) (r : Replica) (t : Stamp) → IsHeld (replay commands) x d r → r.all_up_to ≡ Some t
+      → (k : ℕ) × (k ≤ r.epoch) × IsCompleted commands d t k
   pub messages : (m : Message) (t : Stamp) → In m (replay commands).bag → up_to_in m.body ≡ Some t → (k : ℕ) × (k ≤ m.epoch) × IsCompleted commands m.dir t k
 
 -- in the step that completes a skulk, the master's AllUpTo becomes its stamp (own)

@@ -1,5 +1,6 @@
 -- What each command does to a cell, what it answers, and which updates it accepts (own, after C705, clerks, skulks and epochs).
-use Rattle.std.specs.Prelude.{ℕ, ◌+◌, ◌-◌, max, Bool, true, false, ◌&&◌, ◌||◌, not, ◌==◌, nat_lt, nat_le, if◌then◌else◌, List, [], ◌∷◌, ◌++◌, map, length, Option, Some, None, slice_get}
+use Rattle.std.specs.Prelude.{ℕ, ◌+◌, ◌-◌, max, Bool, true, false, ◌&&◌, ◌||◌, not, ◌==◌, nat_lt, nat_le, if◌then◌else◌, List, [], ◌∷◌, ◌++◌, map}
+use Rattle.std.specs.Prelude.{length, Option, Some, None, slice_get}
 use Rattle.std.specs.List.{list_any, list_all}
 use Rattle.std.specs.Option.{option_map}
 use Rattle.cds_stamps.specs.declared.stamp.Stamp.{Stamp}
@@ -13,9 +14,12 @@ use Rattle.directory.specs.Histories.{Mark}
 use Rattle.directory.specs.Shown.{shown, refusal_of, marks_of}
 use Rattle.directory.specs.Updates as updates
 use Rattle.directory.specs.Updates.{Change, changed_name}
-use Rattle.cell_model.specs.Cells.{Phase, Idle, Gathering, Spreading, Replica, Slot, Absent, Gone, Held, House, Body, Update, Gather, Gathered, Spread, SpreadAck, Advance, Join, Leave, Copy, Message, Cell, empty_cell, put}
+use Rattle.cell_model.specs.Cells.{Phase, Idle, Gathering, Spreading, Replica, Slot, Absent, Gone, Held, House, Body, Update, Gather, Gathered}
+use Rattle.cell_model.specs.Cells.{Spread, SpreadAck, Advance, Join, Leave, Copy, Message, Cell, empty_cell, put}
 use Rattle.cell_model.specs.Commands as commands
-use Rattle.cell_model.specs.Commands.{Command, Refusal, HouseExists, NoHouse, NoDirectory, DirectoryExists, BadMembers, NotMember, Down, Up, NoMessage, NotJoined, Answer, Done, Posted, Made, Stamped, NewEpoch, Taken, Late, Early, Stale, Foreign, Complete, Refused, Accepted}
+use Rattle.cell_model.specs.Commands.{Command, Refusal, HouseExists, NoHouse, NoDirectory, DirectoryExists, BadMembers, NotMember, Down, Up}
+use Rattle.cell_model.specs.Commands.{NoMessage, NotJoined, Answer, Done, Posted, Made, Stamped, NewEpoch, Taken, Late, Early, Stale, Foreign}
+use Rattle.cell_model.specs.Commands.{Complete, Refused, Accepted}
 
 -- what a command comes to (own)
 pub record Outcome : Type 0 where
@@ -97,7 +101,8 @@ merged r copy = record r { history = r.history ++ copy.history; all_up_to = mayb
 
 -- one message to each receiver, in their order (own)
 abbrev pub to_each : List ℕ → (dir sender epoch floor : ℕ) → Body → List Message
-to_each receivers dir sender epoch floor body = map (λ x. record { receiver = x; dir = dir; sender = sender; epoch = epoch; floor = floor; body = body }) receivers
+to_each receivers dir sender epoch floor body =
+    map (λ x. record { receiver = x; dir = dir; sender = sender; epoch = epoch; floor = floor; body = body }) receivers
 
 -- the serials of messages that are posted after n others (own)
 abbrev pub serials : ℕ → List Message → List ℕ
@@ -155,7 +160,11 @@ first_joins g d m ms = to_each (others_of m ms) d m 1 (g.house m).floor (Join ms
 -- the cell with a new directory: its master holds it, and the console knows it (own)
 abbrev pub founded : Cell → (d m : ℕ) → List Member → Cell
 founded g d m ms =
-    record (moved g m (holding (g.house m) d (g.house m).floor (Held (first_replica ms))) (first_joins g d m ms)) { top = put g.top d 1; present = put g.present d ms }
+    record (moved g m (holding (g.house m) d (g.house m).floor (Held (first_replica ms))) (first_joins g d m ms)) {
+      top = put g.top d 1;
+      present =
+          put g.present d ms;
+    }
 
 -- the root of the cell (own, after C705, the root directory)
 abbrev pub root : Cell → ℕ → List Member → Outcome
@@ -207,10 +216,21 @@ raised all_up_to t = maybe later_stamp all_up_to (Some t)
 
 -- a master begins a skulk; one that is alone ends it too (own, after C705, skulks)
 abbrev pub begin : Cell → (h d : ℕ) → Replica → Stamp → List ℕ → Outcome
-begin g h d r t [] = record { cell = moved g h (holding (g.house h) d t.time (Held (record r { all_up_to = raised r.all_up_to t; phase = Idle }))) []; answer = Complete t []; accepted = [] }
+begin g h d r t [] =
+    record {
+      cell = moved g h (holding (g.house h) d t.time (Held (record r { all_up_to = raised r.all_up_to t; phase = Idle }))) [];
+      answer =
+          Complete t [];
+      accepted = [];
+    }
 begin g h d r t (y ∷ ys) =
     let posts : List Message = to_each (y ∷ ys) d h r.epoch t.time (Gather t) in
-    record { cell = moved g h (holding (g.house h) d t.time (Held (record r { phase = Gathering t [] }))) posts; answer = Stamped t (serials_of g posts); accepted = [] }
+    record {
+      cell = moved g h (holding (g.house h) d t.time (Held (record r { phase = Gathering t [] }))) posts;
+      answer =
+          Stamped t (serials_of g posts);
+      accepted = [];
+    }
 
 -- a skulk with the stamp that is issued, if any (own)
 abbrev pub skulk_at : Cell → (h d : ℕ) → Replica → Option Stamp → Outcome
@@ -236,7 +256,11 @@ epoch_posts g d m k ms r =
 -- the new master takes the epoch, and the console knows it (own)
 abbrev pub promote : Cell → (d m k : ℕ) → List Member → Replica → Outcome
 promote g d m k ms r = record {
-  cell = record (moved g m (holding (g.house m) d (g.house m).floor (Held (epoch_replica k ms r))) (epoch_posts g d m k ms r)) { top = put g.top d k; present = put g.present d ms };
+  cell = record (moved g m (holding (g.house m) d (g.house m).floor (Held (epoch_replica k ms r))) (epoch_posts g d m k ms r)) {
+    top =
+        put g.top d k;
+    present = put g.present d ms;
+  };
   answer = NewEpoch k (serials_of g (epoch_posts g d m k ms r));
   accepted = [];
 }
