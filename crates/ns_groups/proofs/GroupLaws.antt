@@ -1,16 +1,20 @@
 -- The members of a group are the full names among its values, and accepted updates change them as they say.
-use Rattle.std.proofs.Common.{◌≡◌, ◌≢◌, ◌↔◌, ◌⊎◌, inl, inr, ⊎_elim, ℕ, Bool, true, false, List, [], ◌∷◌, ◌++◌, map, Option, Some, None, refl, sym, ap, subst, ◌∙◌}
-use Rattle.std.specs.Prelude.{◌&&◌, filter, is_none, if◌then◌else◌}
-use Rattle.std.specs.Cmp.{both_ways, eq_by_cmp_equiv}
+use Rattle.std.proofs.Common.{◌≡◌, ◌≢◌, ◌↔◌, ◌⊎◌, inl, inr, ⊎_elim, ℕ, Bool, true, false, List, [], ◌∷◌, ◌++◌, map}
+use Rattle.std.proofs.Common.{Option, Some, None, refl, sym, ap, subst, ◌∙◌}
+use Rattle.std.specs.Prelude.{filter, is_none, if◌then◌else◌}
+use Rattle.std.specs.Cmp.{eq_by_cmp_equiv}
 use Rattle.std.specs.Cmp.Lexicographic.{nat_list_cmp_total}
-use Rattle.std.specs.List.{Contains}
+use Rattle.std.specs.List.{Contains, list_any}
 use Rattle.std.specs.List.Sorted.{IsStrictlySortedBy}
 use Rattle.std.specs.Option.{IsSomeAnd}
+use Rattle.std.proofs.lemmas.List.Kept.{IsStrictlySortedBy-filter}
 use Rattle.std.proofs.lemmas.List.Elements.{All-weaker, All-contains_itself, All-contains}
 use Rattle.std.proofs.lemmas.Map.Views.{list_any-from_Contains, Contains-from_any}
-use Rattle.attr_sets.proofs.Greatest.{Contains-head, Contains-tail, Contains-none, Contains-cases}
+use Rattle.cds_stamps.proofs.ListMembers.{Contains-head, Contains-tail, Contains-map, map-Contains, Contains-filter, filter-Contains}
+use Rattle.cds_stamps.proofs.AscendingLaws.{one_order, ascending-rises, ascending-has, ascending-had, ascending-kept}
 use Rattle.cds_stamps.specs.Keyed.{tied}
-use Rattle.cds_stamps.specs.Octets.{octets_cmp, octets_exact}
+use Rattle.cds_stamps.specs.Octets.{octets_cmp, octets_exact, is_octets}
+use Rattle.cds_stamps.specs.Ascending.{ascending}
 use Rattle.cds_stamps.specs.declared.stamp.Stamp.{Stamp}
 use Rattle.cell_names.specs.FullNames.{spelling, components_of, name_fault, is_full_name, IsComponentList, IsFullName}
 use Rattle.cell_names.proofs.FullNameLaws.{name_fault-none, name_fault-spelling, components_of-spelling, spelling-components}
@@ -18,10 +22,8 @@ use Rattle.directory.specs.Histories.{Mark, IsBefore}
 use Rattle.directory.specs.Updates.{Add, Remove}
 use Rattle.directory.specs.Shown.{Shown, shown, marks_of, ChangesValues}
 use Rattle.directory.proofs.ChangeLaws.{shown-add, shown-remove}
-use Rattle.ns_groups.specs.Groups.{group, member_fault, ascending, members_of, IsMembers, delete_fault}
+use Rattle.ns_groups.specs.Groups.{group, member_fault, members_of, IsMembers, delete_fault}
 use Rattle.ns_groups.specs.declared.member.GroupFault.{GroupFault}
-use Rattle.ns_groups.proofs.Ascending.{has, one_list, ascending_rises, ascending_has}
-use Rattle.ns_groups.proofs.MemberLaws.{has_readable, readable_of}
 
 -- ---- faults
 
@@ -33,6 +35,7 @@ none_if : {E : Type 0} (x : Option E) → (is_none x ≡ true) ↔ (x ≡ None)
 none_if None = (λ _. refl, λ _. refl)
 none_if (Some x) = (λ e. cc (e), λ e. cc (e))
 
+-- no fault is found exactly in full names
 pub member_fault-none : (octets : List ℕ) → (member_fault octets ≡ None) ↔ IsFullName octets
 member_fault-none octets =
     let test = no_fault_if {E = GroupFault} (is_full_name octets) _ in
@@ -42,24 +45,15 @@ member_fault-none octets =
 
 -- ---- octets among others
 
+-- octets are among these
+abbrev has : List ℕ → List (List ℕ) → Bool
+has o = list_any (is_octets o)
+
 has_from : (o : List ℕ) (all : List (List ℕ)) → Contains all o → has o all ≡ true
 has_from o all c = list_any-from_Contains (eq_by_cmp_equiv nat_list_cmp_total) o all c
 
 among : (o : List ℕ) (all : List (List ℕ)) → has o all ≡ true → Contains all o
 among o all e = Contains-from_any (tied octets_exact) o all e
-
-Contains-map : {A B : Type 0} (f : A → B) (xs : List A) (x : A) → Contains xs x → Contains (map f xs) (f x)
-Contains-map f [] x c = absurd (Contains-none x c)
-Contains-map f (y ∷ xs) x c =
-    ⊎_elim (λ is. subst (λ z. Contains (map f (y ∷ xs)) (f z)) is (Contains-head (f y) (map f xs)))
-    (λ rest. Contains-tail (f y) (map f xs) (f x) (Contains-map f xs x rest)) (Contains-cases y xs x c)
-
-map-Contains : {A B : Type 0} (f : A → B) (xs : List A) (y : B) → Contains (map f xs) y → (x : A) × Contains xs x × (f x ≡ y)
-map-Contains f [] y c = absurd (Contains-none y c)
-map-Contains {A} f (x ∷ xs) y c = ⊎_elim (λ is. (x, Contains-head x xs, is)) (λ rest. later (map-Contains f xs y rest)) (Contains-cases (f x) (map f xs) y c)
-  where
-    later : ((z : A) × Contains xs z × (f z ≡ y)) → (z : A) × Contains (x ∷ xs) z × (f z ≡ y)
-    later found = (found.0, Contains-tail x xs found.0 found.1, found.2)
 
 -- ---- names and their octets
 
@@ -89,21 +83,11 @@ octets_back (m ∷ ms) lawful =
 -- ---- the members
 
 module _ (values : List (List ℕ)) where
-  has_once : (o : List ℕ) → has o (ascending (filter is_full_name values)) ≡ (is_full_name o && has o values)
-  has_once o = ascending_has o (filter is_full_name values) ∙ has_readable o values
-
-  parts : (a b : Bool) → (a && b) ≡ true → (a ≡ true) × (b ≡ true)
-  parts true b e = (refl, e)
-  parts false b e = cc (e)
-
-  both : (a b : Bool) → a ≡ true → b ≡ true → (a && b) ≡ true
-  both a b p q = rw p q
-
   once_from : (o : List ℕ) → Contains (ascending (filter is_full_name values)) o → (is_full_name o ≡ true) × Contains values o
-  once_from o c = let p = parts (is_full_name o) (has o values) (sym (has_once o) ∙ has_from o _ c) in (p.0, among o values p.1)
+  once_from o c = let p = filter-Contains is_full_name values o (ascending-had (filter is_full_name values) o c) in (p.1, p.0)
 
   once_to : (o : List ℕ) → is_full_name o ≡ true → Contains values o → Contains (ascending (filter is_full_name values)) o
-  once_to o full c = among o _ (has_once o ∙ both (is_full_name o) (has o values) full (has_from o values c))
+  once_to o full c = ascending-has (filter is_full_name values) o (Contains-filter is_full_name values o c full)
 
   spelled_once : map spelling (members_of values) ≡ ascending (filter is_full_name values)
   spelled_once = names_back (ascending (filter is_full_name values)) (λ o c. (once_from o c).0)
@@ -113,19 +97,23 @@ module _ (values : List (List ℕ)) where
       let from = map-Contains components_of (ascending (filter is_full_name values)) m c in
       subst IsComponentList from.2 (spelled_back from.0 (once_from from.0 from.1).0).0
 
+  -- a member is a full name whose octets are a value
   pub member_from : (m : List (List ℕ)) → Contains (members_of values) m → IsComponentList m × Contains values (spelling m)
   member_from m c =
-      let at : Contains (ascending (filter is_full_name values)) (spelling m) = subst (λ (os : List (List ℕ)). Contains os (spelling m)) spelled_once (Contains-map spelling (members_of values) m c) in
+      let at : Contains (ascending (filter is_full_name values)) (spelling m) =
+      subst (λ (os : List (List ℕ)). Contains os (spelling m)) spelled_once (Contains-map spelling (members_of values) m c) in
       (member_lawful m c, (once_from (spelling m) at).1)
 
+  -- and such a name is a member
   pub member_to : (m : List (List ℕ)) → IsComponentList m → Contains values (spelling m) → Contains (members_of values) m
   member_to m lawful c =
-      subst (Contains (members_of values)) (components_of-spelling m lawful) (Contains-map components_of (ascending (filter is_full_name values)) (spelling m) (once_to (spelling m) (is_full m lawful) c))
+      subst (Contains (members_of values)) (components_of-spelling m lawful)
+      (Contains-map components_of (ascending (filter is_full_name values)) (spelling m) (once_to (spelling m) (is_full m lawful) c))
 
   members : IsMembers values (members_of values)
   members = record {
     lawful = All-weaker (Contains (members_of values)) IsComponentList member_lawful (members_of values) (All-contains_itself (members_of values));
-    rising = subst (IsStrictlySortedBy octets_cmp) (sym spelled_once) (ascending_rises (filter is_full_name values));
+    rising = subst (IsStrictlySortedBy octets_cmp) (sym spelled_once) (ascending-rises (filter is_full_name values));
     exactly = λ m lawful. (λ c. (member_from m c).1, member_to m lawful);
   }
 
@@ -137,29 +125,33 @@ module _ (values : List (List ℕ)) where
     spelled_from o c =
         let from = map-Contains spelling names o c in
         let lawful = each_lawful from.0 from.1 in
-        subst (Contains (ascending (filter is_full_name values))) from.2 (once_to (spelling from.0) (is_full from.0 lawful) ((are.exactly from.0 lawful).0 from.1))
+        subst (Contains (ascending (filter is_full_name values))) from.2
+        (once_to (spelling from.0) (is_full from.0 lawful) ((are.exactly from.0 lawful).0 from.1))
 
     spelled_to : (o : List ℕ) → Contains (ascending (filter is_full_name values)) o → Contains (map spelling names) o
     spelled_to o c =
         let from = once_from o c in
         let back = spelled_back o from.0 in
-        subst (Contains (map spelling names)) (sym back.1) (Contains-map spelling names (components_of o) ((are.exactly (components_of o) back.0).1 (subst (Contains values) back.1 from.1)))
+        let there = (are.exactly (components_of o) back.0).1 (subst (Contains values) back.1 from.1) in
+        subst (Contains (map spelling names)) (sym back.1) (Contains-map spelling names (components_of o) there)
 
     same_spelled : map spelling names ≡ ascending (filter is_full_name values)
-    same_spelled = one_list (map spelling names) (ascending (filter is_full_name values)) are.rising (ascending_rises (filter is_full_name values))
-        (λ o. both_ways (has o (map spelling names)) (has o (ascending (filter is_full_name values)))
-        (λ e. has_from o _ (spelled_from o (among o (map spelling names) e)))
-        (λ e. has_from o _ (spelled_to o (among o (ascending (filter is_full_name values)) e))))
+    same_spelled =
+        one_order (map spelling names) (ascending (filter is_full_name values)) are.rising (ascending-rises (filter is_full_name values))
+        spelled_from spelled_to
 
     only_list : names ≡ members_of values
     only_list = sym (octets_back names each_lawful) ∙ ap (map components_of) same_spelled
 
+  -- there is one list of the members
   pub members-one : (names : List (List (List ℕ))) → IsMembers values names ↔ (names ≡ members_of values)
   members-one names = (only_list names, λ e. subst (IsMembers values) (sym e) members)
 
+  -- of values that ascend the members keep the order
   pub members-rising : IsStrictlySortedBy octets_cmp values → members_of values ≡ map components_of (filter is_full_name values)
-  members-rising rises = ap (map components_of) (sym (readable_of values values rises (λ o. refl)))
+  members-rising rises = ap (map components_of) (ascending-kept (filter is_full_name values) (IsStrictlySortedBy-filter octets_cmp is_full_name values rises))
 
+  -- exactly the members can be deleted
   pub delete_fault-none : (m : List (List ℕ)) → IsComponentList m → (delete_fault values m ≡ None) ↔ Contains (members_of values) m
   delete_fault-none m lawful =
       let test = no_fault_if {E = GroupFault} (has (spelling m) values) _ in
@@ -200,16 +192,20 @@ member_removed old new m lawful changed other = (from, to)
         let is = member_from old other left.1 in
         member_to new other is.0 ((changed (spelling other)).1 (λ e. left.0 (one_spelling other m is.0 lawful e), is.1))
 
+-- an accepted addition leaves the members that were there and the new one
 pub members-added : (h : List Mark) (n : List ℕ) (e : Shown) (s : Stamp) (member : List (List ℕ)) → shown h n ≡ Some e → IsBefore h s → IsComponentList member
     → IsSomeAnd (shown (h ++ marks_of (shown h n) (Add n group (spelling member)) s) n)
     (λ f. (other : List (List ℕ)) → Contains (members_of (f.values group)) other ↔ ((other ≡ member) ⊎ Contains (members_of (e.values group)) other))
 members-added h n e s member is before lawful =
-    if_some_and (ChangesValues e group (λ w. (w ≡ spelling member) ⊎ Contains (e.values group) w)) _ (λ f changes. member_added (e.values group) (f.values group) member lawful changes.changed) _
+    if_some_and (ChangesValues e group (λ w. (w ≡ spelling member) ⊎ Contains (e.values group) w)) _
+    (λ f changes. member_added (e.values group) (f.values group) member lawful changes.changed) _
     (shown-add h n e is s group (spelling member) before refl)
 
+-- an accepted removal leaves the others
 pub members-removed : (h : List Mark) (n : List ℕ) (e : Shown) (s : Stamp) (member : List (List ℕ)) → shown h n ≡ Some e → IsBefore h s → IsComponentList member
     → IsSomeAnd (shown (h ++ marks_of (shown h n) (Remove n group (spelling member)) s) n)
     (λ f. (other : List (List ℕ)) → Contains (members_of (f.values group)) other ↔ ((other ≢ member) × Contains (members_of (e.values group)) other))
 members-removed h n e s member is before lawful =
-    if_some_and (ChangesValues e group (λ w. (w ≢ spelling member) × Contains (e.values group) w)) _ (λ f changes. member_removed (e.values group) (f.values group) member lawful changes.changed) _
+    if_some_and (ChangesValues e group (λ w. (w ≢ spelling member) × Contains (e.values group) w)) _
+    (λ f changes. member_removed (e.values group) (f.values group) member lawful changes.changed) _
     (shown-remove h n e is s group (spelling member) before refl)

@@ -1,4 +1,2 @@
-pub mod SpelledWalks
-pub mod Ascending
-pub mod MemberLaws
+pub mod ValueTests
 pub mod GroupLaws

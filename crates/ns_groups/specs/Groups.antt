@@ -1,13 +1,12 @@
 -- Groups: entries whose values of one attribute spell the full names of their members (own, after C706, group attributes).
 use Rattle.std.specs.Prelude.{◌↔◌, ℕ, Bool, List, [], ◌∷◌, ◌++◌, map, filter, Option, Some, None, codes, if◌then◌else◌}
-use Rattle.std.specs.FinMap.{keys}
 use Rattle.std.specs.List.{All, Contains, list_any}
 use Rattle.std.specs.List.Sorted.{IsStrictlySortedBy}
 use Rattle.cds_stamps.specs.Octets.{octets_cmp, is_octets}
-use Rattle.cds_stamps.specs.Keyed.{of_keys}
+use Rattle.cds_stamps.specs.Ascending.{ascending}
 use Rattle.cell_names.specs.FullNames.{spelling, components_of, is_full_name, IsComponentList}
-use Rattle.directory.specs.declared.update.Update.{Update}
-use Rattle.directory.specs.Updates.{Change, Create, Add, Remove, change_of}
+use Rattle.directory.specs.Updates.{Change, Add, Remove}
+use Rattle.directory.specs.EntryChanges.{creation}
 use Rattle.ns_groups.specs.declared.member.GroupFault.{GroupFault}
 use Rattle.ns_groups.specs.declared.member.GroupFault.TheVariants.{BadMemberValue, NoSuchMember}
 
@@ -18,10 +17,6 @@ group = codes "RPC_Group"
 -- octets that are no full name spell no member (own)
 abbrev pub member_fault : List ℕ → Option GroupFault
 member_fault octets = if is_full_name octets then None else Some BadMemberValue
-
--- each of these octets once, in ascending order: the keys of a map that has something at all of them (own)
-abbrev pub ascending : List (List ℕ) → List (List ℕ)
-ascending all = keys (of_keys {X = Unit {0}} {R = octets_cmp} all (λ _. Some tt))
 
 -- the members of a group with these values: those that are full names, each once, in ascending order of their octets (own)
 abbrev pub members_of : List (List ℕ) → List (List (List ℕ))
@@ -38,13 +33,9 @@ pub record IsMembers (values : List (List ℕ)) (names : List (List (List ℕ)))
 abbrev pub delete_fault : (values : List (List ℕ)) → (member : List (List ℕ)) → Option GroupFault
 delete_fault values member = if list_any (is_octets (spelling member)) values then None else Some NoSuchMember
 
--- what a list of updates changes (own)
-abbrev pub changes : List Update → List Change
-changes = map change_of
-
 -- to add a member to the entry n: the entry is created if it is absent, and then the member's octets become a value (own)
 abbrev pub added : (n : List ℕ) → (absent : Bool) → (member : List (List ℕ)) → List Change
-added n absent member = (if absent then Create n ∷ [] else []) ++ Add n group (spelling member) ∷ []
+added n absent member = creation n absent ++ Add n group (spelling member) ∷ []
 
 -- to delete a member of the entry n: the member's octets are no value any more (own)
 abbrev pub deleted : (n : List ℕ) → (member : List (List ℕ)) → List Change

@@ -8,4 +8,4 @@ mod tests;
 mod updates;
 
 pub use member::{GroupFault, member_of, members};
-pub use updates::{add, delete};
+pub use updates::{GROUP, add, delete};

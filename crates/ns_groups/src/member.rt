@@ -5,7 +5,7 @@ ghost use Rattle.cds_stamps.specs.declared.alloc_or.AllocOr.TheVariants.{Fault};
 ghost use Rattle.cell_names.specs.FullNames.{components_of, is_full_name};
 ghost use Rattle.ns_groups.specs.Groups.{member_fault, members_of};
 
-use attr_sets::Value;
+use attr_sets::{Value, all_in_order};
 use cds_stamps::AllocOr;
 use cell_names::FullName;
 use std::alloc::{AllocError, Global};
@@ -37,30 +37,17 @@ pub fn member_of(alloc: Global, value: &Value) -> Result<FullName, AllocOr<Group
 pub fn members(alloc: Global, values: &[Value]) -> Result<Vec<FullName>, AllocError>
     ensures { IfOk result (λ v. v.items ≡ members_of values.now) }
 {
-    let mut spelled = octets_of(alloc, values)?;
-    spelled.sort_unstable();
-    spelled.dedup();
-    readable_names(alloc, &spelled)
+    let sorted = all_in_order(alloc, values)?;
+    readable_names(alloc, &sorted)
 }
 
-// The octets of values, which are not copied.
-fn octets_of<'a>(alloc: Global, values: &'a [Value]) -> Result<Vec<&'a [u8]>, AllocError>
-    ensures { IfOk result (λ v. map (λ octets. octets.now) v.items ≡ values.now) }
+// The full names among values, in their order.
+fn readable_names(alloc: Global, values: &[&Value]) -> Result<Vec<FullName>, AllocError>
+    ensures { IfOk result (λ v. v.items ≡ map components_of (filter is_full_name (map (λ value. value.now) values.now))) }
 {
-    let mut spelled = Vec::with_capacity(alloc, values.len())?;
+    let mut names = Vec::with_capacity(alloc, values.len())?;
     for value in values {
-        spelled.push(value.octets())?;
-    }
-    Ok(spelled)
-}
-
-// The full names among octets, in their order.
-fn readable_names(alloc: Global, spelled: &[&[u8]]) -> Result<Vec<FullName>, AllocError>
-    ensures { IfOk result (λ v. v.items ≡ map components_of (filter is_full_name (map (λ octets. octets.now) spelled.now))) }
-{
-    let mut names = Vec::with_capacity(alloc, spelled.len())?;
-    for octets in spelled {
-        push_if_readable(alloc, &mut names, octets)?;
+        push_if_readable(alloc, &mut names, value.octets())?;
     }
     Ok(names)
 }
