@@ -17,7 +17,7 @@ use Rattle.directory.specs.Entries.{IsHeldCell}
 use Rattle.purge_rule.specs.declared.replica.Replica.{Replica}
 use Rattle.attr_sets.specs.Values.{value_fault}
 use Rattle.cds_records.specs.declared.fault.Rule.TheVariants.{BadLength, BadFlag}
-use Rattle.std.specs.Int.{w16, w32, w64, to_be_bytes}
+use Rattle.std.specs.Int.{w16, w32, w64, to_be_bytes, bytes_high_first}
 use Rattle.std.specs.List.{AllByRecursion, list_all}
 use Rattle.std.specs.FinMap.{get, entries, len, empty_of_len}
 use Rattle.std.proofs.lemmas.Nat.{from_be_bytes-to_be_bytes_2, from_be_bytes-to_be_bytes_4, from_be_bytes-to_be_bytes_8}
@@ -75,6 +75,16 @@ node_back n fits =
     let high = from_be_bytes-to_be_bytes_2 (n / 4294967296) (omega arith) in
     let low = from_be_bytes-to_be_bytes_4 (n % 4294967296) (omega arith) in
     rw (high, low) (omega arith)
+
+-- the 6 octets of a number are those of its high 16 bits and of its low 32
+pub six_octets : (n : ℕ) → bytes_high_first 6 n ≡ node_octets n
+six_octets n =
+    let a : n / 1099511627776 % 256 ≡ n / 4294967296 / 256 % 256 = omega arith in
+    let c : n / 16777216 % 256 ≡ n % 4294967296 / 16777216 % 256 = omega arith in
+    let d : n / 65536 % 256 ≡ n % 4294967296 / 65536 % 256 = omega arith in
+    let e : n / 256 % 256 ≡ n % 4294967296 / 256 % 256 = omega arith in
+    let f : n % 256 ≡ n % 4294967296 % 256 = omega arith in
+    λ i. a i ∷ n / 4294967296 % 256 ∷ c i ∷ d i ∷ e i ∷ f i ∷ []
 
 pub node_written : (n : ℕ) (x y : List ℕ) → n < 2 ^ 48 → y ≡ x ++ node_octets n → Writes node n x y
 unfolding node

@@ -15,6 +15,7 @@ ghost use Rattle.cds_records.specs.Records as records;
 ghost use Rattle.cds_records.specs.declared.fault.Rule.{Rule};
 
 use attr_sets::{AttrCell, Value, ValueMap, ValueMark};
+use byteorder::{BigEndian, ByteOrder};
 use cds_stamps::{AttrName, Node, SimpleName, Stamp};
 use directory::{AttrMap, EntryCell, Kind, Table};
 use purge_rule::Replica;
@@ -32,7 +33,9 @@ pub(crate) fn put_octet(out: &mut Vec<u8>, n: u8) -> Result<(), AllocError>
 fn put_u16(out: &mut Vec<u8>, n: u16) -> Result<(), AllocError>
     ensures { OnOk result ((rule : ℕ → Option Rule) → rule n ≡ None → Writes (fields.number w16 rule) n out.old.items out.new.items) }
 {
-    out.extend_from_slice(&n.to_be_bytes())?;
+    let mut octets = [0; 2];
+    BigEndian::write_u16(&mut octets, n);
+    out.extend_from_slice(&octets)?;
     Ok(())
 }
 
@@ -40,7 +43,9 @@ fn put_u16(out: &mut Vec<u8>, n: u16) -> Result<(), AllocError>
 pub(crate) fn put_u32(out: &mut Vec<u8>, n: u32) -> Result<(), AllocError>
     ensures { OnOk result ((rule : ℕ → Option Rule) → rule n ≡ None → Writes (fields.number w32 rule) n out.old.items out.new.items) }
 {
-    out.extend_from_slice(&n.to_be_bytes())?;
+    let mut octets = [0; 4];
+    BigEndian::write_u32(&mut octets, n);
+    out.extend_from_slice(&octets)?;
     Ok(())
 }
 
@@ -48,7 +53,9 @@ pub(crate) fn put_u32(out: &mut Vec<u8>, n: u32) -> Result<(), AllocError>
 pub(crate) fn put_u64(out: &mut Vec<u8>, n: u64) -> Result<(), AllocError>
     ensures { OnOk result ((rule : ℕ → Option Rule) → rule n ≡ None → Writes (fields.number w64 rule) n out.old.items out.new.items) }
 {
-    out.extend_from_slice(&n.to_be_bytes())?;
+    let mut octets = [0; 8];
+    BigEndian::write_u64(&mut octets, n);
+    out.extend_from_slice(&octets)?;
     Ok(())
 }
 
@@ -59,10 +66,9 @@ pub(crate) fn put_node(out: &mut Vec<u8>, n: Node) -> Result<(), AllocError>
     ensures fits { n < 2 ^ 48 }
 {
     let number = n.number();
-    let high = (number / (1 << 32)) as u16;
-    let low = (number % (1 << 32)) as u32;
-    out.extend_from_slice(&high.to_be_bytes())?;
-    out.extend_from_slice(&low.to_be_bytes())?;
+    let mut octets = [0; 6];
+    BigEndian::write_u48(&mut octets, number);
+    out.extend_from_slice(&octets)?;
     Ok(())
 }
 
@@ -71,8 +77,11 @@ pub(crate) fn put_stamp(out: &mut Vec<u8>, stamp: &Stamp) -> Result<(), AllocErr
     ensures { OnOk result ((rule : Stamp → Option Rule) → rule stamp.now ≡ None → Writes (fields.stamp rule) stamp.now out.old.items out.new.items) }
 {
     let time = stamp.time;
-    out.extend_from_slice(&time.to_be_bytes())?;
-    put_node(out, stamp.node)?;
+    let node = stamp.node.number();
+    let mut octets = [0; 14];
+    BigEndian::write_u64(&mut octets[..8], time);
+    BigEndian::write_u48(&mut octets[8..], node);
+    out.extend_from_slice(&octets)?;
     Ok(())
 }
 
