@@ -34,12 +34,6 @@ Reads view l old new (Ok x) = read l old ≡ Ok (view x, new)
 Reads view l old new (Err (Fault b)) = read l old ≡ Err b
 Reads view l old new (Err OutOfMemory) = Unit {0}
 
--- the value that is expected, or want of memory (own)
-abbrev pub Makes : {X A : Type 0} → (X → A) → A → Result X (AllocOr Broken) → Type 0
-Makes view expected (Ok x) = view x ≡ expected
-Makes view expected (Err (Fault b)) = ⊥
-Makes view expected (Err OutOfMemory) = Unit {0}
-
 -- what a reader of one more item returned, its key, and how it left the map and the octets (own)
 abbrev pub Adds : {Y K X : Type 0} {R : K → K → Ordering} → (Y → K) → Layout (K × X) → (old new : FinMap R X) → List ℕ → List ℕ → Result Y (AllocOr Broken) → Type 0
 Adds {X = X} view l m n old new (Ok y) = (x : X) × (read l old ≡ Ok ((view y, x), new)) × (n ≡ insert m (view y) x)

@@ -4,10 +4,10 @@ ghost use Rattle.cds_records.specs.Reading.{Reads};
 ghost use Rattle.cds_records.specs.Records.{fragment, copied, joined, body, message, message_in};
 
 use crate::fault::{ReadError, Rule};
-use crate::fields::{Reader, simple_name_from};
+use crate::fields::Reader;
 use crate::format::FORMAT;
 use crate::message::{Body, Message};
-use cds_stamps::{DirId, EpochNo, HouseNo, Members, Stamp};
+use cds_stamps::{DirId, EpochNo, HouseNo, Members, SimpleName, Stamp};
 use directory::Fragment;
 use purge_rule::Replica;
 use std::alloc::Global;
@@ -20,7 +20,7 @@ impl<'a> Reader<'a> {
     {
         let own = self.simple_name(None)?;
         let entry = self.entry(alloc)?;
-        let name = simple_name_from(alloc, own)?;
+        let name = SimpleName::known(alloc, own)?;
         Ok(Fragment { name, entry })
     }
 

@@ -6,14 +6,12 @@ ghost use Rattle.std.specs.List.{list_all};
 ghost use Rattle.std.specs.Option.{option_map};
 ghost use Rattle.cds_stamps.specs.Names.{is_name_octet, is_attr_octet, simple_name_fault, attr_fault};
 ghost use Rattle.attr_sets.specs.Values.{value_fault};
-ghost use Rattle.cds_records.specs.Reading.{Reads, Makes};
+ghost use Rattle.cds_records.specs.Reading.{Reads};
 ghost use Rattle.cds_records.specs.Fields.{node_of, free, outside, stamp_order, octets_order, name_rule, octet, number, node, stamp, optional_stamp, octets_of, simple_name, attr_name, value};
 ghost use Rattle.cds_records.specs.declared.fault.Rule.TheVariants.{Short, OutOfOrder};
 
 use crate::fault::{Broken, ReadError, Rule};
-use attr_sets::Value;
-use cds_stamps::{AllocOr, AttrName, Node, SimpleName, Stamp, is_attr_octet, is_name_octet};
-use std::alloc::Global;
+use cds_stamps::{AllocOr, Node, Stamp, is_attr_octet, is_name_octet};
 use std::marker::Model;
 
 /// Octets that are still to be read.
@@ -302,42 +300,6 @@ impl<'a> Reader<'a> {
     {
         let size = self.u16_within(Rule::BadLength, 1, 1024)?;
         self.value_octets(usize::from(size), before)
-    }
-}
-
-/// A simple name of octets that are one.
-pub(crate) fn simple_name_from(alloc: Global, own: &[u8]) -> Result<SimpleName, ReadError>
-    requires { simple_name_fault own.now ≡ None }
-    ensures { Makes (λ x. x) own.now result }
-{
-    match SimpleName::parse(alloc, own) {
-        Ok(name) => Ok(name),
-        Err(AllocOr::OutOfMemory) => Err(AllocOr::OutOfMemory),
-        Err(AllocOr::Fault(_)) => unreachable!(),
-    }
-}
-
-/// The name of an attribute of octets that are one.
-pub(crate) fn attr_name_from(alloc: Global, own: &[u8]) -> Result<AttrName, ReadError>
-    requires { attr_fault own.now ≡ None }
-    ensures { Makes (λ x. x) own.now result }
-{
-    match AttrName::parse(alloc, own) {
-        Ok(name) => Ok(name),
-        Err(AllocOr::OutOfMemory) => Err(AllocOr::OutOfMemory),
-        Err(AllocOr::Fault(_)) => unreachable!(),
-    }
-}
-
-/// A value of octets that are one.
-pub(crate) fn value_from(alloc: Global, own: &[u8]) -> Result<Value, ReadError>
-    requires { value_fault own.now ≡ None }
-    ensures { Makes (λ x. x) own.now result }
-{
-    match Value::new(alloc, own) {
-        Ok(value) => Ok(value),
-        Err(AllocOr::OutOfMemory) => Err(AllocOr::OutOfMemory),
-        Err(AllocOr::Fault(_)) => unreachable!(),
     }
 }
 

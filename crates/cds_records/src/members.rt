@@ -1,7 +1,7 @@
 // Readers of member lists.
 ghost use Rattle.std.specs.Prelude.{◌≡◌, ◌-◌, ◌||◌, Some, None, MatchOption, false, if◌then◌else◌};
 ghost use Rattle.cds_stamps.specs.Members.{is_master, members_of, members_fault};
-ghost use Rattle.cds_records.specs.Reading.{Reads, Makes};
+ghost use Rattle.cds_records.specs.Reading.{Reads};
 ghost use Rattle.cds_records.specs.Fields.{number_order, octet};
 ghost use Rattle.cds_records.specs.Kinds.{kind_in};
 ghost use Rattle.cds_records.specs.Records.{kind_rule, member_kind, member, listed, members};
@@ -9,7 +9,7 @@ ghost use Rattle.cds_records.specs.declared.fault.Rule.TheVariants.{OutOfOrder, 
 
 use crate::fault::{ReadError, Rule};
 use crate::fields::{Reader, broken};
-use cds_stamps::{AllocOr, EpochNo, HouseNo, Member, MemberKind, Members};
+use cds_stamps::{EpochNo, HouseNo, Member, MemberKind, Members};
 use std::alloc::Global;
 
 impl<'a> Reader<'a> {
@@ -82,7 +82,7 @@ impl<'a> Reader<'a> {
     {
         let count = self.octet_within(Rule::BadLength, 1, 64)?;
         let list = self.listed(alloc, count)?;
-        let members = members_from(alloc, list.as_slice())?;
+        let members = Members::known(alloc, list.as_slice())?;
         Ok(members)
     }
 }
@@ -113,16 +113,4 @@ fn has_master(before: bool, kind: MemberKind) -> bool
     ensures { result ≡ (before || is_master kind) }
 {
     before || kind == MemberKind::Master
-}
-
-/// The member list of members that are one.
-fn members_from(alloc: Global, list: &[Member]) -> Result<Members, ReadError>
-    requires { members_fault (members_of list.now) ≡ None }
-    ensures { Makes (λ x. x) list.now result }
-{
-    match Members::new(alloc, list) {
-        Ok(members) => Ok(members),
-        Err(AllocOr::OutOfMemory) => Err(AllocOr::OutOfMemory),
-        Err(AllocOr::Fault(_)) => unreachable!(),
-    }
 }

@@ -11,8 +11,8 @@ ghost use Rattle.cds_records.specs.Records.{item, map_of, mark, empty_cell, cell
 ghost use Rattle.cds_records.specs.declared.fault.Rule.TheVariants.{BadLength};
 
 use crate::fault::{ReadError, Rule};
-use crate::fields::{Reader, attr_name_from, broken, simple_name_from, value_from};
-use attr_sets::{AttrCell, ValueMap, ValueMark};
+use crate::fields::{Reader, broken};
+use attr_sets::{AttrCell, Value, ValueMap, ValueMark};
 use cds_stamps::{AttrName, SimpleName, Stamp};
 use directory::{AttrMap, EntryCell, Kind, Table};
 use purge_rule::Replica;
@@ -46,7 +46,7 @@ impl<'a> Reader<'a> {
     {
         let own = self.value(before)?;
         let mark = self.mark(cleared)?;
-        let value = value_from(alloc, own)?;
+        let value = Value::known(alloc, own)?;
         marks.insert(value, mark)?;
         Ok(own)
     }
@@ -108,7 +108,7 @@ impl<'a> Reader<'a> {
     {
         let own = self.attr_name(before)?;
         let cell = self.cell(alloc)?;
-        let name = attr_name_from(alloc, own)?;
+        let name = AttrName::known(alloc, own)?;
         insert_cell(attrs, name, cell)?;
         Ok(own)
     }
@@ -176,7 +176,7 @@ impl<'a> Reader<'a> {
     {
         let own = self.simple_name(before)?;
         let entry = self.entry(alloc)?;
-        let name = simple_name_from(alloc, own)?;
+        let name = SimpleName::known(alloc, own)?;
         insert_entry(table, name, entry)?;
         Ok(own)
     }

@@ -3,7 +3,7 @@ use Rattle.cds_stamps.specs.Members.{members_of, members_fault}
 use Rattle.cds_records.proofs.Listed.{listed_lawful}
 use Rattle.cds_records.proofs.fields.Reader.members.Goals as goal
 
-pub members_from-requires : goal.members_from-requires
-members_from-requires c =
+pub known-requires : goal.known-requires
+known-requires c =
     ap (λ ms. members_fault (members_of ms)) c.as_slice.ensures.value
     ∙ listed_lawful c.in_ok-count.count c.octet_within.new.self c.in_ok-list.list.items c.listed.new.self c.in_ok-count.ensures.within.0 c.in_ok-count.ensures.within.1 c.in_ok-list.ensures
