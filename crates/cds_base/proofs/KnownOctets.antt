@@ -83,6 +83,7 @@ reads_held (Some p) (Some q) (Some r) xs held taken kept = taken ∙ ap (λ (l :
 
 -- ---- octets held that grow by reading
 
+-- nothing was read, and the octets are as they were
 pub grows_none : (left left' : Option (List ℕ)) (octets octets' : List ℕ) → Keeps left left' → octets' ≡ octets → GrowsByReading left left' octets octets'
 grows_none left left' octets octets' kept same = record {
   read = [];
@@ -90,6 +91,7 @@ grows_none left left' octets octets' kept same = record {
   grown = same ∙ sym (append-nil octets);
 }
 
+-- octets that grew twice by reading grew once by both
 pub grows_more : (a b c : Option (List ℕ)) (xs ys zs : List ℕ) → GrowsByReading a b xs ys → GrowsByReading b c ys zs → GrowsByReading a c xs zs
 grows_more a b c xs ys zs first second = record {
   read = first.read ++ second.read;

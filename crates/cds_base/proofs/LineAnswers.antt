@@ -19,6 +19,7 @@ unfolding fault_at
 shows_no_end number place octet n k is = grind (arith, nat_tests)
 
 module _ (number : ℕ) (octets : List ℕ) where
+  -- a fault that the octets show is one of the line
   pub has_fault : (left : Option (List ℕ)) (fault : LineFault) → ShowsFault number fault octets → HasFault number octets left fault
   has_fault left (LineTooLong n k) shown = shown
   has_fault left (NotAscii n k) shown = shown
@@ -26,6 +27,7 @@ module _ (number : ℕ) (octets : List ℕ) where
   has_fault left (TooManyLines n k) shown = shown
   has_fault left ReadFault shown = absurd (shows_no_read _ _ _ shown.shown)
 
+  -- no read failed where the octets show the fault
   pub fault_cause : (before now : ℕ) (fault : LineFault) → ShowsFault number fault octets → now ≡ before → HasLineCause {T = Option ℕ} before now (Err fault)
   fault_cause before now (LineTooLong n k) shown same = same
   fault_cause before now (NotAscii n k) shown same = same
@@ -33,6 +35,7 @@ module _ (number : ℕ) (octets : List ℕ) where
   fault_cause before now (TooManyLines n k) shown same = same
   fault_cause before now ReadFault shown same = absurd (shows_no_read _ _ _ shown.shown)
 
+  -- a fault that the octets show is no failed read
   pub no_read_fault : (fault : LineFault) → ShowsFault number fault octets → (let failed : Result (Option ℕ) LineFault = Err ReadFault in Err fault ≢ failed)
   no_read_fault fault shown is =
       let same : fault ≡ ReadFault = cc in

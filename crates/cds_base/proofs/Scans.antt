@@ -86,6 +86,7 @@ front_goes_on xs k front within passes =
       | inr some ↦ omega arith
     ]
 
+-- clean octets in front end before the printable ones do
 pub front_ends : (xs : List ℕ) (k : ℕ) → k ≤ prefix_len is_printable xs → is_printable (get_or xs k 0) ≡ false → k ≡ prefix_len is_printable xs
 front_ends xs k front fails =
     elim (zero_or (prefix_len is_printable xs - k)) [
@@ -115,6 +116,7 @@ module _ (number : ℕ) (xs : List ℕ) where
         shown = ap (λ (place : ℕ). fault_at number place (get_or xs k 0)) at ∙ is;
       }
 
+  -- more printable octets than a line has
   pub sees_long : 4096 < prefix_len is_printable xs → number ≤ 16777216 → ShowsFault number (LineTooLong number 4097) xs
   sees_long long few =
       let within : 4096 < length xs = omega (arith, prefix_len-le-length is_printable xs) in
@@ -122,11 +124,13 @@ module _ (number : ℕ) (xs : List ℕ) where
       shows 4096 (LineTooLong number 4097) within (clean_front number 1 4096 xs (omega arith) (λ _. few) (omega arith))
       (too_long number 4097 (get_or xs 4096 0) (printable≢end _ passes) (omega arith))
 
+  -- an octet of one line too many
   pub sees_many : 0 < prefix_len is_printable xs → 16777216 < number → ShowsFault number (TooManyLines number 1) xs
   sees_many some many =
       let within : 0 < length xs = omega (arith, prefix_len-le-length is_printable xs) in
       shows 0 (TooManyLines number 1) within tt (too_many number 1 (get_or xs 0 0) (prefix_len_passes is_printable xs 0 0 some) (omega arith) many)
 
+  -- printable octets alone: more have to come
   pub sees_more : (n : ℕ) → n ≡ prefix_len is_printable xs → n ≡ length xs → n ≤ 4096 → (0 < n → number ≤ 16777216) → AreClean number 1 xs
   sees_more n is all short few =
       let P : List ℕ → Type 0 = AreClean number 1 in
@@ -146,21 +150,25 @@ module _ (number : ℕ) (xs : List ℕ) where
     stops : is_printable (get_or xs n 0) ≡ false
     stops = ap (λ (k : ℕ). is_printable (get_or xs k 0)) is ∙ prefix_len_stops is_printable xs 0 (omega (arith, is, within))
 
+    -- a line end of one line too many
     pub sees_many_ends : get_or xs n 0 ≡ 10 → 16777216 < number → ShowsFault number (TooManyLines number 1) xs
     sees_many_ends end many =
         let none : n ≡ 0 = elim (zero_or n) [ inl z ↦ z | inr some ↦ absurd (omega (arith, few some, many)) ] in
         shows 0 (TooManyLines number 1) (omega arith) tt (ap (fault_at number 1) (ap (λ (k : ℕ). get_or xs k 0) (sym none) ∙ end) ∙ too_many_ends number 1 many)
 
+    -- a line end behind printable octets
     pub sees_line : get_or xs n 0 ≡ 10 → number ≤ 16777216 → BeginsWithLine number (take n xs) (drop (n + 1) xs) xs
     sees_line end ok =
         (split_at xs n within ∙ ap (λ (b : ℕ). take n xs ++ b ∷ drop (n + 1) xs) end, (front_clean, ends_here number (length (take n xs) + 1) ok))
 
+    -- the octet behind the longest line is no line end
     pub sees_too_long : n ≡ 4096 → get_or xs n 0 ≢ 10 → ShowsFault number (LineTooLong number 4097) xs
     sees_too_long at ne =
         let place : n + 1 ≡ 4097 = omega (arith, at) in
         shows n (LineTooLong number 4097) within front_clean (too_long number (n + 1) (get_or xs n 0) ne (omega arith)
         ∙ ap (λ (k : ℕ). Some (LineTooLong number k)) place)
 
+    -- an octet that is neither printable nor a line end
     pub sees_not_ascii : n ≢ 4096 → get_or xs n 0 ≢ 10 → ShowsFault number (NotAscii number (n + 1)) xs
     sees_not_ascii less ne = shows n (NotAscii number (n + 1)) within front_clean (not_ascii number (n + 1) (get_or xs n 0) ne stops (omega arith))
 
@@ -177,11 +185,13 @@ clean_octet number place (b ∷ bs) rest octet clean =
     let at : place + suc (length bs) ≡ place + 1 + length bs = omega arith in
     (more.0, ap (λ (k : ℕ). fault_at number k octet) at ∙ more.1)
 
+-- octets with a whole line in front are not clean
 pub line_not_clean : (number : ℕ) (line rest octets : List ℕ) → BeginsWithLine number line rest octets → AreClean number 1 octets → ⊥
 line_not_clean number line rest octets begins clean =
     let P : List ℕ → Type 0 = AreClean number 1 in
     (clean_octet number 1 line rest 10 (subst P begins.0 clean)).0 refl
 
+-- octets that show a fault are not clean
 pub fault_not_clean : (number : ℕ) (fault : LineFault) (octets : List ℕ) → ShowsFault number fault octets → AreClean number 1 octets → ⊥
 fault_not_clean number fault octets shown clean =
     let P : List ℕ → Type 0 = AreClean number 1 in

@@ -102,6 +102,7 @@ abbrev pub line_in : Lines → Option (ℕ × ℕ) → Option (ℕ × List ℕ)
 line_in lines None = None
 line_in lines (Some p) = Some (lines.number, take p.1 (drop p.0 lines.buffer.octets.items))
 
+-- what was found by its place in the buffer, as the line that is there
 abbrev pub found_line : Lines → Result (Option (ℕ × ℕ)) LineFault → Result (Option (ℕ × List ℕ)) LineFault
 found_line lines (Ok o) = Ok (line_in lines o)
 found_line lines (Err e) = Err e
@@ -113,6 +114,7 @@ abbrev pub as_line : Option Line → Option (ℕ × List ℕ)
 as_line None = None
 as_line (Some line) = Some (line.number, line.octets.now)
 
+-- the answer of a call as its caller sees it
 abbrev pub seen_line : Result (Option Line) LineFault → Result (Option (ℕ × List ℕ)) LineFault
 seen_line (Ok o) = Ok (as_line o)
 seen_line (Err e) = Err e
@@ -126,6 +128,7 @@ pub record HasMoved {S : Type 0} (left : S → Option (List ℕ)) (faults : S �
   pub few : length (held new) ≤ MOST_HELD
   pub again : IfSome (kept old) (λ fault. (result ≡ Err fault) × (new ≡ old) × (source' ≡ source))
 
+-- the same where the line that was given still borrows the lines
 abbrev pub LeavesNext : {S : Type 0} → (S → Option (List ℕ)) → (S → ℕ) → MutBor Lines → S → S → Result (Option (ℕ × List ℕ)) LineFault → Fml
 LeavesNext left faults lines source source' result =
     Rests the_row lines (λ now. HasMoved left faults source source' lines.now now result)

@@ -7,6 +7,7 @@ use Rattle.cds_base.specs.declared.standard.StdSink.{StdSink}
 abbrev pub reader_of : {R : Type 0} → StdSource R → R
 reader_of source = source.reader
 
+-- how often the reader has failed
 abbrev pub failed_reads : {R : Type 0} → StdSource R → ℕ
 failed_reads source = source.faults
 
@@ -14,5 +15,6 @@ failed_reads source = source.faults
 abbrev pub writer_of : {W : Type 0} → StdSink W → W
 writer_of sink = sink.writer
 
+-- how often the writer has failed
 abbrev pub failed_writes : {W : Type 0} → StdSink W → ℕ
 failed_writes sink = sink.faults

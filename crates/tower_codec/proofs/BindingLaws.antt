@@ -88,6 +88,7 @@ unfolding protseq_named
 named_again Tcp = refl
 named_again Udp = refl
 
+-- A protocol sequence that is read stands in front with its mark.
 pub protseq_found : (text : List ℕ) (y : Protseq × List ℕ) → protseq_at text ≡ Ok y → text ≡ protseq_name y.0 ++ 58 ∷ y.1
 unfolding protseq_at
 protseq_found text y h =
@@ -101,6 +102,7 @@ name_lacks : (mark : ℕ) (protseq : Protseq) → lacks mark (protseq_name Tcp) 
 name_lacks mark Tcp tcp udp = tcp
 name_lacks mark Udp tcp udp = udp
 
+-- A name with its mark is read as its protocol sequence.
 pub protseq_again : (protseq : Protseq) (rest : List ℕ) → protseq_at (protseq_name protseq ++ 58 ∷ rest) ≡ Ok (protseq, rest)
 unfolding protseq_at
 protseq_again protseq rest =
@@ -135,6 +137,7 @@ four_octets a b c d la lb lc ld (suc (suc zero)) e within = lc
 four_octets a b c d la lb lc ld (suc (suc (suc zero))) e within = ld
 four_octets a b c d la lb lc ld (suc (suc (suc (suc k)))) e within = absurd (omega arith)
 
+-- An address that is read is spelled by the text.
 pub address_found : (text address : List ℕ) → address_of text ≡ Ok address → Spells text address
 unfolding address_of
 address_found text address h =
@@ -160,6 +163,7 @@ address_found text address h =
       octets = four_octets a.0.0 b.0.0 c.0.0 d.0 first.1 second.1 third.1 (omega (arith, fourth.1));
     })
 
+-- The text of an address is read as it.
 pub address_again : (address : List ℕ) → length address ≡ 4 → All (λ n. n < 256) address → address_of (address_text address) ≡ Ok address
 unfolding address_of
 address_again [] len octets = absurd (omega arith)
@@ -177,6 +181,7 @@ address_again (a ∷ b ∷ c ∷ d ∷ []) len octets =
     ) refl
 address_again (a ∷ b ∷ c ∷ d ∷ e ∷ address) len octets = absurd (omega arith)
 
+-- The text of an address has digits and dots alone.
 pub address_lacks : (mark : ℕ) (address : List ℕ) → length address ≡ 4 → All (λ n. n < 256) address → is_ascii_digit mark ≡ false
     → lacks mark (46 ∷ []) ≡ true → lacks mark (address_text address) ≡ true
 address_lacks mark address len octets other dot =
@@ -233,6 +238,7 @@ endpoint_found : (text : List ℕ) (port : ℕ) → port_of (endpoint_parts text
 unfolding endpoint_parts
 endpoint_found text port h = endpoint_stands text (cut 91 text) port refl h
 
+-- An endpoint part is cut off, and read as its port.
 pub endpoint_again : (front part : List ℕ) (port : ℕ) → IsEndpointPart part port → port < 2 ^ 16 → lacks 91 front ≡ true
     → (endpoint_parts (front ++ part) ≡ (front, part)) × (port_of part ≡ Ok port)
 unfolding endpoint_parts port_of
@@ -273,10 +279,12 @@ binding_stands text binding h =
     subst (IsBinding text) (ok_is (made a.0.0 b.0.0 c.0 d.0) binding d.2)
     (record { four = address.four; octets = address.octets; port = endpoint.small }, (object.part, parts.1, object.is, endpoint.is, spelled))
 
+-- What is read is a form of the binding.
 pub binding_found : (text : List ℕ) (r : Result StringBinding BindingFault) → Gives (λ b. b) r (binding_of text) → IfOk r (IsBinding text)
 binding_found text (Ok b) h = binding_stands text b h
 binding_found text (Err e) h = tt
 
+-- What reading gives is what was returned.
 pub is_read : (r : Result StringBinding BindingFault) (text : List ℕ) (binding : StringBinding) → Gives (λ b. b) r (binding_of text)
     → binding_of text ≡ Ok binding → r ≡ Ok binding
 is_read (Ok b) text binding h e = sym h ∙ e
@@ -290,6 +298,7 @@ endpoint_lacks mark part port (inr some) small other marks =
     rw some (and_from (not (eqb 91 mark)) (lacks mark (decimal port ++ 93 ∷ [])) open_close.0
     (lacks-append mark (decimal port) (93 ∷ []) (decimal_lacks mark port (omega arith) other) open_close.1))
 
+-- A form of a binding is read as it.
 pub binding_again : (text : List ℕ) (binding : StringBinding) → IsBinding text binding → binding_of text ≡ Ok binding
 unfolding binding_of
 binding_again text binding h =
@@ -309,11 +318,13 @@ binding_again text binding h =
     let found : address_of address ≡ Ok binding.address = address_again binding.address fits.four fits.octets in
     ap binding_of parts.4 ∙ rw (object, protseq, endpoint.0, found, endpoint.1) refl
 
+-- A text is a form of one binding at most.
 pub one_binding : (text : List ℕ) (binding other : StringBinding) → IsBinding text binding → IsBinding text other → binding ≡ other
 one_binding text binding other g h = ok_is {E = BindingFault} binding other (sym (binding_again text binding g) ∙ binding_again text other h)
 
 -- ---- What is printed.
 
+-- What is printed is a form of the binding.
 pub printed : (binding : StringBinding) → FitsBinding binding → IsUuid binding.object → IsBinding (binding_text binding) binding
 printed binding fits uuid =
     let object : IsObjectPart (object_text binding.object) binding.object =

@@ -54,18 +54,21 @@ abbrev pub lacks : ℕ → List ℕ → Bool
 lacks mark [] = true
 lacks mark (c ∷ text) = not (c == mark) && lacks mark text
 
+-- A text lacks a mark that both its parts lack.
 pub lacks-append : (mark : ℕ) (a b : List ℕ) → lacks mark a ≡ true → lacks mark b ≡ true → lacks mark (a ++ b) ≡ true
 lacks-append mark [] b g h = h
 lacks-append mark (c ∷ a) b g h =
     let parts = and_parts (not (eqb c mark)) (lacks mark a) g in
     and_from (not (eqb c mark)) (lacks mark (a ++ b)) parts.0 (lacks-append mark a b parts.1 h)
 
+-- A text lacks a mark that stands at none of its places.
 pub lacks_from : (mark : ℕ) (text : List ℕ) → ((k : ℕ) → k < length text → get_or text k 0 ≡ mark → ⊥) → lacks mark text ≡ true
 lacks_from mark [] other = refl
 lacks_from mark (c ∷ text) other =
     and_from (not (eqb c mark)) (lacks mark text) (not_from_false (eqb c mark) (ne_eqb c mark (other 0 (omega arith))))
     (lacks_from mark text (λ k within. other (suc k) (omega arith)))
 
+-- A text is cut at a mark behind a front that lacks it.
 pub cut_again : (mark : ℕ) (front back : List ℕ) → lacks mark front ≡ true → cut mark (front ++ mark ∷ back) ≡ Some (front, back)
 unfolding cut
 cut_again mark [] back h = rw (eq-eqb mark mark refl) refl
@@ -73,6 +76,7 @@ cut_again mark (c ∷ front) back h =
     let parts = and_parts (not (eqb c mark)) (lacks mark front) h in
     rw (not-true (eqb c mark) parts.0, cut_again mark front back parts.1) refl
 
+-- A text that lacks the mark is not cut.
 pub cut_none : (mark : ℕ) (text : List ℕ) → lacks mark text ≡ true → cut mark text ≡ None
 unfolding cut
 cut_none mark [] h = refl
@@ -99,5 +103,6 @@ cut_says mark (c ∷ text) =
       | inr other ↦ rw (ne_eqb c mark other) (says_more mark c text (cut mark text) (cut_says mark text))
     ]
 
+-- A text that is cut is its two parts with the mark between.
 pub cut_found : (mark : ℕ) (text : List ℕ) (p : List ℕ × List ℕ) → cut mark text ≡ Some p → text ≡ p.0 ++ mark ∷ p.1
 cut_found mark text p e = subst (CutSays mark text) e (cut_says mark text)

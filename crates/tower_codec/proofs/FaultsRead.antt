@@ -86,6 +86,7 @@ floors_fault_again past count x (ShortPart place) h =
 floors_fault_again past count x (EmptyLeft place) h =
     due_fails past h.1.0 count x (0 ∷ 0 ∷ h.0) (EmptyLeft place) h.1.1 h.1.2 (empty_left_fails past place h.0 h.2)
 
+-- A fault of the octets is the one that reading gives.
 pub fault_again : (octets : List ℕ) (fault : TowerFault) → IsFault octets fault → body_at octets ≡ Err fault
 unfolding body_at
 fault_again [] fault h = rw h refl
@@ -216,6 +217,7 @@ floors_fault_read past (suc count) x fault bytes within e =
           fault_later past count x a.0.0 a.0.1 fault first.0 (floors_fault_read past count a.0.1 fault first.1 (omega arith) a.2))
     ]
 
+-- The fault that reading gives is one of the octets.
 pub fault_read : (octets : List ℕ) (fault : TowerFault) → IsBytes octets → body_at octets ≡ Err fault → IsFault octets fault
 unfolding body_at
 fault_read [] fault bytes e = cc

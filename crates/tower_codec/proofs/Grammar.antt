@@ -5,12 +5,15 @@ use Rattle.tower_codec.specs.Tower.{Floor, IsNumber, IsPart, IsFloor, AreFloors}
 
 -- ---- Octets are below 256.
 
+-- Each number of the list is below 256.
 abbrev pub IsBytes : List ℕ → Type 0
 IsBytes octets = (i : ℕ) → get_or octets i 0 < 256
 
+-- Octets behind a front are octets.
 pub IsBytes-rest : (front rest : List ℕ) → IsBytes (front ++ rest) → IsBytes rest
 IsBytes-rest front rest bytes i = rw get_or-append-add at (bytes (length front + i))
 
+-- Octets behind the first are octets.
 pub IsBytes-tail : (b : ℕ) (rest : List ℕ) → IsBytes (b ∷ rest) → IsBytes rest
 IsBytes-tail b rest bytes i = bytes (suc i)
 
@@ -29,6 +32,7 @@ floor_before : (x : List ℕ) (floor : Floor) (rest more : List ℕ) → IsFloor
 floor_before x floor rest more h =
     (h.0, (h.1.0 ++ more, part_before x floor.left h.1.0 more h.1.1, part_before h.1.0 floor.right rest more h.1.2))
 
+-- Floors stay before further octets.
 pub floors_before : (x : List ℕ) (floors : List Floor) (rest more : List ℕ) → AreFloors x floors rest → AreFloors (x ++ more) floors (rest ++ more)
 floors_before x [] rest more h = ap (λ (y : List ℕ). y ++ more) h
 floors_before x (floor ∷ floors) rest more h =
@@ -54,6 +58,7 @@ floor_front x floor rest h =
     let left = number_front x (length floor.left) (floor.left ++ right.0) rest first in
     (left.0, left.1, (h.0, (right.0, subst (IsNumber left.0 (length floor.left)) (append-nil (floor.left ++ right.0)) left.2, right.2)))
 
+-- Floors stand in a front of the octets.
 pub floors_front : (x : List ℕ) (floors : List Floor) (rest : List ℕ) → AreFloors x floors rest → Fronts x rest (λ y none. AreFloors y floors none)
 floors_front x [] rest h = ([], h, refl)
 floors_front x (floor ∷ floors) rest h =
@@ -96,6 +101,7 @@ floor_once x a b y z g h =
     let right = part_once h.1.0 a.right b.right y z (subst (λ (t : List ℕ). IsPart t a.right y) left.1 g.1.2) h.1.2 in
     (same_floor a b left.0 right.0, right.1)
 
+-- As many floors of the same octets are the same floors.
 pub floors_once : (x : List ℕ) (a b : List Floor) (y z : List ℕ) → length a ≡ length b → AreFloors x a y → AreFloors x b z → (a ≡ b) × (y ≡ z)
 floors_once x [] [] y z len g h = (refl, sym g ∙ h)
 floors_once x [] (b ∷ bs) y z len g h = absurd (omega arith)

@@ -19,6 +19,7 @@ known_floor_is x floor rest h =
     let parts : known_part (after_known_part x) ≡ floor.right = ap known_part left.1 ∙ right.0 in
     (same_floor (known_floor x) floor left.0 parts, ap after_known_part left.1 ∙ right.1)
 
+-- Floors that stand in front are the known ones.
 pub known_floors_are : (x : List ℕ) (floors : List Floor) (rest : List ℕ) → AreFloors x floors rest → known_floors (length floors) x ≡ floors
 unfolding known_floors
 known_floors_are x [] rest h = refl
@@ -28,6 +29,7 @@ known_floors_are x (floor ∷ floors) rest h =
     ∙ known_floors_are h.0 floors rest h.2 in
     cc (first.0, later)
 
+-- There are as many known floors as are counted.
 pub length-known_floors : (count : ℕ) (x : List ℕ) → length (known_floors count x) ≡ count
 unfolding known_floors
 length-known_floors zero x = refl
@@ -49,6 +51,7 @@ floor_ahead count i x within known =
     let rest = (known_floor_is x (known_floor x) parts.0 parts.1).1 in
     (rw rest parts.1, subst (λ (y : List ℕ). AreFloors y (known_floors m (after_known_floor x)) []) (sym rest) parts.2)
 
+-- One floor on, the other floors are known behind it.
 pub walk_on : (count i : ℕ) (x : List ℕ) (all : List Floor) → i < count → IsAhead count i x all → IsAhead count (i + 1) (after_known_floor x) all
 unfolding known_floors
 walk_on count i x all within ahead =
@@ -65,6 +68,7 @@ slice_get-drop zero all = refl
 slice_get-drop (suc i) [] = refl
 slice_get-drop (suc i) (floor ∷ all) = slice_get-drop i all
 
+-- The floor behind those passed is the next of all.
 pub found_ahead : (count i : ℕ) (x : List ℕ) (all : List Floor) → i < count → known_floors (count - i) x ≡ drop i all → Some (known_floor x) ≡ slice_get all i
 unfolding known_floors
 found_ahead count i x all within floors =
@@ -84,6 +88,7 @@ pub record StandsFirst (count : ℕ) (x : List ℕ) : Type 0 where
   pub behind : AreFloors (after_known_floor x) (known_floors (count - 1) (after_known_floor x)) []
   pub floors : known_floors count x ≡ known_floor x ∷ known_floors (count - 1) (after_known_floor x)
 
+-- The first floor is known, and so are those behind it.
 pub first_ahead : (count : ℕ) (x : List ℕ) → count ≢ 0 → AreFloors x (known_floors count x) [] → StandsFirst count x
 unfolding known_floors
 first_ahead count x some known =

@@ -24,14 +24,17 @@ pub value_more : (n : ℕ) (text : List ℕ) (i : ℕ) → i < length text → v
     (drop (i + 1) text)
 value_more n text i within = ap (value_after n) (drop_more text i 0 within)
 
+-- A text with another octet than a digit is no number.
 pub no_digits : (most : ℕ) (text : List ℕ) → all_ascii_digits text ≡ false → None ≡ digits_of most text
 unfolding digits_of
 no_digits most text e = rw (and_left (all_ascii_digits text) (leb (value_after 0 text) most) e) refl
 
+-- A number above the greatest is none.
 pub too_large : (most : ℕ) (text : List ℕ) → most < value_after 0 text → None ≡ digits_of most text
 unfolding digits_of
 too_large most text e = rw (and_right (all_ascii_digits text) (leb (value_after 0 text) most) (lt-leb (value_after 0 text) most e)) refl
 
+-- Digits up to the greatest number are that number.
 pub digits_found : (most : ℕ) (text : List ℕ) → all_ascii_digits text ≡ true → value_after 0 text ≤ most → Some (value_after 0 text) ≡ digits_of most text
 unfolding digits_of
 digits_found most text digits within = rw (digits, le-leb (value_after 0 text) most within) refl
@@ -40,6 +43,7 @@ digits_found most text digits within = rw (digits, le-leb (value_after 0 text) m
 pub digit_fails : (text : List ℕ) (i : ℕ) → i < length text → is_ascii_digit (get_or text i 0) ≡ false → all_ascii_digits (drop i text) ≡ false
 digit_fails text i within other = rw (drop_more text i 0 within, other) refl
 
+-- A number that is read is at most the greatest.
 pub digits_within : (r : Option ℕ) (most : ℕ) (text : List ℕ) → r ≡ digits_of most text → IfSome r (λ n. n ≤ most)
 unfolding digits_of
 digits_within None most text e = tt
@@ -72,6 +76,7 @@ number_of_digits most n (c ∷ d ∷ ds) digits value some first within =
     let no_zero : eqb c 48 ≡ false = ne_eqb c 48 (λ e. absurd (let len = first e in omega arith)) in
     rw no_zero (sym (digits_found most (c ∷ d ∷ ds) digits (omega arith)) ∙ ap Some value)
 
+-- A number in decimal is read as it.
 pub number_again : (most n : ℕ) → n ≤ most → most < 2 ^ 64 → number_of most (decimal n) ≡ Some n
 number_again most n within fits =
     let small : n < 2 ^ 64 = omega arith in
@@ -92,6 +97,7 @@ spelled most n text fits e first some =
     let are = digits_are most n text e in
     (sym (decimal-digits_value own text are.0 some first (omega (arith, are.1, are.2))) ∙ ap decimal are.1, are.2)
 
+-- A number that is read stands there in decimal.
 pub number_found : (most n : ℕ) (text : List ℕ) → most < 2 ^ 64 → number_of most text ≡ Some n → (text ≡ decimal n) × (n ≤ most)
 unfolding number_of
 number_found most n [] fits e = absurd cc
@@ -112,5 +118,6 @@ digits_lack mark (c ∷ ds) other digits =
     let apart : eqb c mark ≡ false = ne_eqb c mark (λ e. absurd (false≢true (sym other ∙ sym (ap is_ascii_digit e) ∙ parts.0))) in
     and_from (not (eqb c mark)) (lacks mark ds) (not_from_false (eqb c mark) apart) (digits_lack mark ds other parts.1)
 
+-- A number in decimal lacks each mark that is no digit.
 pub decimal_lacks : (mark n : ℕ) → n < 2 ^ 64 → is_ascii_digit mark ≡ false → lacks mark (decimal n) ≡ true
 decimal_lacks mark n small other = digits_lack mark (decimal n) other (digits_decimal own n small)

@@ -66,6 +66,7 @@ fields_found left right left_bytes right_bytes left_len first right_len =
       two_of right right_len ∙ sym (number_of_two (get_or right 0 0) (get_or right 1 0) (right_bytes 0)),
     )
 
+-- A floor that is read as an interface is the floor of it.
 pub interface_found : (r : Option Interface) (left right : List ℕ) → IsBytes left → IsBytes right → r ≡ interface_at left right
     → IfSome r (IsInterfaceFloor left right)
 unfolding interface_at
@@ -93,6 +94,7 @@ interface_again i fits =
 
 -- ---- Ports.
 
+-- A floor that is read as a port is the floor of it.
 pub port_found : (protseq : Protseq) (protocol high low : ℕ) → high < 256 → low < 256 → protocol ≡ port_protocol protseq
     → IsPortFloor protseq (protocol ∷ []) (high ∷ low ∷ []) (256 * high + low)
 port_found protseq protocol high low high_fits low_fits e =
@@ -136,6 +138,7 @@ floors_again tower any interface transfer address =
       address_again tower.address address,
     ) refl
 
+-- The floors of an RPC tower are read as it.
 pub rpc_again : (floors : List Floor) (tower : RpcTower) → IsRpcTower floors tower → rpc_at floors ≡ Some tower
 rpc_again floors tower h = ap rpc_at h.1.1 ∙ floors_again tower h.1.0 h.0.interface h.0.transfer h.0.address
 
@@ -152,9 +155,11 @@ five_floors (v ∷ w ∷ x ∷ y ∷ z ∷ more ∷ floors) a b c d e len g h i 
 
 -- ---- Numbers as std writes them.
 
+-- A number of two octets, the lower one first, in two words.
 pub le_octets : (n : ℕ) → n < 2 ^ 16 → to_le_bytes w16 n ≡ number_octets n
 le_octets n fits = let high : n / 256 % 256 ≡ n / 256 = omega arith in rw high refl
 
+-- A number of two octets, the higher one first, in two words.
 pub be_octets : (n : ℕ) → n < 2 ^ 16 → to_be_bytes w16 n ≡ port_octets n
 be_octets n fits = let high : n / 256 % 256 ≡ n / 256 = omega arith in rw high refl
 
@@ -174,9 +179,11 @@ tower_of_floors floors a b c d e tower five first second third fourth fifth =
     let all : a ∷ b ∷ c ∷ d ∷ e ∷ [] ≡ rpc_floors tower c.right = λ i. a_is i ∷ b_is i ∷ c_is i ∷ d_is i ∷ e_is i ∷ [] in
     (record { interface = first.0; transfer = second.0; port = fourth.0; address = fifth.2 }, (c.right, five ∙ all))
 
+-- Floors are those of one RPC tower at most.
 pub one_rpc_tower : (floors : List Floor) (tower other : RpcTower) → IsRpcTower floors tower → IsRpcTower floors other → tower ≡ other
 one_rpc_tower floors tower other g h = same_Some tower other (sym (rpc_again floors tower g) ∙ rpc_again floors other h)
 
+-- What is read of the octets of an RPC tower is that tower.
 pub rpc_reads_back : (tower : RpcTower) (any octets : List ℕ) (floors : List Floor) → FitsRpc tower → IsTower (rpc_floors tower any) octets
     → IsTower floors octets → IsRpcTower floors tower
 rpc_reads_back tower any octets floors fits written read =

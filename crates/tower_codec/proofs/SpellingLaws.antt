@@ -38,6 +38,7 @@ floors_spelled x (floor ∷ floors) rest h =
           ∙ sym (append_assoc (floor_octets floor) (flat_map floor_octets floors) rest),
     )
 
+-- The octets of a tower are its one spelling.
 pub tower_spelled : (floors : List Floor) (x : List ℕ) → IsTower floors x → HasSpelling floors × (x ≡ tower_octets floors)
 tower_spelled floors x h =
     let count = number_spelled x (length floors) h.0 h.1 in
@@ -46,12 +47,14 @@ tower_spelled floors x h =
 
 -- ---- The spelling is in the grammar.
 
+-- The octets of a number are read as it.
 pub number_again : (n : ℕ) (rest : List ℕ) → n < 2 ^ 16 → IsNumber (number_octets n ++ rest) n rest
 number_again n rest fits = (omega arith, omega arith, omega arith, refl)
 
 part_again : (part rest : List ℕ) → length part < 2 ^ 16 → IsPart (part_octets part ++ rest) part rest
 part_again part rest fits = number_again (length part) (part ++ rest) fits
 
+-- The spelling of a floor is read as it.
 pub floor_again : (floor : Floor) (rest : List ℕ) → FloorFits floor → IsFloor (floor_octets floor ++ rest) floor rest
 floor_again floor rest fits =
     let between = part_octets floor.right ++ rest in
@@ -69,6 +72,7 @@ floors_again (floor ∷ floors) rest fits =
     (floor_again floor between fits.0) in
     (between, first, floors_again floors rest fits.1)
 
+-- The spelling of floors is a tower of them.
 pub tower_again : (floors : List Floor) → HasSpelling floors → IsTower floors (tower_octets floors)
 tower_again floors fits =
     let body = flat_map floor_octets floors in

@@ -3,21 +3,26 @@ use Rattle.std.proofs.Common.{◌≡◌, Bool, true, false, cond, Option, Some, 
 use Rattle.std.specs.Option.{ok_or, option_map}
 use Rattle.tower_codec.specs.Steps.{◌>>=◌}
 
+-- What two readings found is the same.
 pub ok_is : {A E : Type 0} (x y : A) → ◌≡◌ {A = Result A E} (Ok x) (Ok y) → x ≡ y
 ok_is x y e = cc
 
+-- Two steps in a row found something: so did each.
 pub bind_ok : {A B E : Type 0} (r : Result A E) (f : A → Result B E) (y : B) → (r >>= f) ≡ Ok y → (x : A) × (r ≡ Ok x) × (f x ≡ Ok y)
 bind_ok (Ok x) f y e = (x, refl, e)
 bind_ok (Err d) f y e = absurd cc
 
+-- Two steps in a row failed: so did the first, or the second behind it.
 pub bind_err : {A B E : Type 0} (r : Result A E) (f : A → Result B E) (d : E) → (r >>= f) ≡ Err d → (r ≡ Err d) ⊎ ((x : A) × (r ≡ Ok x) × (f x ≡ Err d))
 bind_err (Ok x) f d e = inr (x, refl, e)
 bind_err (Err c) f d e = inl cc
 
+-- A step behind a guard found something: the guard held.
 pub guard_ok : {A E : Type 0} (b : Bool) (d : E) (x : Result A E) (y : A) → cond b (Err d) x ≡ Ok y → (b ≡ false) × (x ≡ Ok y)
 guard_ok true d x y e = absurd cc
 guard_ok false d x y e = (refl, e)
 
+-- What is found for sure was there.
 pub ok_or_ok : {A E : Type 0} (o : Option A) (d : E) (y : A) → ok_or o d ≡ Ok y → o ≡ Some y
 ok_or_ok None d y e = absurd cc
 ok_or_ok (Some x) d y e = cc

@@ -27,6 +27,7 @@ length_spells past (low ∷ high ∷ x) y e =
     let same = ok_is (low + 256 * high, x) y e in
     record { low = low; high = high; octets = ap (λ (p : ℕ × List ℕ). low ∷ high ∷ p.1) same; value = ap (λ (p : ℕ × List ℕ). p.0) (sym same) }
 
+-- A part that is read stands in front.
 pub part_stands : (past len : ℕ) (x : List ℕ) (y : List ℕ × List ℕ) → part_at past len x ≡ Ok y → (x ≡ y.0 ++ y.1) × (length y.0 ≡ len)
 part_stands past len x y e =
     let g = guard_ok (ltb (length x) len) (ShortPart past) (Ok (take len x, drop len x)) y e in
@@ -76,6 +77,7 @@ floor_stands past x y e =
       };
     })
 
+-- A floor takes octets off.
 pub floor_at_shorter : (past : ℕ) (x : List ℕ) (floor : Floor) (rest : List ℕ) → floor_at past x ≡ Ok (floor, rest) → length rest ≤ length x
 floor_at_shorter past x floor rest e =
     let s = floor_stands past x (floor, rest) e in
@@ -89,9 +91,11 @@ is_number x n rest bytes s =
           (IsBytes-tail s.low (s.high ∷ rest) fits),
     )
 
+-- A length that is read is that of its two octets.
 pub length_read : (past : ℕ) (x : List ℕ) (y : ℕ × List ℕ) → IsBytes x → length_at past x ≡ Ok y → IsNumber x y.0 y.1 × IsBytes y.1
 length_read past x y bytes e = is_number x y.0 y.1 bytes (length_spells past x y e)
 
+-- A floor that is read stands in front.
 pub floor_read : (past : ℕ) (x : List ℕ) (floor : Floor) (rest : List ℕ) → IsBytes x → floor_at past x ≡ Ok (floor, rest) → IsFloor x floor rest × IsBytes rest
 floor_read past x floor rest bytes e =
     let s = floor_stands past x (floor, rest) e in
@@ -119,16 +123,19 @@ after_floors_shorter past (suc count) x rest e =
 
 -- ---- What stands there is read.
 
+-- The octets of a length are read as it.
 pub length_again : (past : ℕ) (x : List ℕ) (n : ℕ) (rest : List ℕ) → IsNumber x n rest → length_at past x ≡ Ok (n, rest)
 length_again past [] n rest h = absurd h
 length_again past (a ∷ []) n rest h = absurd h
 length_again past (low ∷ high ∷ x) n rest h = rw (h.3, h.2) refl
 
+-- A part in front is read as it.
 pub part_again : (past : ℕ) (part rest : List ℕ) → part_at past (length part) (part ++ rest) ≡ Ok (part, rest)
 part_again past part rest =
     let whole : ltb (length (part ++ rest)) (length part) ≡ false = le-ltb _ _ (omega (arith, length-append part rest)) in
     rw (whole, take_at part rest (length part) refl, drop_at part rest (length part) refl) refl
 
+-- A floor in front is read as it.
 pub floor_again : (past : ℕ) (x : List ℕ) (floor : Floor) (rest : List ℕ) → IsFloor x floor rest → floor_at past x ≡ Ok (floor, rest)
 unfolding floor_at
 floor_again past x floor rest h =
@@ -142,6 +149,7 @@ floor_again past x floor rest h =
       part_again past floor.right rest,
     ) refl
 
+-- Floors in front are read as them.
 pub floors_again : (past : ℕ) (x : List ℕ) (floors : List Floor) (rest : List ℕ) → AreFloors x floors rest → after_floors past (length floors) x ≡ Ok rest
 unfolding after_floors
 floors_again past x [] rest h = ap (λ (y : List ℕ). Ok y) h
@@ -165,6 +173,7 @@ pub record IsBodyOf (octets : List ℕ) (count : ℕ) (body : List ℕ) : Type 0
   pub tower : IsTower (known_floors count body) (take (length body + 2) octets)
   pub known : AreFloors body (known_floors count body) []
 
+-- Floors that are read are a tower with their number.
 pub body_read : (octets : List ℕ) (count : ℕ) (body : List ℕ) → IsBytes octets → body_at octets ≡ Ok (count, body) → IsBodyOf octets count body
 unfolding body_at
 body_read [] count body bytes e = absurd cc
@@ -202,6 +211,7 @@ pub record IsReadAs (octets : List ℕ) (floors : List Floor) (front : List ℕ)
   pub known : known_floors (length floors) body ≡ floors
   pub len : length body + 2 ≡ length front
 
+-- A tower in front is read as its floors.
 pub body_again : (floors : List Floor) (front rest : List ℕ) → IsTower floors front → IsReadAs (front ++ rest) floors front
 unfolding body_at
 body_again floors [] rest h = absurd h.1

@@ -73,6 +73,7 @@ octets_of text uuid e =
           ],
     )
 
+-- The text of a UUID has digits and hyphens alone.
 pub uuid_lacks : (mark : ℕ) (text uuid : List ℕ) → parsed_hyphenated text ≡ Some uuid → (mark ≡ 45 → ⊥) → is_hex_digit mark ≡ false → lacks mark text ≡ true
 uuid_lacks mark text uuid e hyphen digit =
     let octets = octets_of text uuid e in

@@ -18,6 +18,7 @@ pub record IsPushed (count : ℕ) (before after : List ℕ) (floor : Floor) : Ty
   pub view : known_floors (count + 1) (drop 2 after) ≡ known_floors count (drop 2 before) ++ floor ∷ []
   pub tower : IsTower (known_floors (count + 1) (drop 2 after)) after
 
+-- What is written behind the floors so far is one floor more.
 pub writer_push : (count : ℕ) (before after : List ℕ) (floor : Floor) → IsTower (known_floors count (drop 2 before)) before → count + 1 < 2 ^ 16
     → FloorFits floor
     → after ≡ number_octets (count + 1) ++ drop 2 (before ++ floor_octets floor) → IsPushed count before after floor

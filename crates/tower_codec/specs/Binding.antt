@@ -49,12 +49,15 @@ IsBinding text binding =
 
 -- ---- The printed form: a nil object and port 0 have no part, UUIDs are in lower case (own).
 
+-- The object with its `@`, or nothing for the nil object (own).
 abbrev pub object_text : List ℕ → List ℕ
 object_text object = if is_nil_bytes object then [] else hyphenated_text lower object ++ 64 ∷ []
 
+-- The port in its brackets, or nothing for port 0 (own).
 abbrev pub endpoint_text : ℕ → List ℕ
 endpoint_text port = if port == 0 then [] else 91 ∷ (decimal port ++ 93 ∷ [])
 
+-- The printed form of a binding (own, after C706, string bindings).
 abbrev pub binding_text : StringBinding → List ℕ
 binding_text binding =
     object_text binding.object

@@ -38,6 +38,7 @@ abbrev pub object_of : List ℕ → Option (List ℕ × List ℕ) → Result (Li
 object_of text None = Ok (zero_bytes, text)
 object_of text (Some p) = ok_or (option_map (λ object. (object, p.1)) (parsed_hyphenated p.0)) BadObject
 
+-- The object in front of a text (own).
 unfoldable pub object_at : List ℕ → Result (List ℕ × List ℕ) BindingFault
 object_at text = object_of text (cut 64 text)
 
@@ -48,6 +49,7 @@ protseq_named name =
     else if bytes_eq name (protseq_name Udp) then Some Udp
     else None
 
+-- The protocol sequence in front of a text (own).
 unfoldable pub protseq_at : List ℕ → Result (Protseq × List ℕ) BindingFault
 protseq_at text = do
   p ← ok_or (cut 58 text) BadProtseq
@@ -58,6 +60,7 @@ abbrev pub parts_of : List ℕ → Option (List ℕ × List ℕ) → List ℕ ×
 parts_of text None = (text, [])
 parts_of text (Some p) = (p.0, drop (length p.0) text)
 
+-- The text before the endpoint, and the endpoint (own).
 unfoldable pub endpoint_parts : List ℕ → List ℕ × List ℕ
 endpoint_parts text = parts_of text (cut 91 text)
 
@@ -67,6 +70,7 @@ octet_at text = do
   p ← ok_or (cut 46 text) BadAddress
   ok_or (option_map (λ n. (n, p.1)) (number_of 255 p.0)) BadAddress
 
+-- The address that a text is (own).
 unfoldable pub address_of : List ℕ → Result (List ℕ) BindingFault
 address_of text = do
   first ← octet_at text
@@ -80,6 +84,7 @@ abbrev pub port_before : Option (List ℕ × List ℕ) → Option ℕ
 port_before None = None
 port_before (Some p) = if length p.1 == 0 then number_of 65535 p.0 else None
 
+-- The port that an endpoint says (own).
 unfoldable pub port_of : List ℕ → Result ℕ BindingFault
 port_of [] = Ok 0
 port_of (bracket ∷ text) = ok_or (port_before (cut 93 text)) BadEndpoint

@@ -43,9 +43,11 @@ body_at (low ∷ high ∷ octets) = do
 abbrev pub known_length : List ℕ → ℕ
 known_length octets = slice_index octets 0 + 256 * slice_index octets 1
 
+-- The part that is known to stand at the front (own).
 abbrev pub known_part : List ℕ → List ℕ
 known_part octets = take (known_length octets) (drop 2 octets)
 
+-- What follows it (own).
 abbrev pub after_known_part : List ℕ → List ℕ
 after_known_part octets = drop (known_length octets) (drop 2 octets)
 
@@ -53,6 +55,7 @@ after_known_part octets = drop (known_length octets) (drop 2 octets)
 abbrev pub known_floor : List ℕ → Floor
 known_floor octets = record { left = known_part octets; right = known_part (after_known_part octets) }
 
+-- What follows a floor that is known to stand at the front (own).
 abbrev pub after_known_floor : List ℕ → List ℕ
 after_known_floor octets = after_known_part (after_known_part octets)
 

@@ -27,15 +27,18 @@ interface_at left right =
       minor = slice_index right 0 + 256 * slice_index right 1;
     }) else None
 
+-- The protocol sequence of the floor of the RPC protocol (own).
 unfoldable pub protseq_at : List ℕ → Option Protseq
 protseq_at [] = None
 protseq_at (protocol ∷ []) = if protocol == 11 then Some Tcp else if protocol == 10 then Some Udp else None
 protseq_at (a ∷ b ∷ left) = None
 
+-- The port of a floor whose protocol goes with the sequence (own).
 unfoldable pub port_at : Protseq → List ℕ → List ℕ → Option ℕ
 port_at protseq (protocol ∷ []) (high ∷ low ∷ []) = if protocol == port_protocol protseq then Some (256 * high + low) else None
 port_at protseq left right = None
 
+-- The address of a floor (own).
 unfoldable pub address_at : List ℕ → List ℕ → Option (List ℕ)
 address_at (protocol ∷ []) (a ∷ b ∷ c ∷ d ∷ []) = if protocol == 9 then Some (a ∷ b ∷ c ∷ d ∷ []) else None
 address_at left right = None
