@@ -8,3 +8,6 @@ pub mod MemberLaws
 pub mod Masks
 pub mod ListMembers
 pub mod AscendingLaws
+pub mod FirstFaults
+pub mod NameFaults
+pub mod MemberFaults

@@ -9,7 +9,7 @@ use Rattle.std.specs.Cmp.{nat_cmp_is}
 use Rattle.std.proofs.lemmas.Map.Keys.{IsStrictlyIncreasing-from_sorted, sorted_from_strictly_increasing}
 use Rattle.cds_stamps.specs.declared.members.MembersFault.TheVariants.{BadCount}
 use Rattle.cds_stamps.proofs.NameLaws.{no_fault}
-use Rattle.cds_stamps.specs.Members.{Member, most_members, masters_in, IsMembers, first_unordered, master_fault, unordered_or, members_fault}
+use Rattle.cds_stamps.specs.Members.{Member, most_members, masters_in, IsAscending, IsMembers, first_unordered, master_fault, unordered_or, members_fault}
 
 -- the first place in a mapped list
 pub position_from-map : {A B : Type 0} (f : A → B) (p : B → Bool) (i : ℕ) (xs : List A) → position_from (λ x. p (f x)) i xs ≡ position_from p i (map f xs)
@@ -60,6 +60,13 @@ none_of_both : (masters : ℕ) (place : Option ℕ) → unordered_or (master_fau
 none_of_both masters None e = (refl, grind (arith, e))
 none_of_both masters (Some place) e = cc
 
+-- none is out of order exactly where the house numbers ascend
+pub first_unordered-none : (ms : List Member) → (first_unordered 1 0 ms ≡ None) ↔ IsAscending ms
+first_unordered-none ms = (
+  λ e. IsStrictlyIncreasing-from_sorted (houses ms) (ordered 1 0 ms e).1,
+  λ ascending. none_unordered 1 0 ms (all_from_0 (houses ms)) (sorted_from_strictly_increasing (houses ms) ascending),
+)
+
 -- no fault: their number, their order and the masters are lawful
 pub no_members_fault : (ms : List Member) → members_fault ms ≡ None → (0 < length ms) × (length ms ≤ most_members) × (first_unordered 1 0 ms ≡ None) × (masters_in ms ≡ 1)
 no_members_fault ms e =
@@ -69,9 +76,9 @@ no_members_fault ms e =
 
 pub members_fault-none : (ms : List Member) → (members_fault ms ≡ None) ↔ IsMembers ms
 members_fault-none ms = (
-  λ e. let facts = no_members_fault ms e in record { filled = facts.0; few = facts.1; ascending = IsStrictlyIncreasing-from_sorted (houses ms) (ordered 1 0 ms facts.2).1; one_master = facts.3 },
+  λ e. let facts = no_members_fault ms e in record { filled = facts.0; few = facts.1; ascending = (first_unordered-none ms).0 facts.2; one_master = facts.3 },
   λ members.
       let count : ((length ms == 0) || nat_lt most_members (length ms)) ≡ false = grind (arith, members.filled, members.few) in
-      let sorted : first_unordered 1 0 ms ≡ None = none_unordered 1 0 ms (all_from_0 (houses ms)) (sorted_from_strictly_increasing (houses ms) members.ascending) in
+      let sorted : first_unordered 1 0 ms ≡ None = (first_unordered-none ms).1 members.ascending in
       rw (count, sorted, members.one_master) refl,
 )

@@ -10,3 +10,4 @@ pub mod Outcomes
 pub mod Members
 pub mod Places
 pub mod Numbers
+pub mod Fronts

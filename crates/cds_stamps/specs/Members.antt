@@ -66,11 +66,15 @@ most_members = 64
 abbrev pub masters_in : List Member → ℕ
 masters_in = count_by (λ m. is_master m.kind)
 
+-- the house numbers ascend (own)
+abbrev pub IsAscending : List Member → Type 0
+IsAscending ms = IsStrictlyIncreasing (map (λ m. m.house) ms)
+
 -- a member list: 1 to 64 houses, ascending, of which exactly one is master (own, after C705, replica sets)
 pub record IsMembers (ms : List Member) : Type 0 where
   pub filled : 0 < length ms
   pub few : length ms ≤ most_members
-  pub ascending : IsStrictlyIncreasing (map (λ m. m.house) ms)
+  pub ascending : IsAscending ms
   pub one_master : masters_in ms ≡ 1
 
 -- the first place, from this one on, whose house is below the least that may come there (own)

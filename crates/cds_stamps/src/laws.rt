@@ -1,21 +1,35 @@
 //! Laws of the definitions: functions that do nothing, whose contracts are proved.
-ghost use Rattle.std.specs.Prelude.{◌≡◌, ◌↔◌, ℕ, ◌<◌, Bool, true, List, None};
+ghost use Rattle.std.specs.Prelude.{◌≡◌, ◌≢◌, ◌⊎◌, ◌↔◌, ◌-◌, ◌<◌, ◌≤◌, ℕ, Bool, true, false, List, length, get_or, Some, None};
 ghost use Rattle.std.specs.List.{Contains};
 ghost use Rattle.std.specs.List.Sorted.{IsStrictlySortedBy};
-ghost use Rattle.cds_stamps.specs.Octets.{octets_cmp};
 ghost use Rattle.cds_stamps.specs.Ascending.{ascending};
-ghost use Rattle.cds_stamps.specs.Names.{simple_name_fault, longest_component, IsSimpleName, attr_fault, longest_attr, IsAttrName};
-ghost use Rattle.cds_stamps.specs.Members.{Member, members_fault, most_members, IsMembers};
-ghost use Rattle.cds_stamps.specs.declared.members.TheConstants.{MOST_MEMBERS};
+ghost use Rattle.cds_stamps.specs.Fronts.{IsFirstBad, EndsEarly};
+ghost use Rattle.cds_stamps.specs.Members.{Member, members_fault, most_members, masters_in, IsAscending, IsMembers};
+ghost use Rattle.cds_stamps.specs.Names.{is_name_octet, simple_name_fault, longest_component, IsSimpleName, attr_fault, longest_attr, IsAttrName};
 ghost use Rattle.cds_stamps.specs.Numbers.{root_dir, node_bits};
-ghost use Rattle.cds_stamps.specs.declared.numbers.TheConstants.DirId.{ROOT};
-ghost use Rattle.cds_stamps.specs.declared.names.TheConstants.{LONGEST_COMPONENT, LONGEST_ATTR};
-ghost use Rattle.cds_stamps.specs.declared.stamp.TheConstants.{NODE_BITS};
+ghost use Rattle.cds_stamps.specs.Octets.{octets_cmp};
 ghost use Rattle.cds_stamps.specs.Places.{each_place};
+ghost use Rattle.cds_stamps.specs.declared.members.MembersFault.TheVariants.{BadCount, NotAscending, BadMaster};
+ghost use Rattle.cds_stamps.specs.declared.members.TheConstants.{MOST_MEMBERS};
+ghost use Rattle.cds_stamps.specs.declared.names.AttrFault.TheVariants.{BadAttr};
+ghost use Rattle.cds_stamps.specs.declared.names.NameFault.TheVariants.{Empty, BadOctet, ComponentTooLong};
+ghost use Rattle.cds_stamps.specs.declared.names.TheConstants.{LONGEST_COMPONENT, LONGEST_ATTR};
+ghost use Rattle.cds_stamps.specs.declared.numbers.TheConstants.DirId.{ROOT};
+ghost use Rattle.cds_stamps.specs.declared.stamp.TheConstants.{NODE_BITS};
 
 /// No fault is found exactly where the octets are a simple name.
 pub fn simple_names_have_no_fault()
     ensures { (octets : List ℕ) → (simple_name_fault octets ≡ None) ↔ IsSimpleName octets }
+{}
+
+/// A fault of a simple name is at the first place at which the octets stop being the front of one: no octet at all, an
+/// octet that no name has, or an octet of names that is one too many.
+pub fn faults_of_simple_names_are_at_the_first_place()
+    ensures empty { (octets : List ℕ) (place : ℕ) → simple_name_fault octets ≡ Some (Empty place) → EndsEarly IsSimpleName octets place }
+    ensures octet { (octets : List ℕ) (place : ℕ) → simple_name_fault octets ≡ Some (BadOctet place) →
+        IsFirstBad IsSimpleName octets place × (is_name_octet (get_or octets (place - 1) 0) ≡ false) }
+    ensures too_long { (octets : List ℕ) (place : ℕ) → simple_name_fault octets ≡ Some (ComponentTooLong place) →
+        IsFirstBad IsSimpleName octets place × (is_name_octet (get_or octets (place - 1) 0) ≡ true) }
 {}
 
 /// No fault is found exactly where the octets are an attribute name.
@@ -23,9 +37,27 @@ pub fn attribute_names_have_no_fault()
     ensures { (octets : List ℕ) → (attr_fault octets ≡ None) ↔ IsAttrName octets }
 {}
 
+/// The fault of an attribute name is at the first place at which the octets stop being the front of one, or, of no
+/// octets, at place 1.
+pub fn faults_of_attribute_names_are_at_the_first_place()
+    ensures { (octets : List ℕ) (place : ℕ) → attr_fault octets ≡ Some (BadAttr place) →
+        IsFirstBad IsAttrName octets place ⊎ EndsEarly IsAttrName octets place }
+{}
+
 /// No fault is found exactly where the members are 1 to 64, ascend, and have one master.
 pub fn member_lists_have_no_fault()
     ensures { (ms : List Member) → (members_fault ms ≡ None) ↔ IsMembers ms }
+{}
+
+/// What the faults of a member list say. Their number comes first; of so many, the place is that of the first member
+/// with which no list in ascending order goes on; and where all ascend, the masters are not one. The place is told of
+/// the order alone, since a list whose members ascend may still have no master, or two.
+pub fn faults_of_member_lists_are_at_the_first_place()
+    ensures count { (ms : List Member) → members_fault ms ≡ Some BadCount → ¬ ((0 < length ms) × (length ms ≤ most_members)) }
+    ensures order { (ms : List Member) (place : ℕ) → members_fault ms ≡ Some (NotAscending place) →
+        (0 < length ms) × (length ms ≤ most_members) × IsFirstBad IsAscending ms place }
+    ensures master { (ms : List Member) → members_fault ms ≡ Some BadMaster →
+        (0 < length ms) × (length ms ≤ most_members) × IsAscending ms × (masters_in ms ≢ 1) }
 {}
 
 /// The test at each of the first n places is the test at every place below n.
