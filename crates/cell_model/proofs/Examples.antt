@@ -13,7 +13,7 @@ use Rattle.cell_model.specs.Commands.{Command, House, Root, Mkdir, Accept, Crash
 use Rattle.cell_model.specs.Steps.{listing, leaving, is_bad_list, answers}
 use Rattle.cell_model.specs.Agreement.{IsShown, Covers, of_absence}
 use Rattle.cell_model.specs.Rounds.{first_answer}
-use Rattle.cell_model.specs.Readings.{at, listed}
+use Rattle.cell_model.proofs.ExampleWords.{at, listed}
 
 -- ---- member lists
 

@@ -1,3 +1,4 @@
+pub mod ExampleWords
 pub mod Examples
 pub mod Updating
 pub mod Skulking

@@ -7,7 +7,7 @@ use Rattle.directory.specs.Updates.{Create, Delete}
 use Rattle.cell_model.specs.Commands.{Command, House, Clock, Root, Accept, Epoch, Skulk, Deliver, Crash, Start, Down, NotJoined, Update, Done}
 use Rattle.cell_model.specs.Commands.{Posted, Stamped, NewEpoch, Taken, Late, Early, Stale, Complete, Refused}
 use Rattle.cell_model.specs.Steps.{answers, replay}
-use Rattle.cell_model.specs.Readings.{at, listed, value_at, state_at, left_at}
+use Rattle.cell_model.proofs.ExampleWords.{at, listed, value_at, state_at, left_at}
 
 -- a skulk that is begun again
 abbrev begun_again : List Command

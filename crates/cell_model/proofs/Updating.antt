@@ -8,7 +8,7 @@ use Rattle.cell_model.specs.Commands.{Command, House, Clock, Root, Accept, Epoch
 use Rattle.cell_model.specs.Commands.{NoHouse, NoDirectory, BadMembers, NotMember, Down, Up, NoMessage, Update, Done, Posted, Stamped, NewEpoch}
 use Rattle.cell_model.specs.Commands.{Taken, NoReplica, Refused}
 use Rattle.cell_model.specs.Steps.{answers, replay}
-use Rattle.cell_model.specs.Readings.{at, value_at}
+use Rattle.cell_model.proofs.ExampleWords.{at, value_at}
 
 -- the plain run: a house, a directory, an entry, a value that comes and goes
 abbrev plain : List Command

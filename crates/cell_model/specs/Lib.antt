@@ -3,7 +3,6 @@ pub mod Cells
 pub mod Bodies
 pub mod Commands
 pub mod Steps
-pub mod Readings
 pub mod Agreement
 pub mod Skulks
 pub mod Merges

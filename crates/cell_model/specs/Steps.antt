@@ -5,7 +5,8 @@ use Rattle.std.specs.List.{list_any, list_all}
 use Rattle.std.specs.Option.{option_map}
 use Rattle.cds_stamps.specs.declared.stamp.Stamp.{Stamp}
 use Rattle.cds_stamps.specs.declared.members.MemberKind.TheVariants.{Master, ReadOnly}
-use Rattle.cds_stamps.specs.Members.{Member, master_of, others_of, is_listed, is_accepting, since_in}
+use Rattle.cds_stamps.specs.Members.{Member, master_of, others_of, is_listed, is_accepting, since_in, most_members}
+use Rattle.cds_stamps.specs.Numbers.{root_dir}
 use Rattle.cds_stamps.specs.Semilattice.{maybe}
 use Rattle.cds_stamps.specs.Stamps.{is_stamp, later_stamp, next_stamp}
 use Rattle.directory.specs.declared.update.UpdateRefusal.{UpdateRefusal}
@@ -73,9 +74,9 @@ abbrev pub stands_twice : List ℕ → Bool
 stands_twice [] = false
 stands_twice (x ∷ xs) = has x xs || stands_twice xs
 
--- a house stands twice, or there are more than 64 (own)
+-- a house stands twice, or there are more than most_members (own)
 abbrev pub is_bad_list : List ℕ → Bool
-is_bad_list hs = stands_twice hs || nat_lt 64 (length hs)
+is_bad_list hs = stands_twice hs || nat_lt most_members (length hs)
 
 -- ---- changes of a house, and messages
 
@@ -168,7 +169,7 @@ founded g d m ms =
 
 -- the root of the cell (own, after C705, the root directory)
 abbrev pub root : Cell → ℕ → List Member → Outcome
-root g m ms = record { cell = founded g 1 m ms; answer = Posted (serials_of g (first_joins g 1 m ms)); accepted = [] }
+root g m ms = record { cell = founded g root_dir m ms; answer = Posted (serials_of g (first_joins g root_dir m ms)); accepted = [] }
 
 -- a house that accepts updates issues a stamp, adds the marks, and posts them to each other member (own, after C705, updates)
 abbrev pub accept_at : Cell → (h d : ℕ) → Change → Replica → Option Stamp → Outcome
@@ -453,7 +454,7 @@ abbrev pub refusals_of : Cell → Command → List (Bool × Refusal)
 refusals_of g (commands.House h node) = (is_taken g h node, HouseExists) ∷ []
 refusals_of g (commands.Clock h time) = (is_missing g (h ∷ []), NoHouse) ∷ []
 refusals_of g (commands.Root m rs) =
-    (not (is_unknown g 1), DirectoryExists) ∷ (is_missing g (m ∷ rs), NoHouse) ∷ (is_bad_list (m ∷ rs), BadMembers) ∷ (is_down g m, Down) ∷ []
+    (not (is_unknown g root_dir), DirectoryExists) ∷ (is_missing g (m ∷ rs), NoHouse) ∷ (is_bad_list (m ∷ rs), BadMembers) ∷ (is_down g m, Down) ∷ []
 refusals_of g (commands.Mkdir h d n m rs) =
     (is_unknown g d, NoDirectory) ∷ (is_missing g (h ∷ m ∷ rs), NoHouse) ∷ (is_bad_list (m ∷ rs), BadMembers) ∷ (is_down g h || is_down g m, Down) ∷ []
 refusals_of g (commands.Repoint h d n m rs) =
