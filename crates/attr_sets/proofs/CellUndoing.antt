@@ -1,6 +1,8 @@
 -- Joins of cells in place.
-use Rattle.std.proofs.Common.{◌≡◌, ℕ, List, [], ◌∷◌, Option, None, refl, sym, ap, ◌∙◌}
-use Rattle.std.specs.FinMap.{FinMap, get, from_entries, get-empty, empty}
+use Rattle.std.proofs.Common.{◌≡◌, ℕ, Bool, true, false, List, [], ◌∷◌, Option, Some, None, refl, sym, ap, subst, ◌∙◌, arith}
+use Rattle.std.specs.Prelude.{◌&&◌, ◌==◌, is_none}
+use Rattle.std.proofs.lemmas.Bool.Decides.{nat_tests}
+use Rattle.std.specs.FinMap.{FinMap, get, len, from_entries, get-empty, empty, empty_of_len, len-empty}
 use Rattle.std.specs.Map.{keys_of}
 use Rattle.std.specs.List.Sorted.{IsStrictlySortedBy}
 use Rattle.std.specs.Cmp.Lexicographic.{nat_list_cmp_total}
@@ -12,8 +14,9 @@ use Rattle.cds_stamps.proofs.TreeViews.{entry_at, join_of-entries, get-view}
 use Rattle.attr_sets.specs.declared.mark.ValueMark.{ValueMark}
 use Rattle.attr_sets.specs.declared.cell.AttrCell.{AttrCell}
 use Rattle.attr_sets.specs.Marks.{later, kept, ValueMarks, JoinsKept, AgreesOnKept}
-use Rattle.attr_sets.specs.Cells.{cell_of, join_cells, IsValidCell}
-use Rattle.attr_sets.specs.CellLaws.{same_cell, get-cell_of, get-join_cells, kept-later, kept-kept, clears}
+use Rattle.attr_sets.specs.Cells.{AttrMark, cell_of, empty_cell, join_cells, IsValidCell}
+use Rattle.attr_sets.specs.CellPurges.{is_empty_cell}
+use Rattle.attr_sets.specs.CellLaws.{same_cell, get-cell_of, get-join_cells, kept-later, kept-kept, clears, join_cells-cell_of, cell_of-valid}
 
 -- two cells, where the clear of the first is not the earlier
 pub kept_joined : (a b c : AttrCell) → c.cleared ≡ a.cleared → maybe later_stamp a.cleared b.cleared ≡ a.cleared → ((q : List ℕ) → get c.values q ≡ maybe later (get a.values q) (kept a.cleared (get b.values q))) → IsValidCell a → c ≡ join_cells a b
@@ -72,3 +75,28 @@ both_kept a b none first both c is_empty same from_a from_b = same_cell (record 
 -- nothing is known of an attribute with no history
 pub new_cell : (none : FinMap octets_cmp ValueMark) → none ≡ empty → record { cleared = None; values = none } ≡ cell_of []
 new_cell none is_empty = same_cell (record { cleared = None; values = none }) (cell_of []) refl (λ q. ap (λ m. get m q) is_empty ∙ get-empty octets_cmp q ∙ sym (get-cell_of [] q))
+
+-- marks joined into a new cell
+pub first_marks : (ms : List AttrMark) (a b : AttrCell) → a ≡ cell_of [] → (IsValidCell a → b ≡ join_cells a (cell_of ms)) → b ≡ cell_of ms
+first_marks ms a b new joins =
+    joins (subst IsValidCell (sym new) (cell_of-valid [])) ∙ ap (λ a. join_cells a (cell_of ms)) new ∙ join_cells-cell_of [] ms
+
+-- a cell with neither a clear nor a mark is the empty one
+pub is_empty_cell-is : (a : AttrCell) → is_empty_cell a ≡ true → a ≡ empty_cell
+is_empty_cell-is a e =
+    let none : (is_none a.cleared ≡ true) × ((len a.values == 0) ≡ true) = both (is_none a.cleared) (len a.values == 0) e in
+    same_cell a empty_cell (nothing a.cleared none.0) (λ q. ap (λ m. get m q) (empty_of_len a.values (at_zero (len a.values) none.1)))
+  where
+    both : (x y : Bool) → (x && y) ≡ true → (x ≡ true) × (y ≡ true)
+    both true y e = (refl, e)
+    both false y e = cc
+
+    at_zero : (n : ℕ) → (n == 0) ≡ true → n ≡ 0
+    at_zero n e = grind (arith, nat_tests)
+
+    nothing : (c : Option Stamp) → is_none c ≡ true → c ≡ None
+    nothing None e = refl
+    nothing (Some c) e = cc
+
+pub empty_cell-is_empty : (a : AttrCell) → a ≡ empty_cell → is_empty_cell a ≡ true
+empty_cell-is_empty a e = ap is_empty_cell e ∙ ap (λ n. n == 0) (len-empty octets_cmp ValueMark)

@@ -18,7 +18,7 @@ clear_left t s = if is_up_to t s then None else Some s
 abbrev pub purged_cell : Stamp → AttrCell → AttrCell
 purged_cell t a = record { cleared = option_and_then (clear_left t) a.cleared; values = map_some (mark_left t) a.values }
 
--- a cell with neither a clear nor a value (own)
+-- whether a cell has neither a clear nor a value, as the empty cell alone (own)
 abbrev pub is_empty_cell : AttrCell → Bool
 is_empty_cell a = is_none a.cleared && (len a.values == 0)
 

@@ -1,6 +1,6 @@
 -- What is known of one attribute of one entry, the cell that it makes, and the values that show (own, after C705, attributes and their timestamps).
 use Rattle.std.specs.Prelude.{[], ◌∷◌, ◌≡◌, ℕ, List, Option, Some, None, if◌then◌else◌, refl}
-use Rattle.std.specs.FinMap.{FinMap, get, entries, code}
+use Rattle.std.specs.FinMap.{FinMap, get, empty, entries, code}
 use Rattle.std.specs.Coded.{Coded, code_by, coded×, coded_option}
 use Rattle.std.specs.List.{filter_map}
 use Rattle.cds_stamps.specs.declared.stamp.Stamp.{Stamp}
@@ -62,6 +62,10 @@ cell_of h = record { cleared = greatest_clear h; values = marks_kept h }
 -- the values that a cell shows, ascending (own)
 abbrev pub cell_values : AttrCell → List (List ℕ)
 cell_values c = present_in (entries c.values)
+
+-- the cell of an attribute of which nothing is known (own)
+abbrev pub empty_cell : AttrCell
+empty_cell = record { cleared = None; values = empty }
 
 -- the two cells together: the later clear, and the later mark of each value that it keeps (own)
 abbrev pub join_cells : AttrCell → AttrCell → AttrCell

@@ -6,8 +6,10 @@ ghost use Rattle.cds_stamps.specs.Stamps.{later_stamp};
 ghost use Rattle.attr_sets.specs.Marks.{kept, present_at, absent_at, RaisesKept, AgreesOnKept};
 ghost use Rattle.attr_sets.specs.Cells.{Cleared, Marked, cell_of, cell_values, join_cells, IsValidCell};
 ghost use Rattle.attr_sets.specs.CellUndos.{undo_cell};
+ghost use Rattle.attr_sets.specs.CellChanges.{change_marks};
 ghost use Rattle.attr_sets.specs.CellLaws.{join_cells-comm, join_cells-assoc, join_cells-idem, join_cells-valid};
 
+use crate::change::CellChange;
 use crate::mark::ValueMark;
 use crate::undo::CellUndo;
 use crate::value::Value;
@@ -115,6 +117,34 @@ impl AttrCell {
         ensures { self.new ≡ join_cells self.old (cell_of (Cleared stamp ∷ [])) }
     {
         self.join_clear(Some(stamp));
+    }
+
+    /// Adds the marks of a change with this stamp, in place.
+    pub fn change(
+        &mut self,
+        alloc: Global,
+        change: &CellChange,
+        stamp: Stamp,
+    ) -> Result<(), AllocError>
+        ensures ok { OnOk result (IsValidCell self.old → self.new ≡ join_cells self.old (cell_of (change_marks change.now stamp))) }
+        ensures err { OnErr result (self.new ≡ self.old) }
+    {
+        match change {
+            CellChange::Add(value) => self.add(alloc, value, stamp)?,
+            CellChange::Remove(value) => self.remove(alloc, value, stamp)?,
+            CellChange::Put(value) => self.put(alloc, value, stamp)?,
+            CellChange::Clear => self.clear(stamp),
+        }
+        Ok(())
+    }
+
+    /// The cell of a change alone.
+    pub fn changed(alloc: Global, change: &CellChange, stamp: Stamp) -> Result<AttrCell, AllocError>
+        ensures { IfOk result (λ c. c ≡ cell_of (change_marks change.now stamp)) }
+    {
+        let mut cell = AttrCell::new(alloc);
+        cell.change(alloc, change, stamp)?;
+        Ok(cell)
     }
 
     /// Joins another cell in. What takes it back. A later clear has no cell to be put back into: then the old cell is

@@ -1,10 +1,12 @@
 // The laws of cells and of what shows, each the contract of a function that does nothing.
-ghost use Rattle.std.specs.Prelude.{◌≡◌, ℕ, ◌++◌, ◌↔◌, ◌⊎◌, [], ◌∷◌, List, true, false};
+ghost use Rattle.std.specs.Prelude.{◌≡◌, ℕ, IsTrue, ◌++◌, ◌↔◌, ◌⊎◌, [], ◌∷◌, List, true, false};
 ghost use Rattle.std.specs.List.{Contains};
 ghost use Rattle.std.specs.List.Sorted.{IsStrictlySortedBy};
 ghost use Rattle.cds_stamps.specs.Octets.{octets_cmp};
 ghost use Rattle.cds_stamps.specs.declared.stamp.Stamp.{Stamp};
-ghost use Rattle.attr_sets.specs.Cells.{AttrMark, Cleared, Marked, cell_of, join_cells, shown_values, IsValidCell};
+ghost use Rattle.attr_sets.specs.declared.cell.AttrCell.{AttrCell};
+ghost use Rattle.attr_sets.specs.CellPurges.{is_empty_cell};
+ghost use Rattle.attr_sets.specs.Cells.{AttrMark, Cleared, Marked, cell_of, empty_cell, join_cells, shown_values, IsValidCell};
 ghost use Rattle.attr_sets.specs.ShownValues.{IsBefore, IsShown};
 
 /// The join of the cells of two histories is the cell of both together.
@@ -15,6 +17,12 @@ pub fn joins_are_unions()
 /// The cell of a history holds no mark that is earlier than its clear.
 pub fn cells_are_valid()
     ensures { (h : List AttrMark) → IsValidCell (cell_of h) }
+{}
+
+/// A cell has neither a clear nor a mark exactly where it is the empty one, which is that of no history.
+pub fn empty_cells_are_one()
+    ensures one { (a : AttrCell) → IsTrue (is_empty_cell a) ↔ (a ≡ empty_cell) }
+    ensures of_nothing { cell_of [] ≡ empty_cell }
 {}
 
 /// A value shows exactly where its greatest mark is present and not earlier than any clear.

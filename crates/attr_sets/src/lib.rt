@@ -2,6 +2,7 @@
 #![tactic(auto)]
 
 mod cell;
+mod change;
 mod laws;
 mod mark;
 mod order;
@@ -12,9 +13,10 @@ mod value;
 mod value_map;
 
 pub use cell::AttrCell;
+pub use change::CellChange;
 pub use laws::{
-    cells_are_valid, joins_are_unions, later_updates_show, shown_values_are_present,
-    shown_values_ascend,
+    cells_are_valid, empty_cells_are_one, joins_are_unions, later_updates_show,
+    shown_values_are_present, shown_values_ascend,
 };
 pub use mark::ValueMark;
 pub use order::{all_in_order, in_order};

@@ -1,7 +1,7 @@
 -- Whatever a message adds can be merged.
 use Rattle.std.proofs.Common.{◌≡◌, ℕ, zero, suc, length, ◌<◌, ◌≤◌, ◌⊎◌, inl, inr, Bool, true, false, ◌||◌, cond, List, [], ◌∷◌, ◌++◌, Option, Some}
 use Rattle.std.proofs.Common.{None, refl, sym, ap, ◌∙◌, subst, arith, ⊎_elim, le_trans}
-use Rattle.std.specs.List.{filter, list_any, AllByRecursion}
+use Rattle.std.specs.List.{filter, list_any, AllByRecursion, Contains}
 use Rattle.std.specs.Bool.{IsTrue}
 use Rattle.std.specs.Prelude.{slice_index_or}
 use Rattle.std.proofs.lemmas.Bool.{cases_lt}
@@ -9,6 +9,7 @@ use Rattle.cds_stamps.specs.declared.stamp.Stamp.{Stamp}
 use Rattle.cds_stamps.specs.Stamps.{is_up_to, is_stamp}
 use Rattle.cds_stamps.specs.Octets.{is_octets}
 use Rattle.cds_stamps.specs.Members.{Member, since_in}
+use Rattle.attr_sets.proofs.Greatest.{Contains-head, Contains-tail}
 use Rattle.directory.specs.declared.entry.Kind.{Kind}
 use Rattle.directory.specs.Histories.{Mark, Birth, stamp_in, name_in, born_in, up_to, is_birth, IsHistory}
 use Rattle.cell_model.specs.Sets.{In, IsPart, IsUpTo}
@@ -78,6 +79,11 @@ contains_at : (h : List Mark) (k : Mark) (n : ℕ) → n < length h → slice_in
 contains_at [] k n lt e = absurd (omega arith)
 contains_at (m ∷ h) k zero lt e = inl (sym e)
 contains_at (m ∷ h) k (suc n) lt e = inr (contains_at h k n (omega arith) e)
+
+in_contains : (h : List Mark) (k : Mark) → In k h → Contains h k
+in_contains [] k i = elim i [ ]
+in_contains (m ∷ h) k (inl is) = subst (Contains (m ∷ h)) (sym is) (Contains-head m h)
+in_contains (m ∷ h) k (inr i) = Contains-tail m h k (in_contains h k i)
 
 -- marks that have their births, in order and of one kind are a history
 pub is_history : (h : List Mark) → ((k : Mark) → In k h → (j : Kind) × In (Birth (name_in k) j (born_in k)) h)
@@ -167,7 +173,7 @@ adds_term roll v m r marks t s i at (of_join ms copy is le since) =
 -- so it is at each moment of a run
 pub merges_lem : (commands : List Command) → MergesHold commands
 merges_lem commands m r marks t i at a = record {
-  covered = cover t refl;
+  covered = λ k c. in_contains r.history k (cover t refl k (contains_at (up_to marks t) k c.0 c.1 c.2));
   mine = closed_history m.dir (accepted commands) here.known.well once r.history mine (here.known.origin m.receiver r at);
   theirs = closed_history m.dir (accepted commands) here.known.well once marks theirs its;
   both = closed_history m.dir (accepted commands) here.known.well once (r.history ++ marks)

@@ -1,11 +1,11 @@
--- What messages add to replicas, and when two replicas can be merged (own, after C705, merging of replicas).
-use Rattle.std.specs.Prelude.{◌≡◌, ◌≤◌, List, ◌++◌, Option}
+-- What messages add to replicas, which can always be merged (own, after C705, merging of replicas).
+use Rattle.std.specs.Prelude.{◌≡◌, ◌≤◌, List, Option}
 use Rattle.cds_stamps.specs.declared.stamp.Stamp.{Stamp}
 use Rattle.cds_stamps.specs.Members.{Member, since_in}
 use Rattle.cds_stamps.specs.Semilattice.{maybe}
 use Rattle.cds_stamps.specs.Stamps.{later_stamp}
-use Rattle.directory.specs.Histories.{Mark, up_to, IsHistory}
-use Rattle.cell_model.specs.Sets.{In, IsPart}
+use Rattle.directory.specs.Histories.{Mark, CanMerge}
+use Rattle.cell_model.specs.Sets.{In}
 use Rattle.cell_model.specs.Cells.{Replica, Copy, Update, Gathered, Spread, Join, Message, IsHeld}
 use Rattle.cell_model.specs.Commands.{Command}
 use Rattle.cell_model.specs.Steps.{replay}
@@ -18,13 +18,6 @@ pub data Adds (m : Message) (r : Replica) : List Mark → Option Stamp → Type 
   of_spread : (t : Stamp) (copy : Copy) → m.body ≡ Spread t copy → m.epoch ≡ r.epoch → Adds m r copy.history (maybe later_stamp r.all_up_to copy.all_up_to)
   of_join : (members : List Member) (copy : Copy) → m.body ≡ Join members copy → r.epoch ≤ m.epoch → since_in members m.receiver 0 ≤ r.epoch
       → Adds m r copy.history (maybe later_stamp r.all_up_to copy.all_up_to)
-
--- these marks can be merged into this history: up to t it has them, and both and their union are histories (own)
-pub record CanMerge (history marks : List Mark) (t : Option Stamp) : Type 0 where
-  pub covered : IsPart (up_to marks t) history
-  pub mine : IsHistory history
-  pub theirs : IsHistory marks
-  pub both : IsHistory (history ++ marks)
 
 -- whatever a posted message adds to its receiver's replica can be merged (own)
 abbrev pub MergesHold : List Command → Type 0

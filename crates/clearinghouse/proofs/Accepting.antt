@@ -14,13 +14,13 @@ use Rattle.cds_stamps.specs.Members.{is_accepting, members_of, others_of}
 use Rattle.directory.specs.declared.entry.Fragment.{Fragment}
 use Rattle.directory.specs.declared.update.UpdateRefusal.{UpdateRefusal}
 use Rattle.directory.specs.declared.update.UpdateRefusal.TheVariants as why
-use Rattle.directory.specs.Histories.{Mark, IsHistory, IsBefore, name_in, stamp_in, born_in, entry_of, table_of, up_to}
+use Rattle.directory.specs.Histories.{Mark, IsHistory, IsBefore, CanMerge, name_in, stamp_in, born_in, entry_of, table_of, up_to}
 use Rattle.directory.specs.Updates.{Change, changed_name}
 use Rattle.directory.specs.Shown.{Shown, shown, shown_in, refusal_of, marks_of}
 use Rattle.directory.proofs.ShownLaws.{shown_in-table_of}
 use Rattle.directory.proofs.UpdateLaws.{marks_of-history, marks_of-together, marks_of-names}
 use Rattle.purge_rule.specs.declared.replica.Replica.{Replica}
-use Rattle.purge_rule.specs.Replicas.{replica_of, CanMerge, IsFragmentOf}
+use Rattle.purge_rule.specs.Replicas.{replica_of, IsFragmentOf}
 use Rattle.cds_records.specs.declared.message.Message.{Message}
 use Rattle.cds_records.specs.declared.message.Body.TheVariants as body
 use Rattle.cell_model.specs.Cells as model

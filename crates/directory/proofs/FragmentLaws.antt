@@ -1,5 +1,5 @@
 -- The entry that the marks of one update make.
-use Rattle.std.proofs.Common.{◌≡◌, ℕ, Bool, true, false, cond, List, [], ◌∷◌, map, Option, Some, None, Result, Ok, Err, IfOk, IsSome, refl, sym, ap, subst, ◌∙◌, is_eq}
+use Rattle.std.proofs.Common.{◌≡◌, ℕ, Bool, true, false, cond, List, [], ◌∷◌, map, Option, Some, None, Result, Ok, Err, IfOk, IsSome, refl, sym, ap, ◌∙◌, is_eq}
 use Rattle.std.specs.Prelude.{◌&&◌, if◌then◌else◌, IfSome}
 use Rattle.std.specs.declared.alloc.AllocError.{AllocError}
 use Rattle.std.specs.FinMap.{FinMap, same_map, empty, insert, get-empty, get-insert}
@@ -12,8 +12,7 @@ use Rattle.cds_stamps.specs.Semilattice.{maybe, greater}
 use Rattle.cds_stamps.specs.Stamps.{stamp_total, is_stamp, earlier_stamp}
 use Rattle.cds_stamps.specs.Octets.{octets_cmp, octets_exact, is_octets}
 use Rattle.attr_sets.specs.declared.cell.AttrCell.{AttrCell}
-use Rattle.attr_sets.specs.Cells.{AttrMark, Cleared, Marked, cell_of, join_cells, IsValidCell}
-use Rattle.attr_sets.specs.CellLaws.{join_cells-cell_of, cell_of-valid}
+use Rattle.attr_sets.specs.Cells.{AttrMark, Cleared, Marked, cell_of}
 use Rattle.directory.specs.declared.entry.Kind.{Kind}
 use Rattle.directory.specs.declared.entry.Fragment.{Fragment}
 use Rattle.directory.specs.declared.entry.EntryCell.{EntryCell}
@@ -22,11 +21,6 @@ use Rattle.directory.specs.declared.update.UpdateRefusal.TheVariants.{NoSuchEntr
 use Rattle.directory.specs.Histories.{Mark, Birth, Death, Attr, Born, birth_cmp, birth_of, death_of, attr_history, cell_of_some, attrs_of, entry_at, entry_of}
 use Rattle.directory.specs.Shown.{Shown, put_marks, with_birth}
 use Rattle.directory.proofs.HistoryLaws.{get-attrs_of}
-
--- marks joined into a new cell
-pub first_marks : (ms : List AttrMark) (a b : AttrCell) → a ≡ cell_of [] → (IsValidCell a → b ≡ join_cells a (cell_of ms)) → b ≡ cell_of ms
-first_marks ms a b new joins =
-    joins (subst IsValidCell (sym new) (cell_of-valid [])) ∙ ap (λ a. join_cells a (cell_of ms)) new ∙ join_cells-cell_of [] ms
 
 pub same_octets : (n : List ℕ) → is_octets n n ≡ true
 same_octets n = ap is_eq (tied_itself nat_list_cmp_total n)

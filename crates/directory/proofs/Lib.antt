@@ -11,3 +11,4 @@ pub mod Lookups
 pub mod FragmentLaws
 pub mod Leads
 pub mod Untouched
+pub mod Applying

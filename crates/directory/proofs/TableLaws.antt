@@ -15,7 +15,7 @@ use Rattle.cds_stamps.specs.Undos.{RaisesAt}
 use Rattle.attr_sets.specs.declared.mark.ValueMark.{ValueMark}
 use Rattle.attr_sets.specs.declared.cell.AttrCell.{AttrCell}
 use Rattle.attr_sets.specs.Marks.{later, kept}
-use Rattle.attr_sets.specs.Cells.{AttrMark, Cleared, Marked, cell_of, greatest_clear, greatest_mark}
+use Rattle.attr_sets.specs.Cells.{AttrMark, Cleared, Marked, cell_of, empty_cell, greatest_clear, greatest_mark}
 use Rattle.attr_sets.specs.CellLaws.{cell_of-valid, get-cell_of}
 use Rattle.directory.specs.declared.entry.EntryCell.{EntryCell}
 use Rattle.directory.specs.Entries.{Entries, join_entries, IsHeldCell, IsValidEntry, IsValidTable}
@@ -27,7 +27,7 @@ some_stays f x None e = cc (e)
 some_stays f x (Some y) e = cc (e)
 
 -- a cell of some marks has a clear or a value
-has_some : (x : AttrMark) (xs : List AttrMark) → cell_of (x ∷ xs) ≡ record { cleared = None; values = empty } → ⊥
+has_some : (x : AttrMark) (xs : List AttrMark) → cell_of (x ∷ xs) ≡ empty_cell → ⊥
 has_some (Cleared s) xs e = some_stays later_stamp s (greatest_clear xs) (ap (λ (c : AttrCell). c.cleared) e)
 has_some (Marked v m) xs e =
     let clear : greatest_clear xs ≡ None = ap (λ (c : AttrCell). c.cleared) e in

@@ -3,6 +3,7 @@ use Rattle.std.proofs.Common.{◌≡◌, ℕ, Bool, true, false, List, [], ◌�
 use Rattle.std.specs.Prelude.{◌&&◌, ◌||◌, not, IfSome, if◌then◌else◌}
 use Rattle.std.specs.FinMap.{get}
 use Rattle.std.specs.List.{AllByRecursion, Contains, list_any}
+use Rattle.std.specs.Option.{IsSomeAnd}
 use Rattle.std.specs.Ordering.{is_lt}
 use Rattle.std.specs.Cmp.{tied_itself}
 use Rattle.std.proofs.lemmas.List.Folds.{list_any-append}
@@ -16,7 +17,9 @@ use Rattle.attr_sets.specs.Cells.{Cleared}
 use Rattle.attr_sets.proofs.Greatest.{Contains-none, Contains-cases}
 use Rattle.directory.specs.declared.entry.Kind.{Kind}
 use Rattle.directory.specs.declared.entry.Kind.TheVariants.{Object, Link, Child}
+use Rattle.directory.specs.declared.entry.EntryCell.{EntryCell}
 use Rattle.directory.specs.declared.entry.Fragment.{Fragment}
+use Rattle.directory.specs.Applied.{TakesIn}
 use Rattle.directory.specs.Kinds.{link_target, replicas}
 use Rattle.directory.specs.Entries.{Entries, join_entries, IsValidEntry}
 use Rattle.directory.specs.Updates.{Change, Create, MakeLink, MakeChild, Delete, Add, Remove, Put, Clear, Repoint, changed_name}
@@ -254,3 +257,16 @@ module _ (h : List Mark) (u : Change) (s : Stamp) (known : IsHistory h) (before 
       let now : entry_of (marks_of (shown h (changed_name u)) u s) f.name ≡ Some f.entry = ap (λ x. entry_of (marks_of x u s) f.name) (sym seen_there) ∙ made in
       joined-table_of h (marks_of (shown h (changed_name u)) u s) f.name f.entry old new known.births marks_of-history.births
       (subst (λ n. AllByRecursion (λ m. name_in m ≡ n) (marks_of (shown h (changed_name u)) u s)) (sym named) marks_of-names) now stands joins
+
+  -- or the update is applied in place
+  pub applied-table_of : (old new : Entries) → old ≡ table_of h → TakesIn old new (changed_name u) (marks_of (shown_in old (changed_name u)) u s) → new ≡ table_of (h ++ marks_of (shown h (changed_name u)) u s)
+  applied-table_of old new stands takes =
+      let seen_there : shown_in old (changed_name u) ≡ shown h (changed_name u) = ap (λ t. shown_in t (changed_name u)) stands ∙ shown_in-table_of h (changed_name u) in
+      by_entry (entry_of marks (changed_name u)) refl (subst (λ x. TakesIn old new (changed_name u) (marks_of x u s)) seen_there takes)
+    where
+      marks : List Mark
+      marks = marks_of (shown h (changed_name u)) u s
+
+      by_entry : (x : Option EntryCell) → entry_of marks (changed_name u) ≡ x → IsSomeAnd x (λ e. IfSome (get old (changed_name u)) IsValidEntry → RaisesAt join_entries old new (changed_name u) e) → new ≡ table_of (h ++ marks)
+      by_entry None is joins = absurd joins
+      by_entry (Some e) is joins = joined-table_of h marks (changed_name u) e old new known.births marks_of-history.births marks_of-names is stands (λ own _. joins own)

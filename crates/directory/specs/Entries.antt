@@ -1,6 +1,6 @@
 -- Entries and tables, and what two of them give together (own, after C705, merging of replicas).
-use Rattle.std.specs.Prelude.{◌≢◌, Option, None, refl}
-use Rattle.std.specs.FinMap.{FinMap, empty, code}
+use Rattle.std.specs.Prelude.{◌≢◌, Option, refl}
+use Rattle.std.specs.FinMap.{FinMap, code}
 use Rattle.std.specs.Coded.{Coded, code_by, coded×, coded_option}
 use Rattle.cds_stamps.specs.declared.stamp.Stamp.{Stamp}
 use Rattle.cds_stamps.specs.Semilattice.{maybe, greater}
@@ -8,7 +8,7 @@ use Rattle.cds_stamps.specs.Stamps.{stamp_cmp, earlier_stamp, stamp_code}
 use Rattle.cds_stamps.specs.Octets.{octets_cmp, octets_code}
 use Rattle.cds_stamps.specs.Joins.{by_key, join_maps, EachValue}
 use Rattle.attr_sets.specs.declared.cell.AttrCell.{AttrCell}
-use Rattle.attr_sets.specs.Cells.{join_cells, IsValidCell, cell_code}
+use Rattle.attr_sets.specs.Cells.{empty_cell, join_cells, IsValidCell, cell_code}
 use Rattle.directory.specs.declared.entry.Kind.{Kind}
 use Rattle.directory.specs.declared.entry.EntryCell.{EntryCell}
 use Rattle.directory.specs.Kinds.{kind_cmp, kind_code}
@@ -43,7 +43,7 @@ join_tables = join_maps join_entries
 
 -- a cell that an entry holds is valid, and has a clear or a value (own)
 abbrev pub IsHeldCell : AttrCell → Type 0
-IsHeldCell a = IsValidCell a × (a ≢ record { cleared = None; values = empty })
+IsHeldCell a = IsValidCell a × (a ≢ empty_cell)
 
 -- each cell of an entry, and each entry of a table, is so (own)
 abbrev pub IsValidEntry : EntryCell → Type 0

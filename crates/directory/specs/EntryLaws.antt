@@ -1,7 +1,7 @@
 -- The laws of entries and tables.
 use Rattle.std.specs.Prelude.{◌≡◌, Option, Some, None, refl}
 use Rattle.std.proofs.Common.{sym, ◌∙◌, ap}
-use Rattle.std.specs.FinMap.{IsAntisymmetric, get, empty, get-empty}
+use Rattle.std.specs.FinMap.{IsAntisymmetric, get, get-empty}
 use Rattle.std.specs.Cmp.{nat_cmp_total}
 use Rattle.std.specs.Cmp.Lexicographic.{nat_list_cmp_total}
 use Rattle.std.proofs.lemmas.Cmp.{on_total}
@@ -14,7 +14,7 @@ use Rattle.cds_stamps.specs.Semilattice.{IsJoin, IsSemilattice, maybe, maybe_sem
 use Rattle.cds_stamps.specs.Stamps.{stamp_total, stamp_exact, later_stamp, earlier_stamp, earlier_stamp_laws}
 use Rattle.cds_stamps.specs.Octets.{octets_cmp, octets_exact}
 use Rattle.attr_sets.specs.Marks.{later, kept}
-use Rattle.attr_sets.specs.Cells.{join_cells}
+use Rattle.attr_sets.specs.Cells.{empty_cell, join_cells}
 use Rattle.attr_sets.specs.CellLaws.{same_cell, get-join_cells, join_cells-comm, join_cells-assoc, join_cells-idem, join_cells-valid}
 use Rattle.cds_stamps.specs.Joins.{JoinsTied, join_maps, map_join, key_join, EachValue}
 use Rattle.directory.specs.Kinds.{rank, kind_of_rank, rank_back, kind_cmp}
@@ -40,10 +40,10 @@ no_mark_left None y e = refl
 no_mark_left (Some x) None e = cc
 no_mark_left (Some x) (Some y) e = cc
 
-join_held : (a b : AttrCell) → join_cells a b ≡ record { cleared = None; values = empty } → a ≡ record { cleared = None; values = empty }
+join_held : (a b : AttrCell) → join_cells a b ≡ empty_cell → a ≡ empty_cell
 join_held a b e =
     let none : (join_cells a b).cleared ≡ None = ap (λ (c : AttrCell). c.cleared) e in
-    same_cell a (record { cleared = None; values = empty }) (nothing_left a.cleared b.cleared none) (λ v.
+    same_cell a empty_cell (nothing_left a.cleared b.cleared none) (λ v.
     no_mark_left (get a.values v) (get b.values v)
     (ap (λ c. kept c (maybe later (get a.values v) (get b.values v))) (sym none) ∙ sym (get-join_cells a b v) ∙ ap (λ (c : AttrCell). get c.values v) e ∙ get-empty octets_cmp v)
     ∙ sym (get-empty octets_cmp v))

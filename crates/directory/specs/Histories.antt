@@ -1,5 +1,5 @@
 -- Marks, histories, and the table of a history (own, after C705, updates, timestamps and replicas).
-use Rattle.std.specs.Prelude.{◌≡◌, ℕ, Bool, true, false, ◌&&◌, ◌↔◌, List, [], ◌∷◌, map, filter, Option, Some, None, if◌then◌else◌}
+use Rattle.std.specs.Prelude.{◌≡◌, ℕ, Bool, true, false, ◌&&◌, ◌↔◌, List, [], ◌∷◌, ◌++◌, map, filter, Option, Some, None, if◌then◌else◌}
 use Rattle.std.specs.FinMap.{FinMap}
 use Rattle.std.specs.List.{filter_map, list_any, AllByRecursion, Contains}
 use Rattle.std.specs.Option.{option_map}
@@ -136,3 +136,10 @@ IsBefore h s = (m : Mark) → Contains h m → is_earlier (stamp_in m) s ≡ tru
 -- the two lists have the same marks, in any order and any number of times (own)
 abbrev pub SameMarks : List Mark → List Mark → Type 0
 SameMarks g h = (m : Mark) → Contains g m ↔ Contains h m
+
+-- these marks can be merged into this history: what they have up to t it has, and both and their union are histories (own)
+pub record CanMerge (history marks : List Mark) (t : Option Stamp) : Type 0 where
+  pub covered : (m : Mark) → Contains (up_to marks t) m → Contains history m
+  pub mine : IsHistory history
+  pub theirs : IsHistory marks
+  pub both : IsHistory (history ++ marks)

@@ -8,3 +8,4 @@ pub mod Histories
 pub mod Shown
 pub mod EntryChanges
 pub mod Purges
+pub mod Applied

@@ -5,12 +5,13 @@ ghost use Rattle.std.specs.Ordering.{eq_by_cmp};
 ghost use Rattle.cds_stamps.specs.Octets.{octets_cmp};
 ghost use Rattle.cds_stamps.specs.Joins.{join_maps, EachValue};
 ghost use Rattle.cds_stamps.specs.Undos.{RaisesAt, TakesBack, LogsChange, MendsAt, back_at};
-ghost use Rattle.attr_sets.specs.Cells.{join_cells};
+ghost use Rattle.attr_sets.specs.Cells.{cell_of, join_cells};
+ghost use Rattle.attr_sets.specs.CellChanges.{change_marks};
 ghost use Rattle.attr_sets.specs.CellUndos.{undo_cell};
 ghost use Rattle.directory.specs.Entries.{IsHeldCell};
 
-use attr_sets::{AttrCell, CellUndo};
-use cds_stamps::{AttrName, Lattice};
+use attr_sets::{AttrCell, CellChange, CellUndo};
+use cds_stamps::{AttrName, Lattice, Stamp};
 use std::alloc::{AllocError, Global};
 use std::collections::BTreeMap;
 use std::collections::btree_map::Iter;
@@ -142,6 +143,50 @@ impl AttrMap {
             self.cells.first_key_value()
         } else {
             None
+        }
+    }
+
+    /// Adds the marks of a change to the cell of an attribute, in place, with at most one insertion.
+    pub(crate) fn change(
+        &mut self,
+        alloc: Global,
+        name: &AttrName,
+        change: &CellChange,
+        stamp: Stamp,
+    ) -> Result<(), AllocError>
+        ensures ok { OnOk result (IfSome (map.get self.old name.now) IsHeldCell → RaisesAt join_cells self.old self.new name.now (cell_of (change_marks change.now stamp))) }
+        ensures err { OnErr result (self.new ≡ self.old) }
+    {
+        let stamp = &stamp;
+        let here = self.change_here(alloc, name, change, *stamp)?;
+        if here {
+            return Ok(());
+        }
+        let cell = AttrCell::changed(alloc, change, *stamp)?;
+        let key = name.copy(alloc)?;
+        self.insert(key, cell)?;
+        Ok(())
+    }
+
+    /// Adds the marks of a change where the attribute has a cell. Whether it has.
+    fn change_here(
+        &mut self,
+        alloc: Global,
+        name: &AttrName,
+        change: &CellChange,
+        stamp: Stamp,
+    ) -> Result<bool, AllocError>
+        ensures ok { IfOk result (λ here. MatchBool here
+            (IfSome (map.get self.old name.now) IsHeldCell → RaisesAt join_cells self.old self.new name.now (cell_of (change_marks change.now stamp)))
+            ((map.get self.old name.now ≡ None) × (self.new ≡ self.old))) }
+        ensures err { OnErr result (self.new ≡ self.old) }
+    {
+        match self.cells.get_mut(name) {
+            Some(own) => {
+                own.change(alloc, change, stamp)?;
+                Ok(true)
+            }
+            None => Ok(false),
         }
     }
 

@@ -7,11 +7,13 @@ ghost use Rattle.directory.specs.Entries.{join_tied, join_entries, IsValidEntry}
 ghost use Rattle.directory.specs.EntryLaws.{entry_join};
 ghost use Rattle.directory.specs.EntryUndos.{undo_entry};
 ghost use Rattle.attr_sets.specs.Cells.{cell_values};
+ghost use Rattle.attr_sets.specs.CellChanges.{change_marks};
+ghost use Rattle.directory.specs.Applied.{changed_entry, deleted_entry};
 ghost use Rattle.directory.specs.Shown.{is_readable, leads, only_one, lead_of, entry_values, face_of, shown_entry, shown_dir};
 
 use crate::attr_map::{AttrMap, CellLog};
 use crate::undo::EntryUndo;
-use attr_sets::{AttrCell, Value};
+use attr_sets::{AttrCell, CellChange, Value};
 use cds_stamps::{AllocOr, AttrName, DirId, Lattice, SimpleName, Stamp};
 use cell_names::{ChildPointer, FullName};
 use std::alloc::{AllocError, Global};
@@ -147,6 +149,28 @@ impl EntryCell {
             Some(cell) => only_readable(self.kind, cell),
             None => None,
         }
+    }
+
+    /// Adds the marks of a change of an attribute, in place.
+    pub(crate) fn change(
+        &mut self,
+        alloc: Global,
+        attr: &AttrName,
+        change: &CellChange,
+        stamp: Stamp,
+    ) -> Result<(), AllocError>
+        ensures ok { OnOk result (IsValidEntry self.old → self.new ≡ join_entries self.old (changed_entry self.old attr.now (change_marks change.now stamp))) }
+        ensures err { OnErr result (self.new ≡ self.old) }
+    {
+        self.attrs.change(alloc, attr, change, stamp)?;
+        Ok(())
+    }
+
+    /// Adds a death.
+    pub(crate) fn delete(&mut self, stamp: Stamp)
+        ensures { self.new ≡ join_entries self.old (deleted_entry self.old stamp) }
+    {
+        self.death = earlier_of(self.death, Some(stamp));
     }
 
     /// Joins another entry in. What takes it back. Where the other birth is later, the old entry is kept whole.

@@ -14,6 +14,7 @@ ghost use Rattle.directory.specs.Entries.{Entries, join_entries, join_tables, Is
 ghost use Rattle.directory.specs.declared.entry.Kind.TheVariants.{Object, Link, Child};
 ghost use Rattle.directory.specs.Kinds.{link_target, replicas};
 ghost use Rattle.directory.specs.Updates.{Change, Create, MakeLink, MakeChild, Delete, Add, Remove, Put, Clear, Repoint, changed_name};
+ghost use Rattle.directory.specs.Applied.{TakesIn};
 ghost use Rattle.directory.specs.Histories.{Mark, name_in, entry_of, table_of, HasBirths, IsHistory, IsBefore, SameMarks};
 ghost use Rattle.directory.specs.EntryChanges.{creation, ChangesValue, AreAccepted};
 ghost use Rattle.directory.specs.Shown.{is_readable, lead_of, shown, shown_in, shown_dir, refusal_of, marks_of, Shown, ChangesValues};
@@ -59,6 +60,12 @@ pub fn joined_tables_stand()
 /// So does the table of the house that accepts an update, once the fragment is joined in.
 pub fn accepted_tables_stand()
     ensures { (h : List Mark) (u : Change) (s : Stamp) → IsHistory h → IsBefore h s → refusal_of (shown h (changed_name u)) u ≡ None → (old new : Entries) (f : Fragment) → old ≡ table_of h → f.name ≡ changed_name u → entry_of (marks_of (shown_in old (changed_name u)) u s) f.name ≡ Some f.entry → (IfSome (map.get old f.name) IsValidEntry → IsValidEntry f.entry → RaisesAt join_entries old new f.name f.entry) → new ≡ table_of (h ++ marks_of (shown h (changed_name u)) u s) }
+{}
+
+/// So it does once the update is applied in place.
+pub fn applied_tables_stand()
+    ensures { (h : List Mark) (u : Change) (s : Stamp) → IsHistory h → IsBefore h s → refusal_of (shown h (changed_name u)) u ≡ None → (old new : Entries) → old ≡ table_of h →
+        TakesIn old new (changed_name u) (marks_of (shown_in old (changed_name u)) u s) → new ≡ table_of (h ++ marks_of (shown h (changed_name u)) u s) }
 {}
 
 /// An accepted update, stamped later than the history, shows at once, and changes what shows of its name alone: a created

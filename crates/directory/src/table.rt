@@ -1,5 +1,5 @@
 // The table of a directory.
-ghost use Rattle.std.specs.Prelude.{◌≡◌, ◌≢◌, List, ℕ, [], ◌∷◌, Some, None, MatchOption, MatchBool, true, false, IsSome, IfOk, IfSome, OnOk, OnErr, if◌then◌else◌, option_copied};
+ghost use Rattle.std.specs.Prelude.{◌≡◌, List, ℕ, [], ◌∷◌, Some, None, MatchOption, MatchBool, true, false, IsSome, IfOk, IfSome, OnOk, OnErr, if◌then◌else◌, option_copied};
 ghost use Rattle.std.specs.FinMap as map;
 ghost use Rattle.std.specs.Option.{option_map};
 ghost use Rattle.cds_stamps.specs.Octets.{octets_cmp, is_octets};
@@ -13,6 +13,8 @@ ghost use Rattle.directory.specs.Kinds.{replicas};
 ghost use Rattle.directory.specs.Entries.{join_entries, join_tables, IsValidEntry, IsValidTable};
 ghost use Rattle.directory.specs.EntryLaws.{table_join};
 ghost use Rattle.directory.specs.EntryUndos.{undo_entry};
+ghost use Rattle.directory.specs.Applied.{changed_entry, deleted_entry, TakesOwn, TakesIn, LeavesOthers};
+ghost use Rattle.attr_sets.specs.CellChanges.{change_marks};
 ghost use Rattle.directory.specs.Updates.{Delete, Clear, Repoint, changed_name, change_of};
 ghost use Rattle.directory.specs.Histories.{entry_of};
 ghost use Rattle.directory.specs.Shown.{face_of, shown_in, live_count, is_reserved, new_refusal, live_refusal, refusal_of, marks_of, shown_dir};
@@ -21,7 +23,7 @@ use crate::attr_map::AttrMap;
 use crate::entry::{EntryCell, Fragment, Kind, LINK_TARGET, REPLICAS};
 use crate::undo::EntryUndo;
 use crate::update::{Update, UpdateRefusal};
-use attr_sets::{AttrCell, Value};
+use attr_sets::{AttrCell, CellChange, Value};
 use cds_stamps::{AttrName, Lattice, SimpleName, Stamp};
 use cell_names::{ChildPointer, FullName, HouseList};
 use std::alloc::{AllocError, Global};
@@ -227,19 +229,20 @@ impl Table {
                 self.live_fragment(alloc, name, Some(stamp), AttrMap::new(alloc))
             }
             Update::Add(name, attr, value) => {
-                let cell = present_mark(alloc, value, stamp)?;
+                let cell = AttrCell::changed(alloc, &CellChange::Add(value), stamp)?;
                 self.cell_fragment(alloc, name, attr, cell)
             }
             Update::Remove(name, attr, value) => {
-                let cell = absent_mark(alloc, value, stamp)?;
+                let cell = AttrCell::changed(alloc, &CellChange::Remove(value), stamp)?;
                 self.cell_fragment(alloc, name, attr, cell)
             }
             Update::Put(name, attr, value) => {
-                let cell = put_marks(alloc, value, stamp)?;
+                let cell = AttrCell::changed(alloc, &CellChange::Put(value), stamp)?;
                 self.cell_fragment(alloc, name, attr, cell)
             }
             Update::Clear(name, attr) => {
-                self.cell_fragment(alloc, name, attr, clear_mark(alloc, stamp))
+                let cell = AttrCell::changed(alloc, &CellChange::Clear, stamp)?;
+                self.cell_fragment(alloc, name, attr, cell)
             }
             Update::Repoint(name, houses) => self.repoint_fragment(alloc, name, houses, stamp),
         }
@@ -266,7 +269,7 @@ impl Table {
             houses: houses.copy(alloc)?,
         };
         let value = pointer_value(alloc, &pointer)?;
-        let cell = put_marks(alloc, &value, stamp)?;
+        let cell = AttrCell::changed(alloc, &CellChange::Put(&value), stamp)?;
         let attr = AttrName::known(alloc, REPLICAS)?;
         self.cell_fragment(alloc, name, &attr, cell)
     }
@@ -311,11 +314,88 @@ impl Table {
         })
     }
 
+    /// Adds the marks of an accepted update with this stamp, in place: what joining its fragment in would do. Of a change of an
+    /// attribute nothing is copied but what is new to the table.
+    pub fn apply(&mut self, alloc: Global, update: &Update, stamp: Stamp) -> Result<(), AllocError>
+        requires { refusal_of (shown_in self.old (changed_name (change_of update.now))) (change_of update.now) ≡ None }
+        ensures ok { let n = changed_name (change_of update.now) in
+            OnOk result (TakesIn self.old self.new n (marks_of (shown_in self.old n) (change_of update.now) stamp)) }
+        ensures others { LeavesOthers self.old self.new (changed_name (change_of update.now)) }
+        ensures err { OnErr result (self.new ≡ self.old) }
+    {
+        match update {
+            Update::Add(name, attr, value) => {
+                self.change(alloc, name, attr, &CellChange::Add(value), stamp)?
+            }
+            Update::Remove(name, attr, value) => {
+                self.change(alloc, name, attr, &CellChange::Remove(value), stamp)?
+            }
+            Update::Put(name, attr, value) => {
+                self.change(alloc, name, attr, &CellChange::Put(value), stamp)?
+            }
+            Update::Clear(name, attr) => {
+                self.change(alloc, name, attr, &CellChange::Clear, stamp)?
+            }
+            Update::Delete(name) => self.delete(name, stamp),
+            Update::Create(_)
+            | Update::MakeLink(_, _)
+            | Update::MakeChild(_, _)
+            | Update::Repoint(_, _) => {
+                let fragment = self.fragment(alloc, update, stamp)?;
+                self.take_in(alloc, fragment)?;
+            }
+        }
+        Ok(())
+    }
+
+    /// Adds the marks of a change of an attribute to the entry of a name, if it has one.
+    fn change(
+        &mut self,
+        alloc: Global,
+        name: &SimpleName,
+        attr: &AttrName,
+        change: &CellChange,
+        stamp: Stamp,
+    ) -> Result<(), AllocError>
+        ensures ok { OnOk result (TakesOwn self.old self.new name.now (λ e. changed_entry e attr.now (change_marks change.now stamp))) }
+        ensures others { LeavesOthers self.old self.new name.now }
+        ensures err { OnErr result (self.new ≡ self.old) }
+    {
+        if let Some(own) = self.entries.get_mut(name) {
+            own.change(alloc, attr, change, stamp)?;
+        }
+        Ok(())
+    }
+
+    /// Adds a death to the entry of a name, if it has one.
+    fn delete(&mut self, name: &SimpleName, stamp: Stamp)
+        ensures ok { TakesOwn self.old self.new name.now (λ e. deleted_entry e stamp) }
+        ensures others { LeavesOthers self.old self.new name.now }
+    {
+        if let Some(own) = self.entries.get_mut(name) {
+            own.delete(stamp);
+        }
+    }
+
+    /// Joins what an update adds in, as join_entry does; a new entry is moved in, and not copied.
+    fn take_in(&mut self, alloc: Global, fragment: Fragment) -> Result<(), AllocError>
+        ensures ok { OnOk result (IfSome (map.get self.old fragment.name) IsValidEntry → IsValidEntry fragment.entry → RaisesAt join_entries self.old self.new fragment.name fragment.entry) }
+        ensures others { LeavesOthers self.old self.new fragment.name }
+        ensures err { OnErr result (self.new ≡ self.old) }
+    {
+        let here = self.join_here(alloc, &fragment.name, &fragment.entry)?;
+        if here {
+            return Ok(());
+        }
+        self.insert(fragment.name, fragment.entry)?;
+        Ok(())
+    }
+
     /// Joins what an update adds in, in place, with at most one insertion at each level of the entry: of one mark the cost
     /// grows with the logarithm of the number of entries, attributes and values.
     pub fn join_entry(&mut self, alloc: Global, fragment: &Fragment) -> Result<(), AllocError>
         ensures ok { OnOk result (IfSome (map.get self.old fragment.now.name) IsValidEntry → IsValidEntry fragment.now.entry → RaisesAt join_entries self.old self.new fragment.now.name fragment.now.entry) }
-        ensures others { OnOk result ((q : List ℕ) → q ≢ fragment.now.name → map.get self.new q ≡ map.get self.old q) }
+        ensures others { OnOk result (LeavesOthers self.old self.new fragment.now.name) }
         ensures err { OnErr result (self.new ≡ self.old) }
     {
         self.join_one(alloc, &fragment.name, &fragment.entry)?;
@@ -333,7 +413,7 @@ impl Table {
         entry: &EntryCell,
     ) -> Result<(), AllocError>
         ensures ok { OnOk result (IfSome (map.get self.old name.now) IsValidEntry → IsValidEntry entry.now → RaisesAt join_entries self.old self.new name.now entry.now) }
-        ensures others { OnOk result ((q : List ℕ) → q ≢ name.now → map.get self.new q ≡ map.get self.old q) }
+        ensures others { OnOk result (LeavesOthers self.old self.new name.now) }
         ensures err { OnErr result (self.new ≡ self.old) }
     {
         let here = self.join_here(alloc, name, entry)?;
@@ -353,7 +433,7 @@ impl Table {
         entry: &EntryCell,
     ) -> Result<bool, AllocError>
         ensures ok { IfOk result (λ here. MatchBool here (IfSome (map.get self.old name.now) IsValidEntry → IsValidEntry entry.now → RaisesAt join_entries self.old self.new name.now entry.now) ((map.get self.old name.now ≡ None) × (self.new ≡ self.old))) }
-        ensures others { OnOk result ((q : List ℕ) → q ≢ name.now → map.get self.new q ≡ map.get self.old q) }
+        ensures others { OnOk result (LeavesOthers self.old self.new name.now) }
         ensures err { OnErr result (self.new ≡ self.old) }
     {
         match self.entries.get_mut(name) {
@@ -553,7 +633,7 @@ fn born_with(
         f.entry ≡ record { birth = stamp; kind = kind; death = None; attrs = map.insert map.empty attr.now cell }) }
 {
     let stamp = &stamp;
-    let cell = present_mark(alloc, value, *stamp)?;
+    let cell = AttrCell::changed(alloc, &CellChange::Add(value), *stamp)?;
     let attrs = one_attr(alloc, AttrName::known(alloc, attr)?, cell)?;
     born(alloc, name, kind, attrs, *stamp)
 }
@@ -572,42 +652,6 @@ fn pointer_value(alloc: Global, pointer: &ChildPointer) -> Result<Value, AllocEr
 {
     let octets = pointer.write(alloc)?;
     Value::known(alloc, &octets)
-}
-
-/// The cell of one present mark of a value.
-fn present_mark(alloc: Global, value: &Value, stamp: Stamp) -> Result<AttrCell, AllocError>
-    ensures { IfOk result (λ c. c ≡ cell_of (Marked value.now (record { present = true; stamp = stamp }) ∷ [])) }
-{
-    let mut cell = AttrCell::new(alloc);
-    cell.add(alloc, value, stamp)?;
-    Ok(cell)
-}
-
-/// The cell of one absent mark of a value.
-fn absent_mark(alloc: Global, value: &Value, stamp: Stamp) -> Result<AttrCell, AllocError>
-    ensures { IfOk result (λ c. c ≡ cell_of (Marked value.now (record { present = false; stamp = stamp }) ∷ [])) }
-{
-    let mut cell = AttrCell::new(alloc);
-    cell.remove(alloc, value, stamp)?;
-    Ok(cell)
-}
-
-/// The cell of a clear and a present mark of a value, both with this stamp.
-fn put_marks(alloc: Global, value: &Value, stamp: Stamp) -> Result<AttrCell, AllocError>
-    ensures { IfOk result (λ c. c ≡ cell_of (Cleared stamp ∷ Marked value.now (record { present = true; stamp = stamp }) ∷ [])) }
-{
-    let mut cell = AttrCell::new(alloc);
-    cell.put(alloc, value, stamp)?;
-    Ok(cell)
-}
-
-/// The cell of a clear.
-fn clear_mark(alloc: Global, stamp: Stamp) -> AttrCell
-    ensures { result ≡ cell_of (Cleared stamp ∷ []) }
-{
-    let mut cell = AttrCell::new(alloc);
-    cell.clear(stamp);
-    cell
 }
 
 /// The cells of one attribute.

@@ -10,11 +10,11 @@ use Rattle.directory.specs.declared.entry.EntryCell.{EntryCell}
 use Rattle.directory.specs.declared.entry.Fragment.{Fragment}
 use Rattle.directory.specs.Entries.{Entries, join_entries, join_tables, IsValidEntry, IsValidTable}
 use Rattle.directory.specs.EntryLaws.{entry_join}
-use Rattle.directory.specs.Histories.{Mark, table_of}
+use Rattle.directory.specs.Histories.{Mark, table_of, CanMerge}
 use Rattle.directory.proofs.HistoryLaws.{join_tables-table_of}
 use Rattle.directory.proofs.TableLaws.{table_of-valid, joined-table_of}
 use Rattle.purge_rule.specs.declared.replica.Replica.{Replica}
-use Rattle.purge_rule.specs.Replicas.{replica_of, CanMerge, IsFragmentOf}
+use Rattle.purge_rule.specs.Replicas.{replica_of, IsFragmentOf}
 
 -- a replica is its table and its AllUpTo
 pub same_replica : (t u : Entries) (a b : Option Stamp) → t ≡ u → a ≡ b → ◌≡◌ {A = Replica} (record { table = t; all_up_to = a }) (record { table = u; all_up_to = b })

@@ -3,8 +3,8 @@ ghost use Rattle.std.specs.Prelude.{◌≡◌, ◌≢◌, ◌++◌, ℕ, List, O
 ghost use Rattle.cds_stamps.specs.Undos.{RaisesAt};
 ghost use Rattle.std.specs.FinMap as map;
 ghost use Rattle.directory.specs.Entries.{join_entries, join_tables, IsValidEntry, IsValidTable};
-ghost use Rattle.directory.specs.Histories.{Mark};
-ghost use Rattle.purge_rule.specs.Replicas.{replica_of, together, CanMerge, IsFragmentOf};
+ghost use Rattle.directory.specs.Histories.{Mark, CanMerge};
+ghost use Rattle.purge_rule.specs.Replicas.{replica_of, together, IsFragmentOf};
 ghost use Rattle.purge_rule.specs.Held.{held_in, most_held};
 
 use crate::held::held_in;

@@ -48,12 +48,12 @@ returns-in_ok-cell-in-Put-clause-entry c =
     (changed_fragment c.cell_fragment-in-Put.result (shown_in c.args.self.now c.in-Put.name) c.in-Put.name live c.cell_fragment-in-Put.ensures.name c.in-Put.attr
     (Cleared c.args.stamp) (Marked c.in-Put.value (record { present = true; stamp = c.args.stamp }) ∷ []) c.in_ok-cell-in-Put.cell c.in_ok-cell-in-Put.ensures c.cell_fragment-in-Put.ensures.entry)
 
-pub returns-in-Clear-clause-entry : goal.returns-in-Clear-clause-entry
-returns-in-Clear-clause-entry c =
+pub returns-in_ok-cell-in-Clear-clause-entry : goal.returns-in_ok-cell-in-Clear-clause-entry
+returns-in_ok-cell-in-Clear-clause-entry c =
     let live = shows (shown_in c.args.self.now c.in-Clear.name) (λ e. refusal_of e (Clear c.in-Clear.name c.in-Clear.attr)) refl (rw c.in-Clear.is at c.requires) in
     rw c.in-Clear.is
     (changed_fragment c.cell_fragment-in-Clear.result (shown_in c.args.self.now c.in-Clear.name) c.in-Clear.name live c.cell_fragment-in-Clear.ensures.name c.in-Clear.attr
-    (Cleared c.args.stamp) [] c.clear_mark.result c.clear_mark.ensures c.cell_fragment-in-Clear.ensures.entry)
+    (Cleared c.args.stamp) [] c.in_ok-cell-in-Clear.cell c.in_ok-cell-in-Clear.ensures c.cell_fragment-in-Clear.ensures.entry)
 
 pub returns-in-Repoint-clause-entry : goal.returns-in-Repoint-clause-entry
 returns-in-Repoint-clause-entry c =
