@@ -13,7 +13,7 @@ use Rattle.cds_stamps.proofs.NameLaws.{no_fault, component_lawful, component_non
 use Rattle.cell_names.specs.FullNames.{cell_root, slash, spelling, is_local, components_of, components_fault, longest_name, name_fault, splice_fault, is_name, IsComponentList, IsFullName}
 
 -- the components, each behind its slash
-abbrev tail_of : List (List ℕ) → List ℕ
+abbrev pub tail_of : List (List ℕ) → List ℕ
 tail_of = flat_map (λ c. slash ∷ c)
 
 no_first_fault : {E : Type 0} (x y : Option E) → option_or x y ≡ None → (x ≡ None) × (y ≡ None)
@@ -21,7 +21,7 @@ no_first_fault None y e = (refl, e)
 no_first_fault (Some x) y e = cc
 
 -- components without a fault are simple names
-components_lawful : (place : ℕ) (cs : List (List ℕ)) → components_fault place cs ≡ None → AllByRecursion IsSimpleName cs
+pub components_lawful : (place : ℕ) (cs : List (List ℕ)) → components_fault place cs ≡ None → AllByRecursion IsSimpleName cs
 components_lawful place [] e = tt
 components_lawful place ([] ∷ cs) e = cc
 components_lawful place ((b ∷ bs) ∷ cs) e =
@@ -29,7 +29,8 @@ components_lawful place ((b ∷ bs) ∷ cs) e =
     let lawful = component_lawful place 1 (b ∷ bs) (omega arith) found.0 in
     (record { filled = omega arith; short = omega (arith, lawful.1); each = All-from_recursion _ (b ∷ bs) lawful.0 }, components_lawful (place + length (b ∷ bs) + 1) cs found.1)
 
-components_none : (place : ℕ) (cs : List (List ℕ)) → AllByRecursion IsSimpleName cs → components_fault place cs ≡ None
+-- simple names are components without a fault
+pub components_none : (place : ℕ) (cs : List (List ℕ)) → AllByRecursion IsSimpleName cs → components_fault place cs ≡ None
 components_none place [] each = refl
 components_none place ([] ∷ cs) each = let filled = each.0.filled in absurd (omega arith)
 components_none place ((b ∷ bs) ∷ cs) each =
@@ -37,7 +38,7 @@ components_none place ((b ∷ bs) ∷ cs) each =
     rw (component_none place 1 (b ∷ bs) (recursion_from_All _ (b ∷ bs) each.0.each) (omega arith)) (components_none (place + length (b ∷ bs) + 1) cs each.1)
 
 -- the parts between slashes, each behind a slash, are what was split
-tail_of-slice_split : (bs : List ℕ) → tail_of (slice_split (λ b. b == slash) bs) ≡ slash ∷ bs
+pub tail_of-slice_split : (bs : List ℕ) → tail_of (slice_split (λ b. b == slash) bs) ≡ slash ∷ bs
 tail_of-slice_split [] = refl
 tail_of-slice_split (b ∷ bs) = by_slash (b == slash) refl (slice_split (λ b. b == slash) bs) (tail_of-slice_split bs)
   where
@@ -51,7 +52,7 @@ no_slash : (c : List ℕ) → IsSimpleName c → All (λ b. (b == slash) ≡ fal
 no_slash c name = All-weaker (λ b. IsTrue (is_name_octet b)) (λ b. (b == slash) ≡ false) (λ b e. grind (arith, e)) c name.each
 
 -- what was spelled is split again
-slice_split-tail_of : (c : List ℕ) (cs : List (List ℕ)) → IsSimpleName c → AllByRecursion IsSimpleName cs → slice_split (λ b. b == slash) (c ++ tail_of cs) ≡ c ∷ cs
+pub slice_split-tail_of : (c : List ℕ) (cs : List (List ℕ)) → IsSimpleName c → AllByRecursion IsSimpleName cs → slice_split (λ b. b == slash) (c ++ tail_of cs) ≡ c ∷ cs
 slice_split-tail_of c [] name each = let same : c ++ [] ≡ c = search rules in rw same (slice_split_none (λ b. b == slash) c (no_slash c name))
 slice_split-tail_of c (d ∷ cs) name each =
     slice_split_at (λ b. b == slash) c slash (d ++ tail_of cs) (no_slash c name) refl ∙ ap (λ cs. c ∷ cs) (slice_split-tail_of d cs each.0 each.1)

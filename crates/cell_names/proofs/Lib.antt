@@ -8,3 +8,4 @@ pub mod PointerLaws
 pub mod FullNameLaws
 pub mod SpelledWalks
 mod Examples
+pub mod NameFaults

@@ -52,6 +52,12 @@ pub record IsComponentList (components : List (List ℕ)) : Type 0 where
   pub simple : All IsSimpleName components
   pub short : length (spelling components) ≤ longest_name
 
+-- the octets are `/.:` and simple names, each behind a slash, however many octets they are in all (own)
+pub record IsNameOfAnyLength (octets : List ℕ) : Type 0 where
+  pub components : List (List ℕ)
+  pub simple : All IsSimpleName components
+  pub spelled : octets ≡ spelling components
+
 -- the octets are the full name of some components (own, after C705, CDS names)
 pub record IsFullName (octets : List ℕ) : Type 0 where
   pub components : List (List ℕ)

@@ -1,17 +1,30 @@
 //! Laws of the definitions: functions that do nothing, whose contracts are proved.
-ghost use Rattle.std.specs.Prelude.{◌≡◌, ◌-◌, ◌<◌, ◌≤◌, ◌^◌, ◌↔◌, IsTrue, ℕ, List, length, take, Some, None};
+ghost use Rattle.std.specs.Prelude.{◌≡◌, ◌⊎◌, ◌-◌, ◌<◌, ◌≤◌, ◌^◌, ◌↔◌, IsTrue, ℕ, List, length, take, Some, None};
 ghost use Rattle.std.specs.List.{All};
+ghost use Rattle.cds_stamps.specs.Fronts.{IsFirstBad, EndsEarly};
 ghost use Rattle.cds_stamps.specs.Names.{IsSimpleName};
+ghost use Rattle.cds_stamps.specs.declared.names.NameFault.TheVariants.{Empty, BadOctet, ComponentTooLong};
 ghost use Rattle.cell_names.specs.declared.houses.HousesFault.TheVariants.{BadHouses};
-ghost use Rattle.cell_names.specs.declared.full_name.TheConstants.{LONGEST_NAME};
+ghost use Rattle.cell_names.specs.declared.full_name.TheConstants.{LONGEST_NAME, ROOT};
 ghost use Rattle.cell_names.specs.declared.houses.TheConstants.{MOST_HOUSES};
-ghost use Rattle.cell_names.specs.FullNames.{longest_name, name_fault, spelling, components_of, splice_fault, is_name, IsComponentList, IsFullName};
+ghost use Rattle.cell_names.specs.FullNames.{cell_root, longest_name, name_fault, spelling, components_of, splice_fault, is_name, IsNameOfAnyLength, IsComponentList, IsFullName};
 ghost use Rattle.cell_names.specs.Houses.{Houses, most_houses, IsHouses, list_fault, is_houses};
 ghost use Rattle.cell_names.specs.ChildPointers.{Pointer, IsPointer, IsChildPointer, pointer_octets, pointer_fault, pointer_of};
 
 /// No fault is found exactly where the octets are the full name of some components.
 pub fn full_names_have_no_fault()
     ensures { (octets : List ℕ) → (name_fault octets ≡ None) ↔ IsFullName octets }
+{}
+
+/// A fault of a full name that has a place is at the first place at which the octets stop being the front of a name of
+/// any length: a component has no octet, an octet is none of names, or one too many. Where a component is missing behind
+/// the last octet, all octets are such a front. The length in all is tested before, and is no fault with a place.
+pub fn faults_of_full_names_are_at_the_first_place()
+    ensures empty { (octets : List ℕ) (place : ℕ) → name_fault octets ≡ Some (Empty place) →
+        IsFirstBad IsNameOfAnyLength octets place ⊎ EndsEarly IsNameOfAnyLength octets place }
+    ensures octet { (octets : List ℕ) (place : ℕ) → name_fault octets ≡ Some (BadOctet place) → IsFirstBad IsNameOfAnyLength octets place }
+    ensures too_long { (octets : List ℕ) (place : ℕ) → name_fault octets ≡ Some (ComponentTooLong place) →
+        IsFirstBad IsNameOfAnyLength octets place }
 {}
 
 /// Octets without a fault spell their components, and what components spell has these components.
@@ -63,6 +76,7 @@ pub fn child_pointers_read_back()
 
 /// The root and the limits that the code names are those of the definitions.
 pub fn named_limits_are_those_of_the_definitions()
+    ensures root { ROOT.now ≡ cell_root }
     ensures longest_name { LONGEST_NAME ≡ longest_name }
     ensures most_houses { MOST_HOUSES ≡ most_houses }
 {}
