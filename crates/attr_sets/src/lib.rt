@@ -6,8 +6,6 @@ mod change;
 mod laws;
 mod mark;
 mod order;
-#[cfg(test)]
-mod tests;
 mod undo;
 mod value;
 mod value_map;

@@ -10,8 +10,6 @@ mod names;
 mod numbers;
 mod octets;
 mod stamp;
-#[cfg(test)]
-mod tests;
 
 pub use alloc_or::AllocOr;
 pub use lattice::Lattice;

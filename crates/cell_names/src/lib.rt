@@ -6,8 +6,6 @@ mod houses;
 pub mod laws;
 mod pointer;
 mod spelled;
-#[cfg(test)]
-mod tests;
 
 pub use full_name::{FullName, LONGEST_NAME, ROOT, SpliceFault};
 pub use houses::{HouseList, HousesFault, MOST_HOUSES};

@@ -5,8 +5,6 @@ mod attr_map;
 mod entry;
 pub mod laws;
 mod table;
-#[cfg(test)]
-mod tests;
 mod undo;
 mod update;
 

@@ -4,7 +4,5 @@
 mod held;
 pub mod laws;
 mod replica;
-#[cfg(test)]
-mod tests;
 
 pub use replica::Replica;

@@ -3,7 +3,5 @@
 
 pub mod laws;
 mod skulk;
-#[cfg(test)]
-mod tests;
 
 pub use skulk::{Next, Skulk};
