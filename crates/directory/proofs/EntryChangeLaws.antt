@@ -1,5 +1,5 @@
 -- Changes of an entry's values are accepted one after the other.
-use Rattle.std.proofs.Common.{◌≡◌, ℕ, false, List, [], ◌∷◌, ◌++◌, Option, Some, None, refl, sym, ap, ◌∙◌}
+use Rattle.std.proofs.Common.{◌≡◌, ℕ, false, List, [], ◌∷◌, ◌++◌, map, Option, Some, None, refl, sym, ap, ◌∙◌}
 use Rattle.std.specs.Prelude.{is_none}
 use Rattle.std.specs.List.{AllByRecursion}
 use Rattle.std.specs.Option.{IsSomeAnd}
@@ -58,3 +58,16 @@ creation_accepted h n us known all = by_shown (shown h n) refl
     by_shown None is =
         (ap (λ o. refusal_of o (Create n)) is, λ s before. changes_accepted us (h ++ marks_of (shown h n) (Create n) s) n _ (shown-create h n s known before) all)
     by_shown (Some e) is = changes_accepted us h n e is all
+
+-- ---- lists of changes of values
+
+-- what a function makes of each item changes a value, where it does so of any
+pub each_changes : {X : Type 0} (n : List ℕ) (f : X → Change) → ((x : X) → ChangesValue n (f x)) → (xs : List X) → AllByRecursion (ChangesValue n) (map f xs)
+each_changes n f changes [] = tt
+each_changes n f changes (x ∷ xs) = (changes x, each_changes n f changes xs)
+
+-- changes of values behind others
+pub all_change : (n : List ℕ) (us vs : List Change) → AllByRecursion (ChangesValue n) us → AllByRecursion (ChangesValue n) vs
+    → AllByRecursion (ChangesValue n) (us ++ vs)
+all_change n [] vs first second = second
+all_change n (u ∷ us) vs first second = (first.0, all_change n us vs first.1 second)

@@ -6,7 +6,7 @@ use Rattle.cell_names.specs.FullNames.{spelling, components_of, is_name, name_fa
 use Rattle.cell_names.proofs.FullNameLaws.{spelling-components, components_of-spelling, is_name-Decides}
 use Rattle.ns_profiles.specs.Elements.{element_fault, member_octets, said}
 use Rattle.ns_profiles.proofs.ElementLaws.{whole_from}
-use Rattle.ns_profiles.proofs.SpelledWalks.{same_octets}
+use Rattle.cell_names.proofs.SpelledWalks.{same_octets}
 
 names_alike : (octets : List ℕ) (name : List (List ℕ)) → name_fault octets ≡ None → IsComponentList name → is_octets (spelling name) octets ≡ is_name (components_of octets) name
 names_alike octets name readable lawful = by_octets (is_octets (spelling name) octets) refl (is_name (components_of octets) name) refl

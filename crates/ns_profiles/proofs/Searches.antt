@@ -18,73 +18,21 @@ use Rattle.std.proofs.lemmas.Slice.Eq.{bytes_eq-Decides}
 use Rattle.cds_stamps.specs.Keyed.{tied}
 use Rattle.cds_stamps.specs.Octets.{octets_cmp, octets_exact, is_octets}
 use Rattle.cds_stamps.specs.Outcomes.{ok_unless}
+use Rattle.cds_stamps.specs.Ascending.{ascending}
+use Rattle.cds_stamps.proofs.AscendingLaws.{ascending-rises, ascending-filter}
 use Rattle.tower_codec.specs.declared.rpc.Interface.{Interface}
+use Rattle.tower_codec.specs.Serving.{serves}
 use Rattle.directory.specs.Updates.{Change, Remove}
 use Rattle.ns_profiles.specs.declared.fault.ProfileFault.TheVariants.{NoSuchElement}
 use Rattle.ns_profiles.specs.declared.element.Element.{Element}
 use Rattle.ns_profiles.specs.declared.fault.ProfileFault.{ProfileFault}
 use Rattle.ns_profiles.specs.Elements.{element_fault, element_of, said}
-use Rattle.ns_profiles.specs.Profiles.{profile, ascending, is_element, delete_fault, deleted, reads_as, is_served, is_taken, is_sought, elements_in, of_priority, priorities, search_order}
-use Rattle.ns_profiles.proofs.Ascending.{has, one_list, ascending_rises, ascending_has}
+use Rattle.ns_profiles.specs.Profiles.{profile, is_element, delete_fault, deleted, reads_as, is_taken, is_sought, elements_in, of_priority, priorities, search_order}
 use Rattle.ns_profiles.proofs.ElementLaws.{priority_within}
-
--- ---- a sort, and the removal of repeats
 
 -- the octets that references refer to
 abbrev pub behind : List (Bor (List ℕ)) → List (List ℕ)
 behind = map (λ o. o.now)
-
--- references are the same where their octets are
-abbrev pub same : Bor (List ℕ) → Bor (List ℕ) → Bool
-same a b = pointwise nat_eq a.now b.now
-
-any_behind : (p : List ℕ → Bool) (bs : List (Bor (List ℕ))) → list_any p (behind bs) ≡ list_any (λ b. p b.now) bs
-any_behind p [] = refl
-any_behind p (b ∷ bs) = ap (λ r. p b.now || r) (any_behind p bs)
-
-below_behind : (o : List ℕ) (bs : List (Bor (List ℕ))) → AllByRecursion (λ b. slice_cmp nat_cmp o b.now ≡ Less) bs → AllByRecursion (λ y. octets_cmp o y ≡ Less) (behind bs)
-below_behind o [] below = tt
-below_behind o (b ∷ bs) below = (below.0, below_behind o bs below.1)
-
-rises_behind : (bs : List (Bor (List ℕ))) → IsStrictlySortedBy (λ x y. slice_cmp nat_cmp x.now y.now) bs → IsStrictlySortedBy octets_cmp (behind bs)
-unfolding IsStrictlySortedBy
-rises_behind [] rises = tt
-rises_behind (b ∷ bs) rises = (below_behind b.now bs rises.0, rises_behind bs rises.1)
-
--- the removal of repeats keeps what a test of the octets finds
-any_dedup_from : (p : List ℕ → Bool) (k : Bor (List ℕ)) (bs : List (Bor (List ℕ))) → list_any (λ b. p b.now) (dedup_from same k bs) ≡ (p k.now || list_any (λ b. p b.now) bs)
-any_dedup_from p k [] = refl
-any_dedup_from p k (b ∷ bs) = by_case (same b k) refl (any_dedup_from p k bs) (any_dedup_from p b bs)
-  where
-    twice : (s t : Bool) → (s || t) ≡ (s || (s || t))
-    twice true t = refl
-    twice false t = refl
-
-    by_case : (r : Bool) → same b k ≡ r → list_any (λ b. p b.now) (dedup_from same k bs) ≡ (p k.now || list_any (λ b. p b.now) bs) → list_any (λ b. p b.now) (dedup_from same b bs) ≡ (p b.now || list_any (λ b. p b.now) bs)
-        → list_any (λ b. p b.now) (cond r (dedup_from same k bs) (k ∷ dedup_from same b bs)) ≡ (p k.now || (p b.now || list_any (λ b. p b.now) bs))
-    by_case true e first later = let is : b.now ≡ k.now = (bytes_eq-Decides b.now k.now).0 e in first ∙ rw is (twice (p k.now) (list_any (λ b. p b.now) bs))
-    by_case false e first later = ap (λ r. p k.now || r) later
-
-any_dedup : (p : List ℕ → Bool) (bs : List (Bor (List ℕ))) → list_any (λ b. p b.now) (dedup same bs) ≡ list_any (λ b. p b.now) bs
-any_dedup p [] = refl
-any_dedup p (b ∷ bs) = any_dedup_from p b bs
-
--- octets that were sorted, and whose repeats were removed
-pub sorted_once : (given sorted : List (Bor (List ℕ))) → IsPermutation given sorted → IsSorted (λ x y. slice_cmp nat_cmp x.now y.now) sorted → behind (dedup same sorted) ≡ ascending (behind given)
-sorted_once given sorted moved rises =
-    one_list (behind (dedup same sorted)) (ascending (behind given))
-    (rises_behind (dedup same sorted) (IsStrictlySortedBy-dedup (on_texts (λ x. x.now)) (λ x y. texts_ties x.now y.now) sorted rises))
-    (ascending_rises (behind given))
-    (λ o. any_behind (is_octets o) (dedup same sorted) ∙ any_dedup (is_octets o) sorted ∙ sym (list_any-IsPermutation (λ b. is_octets o b.now) given sorted moved) ∙ sym (any_behind (is_octets o) given) ∙ sym (ascending_has o (behind given)))
-
--- a filter keeps the order
-has_filter : (p : List ℕ → Bool) (o : List ℕ) (all : List (List ℕ)) → has o (filter p all) ≡ (p o && has o all)
-has_filter p o all = any-filter_same (is_octets o) p (p o) (λ k e. ap p (sym (tied octets_exact o k e))) all
-
-pub ascending-filter : (p : List ℕ → Bool) (all : List (List ℕ)) → ascending (filter p all) ≡ filter p (ascending all)
-ascending-filter p all =
-    one_list (ascending (filter p all)) (filter p (ascending all)) (ascending_rises (filter p all)) (IsStrictlySortedBy-filter octets_cmp p (ascending all) (ascending_rises all))
-    (λ o. ascending_has o (filter p all) ∙ has_filter p o all ∙ ap (λ b. p o && b) (sym (ascending_has o all)) ∙ sym (has_filter p o (ascending all)))
 
 -- ---- what octets are read as
 
@@ -223,14 +171,14 @@ keep_all [] = refl
 keep_all (e ∷ es) = ap (λ (rest : List Element). e ∷ rest) (keep_all es)
 
 -- below 8 a search takes what serves the interface, and at 8 all
-below_default : (n a : ℕ) (wanted : Interface) (es : List Element) → a + n ≤ 8 → groups a n (filter (is_taken wanted) es) ≡ groups a n (filter (λ e. is_served wanted e.interface) es)
+below_default : (n a : ℕ) (wanted : Interface) (es : List Element) → a + n ≤ 8 → groups a n (filter (is_taken wanted) es) ≡ groups a n (filter (λ e. serves e.interface wanted) es)
 below_default zero a wanted es h = refl
 below_default (suc n) a wanted es h =
-    let here = agree a (is_taken wanted) (λ e. is_served wanted e.interface) alike es in
-    let rest : groups (a + 1) n (filter (is_taken wanted) es) ≡ groups (a + 1) n (filter (λ e. is_served wanted e.interface) es) = below_default n (a + 1) wanted es (omega arith) in
+    let here = agree a (is_taken wanted) (λ e. serves e.interface wanted) alike es in
+    let rest : groups (a + 1) n (filter (is_taken wanted) es) ≡ groups (a + 1) n (filter (λ e. serves e.interface wanted) es) = below_default n (a + 1) wanted es (omega arith) in
     λ i. here i ++ rest i
   where
-    alike : (e : Element) → e.priority ≡ a → is_taken wanted e ≡ is_served wanted e.interface
+    alike : (e : Element) → e.priority ≡ a → is_taken wanted e ≡ serves e.interface wanted
     alike e is =
         let ne : e.priority ≢ 8 = λ x. omega arith in
         let low : (e.priority == 8) ≡ false = grind (arith, ne) in
@@ -244,7 +192,7 @@ at_default wanted es = agree 8 (is_taken wanted) (λ e. true) alike es ∙ ap (o
 
 -- the elements that a search takes, in its order
 taken_in_order : (wanted : Interface) (es : List Element) → Rises es → AllByRecursion (λ e. e.priority < 9) es
-    → filter (is_taken wanted) es ≡ flat_map (λ p. of_priority p (filter (λ e. is_served wanted e.interface) es)) priorities ++ of_priority 8 es
+    → filter (is_taken wanted) es ≡ flat_map (λ p. of_priority p (filter (λ e. serves e.interface wanted) es)) priorities ++ of_priority 8 es
 taken_in_order wanted es rises high =
     let taken = filter (is_taken wanted) es in
     sym (all_groups 9 taken (rises_filter (is_taken wanted) es rises) (all_filter (λ e. e.priority < 9) (is_taken wanted) es high))
@@ -296,7 +244,7 @@ map_taken t (x ∷ xs) =
 pub members_in_order : (wanted : Interface) (values : List (List ℕ)) → map (λ v. (said v).member) (filter (is_sought wanted) (ascending values)) ≡ search_order wanted values
 members_in_order wanted values =
     map_taken (is_taken wanted) (ascending values)
-    ∙ ap (map (λ e. e.member)) (taken_in_order wanted (elements_in values) (rises_read (ascending values) (ascending_rises values)) (high_read (ascending values)))
+    ∙ ap (map (λ e. e.member)) (taken_in_order wanted (elements_in values) (rises_read (ascending values) (ascending-rises values)) (high_read (ascending values)))
 
 -- ---- references to values
 

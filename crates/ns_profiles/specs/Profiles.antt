@@ -1,15 +1,13 @@
 -- Profiles: the updates that add and delete elements, and the order in which a search takes them (own, after C706, profile attributes).
 use Rattle.std.specs.Prelude.{ℕ, ◌+◌, Bool, false, not, ◌&&◌, ◌||◌, nat_lt, nat_le, nat_eq, ◌==◌, List, [], ◌∷◌, ◌++◌, map, filter, Option, Some, None, length, codes, if◌then◌else◌}
-use Rattle.std.specs.FinMap.{keys}
 use Rattle.std.specs.List.{filter_map, flat_map, list_any}
 use Rattle.std.specs.Option.{option_map_or}
-use Rattle.std.specs.Cmp.Lexicographic.{pointwise}
-use Rattle.cds_stamps.specs.Octets.{octets_cmp}
-use Rattle.cds_stamps.specs.Keyed.{of_keys}
+use Rattle.cds_stamps.specs.Ascending.{ascending}
 use Rattle.tower_codec.specs.declared.rpc.Interface.{Interface}
+use Rattle.tower_codec.specs.Serving.{same_interface, serves}
 use Rattle.cell_names.specs.FullNames.{spelling, is_name}
-use Rattle.directory.specs.declared.update.Update.{Update}
-use Rattle.directory.specs.Updates.{Change, Create, Add, Remove, change_of}
+use Rattle.directory.specs.Updates.{Change, Add, Remove}
+use Rattle.directory.specs.EntryChanges.{creation}
 use Rattle.ns_profiles.specs.declared.element.Element.{Element}
 use Rattle.ns_profiles.specs.declared.fault.ProfileFault.{ProfileFault}
 use Rattle.ns_profiles.specs.declared.fault.ProfileFault.TheVariants.{BadPriority, ElementTooLong, NoSuchElement}
@@ -18,14 +16,6 @@ use Rattle.ns_profiles.specs.Elements.{default_priority, no_interface, element_o
 -- the attribute with the elements of a profile (C706, profile attributes)
 abbrev pub profile : List ℕ
 profile = codes "RPC_Profile"
-
--- what a list of updates changes (own)
-abbrev pub changes : List Update → List Change
-changes = map change_of
-
--- each of these octets once, in ascending order: the keys of a map that has something at all of them (own)
-abbrev pub ascending : List (List ℕ) → List (List ℕ)
-ascending all = keys (of_keys {X = Unit {0}} {R = octets_cmp} all (λ _. Some tt))
 
 -- octets are an element that passes a test (own)
 abbrev pub reads_as : (Element → Bool) → List ℕ → Bool
@@ -59,18 +49,14 @@ add_fault interface member priority annotation =
 
 -- to add an element to the entry n: the entry is created if it is absent, and then the element becomes a value (own)
 abbrev pub added : (n : List ℕ) → (absent : Bool) → Element → List Change
-added n absent element = (if absent then Create n ∷ [] else []) ++ Add n profile (element_octets element) ∷ []
+added n absent element = creation n absent ++ Add n profile (element_octets element) ∷ []
 
 -- ---- deleting
-
--- the two are the same interface and version (own)
-abbrev pub is_interface : Interface → Interface → Bool
-is_interface i j = pointwise nat_eq i.uuid j.uuid && i.major == j.major && i.minor == j.minor
 
 -- an element is for this interface; where there is none, it is a default element, which is for no interface (own)
 abbrev pub is_for : Option Interface → Element → Bool
 is_for None element = element.priority == default_priority
-is_for (Some interface) element = not (element.priority == default_priority) && is_interface element.interface interface
+is_for (Some interface) element = not (element.priority == default_priority) && same_interface element.interface interface
 
 -- an element for this interface, with this member (own)
 abbrev pub is_meant : Option Interface → (member : List (List ℕ)) → Element → Bool
@@ -90,18 +76,13 @@ deleted n interface member values = map (Remove n profile) (filter (is_element i
 
 -- ---- searching
 
--- an interface is served where another is offered: the same UUID and major version, and no later minor version than is
--- offered (own, after C706, compatible interfaces)
-abbrev pub is_served : (wanted offered : Interface) → Bool
-is_served wanted offered = pointwise nat_eq offered.uuid wanted.uuid && offered.major == wanted.major && nat_le wanted.minor offered.minor
-
 -- the elements among values, in ascending order of their octets; what is no element is passed over (own)
 abbrev pub elements_in : List (List ℕ) → List Element
 elements_in values = filter_map element_of (ascending values)
 
 -- an element that a search takes: a default element, or one that serves the interface (own)
 abbrev pub is_taken : (wanted : Interface) → Element → Bool
-is_taken wanted element = element.priority == default_priority || is_served wanted element.interface
+is_taken wanted element = element.priority == default_priority || serves element.interface wanted
 
 -- octets are such an element (own)
 abbrev pub is_sought : (wanted : Interface) → List ℕ → Bool
@@ -119,5 +100,5 @@ priorities = 0 ∷ 1 ∷ 2 ∷ 3 ∷ 4 ∷ 5 ∷ 6 ∷ 7 ∷ []
 -- those of the default elements (own, after C706, search of profiles)
 abbrev pub search_order : (wanted : Interface) → (values : List (List ℕ)) → List (List (List ℕ))
 search_order wanted values =
-    let serving = filter (λ e. is_served wanted e.interface) (elements_in values) in
+    let serving = filter (λ e. serves e.interface wanted) (elements_in values) in
     map (λ e. e.member) (flat_map (λ p. of_priority p serving) priorities ++ of_priority default_priority (elements_in values))

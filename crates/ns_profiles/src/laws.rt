@@ -1,13 +1,14 @@
 //! Laws of the definitions: functions that do nothing, whose contracts are proved.
-ghost use Rattle.std.specs.Prelude.{◌≡◌, ◌<◌, ◌^◌, ◌↔◌, ℕ, List, Some, None};
-ghost use Rattle.std.specs.List.{All, Contains};
-ghost use Rattle.std.specs.List.Sorted.{IsStrictlySortedBy};
-ghost use Rattle.cds_stamps.specs.Octets.{octets_cmp};
+ghost use Rattle.std.specs.Prelude.{◌≡◌, ◌<◌, ◌^◌, ◌↔◌, ℕ, List, Option, Some, None, is_none};
+ghost use Rattle.std.specs.List.{All};
+ghost use Rattle.tower_codec.specs.declared.rpc.Interface.{Interface};
+ghost use Rattle.directory.specs.Histories.{Mark, IsHistory};
 ghost use Rattle.directory.specs.Updates.{Create, Add, Remove};
-ghost use Rattle.directory.specs.Shown.{Shown, refusal_of};
+ghost use Rattle.directory.specs.Shown.{Shown, shown, refusal_of};
+ghost use Rattle.directory.specs.EntryChanges.{AreAccepted};
 ghost use Rattle.ns_profiles.specs.declared.element.Element.{Element};
 ghost use Rattle.ns_profiles.specs.Elements.{IsElement, IsElementOf, element_octets, element_fault, element_of};
-ghost use Rattle.ns_profiles.specs.Profiles.{profile, ascending};
+ghost use Rattle.ns_profiles.specs.Profiles.{profile, added, deleted};
 
 /// No fault is found exactly where the octets are those of an element.
 pub fn elements_have_no_fault()
@@ -22,20 +23,14 @@ pub fn elements_read_back()
     ensures written { (octets : List ℕ) (e : Element) → All (λ b. b < 2 ^ 8) octets → element_of octets ≡ Some e → IsElementOf octets e }
 {}
 
-/// The values that are searched or deleted ascend, each once, and are those that were given.
-pub fn values_ascend_once()
-    ensures rises { (values : List (List ℕ)) → IsStrictlySortedBy octets_cmp (ascending values) }
-    ensures same { (values : List (List ℕ)) (v : List ℕ) → Contains (ascending values) v ↔ Contains values v }
-{}
-
-/// Values that ascend, as those that an entry shows, are searched in their own order.
-pub fn ascending_values_keep_their_order()
-    ensures { (values : List (List ℕ)) → IsStrictlySortedBy octets_cmp values → ascending values ≡ values }
-{}
-
 /// The updates of profiles are accepted: a name that shows nothing can be created, and of an entry that shows, elements can be
-/// added and removed.
+/// added and removed. Those that add an element are accepted one after the other, whether the entry shows or is absent, and
+/// so are those that delete elements of an entry that shows.
 pub fn profile_updates_are_accepted()
+    ensures additions { (h : List Mark) (n : List ℕ) (element : Element) → IsHistory h
+        → AreAccepted h (added n (is_none (shown h n)) element) }
+    ensures deletions { (h : List Mark) (n : List ℕ) (e : Shown) (interface : Option Interface) (member : List (List ℕ))
+        (values : List (List ℕ)) → shown h n ≡ Some e → AreAccepted h (deleted n interface member values) }
     ensures created { (n : List ℕ) → refusal_of None (Create n) ≡ None }
     ensures added { (e : Shown) (n v : List ℕ) → refusal_of (Some e) (Add n profile v) ≡ None }
     ensures removed { (e : Shown) (n v : List ℕ) → refusal_of (Some e) (Remove n profile v) ≡ None }

@@ -7,7 +7,6 @@
 mod element;
 mod fault;
 pub mod laws;
-mod names;
 mod search;
 #[cfg(test)]
 mod tests;
@@ -16,4 +15,4 @@ mod updates;
 pub use element::{Annotation, Element};
 pub use fault::ProfileFault;
 pub use search::elements_for;
-pub use updates::{add, delete};
+pub use updates::{PROFILE, add, delete};

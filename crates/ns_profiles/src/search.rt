@@ -3,11 +3,10 @@ ghost use Rattle.std.specs.Prelude.{◌≡◌, ◌∷◌, [], None, map, filter,
 ghost use Rattle.std.specs.List.{All, list_any};
 ghost use Rattle.cell_names.specs.FullNames.{is_name};
 ghost use Rattle.ns_profiles.specs.Elements.{element_fault, said};
-ghost use Rattle.ns_profiles.specs.Profiles.{ascending, is_interface, is_for, is_meant, is_element, is_served, is_taken, is_sought, search_order};
+ghost use Rattle.ns_profiles.specs.Profiles.{is_for, is_meant, is_element, is_taken, is_sought, search_order};
 
 use crate::element::{DEFAULT, check, interface_of, known_name, member_of, priority_of};
-use crate::names::spells;
-use attr_sets::Value;
+use attr_sets::{Value, in_order};
 use cell_names::FullName;
 use std::alloc::{AllocError, Global};
 use tower_codec::Interface;
@@ -64,16 +63,6 @@ fn sought<'a>(
     Ok(found)
 }
 
-// The values in ascending order, each once.
-pub(crate) fn in_order<'a>(values: Vec<&'a Value>) -> Vec<&'a Value>
-    ensures { map (λ value. value.now) result.items ≡ ascending (map (λ value. value.now) values.entry.items) }
-{
-    let mut sorted = values;
-    sorted.sort_unstable();
-    sorted.dedup();
-    sorted
-}
-
 // The members of values that are elements, in their order.
 fn members_of(alloc: Global, values: &[&Value]) -> Result<Vec<FullName>, AllocError>
     requires { All (λ value. element_fault value.now ≡ None) values.now }
@@ -109,14 +98,7 @@ fn is_taken(octets: &[u8], interface: &Interface) -> bool
     requires { element_fault octets.now ≡ None }
     ensures { result ≡ is_taken interface.now (said octets.now) }
 {
-    priority_of(octets) == DEFAULT || serves(&interface_of(octets), interface)
-}
-
-// Whether an offered interface serves a wanted one.
-fn serves(offered: &Interface, wanted: &Interface) -> bool
-    ensures { result ≡ is_served wanted.now offered.now }
-{
-    offered.uuid == wanted.uuid && offered.major == wanted.major && wanted.minor <= offered.minor
+    priority_of(octets) == DEFAULT || interface_of(octets).serves(interface)
 }
 
 // Whether octets are an element for this interface, with this member.
@@ -142,7 +124,7 @@ fn is_member(octets: &[u8], member: &FullName) -> bool
     requires { element_fault octets.now ≡ None }
     ensures { result ≡ is_name (said octets.now).member member.now }
 {
-    spells(member_of(octets), member)
+    member.is_spelled(member_of(octets))
 }
 
 // Whether the octets of an element are for this interface, or of a default element where there is none.
@@ -152,14 +134,6 @@ fn is_for(octets: &[u8], interface: Option<&Interface>) -> bool
 {
     match interface {
         None => priority_of(octets) == DEFAULT,
-        Some(interface) => priority_of(octets) != DEFAULT
-            && is_interface(&interface_of(octets), interface),
+        Some(interface) => priority_of(octets) != DEFAULT && interface_of(octets) == *interface,
     }
-}
-
-// Whether the two are the same interface and version.
-fn is_interface(a: &Interface, b: &Interface) -> bool
-    ensures { result ≡ is_interface a.now b.now }
-{
-    a.uuid == b.uuid && a.major == b.major && a.minor == b.minor
 }

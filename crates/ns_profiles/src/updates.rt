@@ -7,24 +7,24 @@ ghost use Rattle.cds_stamps.specs.declared.alloc_or.AllocOr.TheVariants.{Fault};
 ghost use Rattle.attr_sets.specs.Values.{value_fault};
 ghost use Rattle.cell_names.specs.FullNames.{spelling, IsComponentList};
 ghost use Rattle.tower_codec.specs.Rpc.{IsInterface};
-ghost use Rattle.directory.specs.Updates.{Create, Add, Remove, change_of};
+ghost use Rattle.directory.specs.Updates.{Add, Remove, change_of};
+ghost use Rattle.directory.specs.EntryChanges.{changes, creation};
 ghost use Rattle.ns_profiles.specs.Elements.{is_annotation_octet, element_octets, element_of};
-ghost use Rattle.ns_profiles.specs.Profiles.{profile, changes, is_priority, written, new_element, add_fault, added, is_element, delete_fault, deleted};
+ghost use Rattle.ns_profiles.specs.Profiles.{profile, is_priority, written, new_element, add_fault, added, is_element, delete_fault, deleted};
 
 use crate::element::DEFAULT;
 use crate::fault::ProfileFault;
-use crate::names::{append_spelling, spelled_len};
-use crate::search::{elements_of, in_order};
-use attr_sets::Value;
+use crate::search::elements_of;
+use attr_sets::{Value, in_order};
 use cds_stamps::{AllocOr, AttrName, SimpleName};
 use cell_names::FullName;
-use directory::Update;
+use directory::{Update, creation};
 use std::alloc::{AllocError, Global};
 use tower_codec::Interface;
 use uuid::Uuid;
 
-// The attribute with the elements of a profile.
-const PROFILE: &[u8] = b"RPC_Profile";
+/// The attribute with the elements of a profile.
+pub const PROFILE: &[u8] = b"RPC_Profile";
 
 // The most octets of a member's name and an annotation together: with the 23 in front of them they make a value.
 const MOST_TEXT: usize = 1001;
@@ -98,7 +98,7 @@ fn check_new(
     if !is_priority(interface, priority) {
         return Err(ProfileFault::BadPriority);
     }
-    if annotation.len() > MOST_TEXT || spelled_len(member) + annotation.len() > MOST_TEXT {
+    if annotation.len() > MOST_TEXT || member.spelled_len() + annotation.len() > MOST_TEXT {
         return Err(ProfileFault::ElementTooLong);
     }
     Ok(())
@@ -141,14 +141,14 @@ fn element(
     ensures lawful { IfOk result (λ v. value_fault v.items ≡ None) }
     ensures fits { OnOk result (IsInterface interface.now) }
 {
-    let name_len = spelled_len(member);
+    let name_len = member.spelled_len();
     let mut octets = Vec::with_capacity(alloc, 23 + name_len + annotation.len())?;
     octets.push(priority)?;
     octets.extend_from_slice(interface.uuid.as_bytes())?;
     octets.extend_from_slice(&interface.major.to_be_bytes())?;
     octets.extend_from_slice(&interface.minor.to_be_bytes())?;
     octets.extend_from_slice(&(name_len as u16).to_be_bytes())?;
-    append_spelling(&mut octets, member)?;
+    member.append_spelling(&mut octets)?;
     octets.extend_from_slice(annotation)?;
     Ok(octets)
 }
@@ -161,22 +161,10 @@ fn additions(
     octets: &[u8],
 ) -> Result<Vec<Update>, AllocError>
     requires { value_fault octets.now ≡ None }
-    ensures { IfOk result (λ v. changes v.items ≡ (if absent then Create name.now ∷ [] else []) ++ Add name.now profile octets.now ∷ []) }
+    ensures { IfOk result (λ v. changes v.items ≡ creation name.now absent ++ Add name.now profile octets.now ∷ []) }
 {
     let mut updates = creation(alloc, name, absent)?;
     updates.push(addition(alloc, name, octets)?)?;
-    Ok(updates)
-}
-
-// The update that creates an entry, if it is absent.
-fn creation(alloc: Global, name: &SimpleName, absent: bool) -> Result<Vec<Update>, AllocError>
-    ensures { IfOk result (λ v. changes v.items ≡ (if absent then Create name.now ∷ [] else [])) }
-{
-    let mut updates = Vec::with_capacity(alloc, 2)?;
-    if absent {
-        updates.push(Update::Create(name.copy(alloc)?))?;
-        return Ok(updates);
-    }
     Ok(updates)
 }
 
@@ -185,8 +173,8 @@ fn addition(alloc: Global, name: &SimpleName, octets: &[u8]) -> Result<Update, A
     requires { value_fault octets.now ≡ None }
     ensures { IfOk result (λ u. change_of u ≡ Add name.now profile octets.now) }
 {
-    let value = known_value(alloc, octets)?;
-    Ok(Update::Add(name.copy(alloc)?, profile_attr(alloc)?, value))
+    let value = Value::known(alloc, octets)?;
+    Ok(Update::Add(name.copy(alloc)?, AttrName::known(alloc, PROFILE)?, value))
 }
 
 // The updates that remove values, in their order.
@@ -205,28 +193,5 @@ fn removal(alloc: Global, name: &SimpleName, value: &Value) -> Result<Update, Al
     ensures { IfOk result (λ u. change_of u ≡ Remove name.now profile value.now) }
 {
     let value = value.copy(alloc)?;
-    Ok(Update::Remove(name.copy(alloc)?, profile_attr(alloc)?, value))
-}
-
-// The name of the attribute of profiles: only memory can be wanting.
-fn profile_attr(alloc: Global) -> Result<AttrName, AllocError>
-    ensures { IfOk result (λ a. a ≡ profile) }
-{
-    match AttrName::parse(alloc, PROFILE) {
-        Ok(attr) => Ok(attr),
-        Err(AllocOr::OutOfMemory) => Err(AllocError),
-        Err(AllocOr::Fault(_)) => unreachable!(),
-    }
-}
-
-// The value of octets that are one: only memory can be wanting.
-fn known_value(alloc: Global, octets: &[u8]) -> Result<Value, AllocError>
-    requires { value_fault octets.now ≡ None }
-    ensures { IfOk result (λ v. v ≡ octets.now) }
-{
-    match Value::new(alloc, octets) {
-        Ok(value) => Ok(value),
-        Err(AllocOr::OutOfMemory) => Err(AllocError),
-        Err(AllocOr::Fault(_)) => unreachable!(),
-    }
+    Ok(Update::Remove(name.copy(alloc)?, AttrName::known(alloc, PROFILE)?, value))
 }

@@ -1,6 +1,7 @@
 use Rattle.std.proofs.Common.{◌≡◌, ℕ, List, IfOk, ap, subst, ◌∙◌, map, filter}
 use Rattle.ns_profiles.specs.Elements.{said}
-use Rattle.ns_profiles.specs.Profiles.{ascending, is_sought}
+use Rattle.ns_profiles.specs.Profiles.{is_sought}
+use Rattle.cds_stamps.specs.Ascending.{ascending}
 use Rattle.ns_profiles.proofs.Searches.{behind, all_whole, in_order_is, map_behind, members_in_order}
 use Rattle.ns_profiles.proofs.search.elements_for.Goals as goal
 

@@ -6,5 +6,5 @@ use Rattle.ns_profiles.proofs.search.is_member.Goals as goal
 
 pub returns : goal.returns
 returns c =
-    c.spells.ensures.value ∙ ap (λ (octets : List ℕ). is_octets (spelling c.args.member.now) octets) c.member_of.ensures.value
-    ∙ member_test c.args.octets.now c.args.member.now c.requires c.spells.ensures.lawful
+    c.is_spelled.ensures.value ∙ ap (λ (octets : List ℕ). is_octets (spelling c.args.member.now) octets) c.member_of.ensures.value
+    ∙ member_test c.args.octets.now c.args.member.now c.requires c.is_spelled.ensures.lawful

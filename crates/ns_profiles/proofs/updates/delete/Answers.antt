@@ -1,7 +1,8 @@
 use Rattle.std.proofs.Common.{◌≢◌, ℕ, List, Bor, ap, ◌∙◌, map, arith}
 use Rattle.std.specs.Option.{option_copied}
 use Rattle.directory.specs.Updates.{Remove}
-use Rattle.ns_profiles.specs.Profiles.{profile, changes}
+use Rattle.directory.specs.EntryChanges.{changes}
+use Rattle.ns_profiles.specs.Profiles.{profile}
 use Rattle.ns_profiles.proofs.Searches.{deleted_answer}
 use Rattle.ns_profiles.proofs.updates.delete.Goals as goal
 

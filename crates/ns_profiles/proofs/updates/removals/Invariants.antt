@@ -1,6 +1,7 @@
 use Rattle.std.proofs.Common.{◌≡◌, map, take}
 use Rattle.directory.specs.Updates.{Remove}
-use Rattle.ns_profiles.specs.Profiles.{profile, changes}
+use Rattle.directory.specs.EntryChanges.{changes}
+use Rattle.ns_profiles.specs.Profiles.{profile}
 use Rattle.ns_profiles.proofs.updates.removals.Given as goal
 
 abbrev pub invariant-loop-value : goal.invariant-loop-value

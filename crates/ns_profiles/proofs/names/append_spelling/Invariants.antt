@@ -1,6 +1,0 @@
-use Rattle.std.proofs.Common.{◌≡◌, ◌++◌, take}
-use Rattle.cell_names.specs.FullNames.{spelling}
-use Rattle.ns_profiles.proofs.names.append_spelling.Given as goal
-
-abbrev pub invariant-loop-component : goal.invariant-loop-component
-invariant-loop-component l = l.octets.items ≡ l.fn.octets.items ++ spelling (take l.component-index l.components)
