@@ -50,7 +50,8 @@ one_head : (x y : List ℕ) (xs ys : List (List ℕ)) → Rises (x ∷ xs) → R
 unfolding IsStrictlySortedBy
 one_head x y xs ys sx sy to from =
     ⊎_elim sym
-    (λ later. ⊎_elim (λ is. is) (λ other. absurd (never_both x y (above_at x xs y sx.0 other) (above_at y ys x sy.0 later))) (Contains-cases x xs y (from y (Contains-head y ys))))
+    (λ later. ⊎_elim (λ is. is) (λ other. absurd (never_both x y
+    (above_at x xs y sx.0 other) (above_at y ys x sy.0 later))) (Contains-cases x xs y (from y (Contains-head y ys))))
     (Contains-cases y ys x (to x (Contains-head x xs)))
 
 -- what is behind the same head is within as well
@@ -112,7 +113,8 @@ put-had : (o : List ℕ) (ps : List (List ℕ)) (q : List ℕ) → Contains (put
 put-had o [] q c = Contains-cases o [] q c
 put-had o (p ∷ ps) q c = by_case (octets_cmp o p) (put-had o ps q) c
   where
-    by_case : (r : Ordering) → (Contains (put_in_order o ps) q → (o ≡ q) ⊎ Contains ps q) → Contains (by_order r (o ∷ p ∷ ps) (p ∷ ps) (p ∷ put_in_order o ps)) q
+    by_case : (r : Ordering) → (Contains (put_in_order o ps) q → (o ≡ q) ⊎ Contains ps q)
+        → Contains (by_order r (o ∷ p ∷ ps) (p ∷ ps) (p ∷ put_in_order o ps)) q
         → (o ≡ q) ⊎ Contains (p ∷ ps) q
     by_case Less later g = Contains-cases o (p ∷ ps) q g
     by_case Equal later g = inr g
@@ -161,5 +163,6 @@ pub ascending-push : (os : List (List ℕ)) (o : List ℕ) → ascending (os ++ 
 ascending-push os o =
     sym
     (ascending-only (os ++ o ∷ []) (put_in_order o (ascending os)) (put-rises o (ascending os) (ascending-rises os))
-    (λ q c. ⊎_elim (λ is. subst (Contains (os ++ o ∷ [])) is (Contains-push os o)) (λ old. Contains-append_left os (o ∷ []) q (ascending-had os q old)) (put-had o (ascending os) q c))
+    (λ q c. ⊎_elim (λ is. subst (Contains
+    (os ++ o ∷ [])) is (Contains-push os o)) (λ old. Contains-append_left os (o ∷ []) q (ascending-had os q old)) (put-had o (ascending os) q c))
     (λ q c. put-has o (ascending os) q (⊎_elim (λ old. inr (ascending-has os q old)) (λ is. inl is) (Contains-push_cases os o q c))))

@@ -1,8 +1,10 @@
 -- Bits of masks, and tests at the places below a number.
-use Rattle.std.proofs.Common.{◌≡◌, ℕ, zero, suc, ◌-◌, ◌*◌, ◌/◌, ◌%◌, ◌^◌, ◌<◌, ◌≤◌, Bool, true, false, ◌&&◌, ◌||◌, ◌==◌, min, max, refl, sym, ap, ◌∙◌, ◌⊎◌, inl, inr, arith, bit_and, bit_or, eq-eqb, w64}
+use Rattle.std.proofs.Common.{◌≡◌, ℕ, zero, suc, ◌-◌, ◌*◌, ◌/◌, ◌%◌, ◌^◌, ◌<◌, ◌≤◌, Bool, true, false, ◌&&◌}
+use Rattle.std.proofs.Common.{◌||◌, ◌==◌, min, max, refl, sym, ap, ◌∙◌, ◌⊎◌, inl, inr, arith, bit_and, bit_or, eq-eqb, w64}
 use Rattle.std.specs.Int.{bit_at}
 use Rattle.std.proofs.lemmas.Bool.{cases_eq, cases_lt, and_parts, eqb-true}
-use Rattle.std.proofs.lemmas.Nat.Bits.{bit_at_or, bit_at_and, bit_at-lt, bit_at_ones, bit_at_ones_above, bit_at_set_same, bit_at_set_other, bit_at-zero, ones_shr, same_from_bits}
+use Rattle.std.proofs.lemmas.Nat.Bits.{bit_at_or, bit_at_and, bit_at-lt, bit_at_ones, bit_at_ones_above}
+use Rattle.std.proofs.lemmas.Nat.Bits.{bit_at_set_same, bit_at_set_other, bit_at-zero, ones_shr, same_from_bits}
 use Rattle.cds_stamps.specs.Places.{each_place}
 
 -- places that are one, and places that are not
@@ -106,7 +108,8 @@ ones_of : (members : ℕ) → members ≤ 64 → (2 ^ 64 - 1) / 2 ^ (64 - member
 ones_of members few = ones_shr 64 (64 - members) (omega arith) ∙ ap (λ k. 2 ^ k - 1) (omega arith)
 
 -- a number has each of its lowest bits
-pub has_ones : (n members : ℕ) → members ≤ 64 → (bit_and n ((2 ^ 64 - 1) / 2 ^ (64 - members)) == (2 ^ 64 - 1) / 2 ^ (64 - members)) ≡ each_place members (λ p. bit_at n p == 1)
+pub has_ones : (n members : ℕ) → members ≤ 64
+    → (bit_and n ((2 ^ 64 - 1) / 2 ^ (64 - members)) == (2 ^ 64 - 1) / 2 ^ (64 - members)) ≡ each_place members (λ p. bit_at n p == 1)
 has_ones n members few = ap (λ m. bit_and n m == m) (ones_of members few) ∙ same_bools _ _
     (λ e. each_place-from members _ (all_ones n members (eqb-true _ _ e)))
     (λ e. eq-eqb _ _ (ones_all n members (at_each_place members _ e)))

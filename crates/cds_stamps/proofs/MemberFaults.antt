@@ -1,5 +1,6 @@
 -- Faults of member lists are at the first member that is not above the one before it.
-use Rattle.std.proofs.Common.{◌≡◌, ◌≢◌, ℕ, suc, ◌+◌, ◌≤◌, ◌<◌, Bool, true, false, List, [], length, take, Option, Some, None, refl, sym, ap, ◌∙◌, ◌⊎◌, inl, inr, arith}
+use Rattle.std.proofs.Common.{◌≡◌, ◌≢◌, ℕ, suc, ◌+◌, ◌≤◌, ◌<◌, Bool, true, false, List, []}
+use Rattle.std.proofs.Common.{length, take, Option, Some, None, refl, sym, ap, ◌∙◌, ◌⊎◌, inl, inr, arith}
 use Rattle.std.specs.Prelude.{nat_lt, ◌==◌, ◌||◌, if◌then◌else◌}
 use Rattle.cds_stamps.specs.declared.members.MembersFault.{MembersFault}
 use Rattle.cds_stamps.specs.declared.members.MembersFault.TheVariants.{BadCount, NotAscending, BadMaster}
@@ -49,7 +50,8 @@ unordered_first ms place e = by_kind c.kind
     c : Cut unordered_from unordered_step (λ s. s.0) (1, 0) ms place
     c = cut unordered_from unordered_step (λ s. s.0) unordered_walk (1, 0) ms place e
 
-    by_kind : IsBad unordered_from unordered_step (λ s. s.0) (1, 0) ms place c.k c.state ⊎ IsEnd unordered_from unordered_step (λ s. s.0) ms place c.k c.state → IsFirstBad IsAscending ms place
+    by_kind : IsBad unordered_from unordered_step (λ s. s.0) (1, 0) ms place c.k c.state ⊎ IsEnd unordered_from unordered_step (λ s. s.0) ms place c.k c.state
+        → IsFirstBad IsAscending ms place
     by_kind (inl b) =
         let before : IsFront IsAscending (take c.k ms) = record { rest = []; lawful = (first_unordered-none _).0 (c.before [] refl) } in
         let here : ¬ IsFront IsAscending (take (suc c.k) ms) = λ front. no_both _ place ((first_unordered-none _).1 front.lawful) (b.here front.rest) in
@@ -59,7 +61,8 @@ unordered_first ms place e = by_kind c.kind
     by_kind (inr m) = cc (m.missing)
 
 -- which test finds a fault
-tested : {E : Type 0} (test : Bool) (fault : E) (rest : Option E) (e : E) → (if test then Some fault else rest) ≡ Some e → ((test ≡ true) × (fault ≡ e)) ⊎ ((test ≡ false) × (rest ≡ Some e))
+tested : {E : Type 0} (test : Bool) (fault : E) (rest : Option E) (e : E) → (if test then Some fault else rest) ≡ Some e
+    → ((test ≡ true) × (fault ≡ e)) ⊎ ((test ≡ false) × (rest ≡ Some e))
 tested true fault rest e h = inl (refl, cc)
 tested false fault rest e h = inr (refl, h)
 
@@ -86,7 +89,9 @@ members_fault-first ms fault e = by_test (tested ((length ms == 0) || nat_lt mos
     counted t = (grind (arith, t), grind (arith, t))
 
     by_test : ((((length ms == 0) || nat_lt most_members (length ms)) ≡ true) × (BadCount ≡ fault))
-        ⊎ ((((length ms == 0) || nat_lt most_members (length ms)) ≡ false) × (unordered_or (master_fault (masters_in ms)) (first_unordered 1 0 ms) ≡ Some fault)) → IsMemberFault ms fault
+        ⊎ ((((length ms == 0) || nat_lt most_members (length ms)) ≡ false) × (unordered_or (master_fault
+        (masters_in ms)) (first_unordered 1 0 ms) ≡ Some fault))
+        → IsMemberFault ms fault
     by_test (inl t) = record {
       count = λ is count. absurd (grind (arith, t.0, count.0, count.1));
       order = λ place is. absurd (let no : BadCount ≡ NotAscending place = t.1 ∙ is in cc (no));
@@ -94,10 +99,19 @@ members_fault-first ms fault e = by_test (tested ((length ms == 0) || nat_lt mos
     }
     by_test (inr t) = of_order (counted t.0) (by_order (masters_in ms) (first_unordered 1 0 ms) fault t.1)
       where
-        of_order : (0 < length ms) × (length ms ≤ most_members) → ((place : ℕ) × (first_unordered 1 0 ms ≡ Some place) × (fault ≡ NotAscending place)) ⊎ ((first_unordered 1 0 ms ≡ None) × (masters_in ms ≢ 1) × (fault ≡ BadMaster)) → IsMemberFault ms fault
+        of_order : (0 < length ms) × (length ms ≤ most_members)
+            → ((place : ℕ) × (first_unordered 1 0 ms ≡ Some place) × (fault ≡ NotAscending place))
+            ⊎ ((first_unordered 1 0 ms ≡ None) × (masters_in ms ≢ 1) × (fault ≡ BadMaster))
+            → IsMemberFault ms fault
         of_order few (inl o) = record {
           count = λ is. absurd (let no : NotAscending o.0 ≡ BadCount = sym o.2 ∙ is in cc (no));
-          order = λ place is. (few.0, few.1, unordered_first ms place (o.1 ∙ ap Some (let same : NotAscending o.0 ≡ NotAscending place = sym o.2 ∙ is in same_place o.0 place same)));
+          order =
+              λ place is. (
+                few.0,
+                few.1,
+                unordered_first ms place (o.1 ∙ ap Some
+                    (let same : NotAscending o.0 ≡ NotAscending place = sym o.2 ∙ is in same_place o.0 place same)),
+              );
           master = λ is. absurd (let no : NotAscending o.0 ≡ BadMaster = sym o.2 ∙ is in cc (no));
         }
           where

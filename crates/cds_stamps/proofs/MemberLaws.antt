@@ -36,7 +36,8 @@ all_at_least least x [] e p = tt
 all_at_least least x (h ∷ hs) e p = (omega (arith, p.0), all_at_least least x hs e p.1)
 
 -- with none out of order, each house is above the one before it, and none is below the least
-ordered : (place least : ℕ) (ms : List Member) → first_unordered place least ms ≡ None → AllByRecursion (λ h. least ≤ h) (houses ms) × IsStrictlySortedBy nat_cmp (houses ms)
+ordered : (place least : ℕ) (ms : List Member) → first_unordered place least ms ≡ None
+    → AllByRecursion (λ h. least ≤ h) (houses ms) × IsStrictlySortedBy nat_cmp (houses ms)
 unfolding IsStrictlySortedBy
 ordered place least [] e = (tt, tt)
 ordered place least (m ∷ ms) e =
@@ -45,7 +46,8 @@ ordered place least (m ∷ ms) e =
     let rest = ordered (place + 1) (m.house + 1) ms test.1 in
     ((within, all_at_least least m.house (houses ms) within rest.0), (all_less m.house (houses ms) rest.0, rest.1))
 
-none_unordered : (place least : ℕ) (ms : List Member) → AllByRecursion (λ h. least ≤ h) (houses ms) → IsStrictlySortedBy nat_cmp (houses ms) → first_unordered place least ms ≡ None
+none_unordered : (place least : ℕ) (ms : List Member) → AllByRecursion (λ h. least ≤ h) (houses ms) → IsStrictlySortedBy nat_cmp (houses ms)
+    → first_unordered place least ms ≡ None
 unfolding IsStrictlySortedBy
 none_unordered place least [] low sorted = refl
 none_unordered place least (m ∷ ms) low sorted =
@@ -68,7 +70,8 @@ first_unordered-none ms = (
 )
 
 -- no fault: their number, their order and the masters are lawful
-pub no_members_fault : (ms : List Member) → members_fault ms ≡ None → (0 < length ms) × (length ms ≤ most_members) × (first_unordered 1 0 ms ≡ None) × (masters_in ms ≡ 1)
+pub no_members_fault : (ms : List Member) → members_fault ms ≡ None
+    → (0 < length ms) × (length ms ≤ most_members) × (first_unordered 1 0 ms ≡ None) × (masters_in ms ≡ 1)
 no_members_fault ms e =
     let count = no_fault ((length ms == 0) || nat_lt most_members (length ms)) BadCount _ e in
     let both = none_of_both (masters_in ms) (first_unordered 1 0 ms) count.1 in

@@ -15,7 +15,8 @@ holds true e = refl
 holds false e = cc
 
 -- each octet is one of names, and the 255th is not there
-pub component_lawful : (place n : ℕ) (bs : List ℕ) → n ≤ 255 → component_fault place n bs ≡ None → AllByRecursion (λ b. IsTrue (is_name_octet b)) bs × (n + length bs ≤ 255)
+pub component_lawful : (place n : ℕ) (bs : List ℕ) → n ≤ 255 → component_fault place n bs ≡ None
+    → AllByRecursion (λ b. IsTrue (is_name_octet b)) bs × (n + length bs ≤ 255)
 component_lawful place n [] h e = (tt, omega arith)
 component_lawful place n (b ∷ bs) h e =
     let octet = no_fault (not (is_name_octet b)) _ _ e in
@@ -33,11 +34,18 @@ component_none place n (b ∷ bs) each short =
 pub simple_name_laws : (octets : List ℕ) → (simple_name_fault octets ≡ None) ↔ IsSimpleName octets
 simple_name_laws [] = (λ e. cc, λ name. absurd (omega (arith, name.filled)))
 simple_name_laws (b ∷ bs) = (
-  λ e. let lawful = component_lawful 1 1 (b ∷ bs) (omega arith) e in record { filled = omega arith; short = omega (arith, lawful.1); each = All-from_recursion _ (b ∷ bs) lawful.0 },
+  λ e. let lawful =
+      component_lawful 1 1 (b ∷ bs) (omega arith) e in record {
+        filled = omega arith;
+        short = omega
+            (arith, lawful.1);
+        each = All-from_recursion _ (b ∷ bs) lawful.0;
+      },
   λ name. component_none 1 1 (b ∷ bs) (recursion_from_All _ (b ∷ bs) name.each) (omega (arith, name.short)),
 )
 
-attr_lawful : (place : ℕ) (bs : List ℕ) → place ≤ 32 → attr_fault_from place bs ≡ None → AllByRecursion (λ b. IsTrue (is_attr_octet b)) bs × (place + length bs ≤ 32)
+attr_lawful : (place : ℕ) (bs : List ℕ) → place ≤ 32 → attr_fault_from place bs ≡ None
+    → AllByRecursion (λ b. IsTrue (is_attr_octet b)) bs × (place + length bs ≤ 32)
 attr_lawful place [] h e = (tt, omega arith)
 attr_lawful place (b ∷ bs) h e =
     let tests = no_fault (not (is_attr_octet b) || (place == 32)) _ _ e in
@@ -55,6 +63,7 @@ attr_none place (b ∷ bs) each short =
 pub attr_name_laws : (octets : List ℕ) → (attr_fault octets ≡ None) ↔ IsAttrName octets
 attr_name_laws [] = (λ e. cc, λ name. absurd (omega (arith, name.filled)))
 attr_name_laws (b ∷ bs) = (
-  λ e. let lawful = attr_lawful 1 (b ∷ bs) (omega arith) e in record { filled = omega arith; short = omega (arith, lawful.1); each = All-from_recursion _ (b ∷ bs) lawful.0 },
+  λ e. let lawful =
+      attr_lawful 1 (b ∷ bs) (omega arith) e in record { filled = omega arith; short = omega (arith, lawful.1); each = All-from_recursion _ (b ∷ bs) lawful.0 },
   λ name. attr_none 1 (b ∷ bs) (recursion_from_All _ (b ∷ bs) name.each) (omega (arith, name.short)),
 )

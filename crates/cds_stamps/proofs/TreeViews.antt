@@ -12,7 +12,8 @@ use Rattle.std.specs.Map.{lookup, keys_of}
 use Rattle.std.specs.Map.Calls.{RetainsPairs}
 use Rattle.std.specs.BTreeMap.{is_at}
 use Rattle.std.specs.Cmp.{IsTotalOrder, eq_by_cmp_equiv}
-use Rattle.std.specs.FinMap.{FinMap, IsAntisymmetric, len, len-empty, len-insert, get, insert, find, from_entries, get-from_entries, get-insert, same_map, entries, from_sorted, get-from_sorted, entries-from_sorted}
+use Rattle.std.specs.FinMap.{FinMap, IsAntisymmetric, len, len-empty, len-insert, get, insert, find}
+use Rattle.std.specs.FinMap.{from_entries, get-from_entries, get-insert, same_map, entries, from_sorted, get-from_sorted, entries-from_sorted}
 use Rattle.std.specs.FinMap.Entries.{is_sorted, below_all}
 use Rattle.std.proofs.lemmas.Map.{NonePasses, lookup-none}
 use Rattle.std.proofs.lemmas.Map.Keys.{sorted_head, sorted_tail, IsDistinct-head, IsDistinct-from_sorted}
@@ -31,13 +32,16 @@ abbrev pub entry_at : {K X : Type 0} → (K → K → Ordering) → K → K × X
 entry_at R q e = if is_at (R q) e.0 then Some e.1 else None
 
 -- among entries in order a key stands once, so that joining all of its values is to look it up
-pub join_of-entries : {K X : Type 0} {R : K → K → Ordering} → IsTotalOrder R → (f : X → X → X) (q : K) (es : List (K × X)) → IsStrictlySortedBy R (keys_of es) → join_of f (entry_at R q) es ≡ lookup (is_at (R q)) es
+pub join_of-entries : {K X : Type 0} {R : K → K → Ordering} → IsTotalOrder R → (f : X → X → X) (q : K) (es : List (K × X))
+    → IsStrictlySortedBy R (keys_of es) → join_of f (entry_at R q) es ≡ lookup (is_at (R q)) es
 join_of-entries o f q [] sorted = refl
 join_of-entries {R = R} o f q (e ∷ es) sorted = by_case (is_at (R q) e.0) refl (join_of-entries o f q es (sorted_tail R e.0 (keys_of es) sorted))
   where
-    by_case : (b : Bool) → is_at (R q) e.0 ≡ b → join_of f (entry_at R q) es ≡ lookup (is_at (R q)) es → maybe f (if b then Some e.1 else None) (join_of f (entry_at R q) es) ≡ cond b (Some e.1) (lookup (is_at (R q)) es)
+    by_case : (b : Bool) → is_at (R q) e.0 ≡ b → join_of f (entry_at R q) es ≡ lookup (is_at (R q)) es
+        → maybe f (if b then Some e.1 else None) (join_of f (entry_at R q) es) ≡ cond b (Some e.1) (lookup (is_at (R q)) es)
     by_case true at rest =
-        ap (maybe f (Some e.1)) (rest ∙ lookup-none (is_at (R q)) es (none_past_head (eq_by_cmp_equiv o) q e es (IsDistinct-from_sorted R (keys_of (e ∷ es)) sorted) at))
+        ap (maybe f (Some e.1)) (rest ∙ lookup-none (is_at (R q)) es (none_past_head (eq_by_cmp_equiv o) q e es (IsDistinct-from_sorted R (keys_of
+        (e ∷ es)) sorted) at))
     by_case false at rest = rest
 
 module _ {K X : Type 0} {R : K → K → Ordering} (o : IsTotalOrder R) where
@@ -46,13 +50,16 @@ module _ {K X : Type 0} {R : K → K → Ordering} (o : IsTotalOrder R) where
   get-view es q = get-from_entries o es q ∙ find-lookup R es q
 
   -- entries that differ at one key make maps that differ there
-  pub view-insert : IsAntisymmetric R → (es fs : List (K × X)) (k : K) (x : X) → ((q : K) → lookup (is_at (R q)) fs ≡ cond (is_at (R k) q) (Some x) (lookup (is_at (R q)) es)) → from_entries {R = R} fs ≡ insert (from_entries es) k x
+  pub view-insert : IsAntisymmetric R → (es fs : List (K × X)) (k : K) (x : X)
+      → ((q : K) → lookup (is_at (R q)) fs ≡ cond (is_at (R k) q) (Some x) (lookup (is_at (R q)) es))
+      → from_entries {R = R} fs ≡ insert (from_entries es) k x
   view-insert same es fs k x h = same_map o same _ _ (λ q.
       get-view fs q ∙ h q ∙ ap (λ b. cond b (Some x) (lookup (is_at (R q)) es)) ((eq_by_cmp_equiv o).symm k q)
       ∙ sym (get-insert o (from_entries es) k x q ∙ ap (cond (is_at (R q) k) (Some x)) (get-view es q)))
 
 -- a loop's step: one entry joined in, the others still to come
-pub entry_joined : {K X : Type 0} (R : K → K → Ordering) (f : X → X → X) → ((x y z : Option X) → maybe f (maybe f x y) z ≡ maybe f x (maybe f y z)) → (q : K) (before after goal : Option X) (k : K) (x : X) (es rest : List (K × X))
+pub entry_joined : {K X : Type 0} (R : K → K → Ordering) (f : X → X → X) → ((x y z : Option X) → maybe f (maybe f x y) z ≡ maybe f x (maybe f y z))
+    → (q : K) (before after goal : Option X) (k : K) (x : X) (es rest : List (K × X))
     → es ≡ (k, x) ∷ rest → after ≡ maybe f before (if is_at (R q) k then Some x else None)
     → maybe f before (join_of f (entry_at R q) es) ≡ goal → maybe f after (join_of f (entry_at R q) rest) ≡ goal
 entry_joined R f assoc q before after goal k x es rest first put is =
@@ -84,10 +91,12 @@ all_joined {X = X} {R = R} o same f old other new es h none = same_map o same ne
     alone (Some y) = refl
 
 -- what `retain` leaves of each value, where the closure stays as it was
-pub retain_left : {F K X : Type 0} (T : F → K → X → Bool → X → F → Type 0) {R : K → K → Ordering} → IsTotalOrder R → (g : X → Option X) (p : X → Bool) (u : X → X) (f : F)
+pub retain_left : {F K X : Type 0} (T : F → K → X → Bool → X → F → Type 0) {R : K → K → Ordering} → IsTotalOrder R
+    → (g : X → Option X) (p : X → Bool) (u : X → X) (f : F)
     → ((v : X) → (if p v then Some (u v) else None) ≡ g v)
     → ((k : K) (v : X) (b : Bool) (w : X) (f' : F) → T f k v b w f' → (b ≡ p v) × (w ≡ u v) × (f' ≡ f))
-    → (es kept : List (K × X)) → IsStrictlySortedBy R (keys_of es) → RetainsPairs T f es kept → (q : K) → lookup (is_at (R q)) kept ≡ option_and_then g (lookup (is_at (R q)) es)
+    → (es kept : List (K × X)) → IsStrictlySortedBy R (keys_of es) → RetainsPairs T f es kept → (q : K)
+    → lookup (is_at (R q)) kept ≡ option_and_then g (lookup (is_at (R q)) es)
 retain_left T {R} o g p u f gives call [] kept sorted h q = ap (lookup (is_at (R q))) h
 retain_left {X = X} T {R} o g p u f gives call (e ∷ es) kept sorted h q =
     let left = call e.0 e.1 h.0 h.1 h.2 h.4 in
@@ -98,21 +107,29 @@ retain_left {X = X} T {R} o g p u f gives call (e ∷ es) kept sorted h q =
     at : (t b : Bool) → is_at (R q) e.0 ≡ t → (if b then Some h.1 else None) ≡ g e.1 → lookup (is_at (R q)) h.3 ≡ option_and_then g (lookup (is_at (R q)) es)
         → lookup (is_at (R q)) (cond b ((e.0, h.1) ∷ h.3) h.3) ≡ option_and_then g (cond t (Some e.1) (lookup (is_at (R q)) es))
     at true true p is ih = ap (λ t. cond t (Some h.1) (lookup (is_at (R q)) h.3)) p ∙ is
-    at true false p is ih = ih ∙ ap (option_and_then g) (lookup-none (is_at (R q)) es (none_past_head (eq_by_cmp_equiv o) q e es (IsDistinct-from_sorted R (keys_of (e ∷ es)) sorted) p)) ∙ is
+    at true false p is ih = ih
+        ∙ ap (option_and_then g) (lookup-none (is_at (R q)) es (none_past_head (eq_by_cmp_equiv o) q e es (IsDistinct-from_sorted R (keys_of
+        (e ∷ es)) sorted) p))
+        ∙ is
     at false true p is ih = ap (λ t. cond t (Some h.1) (lookup (is_at (R q)) h.3)) p ∙ ih
     at false false p is ih = ih
 
 -- a key below each key of the entries is none of them
-not_at : {K X : Type 0} (R : K → K → Ordering) (k : K) (es : List (K × X)) → AllByRecursion (λ y. eq_by_cmp R k y ≡ false) (keys_of es) → NonePasses (is_at (R k)) es
+not_at : {K X : Type 0} (R : K → K → Ordering) (k : K) (es : List (K × X)) → AllByRecursion (λ y. eq_by_cmp R k y ≡ false) (keys_of es)
+    → NonePasses (is_at (R k)) es
 not_at R k [] a = tt
 not_at R k (e ∷ es) a = (a.0, not_at R k es a.1)
 
 -- how many keys the map has
-pub len-view : {K X : Type 0} {R : K → K → Ordering} → IsTotalOrder R → (es : List (K × X)) → IsStrictlySortedBy R (keys_of es) → len (from_entries {R = R} es) ≡ length es
+pub len-view : {K X : Type 0} {R : K → K → Ordering} → IsTotalOrder R → (es : List (K × X)) → IsStrictlySortedBy R (keys_of es)
+    → len (from_entries {R = R} es) ≡ length es
 len-view {X = X} {R = R} o [] sorted = len-empty R X
 len-view {R = R} o (e ∷ es) sorted =
-    let none : get (from_entries {R = R} es) e.0 ≡ None = get-view o es e.0 ∙ lookup-none (is_at (R e.0)) es (not_at R e.0 es (IsDistinct-head (eq_by_cmp R) e.0 (keys_of es) (IsDistinct-from_sorted R (keys_of (e ∷ es)) sorted))) in
-    len-insert o (from_entries es) e.0 e.1 ∙ ap (λ x. cond (is_some x) (len (from_entries {R = R} es)) (len (from_entries {R = R} es) + 1)) none ∙ ap (λ n. n + 1) (len-view o es (sorted_tail R e.0 (keys_of es) sorted)) ∙ add-one (length es)
+    let none : get (from_entries {R = R} es) e.0 ≡ None = get-view o es e.0
+    ∙ lookup-none (is_at (R e.0)) es (not_at R e.0 es (IsDistinct-head (eq_by_cmp R) e.0 (keys_of es) (IsDistinct-from_sorted R (keys_of
+    (e ∷ es)) sorted))) in
+    len-insert o (from_entries es) e.0 e.1 ∙ ap (λ x. cond (is_some x) (len (from_entries {R = R} es)) (len (from_entries {R = R} es) + 1)) none
+    ∙ ap (λ n. n + 1) (len-view o es (sorted_tail R e.0 (keys_of es) sorted)) ∙ add-one (length es)
 
 -- entries in order, as finite maps test them
 below_each : {K X : Type 0} (R : K → K → Ordering) (k : K) (es : List (K × X)) → AllByRecursion (λ y. R k y ≡ Less) (keys_of es) → below_all R k es ≡ true
@@ -121,16 +138,20 @@ below_each R k (e ∷ es) a = ap (λ o. is_lt o && below_all R k es) a.0 ∙ bel
 
 is_sorted-view : {K X : Type 0} (R : K → K → Ordering) (es : List (K × X)) → IsStrictlySortedBy R (keys_of es) → is_sorted R es ≡ true
 is_sorted-view R [] h = refl
-is_sorted-view R (e ∷ es) h = ap (λ b. b && is_sorted R es) (below_each R e.0 es (sorted_head R e.0 (keys_of es) h)) ∙ is_sorted-view R es (sorted_tail R e.0 (keys_of es) h)
+is_sorted-view R (e ∷ es) h = ap (λ b. b && is_sorted R es) (below_each R e.0 es (sorted_head R e.0 (keys_of es) h))
+    ∙ is_sorted-view R es (sorted_tail R e.0 (keys_of es) h)
 
 -- the entries of the map of entries in order
-pub entries-view : {K X : Type 0} {R : K → K → Ordering} → IsTotalOrder R → IsAntisymmetric R → (es : List (K × X)) → IsStrictlySortedBy R (keys_of es) → entries (from_entries {R = R} es) ≡ es
+pub entries-view : {K X : Type 0} {R : K → K → Ordering} → IsTotalOrder R → IsAntisymmetric R → (es : List (K × X))
+    → IsStrictlySortedBy R (keys_of es) → entries (from_entries {R = R} es) ≡ es
 entries-view {R = R} o same es sorted =
     let t : T (is_sorted R es) = subst T (sym (is_sorted-view R es sorted)) tt in
-    ap entries (same_map o same (from_entries {R = R} es) (from_sorted es) (λ q. get-from_entries o es q ∙ sym (get-from_sorted R es q t))) ∙ entries-from_sorted R es t
+    ap entries (same_map o same (from_entries {R = R} es) (from_sorted es) (λ q. get-from_entries o es q ∙ sym (get-from_sorted R es q t)))
+    ∙ entries-from_sorted R es t
 
 -- a loop's step over items of any kind, of which g says what they have
-pub item_joined : {T X : Type 0} (f : X → X → X) → ((x y z : Option X) → maybe f (maybe f x y) z ≡ maybe f x (maybe f y z)) → (g : T → Option X) (before after goal : Option X) (e : T) (es rest : List T)
+pub item_joined : {T X : Type 0} (f : X → X → X) → ((x y z : Option X) → maybe f (maybe f x y) z ≡ maybe f x (maybe f y z))
+    → (g : T → Option X) (before after goal : Option X) (e : T) (es rest : List T)
     → es ≡ e ∷ rest → after ≡ maybe f before (g e) → maybe f before (join_of f g es) ≡ goal → maybe f after (join_of f g rest) ≡ goal
 item_joined f assoc g before after goal e es rest first put is =
     ap (λ a. maybe f a (join_of f g rest)) put ∙ assoc before (g e) (join_of f g rest) ∙ ap (λ es. maybe f before (join_of f g es)) (sym first) ∙ is

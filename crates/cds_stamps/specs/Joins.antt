@@ -49,7 +49,20 @@ module _ {E K : Type 0} (key : E → K) {R : K → K → Ordering} (o : IsTotalO
   by_key-comm s x y = grind (arith, o.antisymm (key x) (key y), o.antisymm (key y) (key x), same (key x) (key y), s.comm x y)
 
   by_key-assoc : {V : E → Type 0} {f : E → E → E} → JoinsTied V f → (x y z : E) → by_key key R f (by_key key R f x y) z ≡ by_key key R f x (by_key key R f y z)
-  by_key-assoc s x y z = grind (arith, o.trans (key x) (key y) (key z), o.trans (key z) (key y) (key x), o.antisymm (key x) (key y), o.antisymm (key y) (key z), o.antisymm (key x) (key z), same (key x) (key y), same (key y) (key z), s.keyed x y, s.keyed y z, s.assoc x y z)
+  by_key-assoc s x y z =
+      grind (
+        arith,
+        o.trans (key x) (key y) (key z),
+        o.trans (key z) (key y) (key x),
+        o.antisymm (key x) (key y),
+        o.antisymm (key y) (key z),
+        o.antisymm (key x) (key z),
+        same (key x) (key y),
+        same (key y) (key z),
+        s.keyed x y,
+        s.keyed y z,
+        s.assoc x y z,
+      )
 
   pub key_join : {V : E → Type 0} {f : E → E → E} → JoinsTied V f → IsJoin V (by_key key R f)
   key_join {V} {f} s = record {

@@ -48,7 +48,8 @@ either true x e = refl
 either false x e = sym e
 
 module _ {K X : Type 0} {R : K → K → Ordering} (o : IsTotalOrder R) (same : IsAntisymmetric R) where
-  get-put_some : (m : FinMap R X) (k : K) (x : Option X) (q : K) (b : Bool) → eq_by_cmp R q k ≡ b → (b ≡ true → x ≡ None → get m q ≡ None) → get (put_some m k x) q ≡ cond b x (get m q)
+  get-put_some : (m : FinMap R X) (k : K) (x : Option X) (q : K) (b : Bool) → eq_by_cmp R q k ≡ b → (b ≡ true → x ≡ None → get m q ≡ None)
+      → get (put_some m k x) q ≡ cond b x (get m q)
   unfolding put_some
   get-put_some m k None q true e h = h refl refl
   get-put_some m k None q false e h = refl
@@ -58,15 +59,18 @@ module _ {K X : Type 0} {R : K → K → Ordering} (o : IsTotalOrder R) (same : 
   unfolding of_keys
   get-of_keys [] f q = get-empty R q
   get-of_keys (k ∷ ks) f q =
-      get-put_some (of_keys ks f) k (f k) q _ refl (λ e none. let gone : f q ≡ None = ap f (tied same q k e) ∙ none in get-of_keys ks f q ∙ either _ (f q) gone ∙ gone)
+      get-put_some (of_keys ks f) k (f k) q _ refl (λ e none. let gone : f q ≡ None = ap f
+      (tied same q k e) ∙ none in get-of_keys ks f q ∙ either _ (f q) gone ∙ gone)
       ∙ step (eq_by_cmp R q k) refl (get-of_keys ks f q)
     where
-      step : (b : Bool) → eq_by_cmp R q k ≡ b → get (of_keys {R = R} ks f) q ≡ cond (list_any (eq_by_cmp R q) ks) (f q) None → cond b (f k) (get (of_keys {R = R} ks f) q) ≡ cond (b || list_any (eq_by_cmp R q) ks) (f q) None
+      step : (b : Bool) → eq_by_cmp R q k ≡ b → get (of_keys {R = R} ks f) q ≡ cond (list_any (eq_by_cmp R q) ks) (f q) None
+          → cond b (f k) (get (of_keys {R = R} ks f) q) ≡ cond (b || list_any (eq_by_cmp R q) ks) (f q) None
       step true e ih = ap f (sym (tied same q k e))
       step false e ih = ih
 
   -- where f has nothing beyond the keys
-  pub get-of_all_keys : (ks : List K) (f : K → Option X) → ((q : K) → list_any (eq_by_cmp R q) ks ≡ false → f q ≡ None) → (q : K) → get (of_keys {R = R} ks f) q ≡ f q
+  pub get-of_all_keys : (ks : List K) (f : K → Option X) → ((q : K) → list_any (eq_by_cmp R q) ks ≡ false → f q ≡ None) → (q : K)
+      → get (of_keys {R = R} ks f) q ≡ f q
   get-of_all_keys ks f beyond q = get-of_keys ks f q ∙ by_case (list_any (eq_by_cmp R q) ks) refl
     where
       by_case : (b : Bool) → list_any (eq_by_cmp R q) ks ≡ b → cond b (f q) None ≡ f q
@@ -85,6 +89,7 @@ module _ {K X : Type 0} {R : K → K → Ordering} (o : IsTotalOrder R) (same : 
       beyond : (q : K) → list_any (eq_by_cmp R q) (keys m ++ keys n) ≡ false → f (get m q) (get n q) ≡ None
       beyond q e = rw (missing m q (any_front (eq_by_cmp R q) (keys m) (keys n) e), missing n q (any_back (eq_by_cmp R q) (keys m) (keys n) e)) none
 
-pub get-map_some : {K X Y : Type 0} {R : K → K → Ordering} → IsTotalOrder R → IsAntisymmetric R → (f : X → Option Y) (m : FinMap R X) (q : K) → get (map_some f m) q ≡ option_and_then f (get m q)
+pub get-map_some : {K X Y : Type 0} {R : K → K → Ordering} → IsTotalOrder R → IsAntisymmetric R → (f : X → Option Y) (m : FinMap R X) (q : K)
+    → get (map_some f m) q ≡ option_and_then f (get m q)
 unfolding map_some
 get-map_some o same f m = get-of_all_keys o same (keys m) (λ k. option_and_then f (get m k)) (λ q e. ap (option_and_then f) (missing m q e))

@@ -73,7 +73,8 @@ maybe_semilattice {X} s =
     always (Some x) = tt
 
 -- what two lists give together
-pub join_of-append : {A X : Type 0} {f : X → X → X} → IsSemilattice f → (g : A → Option X) (xs ys : List A) → join_of f g (xs ++ ys) ≡ maybe f (join_of f g xs) (join_of f g ys)
+pub join_of-append : {A X : Type 0} {f : X → X → X} → IsSemilattice f → (g : A → Option X) (xs ys : List A)
+    → join_of f g (xs ++ ys) ≡ maybe f (join_of f g xs) (join_of f g ys)
 join_of-append s g [] ys = refl
 join_of-append {f = f} s g (x ∷ xs) ys = ap (maybe f (g x)) (join_of-append s g xs ys) ∙ sym ((maybe_semilattice s).assoc (g x) _ _)
 

@@ -19,7 +19,8 @@ pub stamp_total : IsTotalOrder stamp_cmp
 stamp_total = then_total (on_total (λ s. s.time) nat_cmp_total) (on_total (λ s. s.node) nat_cmp_total)
 
 pub stamp_exact : IsAntisymmetric stamp_cmp
-stamp_exact a b h = ap (λ (p : ℕ × ℕ). record { time = p.0; node = p.1 }) (exact_pairs nat_cmp nat_cmp exact_unsigned exact_unsigned (a.time, a.node) (b.time, b.node) h)
+stamp_exact a b h =
+    ap (λ (p : ℕ × ℕ). record { time = p.0; node = p.1 }) (exact_pairs nat_cmp nat_cmp exact_unsigned exact_unsigned (a.time, a.node) (b.time, b.node) h)
 
 -- a is earlier than b (own)
 abbrev pub is_earlier : Stamp → Stamp → Bool

@@ -1,5 +1,6 @@
 -- Houses without a fault are those of the grammar, and a fault is at the first place that breaks them.
-use Rattle.std.proofs.Common.{suc, zero, ◌≡◌, ◌≢◌, ℕ, ◌+◌, ◌-◌, ◌≤◌, ◌<◌, Bool, true, false, List, [], ◌∷◌, length, length-take-le, take, map, Some, None, refl, sym, ap, subst, ◌∙◌, arith}
+use Rattle.std.proofs.Common.{suc, zero, ◌≡◌, ◌≢◌, ℕ, ◌+◌, ◌-◌, ◌≤◌, ◌<◌, Bool, true, false, List}
+use Rattle.std.proofs.Common.{[], ◌∷◌, length, length-take-le, take, map, Some, None, refl, sym, ap, subst, ◌∙◌, arith}
 use Rattle.std.specs.Prelude.{◌↔◌, IsTrue, min, nat_lt, ◌==◌, ◌&&◌, ◌||◌, if◌then◌else◌}
 use Rattle.std.proofs.lemmas.Bool.Decides.{Decides-eqb}
 use Rattle.std.proofs.lemmas.Slice.Eq.{bytes_eq-Decides}
@@ -34,7 +35,8 @@ count-short : (master least : ℕ) (hs : List ℕ) → count_in_order master lea
 count-short master least [] = omega arith
 count-short master least (h ∷ hs) = by_test ((h == master) || nat_lt h least) (count-short master (h + 1) hs)
   where
-    by_test : (misplaced : Bool) → count_in_order master (h + 1) hs ≤ length hs → (if misplaced then 0 else 1 + count_in_order master (h + 1) hs) ≤ length (h ∷ hs)
+    by_test : (misplaced : Bool) → count_in_order master (h + 1) hs ≤ length hs
+        → (if misplaced then 0 else 1 + count_in_order master (h + 1) hs) ≤ length (h ∷ hs)
     by_test true rest = omega arith
     by_test false rest = omega (arith, rest)
 
@@ -74,9 +76,12 @@ faulty true x y e = cc
 faulty false x y e = (refl, cc)
 
 -- of a front of houses, the fault is that of all up to its end
-front_fault : (master n : ℕ) (others : List ℕ) → n ≤ length others → list_fault master (take n others) ≡ (if min n (min (count_in_order master 0 others) 63) == n then None else Some (BadHouses (min n (min (count_in_order master 0 others) 63) + 1)))
+front_fault : (master n : ℕ) (others : List ℕ) → n ≤ length others
+    → list_fault master (take n others)
+    ≡ (if min n (min (count_in_order master 0 others) 63) == n then None else Some (BadHouses (min n (min (count_in_order master 0 others) 63) + 1)))
 front_fault master n others h =
-    let ordered : min (count_in_order master 0 (take n others)) 63 ≡ min n (min (count_in_order master 0 others) 63) = omega (arith, count-take master 0 n others) in
+    let ordered : min (count_in_order master 0 (take n others)) 63
+    ≡ min n (min (count_in_order master 0 others) 63) = omega (arith, count-take master 0 n others) in
     let long : length (take n others) ≡ n = length-take-le n others h in
     rw (ordered, long) refl
 
@@ -94,15 +99,22 @@ first_bad master n others is more = (
 
 -- a fault is at the first place up to which the houses are not of the grammar
 pub list_fault-first : (master : ℕ) (others : List ℕ) (place : ℕ) → list_fault master others ≡ Some (BadHouses place)
-    → (1 ≤ place) × (place ≤ length others) × IsHouses (record { master = master; others = take (place - 1) others }) × ¬ IsHouses (record { master = master; others = take place others })
+    → (1 ≤ place) × (place ≤ length others) × IsHouses (record { master = master; others = take (place - 1) others })
+    × ¬ IsHouses (record { master = master; others = take place others })
 list_fault-first master others place e =
     let n = place - 1 in
-    let found = faulty (min (count_in_order master 0 others) 63 == length others) (BadHouses (min (count_in_order master 0 others) 63 + 1)) (BadHouses place) e in
+    let found =
+    faulty (min (count_in_order master 0 others) 63 == length others) (BadHouses (min (count_in_order master 0 others) 63 + 1)) (BadHouses place) e in
     let at : min (count_in_order master 0 others) 63 + 1 ≡ place = cc (found.1) in
     let less : min (count_in_order master 0 others) 63 ≢ length others = grind (arith, found.0) in
     let bad = first_bad master n others (omega (arith, at)) (omega (arith, at, less, count-short master 0 others)) in
-    let same : n + 1 ≡ place = omega (arith, at) in
-    (omega (arith, at), omega (arith, at, less, count-short master 0 others), bad.0, subst (λ (place : ℕ). ¬ IsHouses (record { master = master; others = take place others })) same bad.1)
+    let same : n + 1 ≡ place = omega (arith, at) in (
+      omega (arith, at),
+      omega (arith, at, less, count-short master 0 others),
+      bad.0,
+      subst (λ
+          (place : ℕ). ¬ IsHouses (record { master = master; others = take place others })) same bad.1,
+    )
 
 both : (x y : Bool) → (x && y) ≡ true → (x ≡ true) × (y ≡ true)
 both true y e = (refl, e)

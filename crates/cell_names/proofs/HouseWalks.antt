@@ -28,12 +28,16 @@ at_next place room ordered all e =
     let at : min ordered (room - 1) + (place + 1) ≡ min (1 + ordered) room + place = omega arith in
     rw (one, at) refl
 
-walk_list-behind : (master place room least : ℕ) (hs : List ℕ) → walk_list master place room least hs ≡ behind_room place room (count_in_order master least hs) (length hs)
+walk_list-behind : (master place room least : ℕ) (hs : List ℕ)
+    → walk_list master place room least hs ≡ behind_room place room (count_in_order master least hs) (length hs)
 walk_list-behind master place room least [] = grind arith
-walk_list-behind master place room least (h ∷ hs) = by_tests (room == 0) refl (h == master || nat_lt h least) (walk_list-behind master (place + 1) (room - 1) (h + 1) hs)
+walk_list-behind master place room least (h ∷ hs) =
+    by_tests (room == 0) refl (h == master || nat_lt h least) (walk_list-behind master (place + 1) (room - 1) (h + 1) hs)
   where
-    by_tests : (full : Bool) → (room == 0) ≡ full → (misplaced : Bool) → walk_list master (place + 1) (room - 1) (h + 1) hs ≡ behind_room (place + 1) (room - 1) (count_in_order master (h + 1) hs) (length hs)
-        → (if full || misplaced then Some (BadHouses place) else walk_list master (place + 1) (room - 1) (h + 1) hs) ≡ behind_room place room (if misplaced then 0 else 1 + count_in_order master (h + 1) hs) (length (h ∷ hs))
+    by_tests : (full : Bool) → (room == 0) ≡ full → (misplaced : Bool)
+        → walk_list master (place + 1) (room - 1) (h + 1) hs ≡ behind_room (place + 1) (room - 1) (count_in_order master (h + 1) hs) (length hs)
+        → (if full || misplaced then Some (BadHouses place) else walk_list master (place + 1) (room - 1) (h + 1) hs)
+        ≡ behind_room place room (if misplaced then 0 else 1 + count_in_order master (h + 1) hs) (length (h ∷ hs))
     by_tests true e misplaced rest = at_full place room _ (length (h ∷ hs)) e (omega arith)
     by_tests false e true rest = at_misplaced place room (length (h ∷ hs)) (omega arith)
     by_tests false e false rest = rest ∙ at_next place room _ (length hs) e

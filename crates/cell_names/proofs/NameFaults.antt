@@ -1,5 +1,6 @@
 -- Faults of full names are at the first place at which the octets stop being the front of a name of any length.
-use Rattle.std.proofs.Common.{◌≡◌, ℕ, suc, ◌+◌, ◌≤◌, Bool, true, false, List, [], ◌∷◌, ◌++◌, length, take, Option, Some, None, refl, sym, ap, ◌∙◌, ◌⊎◌, inl, inr, subst, arith, take_all}
+use Rattle.std.proofs.Common.{◌≡◌, ℕ, suc, ◌+◌, ◌≤◌, Bool, true, false, List, [], ◌∷◌, ◌++◌, length}
+use Rattle.std.proofs.Common.{take, Option, Some, None, refl, sym, ap, ◌∙◌, ◌⊎◌, inl, inr, subst, arith, take_all}
 use Rattle.std.specs.Prelude.{not, nat_eq, nat_lt, ◌==◌, ◌||◌, if◌then◌else◌}
 use Rattle.std.specs.List.{AllByRecursion, slice_split, starts_with}
 use Rattle.std.specs.Cmp.Lexicographic.{pointwise}
@@ -11,7 +12,8 @@ use Rattle.cds_stamps.specs.declared.names.NameFault.TheVariants.{Empty, BadOcte
 use Rattle.cds_stamps.specs.Names.{is_name_octet, IsSimpleName}
 use Rattle.cds_stamps.specs.Fronts.{IsFront, IsFirstBad, EndsEarly}
 use Rattle.cds_stamps.proofs.FirstFaults.{after, IsWalk, IsBad, IsEnd, Cut, cut, no_both, first_bad}
-use Rattle.cell_names.specs.FullNames.{cell_root, slash, behind_slashes, spelling, is_local, components_of, components_fault, first_component, longest_name, name_fault, IsNameOfAnyLength}
+use Rattle.cell_names.specs.FullNames.{cell_root, slash, behind_slashes, spelling, is_local}
+use Rattle.cell_names.specs.FullNames.{components_of, components_fault, first_component, longest_name, name_fault, IsNameOfAnyLength}
 use Rattle.cell_names.proofs.NameWalks.{walk_fault, walk_fault-components}
 use Rattle.cell_names.proofs.FullNameLaws.{components_lawful, components_none, tail_of-slice_split, slice_split-tail_of}
 
@@ -35,7 +37,11 @@ abbrev walk_step : State → ℕ → NameFault ⊎ State
 walk_step s b = stepped s (b == slash) (s.1 == 0) (is_name_octet b) (s.1 == 254)
 
 name_walk : IsWalk walk_from walk_step (λ s. s.0)
-name_walk = record { steps = λ s b bs. steps s (b == slash) (s.1 == 0) (is_name_octet b) (s.1 == 254) bs; counts = λ s t b. counts s t (b == slash) (s.1 == 0) (is_name_octet b) (s.1 == 254) }
+name_walk =
+    record {
+      steps = λ s b bs. steps s (b == slash) (s.1 == 0) (is_name_octet b) (s.1 == 254) bs;
+      counts = λ s t b. counts s t (b == slash) (s.1 == 0) (is_name_octet b) (s.1 == 254);
+    }
   where
     steps : (s : State) (at_slash none octet full : Bool) (bs : List ℕ)
         → (if at_slash then (if none then Some (Empty s.0) else walk_fault (s.0 + 1) 0 bs)
@@ -132,7 +138,8 @@ missing s fault e = by_none (s.1 == 0) e
     by_none false e = cc
 
 -- the fault of octets behind `/.:/`
-walked_first : (bs : List ℕ) (fault : NameFault) (place : ℕ) → walk_fault first_component 0 bs ≡ Some fault → IsPlaceFault fault place → IsAtFirst (cell_root ++ slash ∷ bs) fault place
+walked_first : (bs : List ℕ) (fault : NameFault) (place : ℕ) → walk_fault first_component 0 bs ≡ Some fault → IsPlaceFault fault place
+    → IsAtFirst (cell_root ++ slash ∷ bs) fault place
 walked_first bs fault place e placed = by_kind c.kind
   where
     c : Cut walk_from walk_step (λ s. s.0) (first_component, 0) bs fault
@@ -144,9 +151,11 @@ walked_first bs fault place e placed = by_kind c.kind
     front : IsFront IsNameOfAnyLength (cell_root ++ slash ∷ take c.k bs)
     front = record { rest = on.0; lawful = walked_name (take c.k bs ++ on.0) (c.before on.0 on.1) }
 
-    by_kind : IsBad walk_from walk_step (λ s. s.0) (first_component, 0) bs fault c.k c.state ⊎ IsEnd walk_from walk_step (λ s. s.0) bs fault c.k c.state → IsAtFirst (cell_root ++ slash ∷ bs) fault place
+    by_kind : IsBad walk_from walk_step (λ s. s.0) (first_component, 0) bs fault c.k c.state ⊎ IsEnd walk_from walk_step (λ s. s.0) bs fault c.k c.state
+        → IsAtFirst (cell_root ++ slash ∷ bs) fault place
     by_kind (inl b) =
-        let here : ¬ IsFront IsNameOfAnyLength (cell_root ++ slash ∷ take (suc c.k) bs) = λ front. no_both _ fault (name_walked _ front.lawful) (b.here front.rest) in
+        let here : ¬ IsFront IsNameOfAnyLength (cell_root ++ slash ∷ take (suc c.k) bs) =
+        λ front. no_both _ fault (name_walked _ front.lawful) (b.here front.rest) in
         let is : place ≡ c.state.0 = same_place fault place c.state.0 placed (walk_kind c.state b.item fault b.bad) in
         let at : place ≡ suc (suc (suc (suc (suc c.k)))) = omega (arith, is, c.place) in
         inl (first_bad IsNameOfAnyLength (cell_root ++ slash ∷ bs) (suc (suc (suc (suc c.k)))) place at (omega (arith, b.inside)) front here)
@@ -156,14 +165,17 @@ walked_first bs fault place e placed = by_kind c.kind
         inr (
           record {
             end = omega (arith, is, c.place, m.all);
-            before = subst (λ (xs : List ℕ). IsFront IsNameOfAnyLength (cell_root ++ slash ∷ xs)) (take_all c.k bs (let le : length bs ≤ c.k = omega (arith, m.all) in le)) front;
+            before =
+                subst (λ (xs : List ℕ). IsFront IsNameOfAnyLength (cell_root ++ slash ∷ xs)) (take_all c.k bs (let le : length bs ≤ c.k = omega
+                (arith, m.all) in le)) front;
             short = λ name. no_both _ fault (name_walked bs name) e;
           },
           end ∙ ap Empty (sym is),
         )
 
 -- a test that finds a fault, or does not
-tested : {E : Type 0} (test : Bool) (fault : E) (rest : Option E) (e : E) → (if test then Some fault else rest) ≡ Some e → (fault ≡ e) ⊎ ((test ≡ false) × (rest ≡ Some e))
+tested : {E : Type 0} (test : Bool) (fault : E) (rest : Option E) (e : E) → (if test then Some fault else rest) ≡ Some e
+    → (fault ≡ e) ⊎ ((test ≡ false) × (rest ≡ Some e))
 tested true fault rest e h = inl cc
 tested false fault rest e h = inr (refl, h)
 
@@ -172,7 +184,8 @@ holds true e = refl
 holds false e = cc
 
 -- the fault of a full name's octets, where it has a place
-pub name_fault-first : (octets : List ℕ) (fault : NameFault) (place : ℕ) → name_fault octets ≡ Some fault → IsPlaceFault fault place → IsAtFirst octets fault place
+pub name_fault-first : (octets : List ℕ) (fault : NameFault) (place : ℕ) → name_fault octets ≡ Some fault → IsPlaceFault fault place
+    → IsAtFirst octets fault place
 name_fault-first [] fault place e placed =
     let end : fault ≡ Empty 1 = cc (e) in
     let is : place ≡ 1 = same_place fault place 1 placed (inl end) in
@@ -201,21 +214,29 @@ name_fault-first (b ∷ bs) fault place e placed = by_local (tested (not (is_loc
         by_placed (inr (inr a)) = absurd (cc (a, same, n))
 
     -- what stands behind `/.:`
-    by_root : (t : Bool) → pointwise nat_eq (b ∷ bs) cell_root ≡ t → (t || starts_with nat_eq (b ∷ bs) (cell_root ++ slash ∷ [])) ≡ true → components_fault first_component (components_of (b ∷ bs)) ≡ Some fault → IsAtFirst (b ∷ bs) fault place
+    by_root : (t : Bool) → pointwise nat_eq (b ∷ bs) cell_root ≡ t → (t || starts_with nat_eq (b ∷ bs) (cell_root ++ slash ∷ [])) ≡ true
+        → components_fault first_component (components_of (b ∷ bs)) ≡ Some fault → IsAtFirst (b ∷ bs) fault place
     by_root true root local e =
         let same : b ∷ bs ≡ cell_root = (bytes_eq-Decides (b ∷ bs) cell_root).0 root in
         absurd (cc (sym (ap (λ (o : List ℕ). components_fault first_component (components_of o)) same) ∙ e))
     by_root false root local e = behind _ ((starts_is Decides-eqb (b ∷ bs) (cell_root ++ slash ∷ []) _ refl).0 local) e
       where
-        behind : (rest : List ℕ) → b ∷ bs ≡ cell_root ++ slash ∷ rest → components_fault first_component (components_of (b ∷ bs)) ≡ Some fault → IsAtFirst (b ∷ bs) fault place
+        behind : (rest : List ℕ) → b ∷ bs ≡ cell_root ++ slash ∷ rest → components_fault first_component (components_of (b ∷ bs)) ≡ Some fault
+            → IsAtFirst (b ∷ bs) fault place
         behind rest same e =
-            let walked : walk_fault first_component 0 rest ≡ Some fault = walk_fault-components first_component rest ∙ sym (ap (λ (o : List ℕ). components_fault first_component (components_of o)) same) ∙ e in
+            let walked : walk_fault first_component 0 rest ≡ Some fault = walk_fault-components first_component rest
+            ∙ sym (ap (λ (o : List ℕ). components_fault first_component (components_of o)) same) ∙ e in
             subst (λ (o : List ℕ). IsAtFirst o fault place) (sym same) (walked_first rest fault place walked placed)
 
-    by_local : (NotLocal ≡ fault) ⊎ ((not (is_local (b ∷ bs)) ≡ false) × ((if nat_lt longest_name (length (b ∷ bs)) then Some NameTooLong else components_fault first_component (components_of (b ∷ bs))) ≡ Some fault)) → IsAtFirst (b ∷ bs) fault place
+    by_local : (NotLocal ≡ fault)
+        ⊎ ((not (is_local (b ∷ bs)) ≡ false) ×
+        ((if nat_lt longest_name (length (b ∷ bs)) then Some NameTooLong else components_fault first_component (components_of (b ∷ bs))) ≡ Some fault))
+        → IsAtFirst (b ∷ bs) fault place
     by_local (inl same) = absurd (no_place NotLocal same (inl refl))
     by_local (inr l) = by_long (tested (nat_lt longest_name (length (b ∷ bs))) NameTooLong _ fault l.1)
       where
-        by_long : (NameTooLong ≡ fault) ⊎ ((nat_lt longest_name (length (b ∷ bs)) ≡ false) × (components_fault first_component (components_of (b ∷ bs)) ≡ Some fault)) → IsAtFirst (b ∷ bs) fault place
+        by_long : (NameTooLong ≡ fault)
+            ⊎ ((nat_lt longest_name (length (b ∷ bs)) ≡ false) × (components_fault first_component (components_of (b ∷ bs)) ≡ Some fault))
+            → IsAtFirst (b ∷ bs) fault place
         by_long (inl same) = absurd (no_place NameTooLong same (inr refl))
         by_long (inr h) = by_root (pointwise nat_eq (b ∷ bs) cell_root) refl (holds _ l.0) h.1

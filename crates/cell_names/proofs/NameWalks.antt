@@ -27,7 +27,8 @@ begun_fault-new place ([] ∷ cs) = refl
 begun_fault-new place ((b ∷ bs) ∷ cs) = refl
 
 option_or-octet : (octet full : Bool) (x y : NameFault) (rest others : Option NameFault)
-    → option_or (if not octet then Some x else (if full then Some y else rest)) others ≡ (if not octet then Some x else (if full then Some y else option_or rest others))
+    → option_or (if not octet then Some x else (if full then Some y else rest)) others
+    ≡ (if not octet then Some x else (if full then Some y else option_or rest others))
 option_or-octet true true x y rest others = refl
 option_or-octet true false x y rest others = refl
 option_or-octet false full x y rest others = refl
@@ -40,21 +41,25 @@ next_begun n = grind arith
 
 -- one octet more in front of the first component
 begun_fault-onto_first : (place n b : ℕ) (cs : List (List ℕ))
-    → begun_fault place n (onto_first b cs) ≡ (if not (is_name_octet b) then Some (BadOctet place) else (if n == 254 then Some (ComponentTooLong place) else begun_fault (place + 1) (n + 1) cs))
+    → begun_fault place n (onto_first b cs)
+    ≡ (if not (is_name_octet b) then Some (BadOctet place) else (if n == 254 then Some (ComponentTooLong place) else begun_fault (place + 1) (n + 1) cs))
 begun_fault-onto_first place n b [] =
     rw (next_full n) (option_or-octet (is_name_octet b) (n == 254) (BadOctet place) (ComponentTooLong place) None None)
 begun_fault-onto_first place n b ([] ∷ cs) =
-    rw (next_full n, next_begun n) (option_or-octet (is_name_octet b) (n == 254) (BadOctet place) (ComponentTooLong place) None (components_fault (place + 1 + 1) cs))
+    rw (next_full n, next_begun n) (option_or-octet (is_name_octet b) (n == 254) (BadOctet place) (ComponentTooLong place) None (components_fault
+    (place + 1 + 1) cs))
 begun_fault-onto_first place n b ((c ∷ bs) ∷ cs) =
     let further : place + length (b ∷ c ∷ bs) + 1 ≡ place + 1 + length (c ∷ bs) + 1 = omega arith in
-    rw (next_full n, further) (option_or-octet (is_name_octet b) (n == 254) (BadOctet place) (ComponentTooLong place) (component_fault (place + 1) (n + 1 + 1) (c ∷ bs)) (components_fault (place + 1 + length (c ∷ bs) + 1) cs))
+    rw (next_full n, further) (option_or-octet (is_name_octet b) (n == 254) (BadOctet place) (ComponentTooLong place) (component_fault
+    (place + 1) (n + 1 + 1) (c ∷ bs)) (components_fault (place + 1 + length (c ∷ bs) + 1) cs))
 
 -- octet by octet and by components the same fault is first
 pub walk_fault-begun : (place n : ℕ) (bs : List ℕ) → walk_fault place n bs ≡ begun_fault place n (slice_split (λ b. b == slash) bs)
 walk_fault-begun place n [] = refl
 walk_fault-begun place n (b ∷ bs) = by_slash (b == slash) (walk_fault-begun (place + 1) 0 bs) (walk_fault-begun (place + 1) (n + 1) bs)
   where
-    by_slash : (t : Bool) → walk_fault (place + 1) 0 bs ≡ begun_fault (place + 1) 0 (slice_split (λ b. b == slash) bs) → walk_fault (place + 1) (n + 1) bs ≡ begun_fault (place + 1) (n + 1) (slice_split (λ b. b == slash) bs)
+    by_slash : (t : Bool) → walk_fault (place + 1) 0 bs ≡ begun_fault (place + 1) 0 (slice_split (λ b. b == slash) bs)
+        → walk_fault (place + 1) (n + 1) bs ≡ begun_fault (place + 1) (n + 1) (slice_split (λ b. b == slash) bs)
         → (if t then (if n == 0 then Some (Empty place) else walk_fault (place + 1) 0 bs)
         else (if not (is_name_octet b) then Some (BadOctet place) else (if n == 254 then Some (ComponentTooLong place) else walk_fault (place + 1) (n + 1) bs)))
         ≡ begun_fault place n (cond t ([] ∷ slice_split (λ b. b == slash) bs) (onto_first b (slice_split (λ b. b == slash) bs)))

@@ -1,5 +1,6 @@
 -- Octets without a fault are those of the child pointers of the grammar, and say what was written.
-use Rattle.std.proofs.Common.{suc, zero, subst, ◌≡◌, ◌≢◌, ℕ, ◌+◌, ◌-◌, ◌≤◌, ◌<◌, ◌^◌, Bool, true, false, List, [], ◌∷◌, ◌++◌, length, get_or, drop, Option, Some, None, refl, sym, ap, ◌∙◌, arith}
+use Rattle.std.proofs.Common.{suc, zero, subst, ◌≡◌, ◌≢◌, ℕ, ◌+◌, ◌-◌, ◌≤◌, ◌<◌, ◌^◌, Bool, true, false}
+use Rattle.std.proofs.Common.{List, [], ◌∷◌, ◌++◌, length, get_or, drop, Option, Some, None, refl, sym, ap, ◌∙◌, arith}
 use Rattle.std.specs.Prelude.{◌↔◌, is_none, nat_lt, ◌==◌, ◌||◌, if◌then◌else◌}
 use Rattle.std.specs.Int.{to_be_bytes, from_be_bytes, w32}
 use Rattle.std.specs.List.{All}
@@ -33,7 +34,8 @@ written_none p lawful =
     let few = lawful.few in
     let count : ((1 + length p.others == 0) || nat_lt most_houses (1 + length p.others)) ≡ false = grind (arith, few) in
     let rest : 1 + length p.others - 1 ≡ length p.others = omega arith in
-    rw (count, rest) (sym (walk_others-others_fault p.master 7 (length p.others) p.others) ∙ others_none p.master 7 0 p.others (houses_rise p.master p.others lawful))
+    rw (count, rest) (sym (walk_others-others_fault p.master 7
+    (length p.others) p.others) ∙ others_none p.master 7 0 p.others (houses_rise p.master p.others lawful))
 
 -- what is written is read again
 pub written_read : (p : Pointer) → p.dir < 2 ^ 32 → IsHouses (record { master = p.master; others = p.others }) → pointer_of (pointer_octets p) ≡ Some p
@@ -53,7 +55,8 @@ answered true x y e = (refl, cc)
 answered false x y e = cc
 
 -- the octets of a directory
-directory : (a b c d : ℕ) → a < 2 ^ 8 → b < 2 ^ 8 → c < 2 ^ 8 → d < 2 ^ 8 → (from_be_bytes w32 (a ∷ b ∷ c ∷ d ∷ []) < 2 ^ 32) × (to_be_bytes w32 (from_be_bytes w32 (a ∷ b ∷ c ∷ d ∷ [])) ≡ a ∷ b ∷ c ∷ d ∷ [])
+directory : (a b c d : ℕ) → a < 2 ^ 8 → b < 2 ^ 8 → c < 2 ^ 8 → d < 2 ^ 8
+    → (from_be_bytes w32 (a ∷ b ∷ c ∷ d ∷ []) < 2 ^ 32) × (to_be_bytes w32 (from_be_bytes w32 (a ∷ b ∷ c ∷ d ∷ [])) ≡ a ∷ b ∷ c ∷ d ∷ [])
 directory a b c d p q r s = (omega arith, be_bytes_4 (a ∷ b ∷ c ∷ d ∷ []) (from_be_bytes w32 (a ∷ b ∷ c ∷ d ∷ [])) refl each refl)
   where
     each : (i : ℕ) → get_or (a ∷ b ∷ c ∷ d ∷ []) i 0 < 256
@@ -64,7 +67,8 @@ directory a b c d p q r s = (omega arith, be_bytes_4 (a ∷ b ∷ c ∷ d ∷ []
     each (suc (suc (suc (suc i)))) = omega arith
 
 -- the houses that octets without a fault say, and how many there are
-houses_said : (a b c d count master : ℕ) (others : List ℕ) → pointer_fault (a ∷ b ∷ c ∷ d ∷ count ∷ master ∷ others) ≡ None → IsHouses (record { master = master; others = others }) × (count ≡ 1 + length others)
+houses_said : (a b c d count master : ℕ) (others : List ℕ) → pointer_fault (a ∷ b ∷ c ∷ d ∷ count ∷ master ∷ others) ≡ None
+    → IsHouses (record { master = master; others = others }) × (count ≡ 1 + length others)
 houses_said a b c d count master others e =
     let counted = no_fault ((count == 0) || nat_lt most_houses count) _ _ e in
     let found = others_rise master 7 (count - 1) 0 others (walk_others-others_fault master 7 (count - 1) others ∙ counted.1) in
@@ -76,20 +80,30 @@ houses_read (a ∷ b ∷ c ∷ d ∷ count ∷ master ∷ others) h e = (houses_
 houses_read _ h e = absurd (omega arith)
 
 -- what octets without a fault say, and how that is written
-said : (a b c d count master : ℕ) (others : List ℕ) → All (λ b. b < 2 ^ 8) (a ∷ b ∷ c ∷ d ∷ count ∷ master ∷ others) → pointer_fault (a ∷ b ∷ c ∷ d ∷ count ∷ master ∷ others) ≡ None
-    → let p : Pointer = record { dir = from_be_bytes w32 (a ∷ b ∷ c ∷ d ∷ []); master = master; others = others } in IsPointer p × (a ∷ b ∷ c ∷ d ∷ count ∷ master ∷ others ≡ pointer_octets p)
+said : (a b c d count master : ℕ) (others : List ℕ) → All (λ b. b < 2 ^ 8) (a ∷ b ∷ c ∷ d ∷ count ∷ master ∷ others)
+    → pointer_fault (a ∷ b ∷ c ∷ d ∷ count ∷ master ∷ others) ≡ None
+    → let p : Pointer = record { dir = from_be_bytes w32 (a ∷ b ∷ c ∷ d ∷ []); master = master; others = others } in IsPointer p
+    × (a ∷ b ∷ c ∷ d ∷ count ∷ master ∷ others ≡ pointer_octets p)
 said a b c d count master others all e =
     let houses = houses_said a b c d count master others e in
     let dir = directory a b c d (all 0 0 (omega arith)) (all 1 0 (omega arith)) (all 2 0 (omega arith)) (all 3 0 (omega arith)) in (
-      record { dir = dir.0; master = all 5 0 (omega arith); others = All-drop (λ b. b < 2 ^ 8) 6 (a ∷ b ∷ c ∷ d ∷ count ∷ master ∷ others) all; houses = houses.0 },
+      record {
+        dir = dir.0;
+        master = all 5 0 (omega arith);
+        others = All-drop (λ b. b < 2 ^ 8) 6 (a ∷ b ∷ c ∷ d ∷ count ∷ master ∷ others) all;
+        houses = houses.0;
+      },
       ap (λ (n : ℕ). a ∷ b ∷ c ∷ d ∷ n ∷ master ∷ others) houses.1 ∙ sym (ap (λ (front : List ℕ). front ++ (1 + length others) ∷ master ∷ others) dir.1),
     )
 
 -- what is read is what was written
-pub pointer_octets-pointer_of : (octets : List ℕ) (p : Pointer) → All (λ b. b < 2 ^ 8) octets → pointer_of octets ≡ Some p → IsPointer p × (octets ≡ pointer_octets p)
+pub pointer_octets-pointer_of : (octets : List ℕ) (p : Pointer) → All (λ b. b < 2 ^ 8) octets → pointer_of octets ≡ Some p
+    → IsPointer p × (octets ≡ pointer_octets p)
 pointer_octets-pointer_of (a ∷ b ∷ c ∷ d ∷ count ∷ master ∷ others) p all e =
     let read = answered _ _ p e in
-    subst (λ (p : Pointer). IsPointer p × (a ∷ b ∷ c ∷ d ∷ count ∷ master ∷ others ≡ pointer_octets p)) read.1 (said a b c d count master others all (none_found _ read.0))
+    subst (λ
+    (p : Pointer). IsPointer p
+    × (a ∷ b ∷ c ∷ d ∷ count ∷ master ∷ others ≡ pointer_octets p)) read.1 (said a b c d count master others all (none_found _ read.0))
 pointer_octets-pointer_of _ p all e = cc
 
 -- no fault is found exactly in the octets of a pointer
@@ -97,6 +111,7 @@ pub pointer_fault-none : (octets : List ℕ) → All (λ b. b < 2 ^ 8) octets �
 pointer_fault-none octets all = (λ e. read octets all e, λ h. rw h.spelled (written_none h.pointer h.lawful.houses))
   where
     read : (octets : List ℕ) → All (λ b. b < 2 ^ 8) octets → pointer_fault octets ≡ None → IsChildPointer octets
-    read (a ∷ b ∷ c ∷ d ∷ count ∷ master ∷ others) all e = let found = said a b c d count master others all e in record { pointer = _; lawful = found.0; spelled = found.1 }
+    read (a ∷ b ∷ c ∷ d ∷ count ∷ master ∷ others) all e =
+        let found = said a b c d count master others all e in record { pointer = _; lawful = found.0; spelled = found.1 }
     read (a ∷ b ∷ c ∷ d ∷ count ∷ []) all e = let counted = no_fault ((count == 0) || nat_lt most_houses count) _ _ e in cc
     read _ all e = cc

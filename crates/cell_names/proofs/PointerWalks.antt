@@ -34,12 +34,16 @@ behind-next place count ordered all e =
     rw (one, two, at) refl
 
 -- house by house the same fault is found
-walk_others-behind : (master place count least : ℕ) (hs : List ℕ) → walk_others master place count least hs ≡ behind place count (count_in_order master least hs) (length hs)
+walk_others-behind : (master place count least : ℕ) (hs : List ℕ)
+    → walk_others master place count least hs ≡ behind place count (count_in_order master least hs) (length hs)
 walk_others-behind master place count least [] = behind-none place count
-walk_others-behind master place count least (h ∷ hs) = by_tests (count == 0) refl (h == master || nat_lt h least) (walk_others-behind master (place + 1) (count - 1) (h + 1) hs)
+walk_others-behind master place count least (h ∷ hs) =
+    by_tests (count == 0) refl (h == master || nat_lt h least) (walk_others-behind master (place + 1) (count - 1) (h + 1) hs)
   where
-    by_tests : (full : Bool) → (count == 0) ≡ full → (misplaced : Bool) → walk_others master (place + 1) (count - 1) (h + 1) hs ≡ behind (place + 1) (count - 1) (count_in_order master (h + 1) hs) (length hs)
-        → (if full || misplaced then Some (BadChild place) else walk_others master (place + 1) (count - 1) (h + 1) hs) ≡ behind place count (if misplaced then 0 else 1 + count_in_order master (h + 1) hs) (length (h ∷ hs))
+    by_tests : (full : Bool) → (count == 0) ≡ full → (misplaced : Bool)
+        → walk_others master (place + 1) (count - 1) (h + 1) hs ≡ behind (place + 1) (count - 1) (count_in_order master (h + 1) hs) (length hs)
+        → (if full || misplaced then Some (BadChild place) else walk_others master (place + 1) (count - 1) (h + 1) hs)
+        ≡ behind place count (if misplaced then 0 else 1 + count_in_order master (h + 1) hs) (length (h ∷ hs))
     by_tests true e misplaced rest = behind-full place count _ (length (h ∷ hs)) e (omega arith)
     by_tests false e true rest = behind-misplaced place count (length (h ∷ hs)) e
     by_tests false e false rest = rest ∙ behind-next place count _ (length hs) e

@@ -25,7 +25,8 @@ rising-next h (i ∷ hs) up = omega (arith, up 0 (omega arith))
 
 rises : (master least : ℕ) (hs : List ℕ) → IsStrictlyIncreasing hs → All (λ h. h ≢ master) hs → BeginsFrom least hs → Rises master least hs
 rises master least [] up apart from = tt
-rises master least (h ∷ hs) up apart from = (All-head (λ h. h ≢ master) h hs apart, from, rises master (h + 1) hs (rising-tail h hs up) (All-tail (λ h. h ≢ master) h hs apart) (rising-next h hs up))
+rises master least (h ∷ hs) up apart from =
+    (All-head (λ h. h ≢ master) h hs apart, from, rises master (h + 1) hs (rising-tail h hs up) (All-tail (λ h. h ≢ master) h hs apart) (rising-next h hs up))
 
 rises-from : (master least : ℕ) (hs : List ℕ) → Rises master least hs → BeginsFrom least hs
 rises-from master least [] r = tt
@@ -56,5 +57,6 @@ houses_rise master others lawful = rises master 0 others lawful.ascending lawful
     from_none (h ∷ hs) = omega arith
 
 -- and those that rise are of the grammar, where they are not too many
-pub rises-houses : (master : ℕ) (others : List ℕ) → Rises master 0 others → 1 + length others ≤ most_houses → IsHouses (record { master = master; others = others })
+pub rises-houses : (master : ℕ) (others : List ℕ) → Rises master 0 others → 1 + length others ≤ most_houses
+    → IsHouses (record { master = master; others = others })
 rises-houses master others r few = record { ascending = rises-ascending master 0 others r; apart = rises-apart master 0 others r; few = few }

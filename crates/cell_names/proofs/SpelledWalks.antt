@@ -1,5 +1,6 @@
 -- Octets that are compared with components, each behind a slash.
-use Rattle.std.proofs.Common.{◌≡◌, ◌≢◌, ◌↔◌, ℕ, ◌+◌, ◌<◌, Bool, true, false, List, ◌∷◌, ◌++◌, length, get_or, drop, take, Option, Some, None, Bor, refl, sym, ap, ◌∙◌}
+use Rattle.std.proofs.Common.{◌≡◌, ◌≢◌, ◌↔◌, ℕ, ◌+◌, ◌<◌, Bool, true, false, List, ◌∷◌, ◌++◌}
+use Rattle.std.proofs.Common.{length, get_or, drop, take, Option, Some, None, Bor, refl, sym, ap, ◌∙◌}
 use Rattle.std.specs.Prelude.{MatchOption, IsTrue}
 use Rattle.std.specs.Cmp.{tied_itself}
 use Rattle.std.specs.Cmp.Lexicographic.{nat_list_cmp_total}
@@ -22,10 +23,16 @@ pub not_followed : (octets rest : List ℕ) (cs : List (List ℕ)) (i : ℕ) (c 
     → octets ≡ behind_slashes (take i cs) ++ rest → ((behind : List ℕ) → rest ≢ slash ∷ (c ++ behind)) → octets ≢ behind_slashes cs
 not_followed octets rest cs i c less at is none e =
     none (behind_slashes (drop (i + 1) cs))
-    (append_cancel_left (behind_slashes (take i cs)) rest (slash ∷ (c ++ behind_slashes (drop (i + 1) cs))) (sym is ∙ e ∙ ap behind_slashes (sym (take-append-drop i cs)) ∙ flat_map-append (λ (c : List ℕ). slash ∷ c) (take i cs) (drop i cs) ∙ ap (λ (o : List ℕ). behind_slashes (take i cs) ++ o) next))
+    (append_cancel_left (behind_slashes (take i cs)) rest (slash ∷ (c ++ behind_slashes (drop (i + 1) cs))) (sym is ∙ e ∙ parted))
   where
     next : behind_slashes (drop i cs) ≡ slash ∷ (c ++ behind_slashes (drop (i + 1) cs))
     next = at_drop_more behind_slashes cs i c less ∙ ap (λ (c : List ℕ). slash ∷ (c ++ behind_slashes (drop (i + 1) cs))) (sym at)
+
+    parted : behind_slashes cs ≡ behind_slashes (take i cs) ++ slash ∷ (c ++ behind_slashes (drop (i + 1) cs))
+    parted =
+        ap behind_slashes (sym (take-append-drop i cs))
+        ∙ flat_map-append (λ (c : List ℕ). slash ∷ c) (take i cs) (drop i cs)
+        ∙ ap (λ (o : List ℕ). behind_slashes (take i cs) ++ o) next
 
 -- octets are the same as themselves
 pub same_octets : (o : List ℕ) → is_octets o o ≡ true

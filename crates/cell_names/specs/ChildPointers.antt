@@ -1,5 +1,6 @@
 -- Child pointers, and the first fault of octets that are none (own, after C705, child pointers).
-use Rattle.std.specs.Prelude.{◌≡◌, ℕ, ◌+◌, ◌-◌, ◌<◌, ◌^◌, min, Bool, ◌&&◌, ◌||◌, nat_lt, ◌==◌, List, [], ◌∷◌, ◌++◌, Option, Some, None, is_none, length, if◌then◌else◌}
+use Rattle.std.specs.Prelude.{◌≡◌, ℕ, ◌+◌, ◌-◌, ◌<◌, ◌^◌, min, Bool, ◌&&◌, ◌||◌, nat_lt}
+use Rattle.std.specs.Prelude.{◌==◌, List, [], ◌∷◌, ◌++◌, Option, Some, None, is_none, length, if◌then◌else◌}
 use Rattle.std.specs.Int.{to_be_bytes, from_be_bytes, w32}
 use Rattle.std.specs.List.{All}
 use Rattle.cell_names.specs.Houses.{IsHouses, most_houses, count_in_order}
@@ -64,7 +65,9 @@ is_child_pointer octets = is_none (pointer_fault octets)
 -- what the octets of a child pointer say (own)
 abbrev pub pointer_of : List ℕ → Option Pointer
 pointer_of (a ∷ b ∷ c ∷ d ∷ count ∷ master ∷ others) =
-    if is_child_pointer (a ∷ b ∷ c ∷ d ∷ count ∷ master ∷ others) then Some (record { dir = from_be_bytes w32 (a ∷ b ∷ c ∷ d ∷ []); master = master; others = others }) else None
+    if is_child_pointer
+    (a ∷ b ∷ c ∷ d ∷ count ∷ master ∷ others) then Some
+    (record { dir = from_be_bytes w32 (a ∷ b ∷ c ∷ d ∷ []); master = master; others = others }) else None
 pointer_of octets = None
 
 -- the octets are those of a pointer (own)

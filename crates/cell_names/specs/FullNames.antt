@@ -1,5 +1,6 @@
 -- Full names, and the first fault of octets that are none (own, after C705, CDS names).
-use Rattle.std.specs.Prelude.{◌≡◌, ℕ, ◌+◌, ◌≤◌, Bool, ◌||◌, not, nat_lt, nat_eq, ◌==◌, List, [], ◌∷◌, ◌++◌, Option, Some, None, is_none, length, drop, codes, if◌then◌else◌}
+use Rattle.std.specs.Prelude.{◌≡◌, ℕ, ◌+◌, ◌≤◌, Bool, ◌||◌, not, nat_lt, nat_eq, ◌==◌, List}
+use Rattle.std.specs.Prelude.{[], ◌∷◌, ◌++◌, Option, Some, None, is_none, length, drop, codes, if◌then◌else◌}
 use Rattle.std.specs.Option.{option_or}
 use Rattle.std.specs.List.{All, flat_map, slice_split, starts_with}
 use Rattle.std.specs.Cmp.Lexicographic.{pointwise}

@@ -32,22 +32,41 @@ same_stamps own t e =
 is_own : (own t : Stamp) → t ≡ own → is_stamp t own ≡ true
 is_own own t e = ap (λ s. is_stamp s own) e ∙ ap is_eq (tied_itself stamp_total own)
 
-module _ (own t : Stamp) (answered now : MemberMask) (from members : ℕ) (old : Skulk) (same : true ≡ (nat_eq own.time t.time && nat_eq own.node t.node)) (joined : (p : ℕ) → has_place now p ≡ (has_place answered p || p == from)) where
+module _ (own t : Stamp) (answered now : MemberMask) (from members : ℕ) (old : Skulk) (same : true ≡
+    (nat_eq own.time t.time && nat_eq own.node t.node)) (joined : (p : ℕ) → has_place now p ≡ (has_place answered p || p == from)) where
   -- what is counted is who has answered
   counted : (b : Bool) → each_place members (has_place now) ≡ b → each_place members (also answered from) ≡ b
   counted b e = sym (each_place-same members (has_place now) (also answered from) joined) ∙ e
 
-  pub last_gathered : (me : ℕ) (alone : MemberMask) → old ≡ Gathering own answered → each_place members (has_place now) ≡ true → ((p : ℕ) → has_place alone p ≡ (p == me)) → TakesGathered t from members me old (Spreading t alone) SendSpread
+  pub last_gathered : (me : ℕ) (alone : MemberMask) → old ≡ Gathering own answered → each_place members (has_place now) ≡ true
+      → ((p : ℕ) → has_place alone p ≡ (p == me)) → TakesGathered t from members me old (Spreading t alone) SendSpread
   last_gathered me alone was full mine =
       subst (λ o. TakesGathered t from members me o (Spreading t alone) SendSpread) (sym was)
       (at_true (is_stamp t own) _ _ (is_own own t (same_stamps own t same))
-      (at_true (each_place members (also answered from)) _ _ (counted true full) (record { mask = alone; round = ap (λ s. Spreading s alone) (same_stamps own t same); places = mine }, refl)))
+      (at_true (each_place members (also answered from)) _ _ (counted true full) (
+        record {
+          mask = alone;
+          round = ap
+              (λ s. Spreading s alone) (same_stamps own t same);
+          places = mine;
+        },
+        refl,
+      )))
 
-  pub one_gathered : (me : ℕ) → old ≡ Gathering own answered → each_place members (has_place now) ≡ false → TakesGathered t from members me old (Gathering t now) Nothing
+  pub one_gathered : (me : ℕ) → old ≡ Gathering own answered → each_place members (has_place now) ≡ false
+      → TakesGathered t from members me old (Gathering t now) Nothing
   one_gathered me was missing =
       subst (λ o. TakesGathered t from members me o (Gathering t now) Nothing) (sym was)
       (at_true (is_stamp t own) _ _ (is_own own t (same_stamps own t same))
-      (at_false (each_place members (also answered from)) _ _ (counted false missing) (record { mask = now; round = ap (λ s. Gathering s now) (same_stamps own t same); places = joined }, refl)))
+      (at_false (each_place members (also answered from)) _ _ (counted false missing) (
+        record {
+          mask = now;
+          round = ap
+              (λ s. Gathering s now) (same_stamps own t same);
+          places = joined;
+        },
+        refl,
+      )))
 
   pub last_spread : old ≡ Spreading own answered → each_place members (has_place now) ≡ true → TakesSpread t from members old Idle (Complete t)
   last_spread was full =
@@ -59,18 +78,28 @@ module _ (own t : Stamp) (answered now : MemberMask) (from members : ℕ) (old :
   one_spread was missing =
       subst (λ o. TakesSpread t from members o (Spreading t now) Nothing) (sym was)
       (at_true (is_stamp t own) _ _ (is_own own t (same_stamps own t same))
-      (at_false (each_place members (also answered from)) _ _ (counted false missing) (record { mask = now; round = ap (λ s. Spreading s now) (same_stamps own t same); places = joined }, refl)))
+      (at_false (each_place members (also answered from)) _ _ (counted false missing) (
+        record {
+          mask = now;
+          round = ap
+              (λ s. Spreading s now) (same_stamps own t same);
+          places = joined;
+        },
+        refl,
+      )))
 
 -- ---- what each phase keeps
 
 -- the master alone has answered, and is not the only member
-another : (members me : ℕ) (alone : MemberMask) → me < members → (members == 1) ≡ false → ((p : ℕ) → has_place alone p ≡ (p == me)) → each_place members (has_place alone) ≡ false
+another : (members me : ℕ) (alone : MemberMask) → me < members → (members == 1) ≡ false → ((p : ℕ) → has_place alone p ≡ (p == me))
+    → each_place members (has_place alone) ≡ false
 another members zero alone below many mine =
     each_place-false members (has_place alone) 1 (grind arith) (mine 1)
 another members (suc me) alone below many mine =
     each_place-false members (has_place alone) 0 (omega arith) (mine 0 ∙ other_place 0 (suc me) (λ e. absurd cc))
 
-pub first_round : (members me : ℕ) (alone : MemberMask) → me < members → (members == 1) ≡ false → ((p : ℕ) → has_place alone p ≡ (p == me)) → IsRound members me alone
+pub first_round : (members me : ℕ) (alone : MemberMask) → me < members → (members == 1) ≡ false → ((p : ℕ) → has_place alone p ≡ (p == me))
+    → IsRound members me alone
 first_round members me alone below many mine = record {
   no_others = λ p above. mine p ∙ other_place p me (λ e. absurd (omega arith));
   master = mine me ∙ same_place me me refl;
@@ -88,6 +117,7 @@ not_alone members me answered below round true e = absurd (two round.missing)
     two x = let all : each_place members (has_place answered) ≡ true = each_place-from members (has_place answered) only_place in absurd cc
 not_alone members me answered below round false e = refl
 
-pub next_round : (own : Stamp) (answered alone : MemberMask) (members me : ℕ) (old : Skulk) → old ≡ Gathering own answered → me < members → ((p : ℕ) → has_place alone p ≡ (p == me)) → IsPhaseOf members me old → IsRound members me alone
+pub next_round : (own : Stamp) (answered alone : MemberMask) (members me : ℕ) (old : Skulk) → old ≡ Gathering own answered → me < members
+    → ((p : ℕ) → has_place alone p ≡ (p == me)) → IsPhaseOf members me old → IsRound members me alone
 next_round own answered alone members me old was below mine phase =
     first_round members me alone below (not_alone members me answered below (subst (IsPhaseOf members me) was phase) (members == 1) refl) mine

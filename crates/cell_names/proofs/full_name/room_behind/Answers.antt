@@ -10,8 +10,11 @@ loop-component-preserved c = record {
   left = grind (arith, spelled_more);
   simple =
       let name = ap simple_name_fault (sym c.octets.ensures.value) ∙ c.octets.ensures.lawful in
-      simple_more c.args.components.now c.loop-component.component-index c.component-item.result c.loop-component-test.true c.component-item.is name c.loop-component.invariant.simple;
+      let l = c.loop-component in
+      let found = c.component-item in
+      simple_more c.args.components.now l.component-index found.result c.loop-component-test.true found.is name l.invariant.simple;
 }
 
 pub returns-clause-simple : goal.returns-clause-simple
-returns-clause-simple c = subst (All IsSimpleName) (take_all c.loop-component.component-index c.args.components.now (omega arith)) c.loop-component.invariant.simple
+returns-clause-simple c =
+    subst (All IsSimpleName) (take_all c.loop-component.component-index c.args.components.now (omega arith)) c.loop-component.invariant.simple

@@ -4,7 +4,8 @@ use Rattle.cds_stamps.specs.declared.numbers.HouseNo.{HouseNo}
 use Rattle.cell_names.proofs.HouseWalks.{walk_list, walk_list-list_fault}
 use Rattle.cell_names.proofs.HouseLaws.{list_fault-none}
 use Rattle.cell_names.proofs.houses.check_others.Goals as goal
-use Rattle.cell_names.proofs.houses.check_others.Goals.{then-i-eq-MOST_OTHERS-via-then-i-eq-MOST_OTHERS, then-i-eq-MOST_OTHERS-via-else-i-eq-MOST_OTHERS+then-is_misplaced}
+use Rattle.cell_names.proofs.houses.check_others.Goals.{then-i-eq-MOST_OTHERS-via-then-i-eq-MOST_OTHERS}
+use Rattle.cell_names.proofs.houses.check_others.Goals.{then-i-eq-MOST_OTHERS-via-else-i-eq-MOST_OTHERS+then-is_misplaced}
 
 -- the house at hand is the first fault: one too many, or out of its place
 pub returns-then-i-eq-MOST_OTHERS-clause-value : goal.returns-then-i-eq-MOST_OTHERS-clause-value
@@ -24,5 +25,6 @@ loop-i-init c = record { same = walk_list-list_fault c.args.master.0 _; wanted =
 pub returns-clause-lawful : goal.returns-clause-lawful
 returns-clause-lawful c =
     let i = c.loop-i.i in
-    let end = at_drop_all (λ (hs : List HouseNo). walk_list c.args.master.0 (i + 1) (63 - i) c.loop-i.least (map (λ h. h.0) hs)) c.args.others.now i (omega arith) in
+    let end =
+    at_drop_all (λ (hs : List HouseNo). walk_list c.args.master.0 (i + 1) (63 - i) c.loop-i.least (map (λ h. h.0) hs)) c.args.others.now i (omega arith) in
     (list_fault-none c.args.master.0 (map (λ h. h.0) c.args.others.now)).0 (sym c.loop-i.invariant.same ∙ end)

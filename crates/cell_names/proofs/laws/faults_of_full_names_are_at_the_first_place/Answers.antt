@@ -5,7 +5,8 @@ use Rattle.cell_names.specs.FullNames.{IsNameOfAnyLength}
 use Rattle.cell_names.proofs.NameFaults.{IsAtFirst, name_fault-first}
 use Rattle.cell_names.proofs.laws.faults_of_full_names_are_at_the_first_place.Goals as goal
 
-first_or_end : (octets : List ℕ) (place : ℕ) → IsAtFirst octets (Empty place) place → IsFirstBad IsNameOfAnyLength octets place ⊎ EndsEarly IsNameOfAnyLength octets place
+first_or_end : (octets : List ℕ) (place : ℕ) → IsAtFirst octets (Empty place) place
+    → IsFirstBad IsNameOfAnyLength octets place ⊎ EndsEarly IsNameOfAnyLength octets place
 first_or_end octets place (inl first) = inl first
 first_or_end octets place (inr end) = inr end.0
 

@@ -8,5 +8,8 @@ returns-in-None c =
     let rest = c.loop-component.rest.now in
     let none = subst (λ (o : List ℕ). (behind : List ℕ) → rest ≢ slash ∷ (o ++ behind)) c.octets.ensures.value c.in-None.ensures in (
       λ t. absurd (cc (t)),
-      λ e. absurd (not_followed c.args.octets.now rest c.args.components.now c.loop-component.component-index c.component-item.result c.loop-component-test.true c.component-item.is c.loop-component.invariant none e),
+      λ e.
+          let l = c.loop-component in
+          let found = c.component-item in
+          absurd (not_followed c.args.octets.now rest c.args.components.now l.component-index found.result c.loop-component-test.true found.is l.invariant none e),
     )

@@ -15,5 +15,6 @@ returns g c =
     ∙ ap (λ (hs : List HouseNo). fed.slice fed.u8 (map (λ (h : HouseNo). h.0) hs)) c.as_slice.ensures.value
     ∙ ap (λ (v : Houses). fed.slice fed.u8 v.others) c.self.view_is in
     let first = fed_along g.H.Hasher.write c.args.state.now c.hash.new.state (ap (λ (v : Houses). fed.u8 v.master) c.self.view_is) c.hash.ensures in
-    fed_then g.H.Hasher.write c.args.state.now c.hash.new.state c.hash-2.new.state (fed.u8 c.args.self.now.master) (fed.slice fed.u8 c.args.self.now.others) first
+    fed_then g.H.Hasher.write c.args.state.now c.hash.new.state c.hash-2.new.state
+    (fed.u8 c.args.self.now.master) (fed.slice fed.u8 c.args.self.now.others) first
     (fed_along g.H.Hasher.write c.hash.new.state c.hash-2.new.state same c.hash-2.ensures)

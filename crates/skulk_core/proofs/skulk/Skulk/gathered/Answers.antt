@@ -4,7 +4,9 @@ use Rattle.skulk_core.proofs.skulk.Skulk.gathered.Goals as goal
 
 pub returns-then-has_all-clause-does : goal.returns-then-has_all-clause-does
 returns-then-has_all-clause-does c =
-    last_gathered c.in-Gathering.own c.args.t c.in-Gathering.answered c.with-answered.result c.args.from c.args.members c.args.self.now (sym c.if-eq.true ∙ c.eq.ensures) c.with-answered.ensures c.args.me c.only.result c.in-Gathering.is (sym c.has_all.ensures ∙ c.if-has_all.true) c.only.ensures
+    last_gathered c.in-Gathering.own c.args.t c.in-Gathering.answered c.with-answered.result c.args.from c.args.members c.args.self.now
+    (sym c.if-eq.true ∙ c.eq.ensures) c.with-answered.ensures c.args.me c.only.result c.in-Gathering.is
+    (sym c.has_all.ensures ∙ c.if-has_all.true) c.only.ensures
 
 pub returns-then-has_all-clause-phase : goal.returns-then-has_all-clause-phase
 returns-then-has_all-clause-phase c =
@@ -12,4 +14,5 @@ returns-then-has_all-clause-phase c =
 
 pub returns-else-has_all-clause-does : goal.returns-else-has_all-clause-does
 returns-else-has_all-clause-does c =
-    one_gathered c.in-Gathering.own c.args.t c.in-Gathering.answered c.with-answered.result c.args.from c.args.members c.args.self.now (sym c.if-eq.true ∙ c.eq.ensures) c.with-answered.ensures c.args.me c.in-Gathering.is (sym c.has_all.ensures ∙ c.if-has_all.false)
+    one_gathered c.in-Gathering.own c.args.t c.in-Gathering.answered c.with-answered.result c.args.from c.args.members c.args.self.now
+    (sym c.if-eq.true ∙ c.eq.ensures) c.with-answered.ensures c.args.me c.in-Gathering.is (sym c.has_all.ensures ∙ c.if-has_all.false)
