@@ -86,7 +86,7 @@ fn stamp_update(
     }
 }
 
-// Joins into the table the marks of an update that is not refused.
+// Adds the marks of an update that is not refused to the table.
 fn join_update(
     alloc: Global,
     table: &mut Table,
@@ -98,7 +98,6 @@ fn join_update(
         OnOk result (table.new ≡ table_of (h ++ marks_of (shown h (changed_name (change_of update.now))) (change_of update.now) stamp.now)) }
     ensures err { OnErr result (table.new ≡ table.old) }
 {
-    let fragment = table.fragment(alloc, update, *stamp)?;
-    table.join_entry(alloc, &fragment)?;
+    table.apply(alloc, update, *stamp)?;
     Ok(())
 }
