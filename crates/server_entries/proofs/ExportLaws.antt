@@ -12,16 +12,17 @@ use Rattle.tower_codec.specs.declared.rpc.Interface.{Interface}
 use Rattle.tower_codec.specs.declared.rpc.RpcTower.{RpcTower}
 use Rattle.tower_codec.specs.Binding.{FitsBinding}
 use Rattle.tower_codec.specs.Rpc.{rpc_protocol, port_protocol, port_octets, interface_floor, rpc_floors, rpc_octets, IsInterface, FitsRpc}
+use Rattle.tower_codec.specs.Serving.{serves}
 use Rattle.tower_codec.specs.Spelling.{FloorFits, HasSpelling}
 use Rattle.tower_codec.proofs.SpellingLaws.{tower_again}
 use Rattle.attr_sets.specs.Values.{value_fault}
-use Rattle.attr_sets.proofs.Greatest.{Contains-head, Contains-tail, Contains-none, Contains-cases}
+use Rattle.cds_stamps.proofs.ListMembers.{Contains-head, Contains-tail, Contains-none, Contains-cases}
 use Rattle.server_entries.specs.declared.client.Wanted.{Wanted}
-use Rattle.server_entries.specs.InOrder.{ascending}
+use Rattle.cds_stamps.specs.Ascending.{ascending}
 use Rattle.server_entries.specs.ServerTowers.{IsServerTower, rpc_tower_of}
-use Rattle.server_entries.specs.Clients.{wants, serves, is_compatible, compatible_binding, binding_to, binding_in, carried, entry_bindings, IsBindingOf}
+use Rattle.server_entries.specs.Clients.{wants, is_compatible, compatible_binding, binding_to, binding_in, carried, entry_bindings, IsBindingOf}
 use Rattle.server_entries.specs.Exports.{exported_tower, offers, tower_goes}
-use Rattle.server_entries.proofs.OrderLaws.{ascending-has, ascending-had}
+use Rattle.cds_stamps.proofs.AscendingLaws.{ascending-has, ascending-had}
 use Rattle.server_entries.proofs.ServerReading.{server_again}
 
 -- ---- the octets of an RPC tower
@@ -42,8 +43,10 @@ spelling : (tower : RpcTower) → length tower.address ≡ 4 → HasSpelling (rp
 spelling tower four =
     let first : FloorFits (interface_floor tower.interface) = record { some = lit< tt; left = lit< tt; right = lit< tt } in
     let second : FloorFits (interface_floor tower.transfer) = record { some = lit< tt; left = lit< tt; right = lit< tt } in
-    let third : FloorFits (record { left = rpc_protocol tower.protseq ∷ []; right = 0 ∷ 0 ∷ [] }) = record { some = lit< tt; left = lit< tt; right = lit< tt } in
-    let fourth : FloorFits (record { left = port_protocol tower.protseq ∷ []; right = port_octets tower.port }) = record { some = lit< tt; left = lit< tt; right = lit< tt } in
+    let third : FloorFits (record { left = rpc_protocol tower.protseq ∷ []; right = 0 ∷ 0 ∷ [] }) =
+    record { some = lit< tt; left = lit< tt; right = lit< tt } in
+    let fourth : FloorFits (record { left = port_protocol tower.protseq ∷ []; right = port_octets tower.port }) =
+    record { some = lit< tt; left = lit< tt; right = lit< tt } in
     let fifth : FloorFits (record { left = 9 ∷ []; right = tower.address }) = record { some = lit< tt; left = lit< tt; right = omega arith } in
     (lit< tt, (first, (second, (third, (fourth, (fifth, tt))))))
 
@@ -74,9 +77,11 @@ given h [] x y c is = absurd (Contains-none x c)
 given {X} {Y} h (z ∷ xs) x y c is = by_case (h z) refl (given h xs x y)
   where
     by_case : (o : Option Y) → h z ≡ o → (Contains xs x → h x ≡ Some y → Contains (filter_map h xs) y) → Contains (cons_option o (filter_map h xs)) y
-    by_case None at later = ⊎_elim (λ same. let never : ◌≡◌ {A = Option Y} None (Some y) = sym at ∙ ap h same ∙ is in cc) (λ there. later there is) (Contains-cases z xs x c)
+    by_case None at later = ⊎_elim (λ same. let never : ◌≡◌ {A = Option Y} None (Some y) = sym at ∙ ap h same ∙ is in cc) (λ there. later there is)
+        (Contains-cases z xs x c)
     by_case (Some w) at later =
-        ⊎_elim (λ same. let first : w ≡ y = same_Some w y (sym at ∙ ap h same ∙ is) in subst (Contains (w ∷ filter_map h xs)) first (Contains-head w (filter_map h xs)))
+        ⊎_elim (λ same. let first : w ≡ y = same_Some w y (sym at ∙ ap h same ∙ is) in
+        subst (Contains (w ∷ filter_map h xs)) first (Contains-head w (filter_map h xs)))
         (λ there. Contains-tail w (filter_map h xs) y (later there is)) (Contains-cases z xs x c)
 
 -- what gave it
@@ -95,26 +100,34 @@ giver_of {X} {Y} h (x ∷ xs) y c = by_case (h x) refl (giver_of h xs y) c
     by_case : (o : Option Y) → h x ≡ o → (Contains (filter_map h xs) y → Giver h xs y) → Contains (cons_option o (filter_map h xs)) y → Giver h (x ∷ xs) y
     by_case None at later there = further (later there)
     by_case (Some w) at later there =
-        ⊎_elim (λ same. record { giver = x; among = Contains-head x xs; gives = at ∙ ap (λ z. Some z) same }) (λ in_rest. further (later in_rest)) (Contains-cases w (filter_map h xs) y there)
+        ⊎_elim (λ same. record { giver = x; among = Contains-head x xs; gives = at ∙ ap (λ z. Some z) same }) (λ in_rest. further (later in_rest))
+        (Contains-cases w (filter_map h xs) y there)
 
 -- ---- bindings
 
-passing : (wanted : Wanted) (object : List ℕ) (tower : RpcTower) → is_compatible wanted tower ≡ true → compatible_binding wanted object (Some tower) ≡ Some (binding_to object tower)
+passing : (wanted : Wanted) (object : List ℕ) (tower : RpcTower) → is_compatible wanted tower ≡ true
+    → compatible_binding wanted object (Some tower) ≡ Some (binding_to object tower)
 passing wanted object tower pass = ap (λ (b : Bool). if b then Some (binding_to object tower) else None) pass
 
-pub binding_among : (wanted : Wanted) (towers held : List (List ℕ)) (binding : StringBinding) → IsBindingOf wanted towers held binding → Contains (entry_bindings wanted towers held) binding
+-- a binding to a compatible server is one of the bindings of the entry
+pub binding_among : (wanted : Wanted) (towers held : List (List ℕ)) (binding : StringBinding) → IsBindingOf wanted towers held binding
+    → Contains (entry_bindings wanted towers held) binding
 binding_among wanted towers held binding b =
     let h = binding_in wanted binding.object in
-    let gives : h b.octets ≡ Some binding = ap (compatible_binding wanted binding.object) b.read ∙ passing wanted binding.object b.tower b.compatible ∙ ap (λ (x : StringBinding). Some x) (sym b.made) in
+    let gives : h b.octets ≡ Some binding = ap (compatible_binding wanted binding.object) b.read ∙ passing wanted binding.object b.tower b.compatible
+    ∙ ap (λ (x : StringBinding). Some x) (sym b.made) in
     let has : Contains (filter_map h (ascending towers)) binding = given h (ascending towers) b.octets binding (ascending-has towers b.octets b.among) gives in
-    subst (λ (o : Option (List ℕ)). Contains (option_map_or (λ object. filter_map (binding_in wanted object) (ascending towers)) o []) binding) (sym b.carries) has
+    subst (λ (o : Option (List ℕ)). Contains (option_map_or (λ object. filter_map (binding_in wanted object) (ascending towers)) o []) binding)
+    (sym b.carries) has
 
 -- what a value gave is a binding of a compatible server
-giver_serves : (wanted : Wanted) (towers held : List (List ℕ)) (binding : StringBinding) (object octets : List ℕ) → Contains towers octets → carried wanted.object held ≡ Some object
+giver_serves : (wanted : Wanted) (towers held : List (List ℕ)) (binding : StringBinding) (object octets : List ℕ) → Contains towers octets
+    → carried wanted.object held ≡ Some object
     → binding_in wanted object octets ≡ Some binding → IsBindingOf wanted towers held binding
 giver_serves wanted towers held binding object octets among carries gives = by_tower (rpc_tower_of octets) refl gives
   where
-    by_test : (tower : RpcTower) → rpc_tower_of octets ≡ Some tower → (b : Bool) → is_compatible wanted tower ≡ b → (if b then Some (binding_to object tower) else None) ≡ Some binding → IsBindingOf wanted towers held binding
+    by_test : (tower : RpcTower) → rpc_tower_of octets ≡ Some tower → (b : Bool) → is_compatible wanted tower ≡ b
+        → (if b then Some (binding_to object tower) else None) ≡ Some binding → IsBindingOf wanted towers held binding
     by_test tower read true pass found =
         let made : binding_to object tower ≡ binding = same_Some (binding_to object tower) binding found in
         let carried_is : object ≡ binding.object = ap (λ (x : StringBinding). x.object) made in
@@ -133,10 +146,13 @@ giver_serves wanted towers held binding object octets among carries gives = by_t
     by_tower None read found = absurd cc
     by_tower (Some tower) read found = by_test tower read (is_compatible wanted tower) refl found
 
-pub binding_serves : (wanted : Wanted) (towers held : List (List ℕ)) (binding : StringBinding) → Contains (entry_bindings wanted towers held) binding → IsBindingOf wanted towers held binding
+-- and each binding of the entry is one to a compatible server
+pub binding_serves : (wanted : Wanted) (towers held : List (List ℕ)) (binding : StringBinding) → Contains (entry_bindings wanted towers held) binding
+    → IsBindingOf wanted towers held binding
 binding_serves wanted towers held binding c = by_object (carried wanted.object held) refl c
   where
-    by_object : (o : Option (List ℕ)) → carried wanted.object held ≡ o → Contains (option_map_or (λ object. filter_map (binding_in wanted object) (ascending towers)) o []) binding → IsBindingOf wanted towers held binding
+    by_object : (o : Option (List ℕ)) → carried wanted.object held ≡ o
+        → Contains (option_map_or (λ object. filter_map (binding_in wanted object) (ascending towers)) o []) binding → IsBindingOf wanted towers held binding
     by_object None carries there = absurd (Contains-none binding there)
     by_object (Some object) carries there =
         let g = giver_of (binding_in wanted object) (ascending towers) binding there in
@@ -145,7 +161,9 @@ binding_serves wanted towers held binding c = by_object (carried wanted.object h
 both_hold : (a b : Bool) → a ≡ true → b ≡ true → ((a && true) && b) ≡ true
 both_hold a b e f = ap (λ (x : Bool). (x && true) && b) e ∙ f
 
-pub exported_found : (wanted : Wanted) (interface : Interface) (binding : StringBinding) (object : List ℕ) (towers held : List (List ℕ)) → IsInterface interface → FitsBinding binding
+-- an exported server is found by each client that it serves
+pub exported_found : (wanted : Wanted) (interface : Interface) (binding : StringBinding) (object : List ℕ) (towers held : List (List ℕ))
+    → IsInterface interface → FitsBinding binding
     → Contains towers (rpc_octets (exported_tower interface binding)) → serves interface wanted.interface ≡ true → wants wanted binding.protseq ≡ true
     → carried wanted.object held ≡ Some object → Contains (entry_bindings wanted towers held) (record binding { object = object })
 exported_found wanted interface binding object towers held fits bound among serving wanting carries =
@@ -162,7 +180,9 @@ exported_found wanted interface binding object towers held fits bound among serv
 
 -- ---- interfaces
 
-pub goes : (interface : Interface) (binding : StringBinding) → IsInterface interface → FitsBinding binding → tower_goes (Some interface) (rpc_octets (exported_tower interface binding)) ≡ true
+-- an exported tower goes with its interface
+pub goes : (interface : Interface) (binding : StringBinding) → IsInterface interface → FitsBinding binding
+    → tower_goes (Some interface) (rpc_octets (exported_tower interface binding)) ≡ true
 goes interface binding fits bound =
     let uuid : bytes_eq interface.uuid interface.uuid ≡ true = nat_list_eq_equiv.refl interface.uuid in
     let major : eqb interface.major interface.major ≡ true = eq-eqb interface.major interface.major refl in

@@ -1,22 +1,15 @@
 -- The least of the objects, one by one.
-use Rattle.std.proofs.Common.{◌≡◌, ℕ, ◌+◌, ◌<◌, Bool, true, false, cond, eqb, List, [], ◌∷◌, ◌++◌, length, get_or, take, Some, refl, sym, ap, subst, ◌∙◌, inl, inr, ⊎_elim}
+use Rattle.std.proofs.Common.{◌≡◌, ℕ, ◌+◌, ◌<◌, Bool, true, false, cond, eqb, List, [], ◌∷◌, length, get_or, take, Some, refl, sym, ap}
+use Rattle.std.proofs.Common.{◌∙◌}
 use Rattle.std.specs.Prelude.{slice_get}
-use Rattle.std.specs.List.{Contains}
 use Rattle.std.specs.declared.cmp.Ordering.{Ordering}
 use Rattle.std.specs.declared.cmp.Ordering.TheVariants.{Less, Equal, Greater}
 use Rattle.std.specs.FinMap.Entries.{by_order}
-use Rattle.std.proofs.lemmas.List.Elements.{Contains-append_left, Contains-push, Contains-push_cases}
 use Rattle.cds_stamps.specs.Octets.{octets_cmp}
-use Rattle.server_entries.specs.InOrder.{put_in_order, ascending}
+use Rattle.cds_stamps.specs.Ascending.{put_in_order, ascending}
+use Rattle.cds_stamps.proofs.AscendingLaws.{ascending-push}
 use Rattle.server_entries.specs.Clients.{objects_in, least_object, lesser}
-use Rattle.server_entries.proofs.OrderLaws.{one_order, put-rises, put-has, put-had, ascending-rises, ascending-has, ascending-had}
 use Rattle.server_entries.proofs.ListSteps.{passes_more, fails_more}
-
-ascending-push : (xs : List (List ℕ)) (v : List ℕ) → ascending (xs ++ v ∷ []) ≡ put_in_order v (ascending xs)
-ascending-push xs v =
-    one_order (ascending (xs ++ v ∷ [])) (put_in_order v (ascending xs)) (ascending-rises (xs ++ v ∷ [])) (put-rises v (ascending xs) (ascending-rises xs))
-    (λ q c. put-has v (ascending xs) q (⊎_elim (λ old. inr (ascending-has xs q old)) (λ is. inl is) (Contains-push_cases xs v q (ascending-had (xs ++ v ∷ []) q c))))
-    (λ q c. ascending-has (xs ++ v ∷ []) q (⊎_elim (λ is. subst (Contains (xs ++ v ∷ [])) is (Contains-push xs v)) (λ old. Contains-append_left xs (v ∷ []) q (ascending-had xs q old)) (put-had v (ascending xs) q c)))
 
 first_of_put : (v : List ℕ) (ws : List (List ℕ)) → slice_get (put_in_order v ws) 0 ≡ Some (lesser v (slice_get ws 0))
 first_of_put v [] = refl
@@ -32,9 +25,12 @@ pub least_more : (held : List (List ℕ)) (i : ℕ) (v : List ℕ) → i < lengt
     → least_object (take (i + 1) held) ≡ (cond (eqb (length v) 16) (Some (lesser v (least_object (take i held)))) (least_object (take i held)))
 least_more held i v inside at = by_case (eqb (length v) 16) refl
   where
-    by_case : (b : Bool) → eqb (length v) 16 ≡ b → least_object (take (i + 1) held) ≡ cond b (Some (lesser v (least_object (take i held)))) (least_object (take i held))
+    by_case : (b : Bool) → eqb (length v) 16 ≡ b
+        → least_object (take (i + 1) held) ≡ cond b (Some (lesser v (least_object (take i held)))) (least_object (take i held))
     by_case true is =
-        ap (λ (vs : List (List ℕ)). slice_get (ascending vs) 0) (sym (passes_more (λ (w : List ℕ). eqb (length w) 16) held i v inside at (objects_in (take i held)) refl is))
+        ap (λ (vs : List (List ℕ)). slice_get (ascending vs) 0)
+        (sym (passes_more (λ (w : List ℕ). eqb (length w) 16) held i v inside at (objects_in (take i held)) refl is))
         ∙ ap (λ (vs : List (List ℕ)). slice_get vs 0) (ascending-push (objects_in (take i held)) v)
         ∙ first_of_put v (ascending (objects_in (take i held)))
-    by_case false is = ap (λ (vs : List (List ℕ)). slice_get (ascending vs) 0) (sym (fails_more (λ (w : List ℕ). eqb (length w) 16) held i v inside at (objects_in (take i held)) refl is))
+    by_case false is = ap (λ (vs : List (List ℕ)). slice_get (ascending vs) 0)
+        (sym (fails_more (λ (w : List ℕ). eqb (length w) 16) held i v inside at (objects_in (take i held)) refl is))

@@ -1,6 +1,5 @@
 pub mod ReadBack
 pub mod ServerReading
-pub mod OrderLaws
 pub mod ListSteps
 pub mod LeastLaws
 pub mod ExportLaws

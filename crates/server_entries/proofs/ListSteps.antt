@@ -1,5 +1,6 @@
 -- Steps of loops over values.
-use Rattle.std.proofs.Common.{◌≡◌, ℕ, zero, suc, ◌+◌, ◌<◌, Bool, true, false, cond, List, [], ◌∷◌, ◌++◌, map, length, get_or, take, Option, Some, None, refl, sym, ap, ◌∙◌, append_assoc, arith}
+use Rattle.std.proofs.Common.{◌≡◌, ℕ, zero, suc, ◌+◌, ◌<◌, Bool, true, false, cond, List, [], ◌∷◌, ◌++◌, map, length, get_or, take, Option, Some}
+use Rattle.std.proofs.Common.{None, refl, sym, ap, ◌∙◌, append_assoc, arith}
 use Rattle.std.specs.Prelude.{filter}
 use Rattle.std.specs.List.{filter_map, cons_option}
 use Rattle.std.specs.Option.{option_to_list}
@@ -9,14 +10,18 @@ use Rattle.std.proofs.lemmas.List.Elements.{filter_more, filter_map-append}
 -- ---- what passes a test
 
 module _ (p : List ℕ → Bool) (vs : List (List ℕ)) (i : ℕ) (v : List ℕ) (inside : i < length vs) (at : v ≡ get_or vs i v) where
+  -- one more value that passes stands behind those that passed
   pub passes_more : (old : List (List ℕ)) → old ≡ filter p (take i vs) → p v ≡ true → old ++ v ∷ [] ≡ filter p (take (i + 1) vs)
   passes_more old is pass =
-      let one : cond (p (get_or vs i v)) (get_or vs i v ∷ []) [] ≡ v ∷ [] = ap (λ (w : List ℕ). cond (p w) (w ∷ []) []) (sym at) ∙ ap (λ (b : Bool). cond b (v ∷ []) []) pass in
+      let one : cond (p (get_or vs i v)) (get_or vs i v ∷ []) [] ≡ v ∷ [] = ap (λ (w : List ℕ). cond (p w) (w ∷ []) []) (sym at)
+      ∙ ap (λ (b : Bool). cond b (v ∷ []) []) pass in
       ap (λ (o : List (List ℕ)). o ++ v ∷ []) is ∙ ap (λ (t : List (List ℕ)). filter p (take i vs) ++ t) (sym one) ∙ sym (filter_more p vs i v inside)
 
+  -- one more value that fails leaves those that passed
   pub fails_more : (old : List (List ℕ)) → old ≡ filter p (take i vs) → p v ≡ false → old ≡ filter p (take (i + 1) vs)
   fails_more old is fail =
-      let none : cond (p (get_or vs i v)) (get_or vs i v ∷ []) [] ≡ [] = ap (λ (w : List ℕ). cond (p w) (w ∷ []) []) (sym at) ∙ ap (λ (b : Bool). cond b (v ∷ []) []) fail in
+      let none : cond (p (get_or vs i v)) (get_or vs i v ∷ []) [] ≡ [] = ap (λ (w : List ℕ). cond (p w) (w ∷ []) []) (sym at)
+      ∙ ap (λ (b : Bool). cond b (v ∷ []) []) fail in
       is ∙ sym (append-nil (filter p (take i vs))) ∙ ap (λ (t : List (List ℕ)). filter p (take i vs) ++ t) (sym none) ∙ sym (filter_more p vs i v inside)
 
   -- what passes is left
@@ -38,6 +43,7 @@ module _ (p : List ℕ → Bool) (vs : List (List ℕ)) (i : ℕ) (v : List ℕ)
 
 -- ---- what values give
 
+-- the list of what there may be
 pub as_list : {X : Type 0} (o : Option X) → option_to_list o ≡ cons_option o []
 as_list None = refl
 as_list (Some x) = refl
@@ -52,7 +58,8 @@ gives_more {X} {Y} f h xs i x inside at =
 -- ---- what a loop pushes
 
 -- one more item, which is seen as what the loop makes of one more element
-pub pushed_more : {X Y Z : Type 0} (f : X → Z) (g : Y → Z) (start old new : List X) (x : X) (ys : List Y) (i : ℕ) (y : Y) → i < length ys → y ≡ get_or ys i y → new ≡ old ++ x ∷ []
+pub pushed_more : {X Y Z : Type 0} (f : X → Z) (g : Y → Z) (start old new : List X) (x : X) (ys : List Y) (i : ℕ) (y : Y) → i < length ys
+    → y ≡ get_or ys i y → new ≡ old ++ x ∷ []
     → map f old ≡ map f start ++ map g (take i ys) → f x ≡ g y → map f new ≡ map f start ++ map g (take (i + 1) ys)
 pushed_more {X} {Y} {Z} f g start old new x ys i y inside at pushed before made =
     ap (map f) pushed ∙ map_push f old x ∙ ap (λ (zs : List Z). zs ++ f x ∷ []) before ∙ append_assoc (map f start) (map g (take i ys)) (f x ∷ [])

@@ -1,5 +1,6 @@
 -- What is read of five floors is the RPC tower of their parts.
-use Rattle.std.proofs.Common.{◌≡◌, ℕ, zero, suc, ◌+◌, ◌*◌, Bool, true, false, cond, eqb, List, [], ◌∷◌, ◌++◌, length, Option, Some, None, refl, sym, ap, subst, ◌∙◌, lit<}
+use Rattle.std.proofs.Common.{◌≡◌, ℕ, zero, suc, ◌+◌, ◌*◌, Bool, true, false, cond, eqb, List, [], ◌∷◌, ◌++◌, length, Option, Some, None, refl, sym}
+use Rattle.std.proofs.Common.{ap, subst, ◌∙◌, lit<}
 use Rattle.std.specs.Prelude.{slice_get}
 use Rattle.std.specs.List.{AllByRecursion}
 use Rattle.std.specs.Option.{option_and_then}
@@ -17,10 +18,12 @@ use Rattle.tower_codec.proofs.RpcLaws.{interface_found, port_found, five_floors,
 
 -- ---- steps that found something
 
+-- what a test lets through passed it
 pub guard_some : {A : Type 0} (b : Bool) (x : Option A) (y : A) → cond b x None ≡ Some y → (b ≡ true) × (x ≡ Some y)
 guard_some true x y e = (refl, e)
 guard_some false x y e = absurd cc
 
+-- what a second step gave was given something by the first
 pub step_some : {A B : Type 0} (o : Option A) (f : A → Option B) (y : B) → option_and_then f o ≡ Some y → (x : A) × (o ≡ Some x) × (f x ≡ Some y)
 step_some None f y e = absurd cc
 step_some (Some x) f y e = (x, refl, e)
@@ -54,6 +57,7 @@ floors_bytes x (floor ∷ floors) rest bytes h =
     let first = floor_bytes x floor h.0 bytes h.1 in
     (first.0, floors_bytes h.0 floors rest first.1 h.2)
 
+-- the parts of the floors of a tower of octets are octets
 pub tower_bytes : (floors : List Floor) (octets : List ℕ) → IsBytes octets → IsTower floors octets → AllByRecursion HasBytes floors
 tower_bytes floors octets bytes h = floors_bytes h.0 floors [] (number_bytes octets (length floors) h.0 bytes h.1) h.2
 
@@ -69,9 +73,11 @@ unfolding protseq_at
 protseq_is [] protseq e = absurd cc
 protseq_is (n ∷ []) protseq e = by_tests (eqb n 11) refl (eqb n 10) refl e
   where
-    by_tests : (a : Bool) → eqb n 11 ≡ a → (b : Bool) → eqb n 10 ≡ b → cond a (Some Tcp) (cond b (Some Udp) None) ≡ Some protseq → n ∷ [] ≡ rpc_protocol protseq ∷ []
+    by_tests : (a : Bool) → eqb n 11 ≡ a → (b : Bool) → eqb n 10 ≡ b → cond a (Some Tcp) (cond b (Some Udp) None) ≡ Some protseq
+        → n ∷ [] ≡ rpc_protocol protseq ∷ []
     by_tests true is b other found = let same : Tcp ≡ protseq = cc in ap (λ (k : ℕ). k ∷ []) (eqb-true n 11 is) ∙ ap (λ (p : Protseq). rpc_protocol p ∷ []) same
-    by_tests false is true other found = let same : Udp ≡ protseq = cc in ap (λ (k : ℕ). k ∷ []) (eqb-true n 10 other) ∙ ap (λ (p : Protseq). rpc_protocol p ∷ []) same
+    by_tests false is true other found = let same : Udp ≡ protseq = cc in ap (λ (k : ℕ). k ∷ []) (eqb-true n 10 other)
+        ∙ ap (λ (p : Protseq). rpc_protocol p ∷ []) same
     by_tests false is false other found = absurd cc
 protseq_is (a ∷ b ∷ left) protseq e = absurd cc
 
@@ -101,9 +107,11 @@ address_is (n ∷ []) (a ∷ b ∷ c ∷ d ∷ []) address e =
 address_is (n ∷ []) (a ∷ b ∷ c ∷ d ∷ more ∷ right) address e = absurd cc
 address_is (m ∷ n ∷ left) right address e = absurd cc
 
-interface_is : (left right : List ℕ) (interface : Interface) → IsBytes left → IsBytes right → interface_at left right ≡ Some interface → IsInterfaceFloor left right interface
+interface_is : (left right : List ℕ) (interface : Interface) → IsBytes left → IsBytes right → interface_at left right ≡ Some interface
+    → IsInterfaceFloor left right interface
 interface_is left right interface left_bytes right_bytes e = interface_found (Some interface) left right left_bytes right_bytes (sym e)
 
+-- floors that are read as an RPC tower are its floors
 pub rpc_read : (floors : List Floor) (tower : RpcTower) → AllByRecursion HasBytes floors → rpc_at floors ≡ Some tower → IsRpcTower floors tower
 unfolding rpc_at
 rpc_read floors tower bytes e =

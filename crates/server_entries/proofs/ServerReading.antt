@@ -1,5 +1,6 @@
 -- What octets say of an RPC server: one thing only, and that as a relation and as a function.
-use Rattle.std.proofs.Common.{◌≡◌, ℕ, zero, suc, ◌+◌, ◌<◌, ◌≤◌, lit<, ◌∷◌, true, eqb, List, [], ◌++◌, length, Option, Some, None, Result, Ok, Err, refl, sym, ap, subst, ◌∙◌, arith}
+use Rattle.std.proofs.Common.{◌≡◌, ℕ, zero, suc, ◌+◌, ◌<◌, ◌≤◌, lit<, ◌∷◌, true, eqb, List, [], ◌++◌, length, Option, Some, None, Result, Ok, Err}
+use Rattle.std.proofs.Common.{refl, sym, ap, subst, ◌∙◌, arith}
 use Rattle.std.specs.Prelude.{IsErrOf, MatchResult}
 use Rattle.std.specs.List.{AllByRecursion}
 use Rattle.std.specs.Result.{result_ok}
@@ -25,7 +26,8 @@ use Rattle.server_entries.proofs.ReadBack.{guard_some, step_some, tower_bytes, r
 -- ---- one thing only
 
 -- a tower in front of octets leaves no fault of them
-no_fault : (floors : List Floor) (tower behind octets : List ℕ) (fault : TowerFault) → IsTower floors tower → octets ≡ tower ++ behind → IsFault octets fault → ⊥
+no_fault : (floors : List Floor) (tower behind octets : List ℕ) (fault : TowerFault) → IsTower floors tower → octets ≡ tower ++ behind
+    → IsFault octets fault → ⊥
 no_fault floors tower behind octets fault is split other =
     let r = body_again floors tower behind is in
     let fails : body_at octets ≡ Err fault = fault_again octets fault other in
@@ -36,7 +38,8 @@ whole_no_fault : (floors : List Floor) (octets : List ℕ) (fault : TowerFault) 
 whole_no_fault floors octets fault is other = no_fault floors octets [] octets fault is (sym (append-nil octets)) other
 
 -- octets behind the tower make it no whole tower
-no_rest : (floors others : List Floor) (octets tower behind : List ℕ) → IsTower floors octets → IsTower others tower → octets ≡ tower ++ behind → 0 < length behind → ⊥
+no_rest : (floors others : List Floor) (octets tower behind : List ℕ) → IsTower floors octets → IsTower others tower → octets ≡ tower ++ behind
+    → 0 < length behind → ⊥
 no_rest floors others octets tower behind whole front split some =
     let none : [] ≡ behind = (towers_apart floors others octets tower [] behind whole front (append-nil octets ∙ split)).2 in
     omega (arith, ap length none)
@@ -54,7 +57,8 @@ one_fault octets a b first second =
 abbrev pub Says : List ℕ → Result RpcTower ServerFault → Type 0
 Says octets r = MatchResult r (IsServerTower octets) (IsServerFault octets)
 
-no_server : (floors others : List Floor) (octets : List ℕ) (tower : RpcTower) → IsTower floors octets → IsRpcTower floors tower → IsTower others octets → ((tower : RpcTower) → ¬ (IsRpcTower others tower)) → ⊥
+no_server : (floors others : List Floor) (octets : List ℕ) (tower : RpcTower) → IsTower floors octets → IsRpcTower floors tower → IsTower others octets
+    → ((tower : RpcTower) → ¬ (IsRpcTower others tower)) → ⊥
 no_server floors others octets tower a is b none = none tower (subst (λ fs. IsRpcTower fs tower) (one_floors floors others octets a b) is)
 
 one_saying : (octets : List ℕ) (a b : Result RpcTower ServerFault) → Says octets a → Says octets b → a ≡ b
@@ -79,6 +83,7 @@ one_saying octets (Err NotRpcTower) (Err (BadTower b)) g h = absurd (whole_no_fa
 one_saying octets (Err NotRpcTower) (Err (Trailing b)) g h = absurd (no_rest g.0 h.0 octets h.1 h.2 g.1 h.3 h.4 h.5)
 one_saying octets (Err NotRpcTower) (Err NotRpcTower) g h = refl
 
+-- octets that are the tower of a server are read as it
 pub only_server : (octets : List ℕ) (r : Result RpcTower ServerFault) → Says octets r → (tower : RpcTower) → IsServerTower octets tower → r ≡ Ok tower
 only_server octets r says tower is = one_saying octets r (Ok tower) says is
 
@@ -86,6 +91,7 @@ is_fault : (r : Result RpcTower ServerFault) (fault : ServerFault) → r ≡ Err
 is_fault (Ok tower) fault e = cc
 is_fault (Err f) fault e = cc
 
+-- octets that have a fault have it told
 pub each_fault : (octets : List ℕ) (r : Result RpcTower ServerFault) → Says octets r → (fault : ServerFault) → IsServerFault octets fault → IsErrOf r fault
 each_fault octets r says fault is = is_fault r fault (one_saying octets r (Err fault) says is)
 
@@ -113,6 +119,7 @@ whole_read octets floors bytes e = by_case (body_at octets) refl e
         subst (λ fs. IsTower fs octets) same (subst (IsTower (known_floors body.0 body.1)) (take_all (length body.1 + 2) octets long) b.tower)
     by_case (Err fault) is found = absurd cc
 
+-- what is read of octets as a server is the one whose tower they are
 pub server_read : (octets : List ℕ) (tower : RpcTower) → IsBytes octets → rpc_tower_of octets ≡ Some tower → IsServerTower octets tower
 unfolding rpc_tower_of
 server_read octets tower bytes e =
@@ -126,6 +133,7 @@ bytes_from [] all i = lit< tt
 bytes_from (b ∷ octets) all zero = all.0
 bytes_from (b ∷ octets) all (suc i) = bytes_from octets all.1 i
 
+-- what was told of octets is what is read of them
 pub read_as : (octets : List ℕ) (r : Result RpcTower ServerFault) → IsBytes octets → Says octets r → result_ok r ≡ rpc_tower_of octets
 read_as octets (Ok tower) bytes says = sym (server_again octets tower says)
 read_as octets (Err fault) bytes says = by_case (rpc_tower_of octets) refl
@@ -133,5 +141,6 @@ read_as octets (Err fault) bytes says = by_case (rpc_tower_of octets) refl
     by_case : (o : Option RpcTower) → rpc_tower_of octets ≡ o → None ≡ o
     by_case None e = refl
     by_case (Some tower) e =
-        let never : ◌≡◌ {A = Result RpcTower ServerFault} (Err fault) (Ok tower) = one_saying octets (Err fault) (Ok tower) says (server_read octets tower bytes e) in
+        let never : ◌≡◌ {A = Result RpcTower ServerFault} (Err fault) (Ok tower) =
+        one_saying octets (Err fault) (Ok tower) says (server_read octets tower bytes e) in
         cc

@@ -6,7 +6,7 @@ use Rattle.std.specs.FinMap.Entries.{by_order}
 use Rattle.std.proofs.lemmas.List.{length-append, length-map}
 use Rattle.cds_stamps.specs.Octets.{octets_cmp}
 use Rattle.attr_sets.specs.Values.{value_fault}
-use Rattle.server_entries.specs.InOrder.{put_in_order, ascending}
+use Rattle.cds_stamps.specs.Ascending.{put_in_order, ascending}
 
 -- 16 octets are a value
 pub object_fits : (x : List ℕ) → length x ≡ 16 → value_fault x ≡ None
@@ -34,6 +34,7 @@ pub no_towers : {Z : Type 0} (f g : List ℕ → Z) (towers objects : List (List
 no_towers f g towers objects none =
     none_ascend towers (omega (arith, ap length none, length-append (map f (ascending towers)) (map g (ascending objects)), length-map (ascending towers) f))
 
+-- and the same of the objects
 pub no_objects : {Z : Type 0} (f g : List ℕ → Z) (towers objects : List (List ℕ)) → map f (ascending towers) ++ map g (ascending objects) ≡ [] → objects ≡ []
 no_objects f g towers objects none =
     none_ascend objects (omega (arith, ap length none, length-append (map f (ascending towers)) (map g (ascending objects)), length-map (ascending objects) g))

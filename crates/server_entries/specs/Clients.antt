@@ -1,18 +1,19 @@
 -- Which bindings an entry has for a client.
-use Rattle.std.specs.Prelude.{◌≡◌, ℕ, Bool, true, ◌&&◌, nat_le, ◌==◌, List, [], ◌∷◌, length, filter, Option, Some, None, unwrap_or, if◌then◌else◌}
+use Rattle.std.specs.Prelude.{◌≡◌, ℕ, Bool, true, ◌&&◌, ◌==◌, List, [], ◌∷◌, length, filter, Option, Some, None, unwrap_or, if◌then◌else◌}
 use Rattle.std.specs.List.{Contains, filter_map, list_any, slice_get}
 use Rattle.std.specs.Option.{option_map_or}
 use Rattle.std.specs.Str.{bytes_eq}
 use Rattle.std.specs.FinMap.Entries.{by_order}
 use Rattle.uuid.specs.Parts.{zero_bytes, is_nil_bytes}
 use Rattle.cds_stamps.specs.Octets.{octets_cmp}
+use Rattle.cds_stamps.specs.Ascending.{ascending}
 use Rattle.tower_codec.specs.declared.binding.StringBinding.{StringBinding}
 use Rattle.tower_codec.specs.declared.rpc.Interface.{Interface}
 use Rattle.tower_codec.specs.declared.rpc.Protseq.{Protseq}
 use Rattle.tower_codec.specs.declared.rpc.Protseq.TheVariants.{Tcp, Udp}
 use Rattle.tower_codec.specs.declared.rpc.RpcTower.{RpcTower}
+use Rattle.tower_codec.specs.Serving.{serves}
 use Rattle.server_entries.specs.declared.client.Wanted.{Wanted}
-use Rattle.server_entries.specs.InOrder.{ascending}
 use Rattle.server_entries.specs.ServerTowers.{rpc_tower_of}
 
 -- The transfer syntax NDR, 8a885d04-1ceb-11c9-9fe8-08002b104860 version 2.0 (C706, transfer syntaxes).
@@ -27,11 +28,6 @@ ndr_syntax = record {
 abbrev pub wants : Wanted → Protseq → Bool
 wants wanted Tcp = wanted.tcp
 wants wanted Udp = wanted.udp
-
--- What is offered serves what is wanted: the same interface and major version, and the same minor version or a later one
--- (C706, compatible interfaces).
-abbrev pub serves : Interface → Interface → Bool
-serves offered wanted = bytes_eq offered.uuid wanted.uuid && (offered.major == wanted.major) && nat_le wanted.minor offered.minor
 
 -- The data are represented by NDR of major version 2 (C706, transfer syntaxes).
 abbrev pub is_ndr : Interface → Bool

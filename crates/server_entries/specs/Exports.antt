@@ -1,15 +1,17 @@
 -- Which updates export a server and unexport it.
-use Rattle.std.specs.Prelude.{ℕ, Bool, ◌&&◌, ◌==◌, false, List, [], ◌∷◌, ◌++◌, map, length, filter, Option, Some, None, codes, if◌then◌else◌}
+use Rattle.std.specs.Prelude.{ℕ, Bool, ◌&&◌, ◌==◌, false, List, ◌++◌, map, length, filter, Option, Some, None, codes, if◌then◌else◌}
 use Rattle.std.specs.List.{list_any}
 use Rattle.std.specs.Str.{bytes_eq}
+use Rattle.cds_stamps.specs.Ascending.{ascending}
 use Rattle.tower_codec.specs.declared.binding.StringBinding.{StringBinding}
 use Rattle.tower_codec.specs.declared.rpc.Interface.{Interface}
 use Rattle.tower_codec.specs.declared.rpc.RpcTower.{RpcTower}
 use Rattle.tower_codec.specs.Rpc.{rpc_octets}
-use Rattle.directory.specs.Updates.{Change, Create, Add, Remove}
+use Rattle.tower_codec.specs.Serving.{same_interface}
+use Rattle.directory.specs.Updates.{Change, Add, Remove}
+use Rattle.directory.specs.EntryChanges.{creation}
 use Rattle.server_entries.specs.declared.exports.ExportFault.{ExportFault}
 use Rattle.server_entries.specs.declared.exports.ExportFault.TheVariants.{NothingToExport, NothingToUnexport}
-use Rattle.server_entries.specs.InOrder.{ascending}
 use Rattle.server_entries.specs.ServerTowers.{rpc_tower_of}
 use Rattle.server_entries.specs.Clients.{ndr_syntax}
 
@@ -34,15 +36,11 @@ object_added name object = Add name object_attribute object
 -- An export: the entry is made where it is absent, and gets the towers and then the objects (own, after C706, exporting servers).
 abbrev pub exported : List ℕ → Bool → Interface → List StringBinding → List (List ℕ) → List Change
 exported name absent interface bindings objects =
-    (if absent then Create name ∷ [] else []) ++ map (tower_added name interface) bindings ++ map (object_added name) objects
+    creation name absent ++ map (tower_added name interface) bindings ++ map (object_added name) objects
 
 -- With no binding and no object there is nothing to export (own).
 abbrev pub export_fault : List StringBinding → List (List ℕ) → Option ExportFault
 export_fault bindings objects = if (length bindings == 0) && (length objects == 0) then Some NothingToExport else None
-
--- The same interface, in both parts of its version (C706, interface identifiers).
-abbrev pub same_interface : Interface → Interface → Bool
-same_interface a b = bytes_eq a.uuid b.uuid && (a.major == b.major) && (a.minor == b.minor)
 
 -- The tower, if it is that of an RPC server, offers the interface, if there is one (own).
 abbrev pub offers : Option Interface → Option RpcTower → Bool

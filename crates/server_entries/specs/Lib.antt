@@ -1,4 +1,3 @@
-pub mod InOrder
 pub mod ServerTowers
 pub mod TowerFaults
 pub mod Clients

@@ -8,7 +8,7 @@ use Rattle.tower_codec.specs.Rpc.{IsRpcTower}
 use Rattle.tower_codec.specs.Reading.{body_at, known_floors}
 use Rattle.tower_codec.specs.RpcReading.{rpc_at}
 
--- The octets are the tower of this RPC server, and nothing else (C706, protocol towers).
+-- The octets are the tower of this RPC server, and nothing else (own, a profile of C706's protocol towers).
 abbrev pub IsServerTower : List ℕ → RpcTower → Type 0
 IsServerTower octets tower = (floors : List Floor) × IsTower floors octets × IsRpcTower floors tower
 

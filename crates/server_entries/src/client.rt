@@ -3,12 +3,11 @@ ghost use Rattle.std.specs.Prelude.{◌≡◌, ◌==◌, ◌++◌, length, IfOk,
 ghost use Rattle.std.specs.Option.{option_to_list};
 ghost use Rattle.std.specs.List.{filter_map, list_any};
 ghost use Rattle.std.specs.Str.{bytes_eq};
-ghost use Rattle.server_entries.specs.InOrder.{ascending};
-ghost use Rattle.server_entries.specs.Clients.{ndr_syntax, wants, serves, is_ndr, is_compatible, binding_in, least_object, lesser, carried, entry_bindings};
+ghost use Rattle.cds_stamps.specs.Ascending.{ascending};
+ghost use Rattle.server_entries.specs.Clients.{ndr_syntax, wants, is_ndr, is_compatible, binding_in, least_object, lesser, carried, entry_bindings};
 
-use crate::order::all_in_order;
 use crate::tower::tower_of_value;
-use attr_sets::Value;
+use attr_sets::{Value, all_in_order};
 use std::alloc::{AllocError, Global};
 use std::cmp::Ordering;
 use tower_codec::{Interface, Protseq, RpcTower, StringBinding};
@@ -39,13 +38,6 @@ pub fn ndr() -> Interface
         major: 2,
         minor: 0,
     }
-}
-
-// Whether what is offered serves what is wanted.
-fn serves(offered: &Interface, wanted: &Interface) -> bool
-    ensures { result ≡ serves offered.now wanted.now }
-{
-    offered.uuid == wanted.uuid && offered.major == wanted.major && wanted.minor <= offered.minor
 }
 
 // Whether data are represented by NDR of major version 2.
@@ -83,7 +75,7 @@ impl Wanted {
     fn is_compatible(&self, tower: &RpcTower) -> bool
         ensures { result ≡ is_compatible self.now tower.now }
     {
-        serves(&tower.interface, &self.interface)
+        tower.interface.serves(&self.interface)
             && is_ndr(&tower.transfer)
             && self.wants(tower.protseq)
     }

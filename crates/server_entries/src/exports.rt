@@ -1,21 +1,21 @@
 // Exports of servers, and their end.
-ghost use Rattle.std.specs.Prelude.{◌≡◌, ◌++◌, [], ◌∷◌, map, filter, length, if◌then◌else◌, IfOk, IfErr, IfSome, OnOk, IsOk, None};
+ghost use Rattle.std.specs.Prelude.{◌≡◌, ◌++◌, [], ◌∷◌, map, filter, length, IfOk, IfErr, IfSome, OnOk, IsOk, None};
 ghost use Rattle.std.specs.Option.{option_copied};
+ghost use Rattle.cds_stamps.specs.Ascending.{ascending};
 ghost use Rattle.cds_stamps.specs.Names.{attr_fault};
 ghost use Rattle.cds_stamps.specs.declared.alloc_or.AllocOr.TheVariants.{Fault, OutOfMemory};
-ghost use Rattle.attr_sets.specs.Values.{value_fault};
 ghost use Rattle.tower_codec.specs.Rpc.{rpc_octets};
-ghost use Rattle.directory.specs.Updates.{change_of, Create, Remove};
-ghost use Rattle.server_entries.specs.InOrder.{ascending};
+ghost use Rattle.directory.specs.Updates.{Remove};
+ghost use Rattle.directory.specs.EntryChanges.{changes};
 ghost use Rattle.server_entries.specs.Clients.{ndr_syntax};
-ghost use Rattle.server_entries.specs.Exports.{tower_attribute, object_attribute, exported_tower, tower_added, object_added, exported, export_fault, tower_goes, object_goes, unexported, unexport_fault};
+ghost use Rattle.server_entries.specs.Exports.{tower_attribute, object_attribute, exported_tower, tower_added, object_added, exported, export_fault};
+ghost use Rattle.server_entries.specs.Exports.{tower_goes, object_goes, unexported, unexport_fault};
 
 use crate::client::ndr;
-use crate::order::in_order;
 use crate::tower::tower_of_value;
-use attr_sets::Value;
+use attr_sets::{Value, in_order};
 use cds_stamps::{AllocOr, AttrName, SimpleName};
-use directory::Update;
+use directory::{Update, creation};
 use std::alloc::{AllocError, Global};
 use thiserror::Error;
 use tower_codec::{Interface, Protseq, RpcTower, StringBinding};
@@ -34,30 +34,6 @@ pub enum ExportFault {
     NothingToExport,
     #[error("the entry has none of the values to unexport")]
     NothingToUnexport,
-}
-
-// The value of octets that are one: only memory can be wanting.
-fn known_value(alloc: Global, octets: &[u8]) -> Result<Value, AllocError>
-    requires { value_fault octets.now ≡ None }
-    ensures { IfOk result (λ v. v ≡ octets.now) }
-{
-    match Value::new(alloc, octets) {
-        Ok(value) => Ok(value),
-        Err(AllocOr::OutOfMemory) => Err(AllocError),
-        Err(AllocOr::Fault(_)) => unreachable!(),
-    }
-}
-
-// The attribute name of octets that are one: only memory can be wanting.
-fn known_attr(alloc: Global, octets: &[u8]) -> Result<AttrName, AllocError>
-    requires { attr_fault octets.now ≡ None }
-    ensures { IfOk result (λ a. a ≡ octets.now) }
-{
-    match AttrName::parse(alloc, octets) {
-        Ok(attr) => Ok(attr),
-        Err(AllocOr::OutOfMemory) => Err(AllocError),
-        Err(AllocOr::Fault(_)) => unreachable!(),
-    }
 }
 
 // The tower of a server of the interface at an address, in the transfer syntax NDR.
@@ -90,7 +66,7 @@ fn tower_value(
 {
     let tower = tower_at(interface, binding.protseq, binding.port, binding.address);
     let octets = tower.octets(alloc)?;
-    known_value(alloc, &octets)
+    Value::known(alloc, &octets)
 }
 
 // The value that says of an object.
@@ -98,7 +74,7 @@ fn object_value(alloc: Global, object: &Uuid) -> Result<Value, AllocError>
     ensures { IfOk result (λ v. v ≡ object.now) }
 {
     let octets = object.into_bytes();
-    known_value(alloc, octets.as_slice())
+    Value::known(alloc, octets.as_slice())
 }
 
 // Adds the towers of a server at its bindings.
@@ -109,12 +85,12 @@ fn push_towers(
     interface: &Interface,
     bindings: &[StringBinding],
 ) -> Result<(), AllocError>
-    ensures { OnOk result (map change_of updates.new.items
-        ≡ map change_of updates.old.items ++ map (tower_added name.now interface.now) bindings.now) }
+    ensures { OnOk result (changes updates.new.items
+        ≡ changes updates.old.items ++ map (tower_added name.now interface.now) bindings.now) }
 {
     for binding in bindings {
         let value = tower_value(alloc, interface, binding)?;
-        updates.push(Update::Add(name.copy(alloc)?, known_attr(alloc, TOWERS)?, value))?;
+        updates.push(Update::Add(name.copy(alloc)?, AttrName::known(alloc, TOWERS)?, value))?;
     }
     Ok(())
 }
@@ -126,27 +102,14 @@ fn push_objects(
     name: &SimpleName,
     objects: &[Uuid],
 ) -> Result<(), AllocError>
-    ensures { OnOk result (map change_of updates.new.items
-        ≡ map change_of updates.old.items ++ map (object_added name.now) objects.now) }
+    ensures { OnOk result (changes updates.new.items
+        ≡ changes updates.old.items ++ map (object_added name.now) objects.now) }
 {
     for object in objects {
         let value = object_value(alloc, object)?;
-        updates.push(Update::Add(name.copy(alloc)?, known_attr(alloc, OBJECTS)?, value))?;
+        updates.push(Update::Add(name.copy(alloc)?, AttrName::known(alloc, OBJECTS)?, value))?;
     }
     Ok(())
-}
-
-// The update that makes the entry, where it is absent.
-fn entry_made(alloc: Global, name: &SimpleName, absent: bool) -> Result<Vec<Update>, AllocError>
-    ensures { IfOk result (λ list. map change_of list.items
-        ≡ (if absent then Create name.now ∷ [] else [])) }
-{
-    let mut updates = Vec::new(alloc);
-    if !absent {
-        return Ok(updates);
-    }
-    updates.push(Update::Create(name.copy(alloc)?))?;
-    Ok(updates)
 }
 
 // The updates of an export.
@@ -158,10 +121,10 @@ fn exported_updates(
     bindings: &[StringBinding],
     objects: &[Uuid],
 ) -> Result<Vec<Update>, AllocError>
-    ensures { IfOk result (λ list. map change_of list.items
+    ensures { IfOk result (λ list. changes list.items
         ≡ exported name.now absent interface.now bindings.now objects.now) }
 {
-    let mut updates = entry_made(alloc, name, absent)?;
+    let mut updates = creation(alloc, name, absent)?;
     push_towers(alloc, &mut updates, name, interface, bindings)?;
     push_objects(alloc, &mut updates, name, objects)?;
     Ok(updates)
@@ -177,7 +140,7 @@ pub fn export(
     bindings: &[StringBinding],
     objects: &[Uuid],
 ) -> Result<Vec<Update>, AllocOr<ExportFault>>
-    ensures updates { IfOk result (λ list. map change_of list.items
+    ensures updates { IfOk result (λ list. changes list.items
         ≡ exported name.now absent interface.now bindings.now objects.now) }
 
     // The fault, and that no other comes.
@@ -262,13 +225,13 @@ fn push_removals(
     values: &[&Value],
 ) -> Result<(), AllocError>
     requires { attr_fault attr.now ≡ None }
-    ensures updates { OnOk result (map change_of updates.new.items ≡ map change_of updates.old.items
+    ensures updates { OnOk result (changes updates.new.items ≡ changes updates.old.items
         ++ map (Remove name.now attr.now) (map (λ v. v.now) values.now)) }
     ensures none { values.now ≡ [] → IsOk result }
 {
     for value in values {
         let value = value.copy(alloc)?;
-        updates.push(Update::Remove(name.copy(alloc)?, known_attr(alloc, attr)?, value))?;
+        updates.push(Update::Remove(name.copy(alloc)?, AttrName::known(alloc, attr)?, value))?;
     }
     Ok(())
 }
@@ -280,7 +243,7 @@ fn removals(
     towers: &[&Value],
     objects: &[&Value],
 ) -> Result<Vec<Update>, AllocError>
-    ensures updates { IfOk result (λ list. map change_of list.items
+    ensures updates { IfOk result (λ list. changes list.items
         ≡ map (Remove name.now tower_attribute) (map (λ v. v.now) towers.now)
         ++ map (Remove name.now object_attribute) (map (λ v. v.now) objects.now)) }
     ensures none { towers.now ≡ [] → objects.now ≡ [] → IsOk result }
@@ -300,7 +263,7 @@ fn unexported_updates(
     interface: Option<&Interface>,
     objects: &[Uuid],
 ) -> Result<Vec<Update>, AllocError>
-    ensures updates { IfOk result (λ list. map change_of list.items
+    ensures updates { IfOk result (λ list. changes list.items
         ≡ unexported name.now towers.now held.now (option_copied interface.entry) objects.now) }
     ensures none { unexported name.now towers.now held.now (option_copied interface.entry) objects.now
         ≡ [] → IsOk result }
@@ -321,7 +284,7 @@ pub fn unexport(
     interface: Option<&Interface>,
     objects: &[Uuid],
 ) -> Result<Vec<Update>, AllocOr<ExportFault>>
-    ensures updates { IfOk result (λ list. map change_of list.items
+    ensures updates { IfOk result (λ list. changes list.items
         ≡ unexported name.now towers.now held.now (option_copied interface.entry) objects.now) }
 
     // The fault, and that no other comes.

@@ -1,29 +1,24 @@
 // The laws of servers' values, each the contract of a function that does nothing.
-ghost use Rattle.std.specs.Prelude.{◌≡◌, ◌↔◌, ◌<◌, ℕ, List, Some, true};
+ghost use Rattle.std.specs.Prelude.{◌≡◌, ◌↔◌, ◌<◌, ℕ, List, Option, Some, is_none, true};
 ghost use Rattle.std.specs.List.{AllByRecursion, Contains};
-ghost use Rattle.std.specs.List.Sorted.{IsStrictlySortedBy};
-ghost use Rattle.cds_stamps.specs.Octets.{octets_cmp};
 ghost use Rattle.tower_codec.specs.declared.binding.StringBinding.{StringBinding};
 ghost use Rattle.tower_codec.specs.declared.rpc.Interface.{Interface};
 ghost use Rattle.tower_codec.specs.declared.rpc.RpcTower.{RpcTower};
 ghost use Rattle.tower_codec.specs.Binding.{FitsBinding};
 ghost use Rattle.tower_codec.specs.Rpc.{rpc_octets, IsInterface};
+ghost use Rattle.tower_codec.specs.Serving.{serves};
+ghost use Rattle.directory.specs.Histories.{Mark, IsHistory};
+ghost use Rattle.directory.specs.Shown.{Shown, shown};
+ghost use Rattle.directory.specs.EntryChanges.{AreAccepted};
 ghost use Rattle.server_entries.specs.declared.client.Wanted.{Wanted};
-ghost use Rattle.server_entries.specs.InOrder.{ascending};
 ghost use Rattle.server_entries.specs.ServerTowers.{IsServerTower, rpc_tower_of};
-ghost use Rattle.server_entries.specs.Clients.{wants, serves, carried, entry_bindings, IsBindingOf};
-ghost use Rattle.server_entries.specs.Exports.{exported_tower, tower_goes};
+ghost use Rattle.server_entries.specs.Clients.{wants, carried, entry_bindings, IsBindingOf};
+ghost use Rattle.server_entries.specs.Exports.{exported_tower, exported, tower_goes, unexported};
 
 /// The RPC server that is read of octets is the one whose tower they are, and each such tower is read.
 pub fn server_towers_are_read()
     ensures { (octets : List ℕ) (tower : RpcTower) → AllByRecursion (λ n. n < 256) octets
         → rpc_tower_of octets ≡ Some tower ↔ IsServerTower octets tower }
-{}
-
-/// Values in ascending order are the given ones, each once, and ascend.
-pub fn values_ascend()
-    ensures order { (vs : List (List ℕ)) → IsStrictlySortedBy octets_cmp (ascending vs) }
-    ensures same { (vs : List (List ℕ)) (v : List ℕ) → Contains (ascending vs) v ↔ Contains vs v }
 {}
 
 /// The bindings of an entry are those to compatible servers whose towers it has.
@@ -46,4 +41,15 @@ pub fn exported_servers_are_found()
 pub fn exported_servers_can_go()
     ensures { (interface : Interface) (binding : StringBinding) → IsInterface interface → FitsBinding binding
         → tower_goes (Some interface) (rpc_octets (exported_tower interface binding)) ≡ true }
+{}
+
+/// The updates of servers are accepted one after the other: those that export one, whether the entry shows or is absent,
+/// and those that unexport one from an entry that shows.
+pub fn server_updates_are_accepted()
+    ensures exports { (h : List Mark) (n : List ℕ) (interface : Interface) (bindings : List StringBinding)
+        (objects : List (List ℕ)) → IsHistory h
+        → AreAccepted h (exported n (is_none (shown h n)) interface bindings objects) }
+    ensures unexports { (h : List Mark) (n : List ℕ) (e : Shown) (towers held : List (List ℕ))
+        (interface : Option Interface) (objects : List (List ℕ)) → shown h n ≡ Some e
+        → AreAccepted h (unexported n towers held interface objects) }
 {}

@@ -5,7 +5,6 @@
 mod client;
 mod exports;
 pub mod laws;
-mod order;
 mod tower;
 
 pub use client::{Wanted, bindings};

@@ -1,8 +1,8 @@
 use Rattle.std.proofs.Common.{◌≡◌, ◌++◌, map, take}
-use Rattle.directory.specs.Updates.{change_of}
+use Rattle.directory.specs.EntryChanges.{changes}
 use Rattle.server_entries.specs.Exports.{object_added}
 use Rattle.server_entries.proofs.exports.push_objects.Given as goal
 
 abbrev pub invariant-loop-object : goal.invariant-loop-object
 invariant-loop-object l =
-    map change_of l.updates.items ≡ map change_of l.fn.updates.items ++ map (object_added l.name) (take l.object-index l.objects)
+    changes l.updates.items ≡ changes l.fn.updates.items ++ map (object_added l.name) (take l.object-index l.objects)

@@ -1,4 +1,4 @@
-use Rattle.std.proofs.Common.{◌≡◌, true, false, ◌∙◌}
+use Rattle.std.proofs.Common.{◌≡◌, [], true, false, ◌∙◌}
 use Rattle.std.specs.Prelude.{filter}
 use Rattle.std.specs.Option.{option_copied}
 use Rattle.directory.specs.Updates.{Remove}
@@ -8,16 +8,28 @@ use Rattle.server_entries.proofs.exports.unexported_updates.Goals as goal
 
 pub returns-in_err-towers-clause-none : goal.returns-in_err-towers-clause-none
 returns-in_err-towers-clause-none c = λ none.
-    let never : false ≡ true = c.in_err-towers.ensures.none (no_towers (Remove c.args.name.now tower_attribute) (Remove c.args.name.now object_attribute) (filter (tower_goes (option_copied c.args.interface)) c.args.towers.now) (filter (object_goes c.args.objects.now) c.args.held.now) none) in
+    let towers = filter (tower_goes (option_copied c.args.interface)) c.args.towers.now in
+    let objects = filter (object_goes c.args.objects.now) c.args.held.now in
+    let gone : towers ≡ [] = no_towers (Remove c.args.name.now tower_attribute) (Remove c.args.name.now object_attribute) towers objects none in
+    let never : false ≡ true = c.in_err-towers.ensures.none gone in
     absurd cc
 
 pub returns-in_err-objects-clause-none : goal.returns-in_err-objects-clause-none
 returns-in_err-objects-clause-none c = λ none.
-    let never : false ≡ true = c.in_err-objects.ensures.none (no_objects (Remove c.args.name.now tower_attribute) (Remove c.args.name.now object_attribute) (filter (tower_goes (option_copied c.args.interface)) c.args.towers.now) (filter (object_goes c.args.objects.now) c.args.held.now) none) in
+    let towers = filter (tower_goes (option_copied c.args.interface)) c.args.towers.now in
+    let objects = filter (object_goes c.args.objects.now) c.args.held.now in
+    let gone : objects ≡ [] = no_objects (Remove c.args.name.now tower_attribute) (Remove c.args.name.now object_attribute) towers objects none in
+    let never : false ≡ true = c.in_err-objects.ensures.none gone in
     absurd cc
 
 pub returns-clause-none : goal.returns-clause-none
 returns-clause-none c = λ none.
+    let towers = filter (tower_goes (option_copied c.args.interface)) c.args.towers.now in
+    let objects = filter (object_goes c.args.objects.now) c.args.held.now in
+    let tower_removed = Remove c.args.name.now tower_attribute in
+    let object_removed = Remove c.args.name.now object_attribute in
+    let no_tower : towers ≡ [] = no_towers tower_removed object_removed towers objects none in
+    let no_object : objects ≡ [] = no_objects tower_removed object_removed towers objects none in
     c.removals.ensures.none
-    (c.deref.ensures.value ∙ none_seen (λ v. v.now) c.in_ok-towers.towers.items (filter (tower_goes (option_copied c.args.interface)) c.args.towers.now) c.in_ok-towers.ensures.values (no_towers (Remove c.args.name.now tower_attribute) (Remove c.args.name.now object_attribute) (filter (tower_goes (option_copied c.args.interface)) c.args.towers.now) (filter (object_goes c.args.objects.now) c.args.held.now) none))
-    (c.deref-2.ensures.value ∙ none_seen (λ v. v.now) c.in_ok-objects.objects.items (filter (object_goes c.args.objects.now) c.args.held.now) c.in_ok-objects.ensures.values (no_objects (Remove c.args.name.now tower_attribute) (Remove c.args.name.now object_attribute) (filter (tower_goes (option_copied c.args.interface)) c.args.towers.now) (filter (object_goes c.args.objects.now) c.args.held.now) none))
+    (c.deref.ensures.value ∙ none_seen (λ v. v.now) c.in_ok-towers.towers.items towers c.in_ok-towers.ensures.values no_tower)
+    (c.deref-2.ensures.value ∙ none_seen (λ v. v.now) c.in_ok-objects.objects.items objects c.in_ok-objects.ensures.values no_object)

@@ -14,8 +14,15 @@ returns-in-Err-clause-read c =
 pub returns-then-len-octets-clause-says : goal.returns-then-len-octets-clause-says
 returns-then-len-octets-clause-says c =
     let octets = c.args.octets.now in
-    let len = c.in-Ok.read.1 in
-    (c.in-Ok.read.0, take len octets, drop len octets, c.in-Ok.ensures.tower, sym (take-append-drop len octets), omega (arith, length-drop len octets), omega (arith, length-take-le len octets c.in-Ok.ensures.length))
+    let len = c.in-Ok.read.1 in (
+      c.in-Ok.read.0,
+      take len octets,
+      drop len octets,
+      c.in-Ok.ensures.tower,
+      sym (take-append-drop len octets),
+      omega (arith, length-drop len octets),
+      omega (arith, length-take-le len octets c.in-Ok.ensures.length),
+    )
 
 pub returns-then-len-octets-clause-read : goal.returns-then-len-octets-clause-read
 returns-then-len-octets-clause-read c =
@@ -23,8 +30,12 @@ returns-then-len-octets-clause-read c =
     read_as c.args.octets.now (Err (Trailing (c.in-Ok.read.1 + 1))) bytes (returns-then-len-octets-clause-says c)
 
 pub returns-in-Some-clause-says : goal.returns-in-Some-clause-says
-returns-in-Some-clause-says c =
-    (c.in-Ok.read.0, subst (IsTower c.in-Ok.read.0) (take_all c.in-Ok.read.1 c.args.octets.now c.if-len-octets.false) c.in-Ok.ensures.tower, c.in-Some.ensures.found)
+returns-in-Some-clause-says c = (
+  c.in-Ok.read.0,
+  subst (IsTower c.in-Ok.read.0)
+      (take_all c.in-Ok.read.1 c.args.octets.now c.if-len-octets.false) c.in-Ok.ensures.tower,
+  c.in-Some.ensures.found,
+)
 
 pub returns-in-Some-clause-read : goal.returns-in-Some-clause-read
 returns-in-Some-clause-read c =
@@ -32,8 +43,12 @@ returns-in-Some-clause-read c =
     read_as c.args.octets.now (Ok c.in-Some.tower) bytes (returns-in-Some-clause-says c)
 
 pub returns-in-None-clause-says : goal.returns-in-None-clause-says
-returns-in-None-clause-says c =
-    (c.in-Ok.read.0, subst (IsTower c.in-Ok.read.0) (take_all c.in-Ok.read.1 c.args.octets.now c.if-len-octets.false) c.in-Ok.ensures.tower, λ tower is. let never = c.in-None.ensures.only tower is in cc)
+returns-in-None-clause-says c = (
+  c.in-Ok.read.0,
+  subst (IsTower c.in-Ok.read.0)
+      (take_all c.in-Ok.read.1 c.args.octets.now c.if-len-octets.false) c.in-Ok.ensures.tower,
+  λ tower is. let never = c.in-None.ensures.only tower is in cc,
+)
 
 pub returns-in-None-clause-read : goal.returns-in-None-clause-read
 returns-in-None-clause-read c =
