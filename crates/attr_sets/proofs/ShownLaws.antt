@@ -20,7 +20,8 @@ use Rattle.cds_stamps.specs.Octets.{octets_cmp, octets_exact, is_octets}
 use Rattle.cds_stamps.specs.Stamps.{is_earlier, stamp_cmp, stamp_total, stamp_exact, later_stamp, later_stamp_laws}
 use Rattle.attr_sets.specs.declared.mark.ValueMark.{ValueMark}
 use Rattle.attr_sets.specs.Marks.{kept, mark_cmp, mark_total, mark_exact}
-use Rattle.attr_sets.specs.Cells.{AttrMark, Cleared, Marked, clear_in, mark_in, greatest_clear, greatest_mark, marks_kept, present_in, shown_values}
+use Rattle.attr_sets.specs.declared.cell.AttrCell.{AttrCell}
+use Rattle.attr_sets.specs.Cells.{AttrMark, Cleared, Marked, clear_in, mark_in, greatest_clear, greatest_mark, marks_kept, present_in, shown_values, cell_values}
 use Rattle.attr_sets.specs.CellLaws.{get-cell_of}
 use Rattle.attr_sets.specs.ShownValues.{IsGreatestMark, IsUncleared, IsShown}
 use Rattle.attr_sets.proofs.Greatest.{not_lt-through, Contains-head, Contains-tail, Contains-none, Contains-cases, HasMember, join_of-among, join_of-greatest, join_of-is, join_of-member, same_inside}
@@ -166,6 +167,11 @@ present_rise (e ∷ es) h = by_case e.1.present (present_below (λ y. octets_cmp
 map_rises : (m : FinMap octets_cmp ValueMark) → IsStrictlySortedBy octets_cmp (keys_of (entries m))
 map_rises m = keys_rise octets_cmp (entries m) (entries_sorted m)
 
+-- the values that are present in a cell ascend, each once
+pub cell_values-ascending : (c : AttrCell) → IsStrictlySortedBy octets_cmp (cell_values c)
+cell_values-ascending c = present_rise (entries c.values) (map_rises c.values)
+
+-- and so do those that a history shows
 pub shown_values-ascending : (h : List AttrMark) → IsStrictlySortedBy octets_cmp (shown_values h)
 shown_values-ascending h = present_rise (entries (marks_kept h)) (map_rises (marks_kept h))
 
