@@ -8,6 +8,7 @@ pub mod MemberLaws
 pub mod Masks
 pub mod ListMembers
 pub mod AscendingLaws
+pub mod FirstLaws
 pub mod FirstFaults
 pub mod NameFaults
 pub mod MemberFaults

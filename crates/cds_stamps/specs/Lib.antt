@@ -4,6 +4,7 @@ pub mod Joins
 pub mod Stamps
 pub mod Octets
 pub mod Ascending
+pub mod Firsts
 pub mod Names
 pub mod Undos
 pub mod Outcomes

@@ -1,13 +1,14 @@
 //! Laws of the definitions: functions that do nothing, whose contracts are proved.
-ghost use Rattle.std.specs.Prelude.{◌≡◌, ◌≢◌, ◌⊎◌, ◌↔◌, ◌-◌, ◌<◌, ◌≤◌, ℕ, Bool, true, false, List, length, get_or, Some, None};
-ghost use Rattle.std.specs.List.{Contains};
+ghost use Rattle.std.specs.Prelude.{◌≡◌, ◌≢◌, ◌⊎◌, ◌↔◌, ◌-◌, ◌<◌, ◌≤◌, ℕ, Bool, true, false, List, [], length, get_or, Some, None};
+ghost use Rattle.std.specs.List.{Contains, IsDistinct};
 ghost use Rattle.std.specs.List.Sorted.{IsStrictlySortedBy};
 ghost use Rattle.cds_stamps.specs.Ascending.{ascending};
+ghost use Rattle.cds_stamps.specs.Firsts.{has, firsts};
 ghost use Rattle.cds_stamps.specs.Fronts.{IsFirstBad, EndsEarly};
 ghost use Rattle.cds_stamps.specs.Members.{Member, members_fault, most_members, masters_in, IsAscending, IsMembers};
 ghost use Rattle.cds_stamps.specs.Names.{is_name_octet, simple_name_fault, longest_component, IsSimpleName, attr_fault, longest_attr, IsAttrName};
 ghost use Rattle.cds_stamps.specs.Numbers.{root_dir, node_bits};
-ghost use Rattle.cds_stamps.specs.Octets.{octets_cmp};
+ghost use Rattle.cds_stamps.specs.Octets.{octets_cmp, is_octets};
 ghost use Rattle.cds_stamps.specs.Places.{each_place};
 ghost use Rattle.cds_stamps.specs.declared.members.MembersFault.TheVariants.{BadCount, NotAscending, BadMaster};
 ghost use Rattle.cds_stamps.specs.declared.members.TheConstants.{MOST_MEMBERS};
@@ -80,4 +81,10 @@ pub fn octets_ascend_once()
     ensures same { (all : List (List ℕ)) (o : List ℕ) → Contains (ascending all) o ↔ Contains all o }
     ensures only { (all once : List (List ℕ)) → IsStrictlySortedBy octets_cmp once
         → ((o : List ℕ) → Contains once o ↔ Contains all o) → once ≡ ascending all }
+{}
+
+/// The first places of a list have its items, each once.
+pub fn first_places_stand_once()
+    ensures same { (all : List (List ℕ)) (o : List ℕ) → has is_octets o (firsts is_octets [] all) ≡ has is_octets o all }
+    ensures once { (all : List (List ℕ)) → IsDistinct is_octets (firsts is_octets [] all) }
 {}

@@ -1,0 +1,17 @@
+-- The items of a list, each where it comes first.
+use Rattle.std.specs.Prelude.{Bool, List, [], ◌∷◌, ◌++◌, if◌then◌else◌}
+use Rattle.std.specs.List.{list_any}
+
+module _ {A : Type 0} (same : A → A → Bool) where
+  -- the item is among these (own)
+  abbrev pub has : A → List A → Bool
+  has x = list_any (same x)
+
+  -- the item alone, unless it was seen (own)
+  abbrev pub if_new : (seen : List A) → A → List A
+  if_new seen x = if has x seen then [] else x ∷ []
+
+  -- the items that were not seen, each where it comes first (own)
+  abbrev pub firsts : (seen : List A) → List A → List A
+  firsts seen [] = []
+  firsts seen (x ∷ xs) = if_new seen x ++ firsts (seen ++ if_new seen x) xs
