@@ -1,5 +1,5 @@
 // A clearinghouse and its calls.
-ghost use Rattle.std.specs.Prelude.{◌≡◌, ℕ, None, [], IfOk, option_copied};
+ghost use Rattle.std.specs.Prelude.{◌≡◌, ℕ, None, [], IfOk, OnErr, option_copied};
 ghost use Rattle.std.specs.FinMap as map;
 ghost use Rattle.directory.specs.Updates.{change_of};
 ghost use Rattle.cell_model.specs.Cells as model;
@@ -55,7 +55,7 @@ impl Clearinghouse {
     }
 
     /// Makes a directory of which it is the master: in epoch 1, with a replica that is empty. It posts Joins to the other
-    /// members.
+    /// members. After want of memory nothing is changed.
     pub fn create_directory(
         &mut self,
         alloc: Global,
@@ -68,6 +68,7 @@ impl Clearinghouse {
         ensures node { self.new.node ≡ self.old.node }
         ensures floor { self.new.floor ≡ self.old.floor }
         ensures turn { (g : model.Cell) → StandsHouse self.old (g.house self.old.house.0) → IfOk result (λ posted. IsTurn g (founds g dir.0 self.old.house.0 (members_of members.now)) self.new posted) }
+        ensures err { OnErr result (self.new ≡ self.old) }
     {
         let message = self.first_join(alloc, dir, members)?;
         let posted = post_to_others(alloc, members, &message)?;
@@ -95,8 +96,9 @@ impl Clearinghouse {
         })
     }
 
-    /// Takes an update of a directory, stamps it, and posts it to each other member. Or refuses it, and then nothing is
-    /// changed: where it holds no replica, where it is not the master, as the table refuses it, and where no stamp is left.
+    /// Takes an update of a directory, stamps it, and posts it to each other member. Or refuses it: where it holds no
+    /// replica, where it is not the master, as the table refuses it, and where no stamp is left. After a refusal or want of
+    /// memory nothing is changed.
     pub fn accept(
         &mut self,
         alloc: Global,
@@ -108,6 +110,7 @@ impl Clearinghouse {
         ensures node { self.new.node ≡ self.old.node }
         ensures refused { IfOk result (λ a. IfRefused a (self.new ≡ self.old)) }
         ensures turn { (g : model.Cell) → StandsHouse self.old (g.house self.old.house.0) → (g.house self.old.house.0).clock ≡ clock → IfOk result (λ a. IsAccepted g (accept g self.old.house.0 dir.0 (change_of update.now) ((g.house self.old.house.0).slots dir.0)) self.new a) }
+        ensures err { OnErr result (self.new ≡ self.old) }
     {
         let by = Acceptor {
             house: self.house,

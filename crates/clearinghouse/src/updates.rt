@@ -1,5 +1,5 @@
 // Updates of a directory at its master.
-ghost use Rattle.std.specs.Prelude.{◌≡◌, ◌<◌, ◌≤◌, ℕ, None, Some, IfOk};
+ghost use Rattle.std.specs.Prelude.{◌≡◌, ◌<◌, ◌≤◌, ℕ, None, Some, IfOk, OnErr};
 ghost use Rattle.cds_stamps.specs.Members.{is_accepting, members_of, others_of};
 ghost use Rattle.directory.specs.Updates.{change_of, changed_name};
 ghost use Rattle.directory.specs.Shown.{shown, shown_in, refusal_of, marks_of};
@@ -49,6 +49,8 @@ impl DirStates {
         ensures refused { IfOk result (λ a. IfRefused a (self.new ≡ self.old)) }
         ensures floor { IfOk result (λ a. IfRefused a (floor.new ≡ floor.old)) }
         ensures rises { floor.old.time ≤ floor.new.time }
+        ensures err { OnErr result (self.new ≡ self.old) }
+        ensures err_floor { OnErr result (floor.new ≡ floor.old) }
         ensures held { (g : model.Cell) (r : model.Replica) (held : held.Held) → map.get self.old dir ≡ Some (state.Held held) → StandsHeld floor.old.time held r → ActsAt g by floor.old.time dir.0 r → IfOk result (λ a. IsTakenIn g by.house.0 dir.0 (accept g by.house.0 dir.0 (change_of update.now) (model.Held r)) a self.old self.new floor.new.time) }
         ensures not_held { IsNotHeld (map.get self.old dir) → IfOk result (λ a. a ≡ accepted.Refused why.NoReplica) }
     {
@@ -72,6 +74,8 @@ impl DirState {
         ensures refused { IfOk result (λ a. IfRefused a (self.new ≡ self.old)) }
         ensures floor { IfOk result (λ a. IfRefused a (floor.new ≡ floor.old)) }
         ensures rises { floor.old.time ≤ floor.new.time }
+        ensures err { OnErr result (self.new ≡ self.old) }
+        ensures err_floor { OnErr result (floor.new ≡ floor.old) }
         ensures held { (g : model.Cell) (r : model.Replica) (held : held.Held) → self.old ≡ state.Held held → StandsHeld floor.old.time held r → ActsAt g by floor.old.time dir.0 r → IfOk result (λ a. IsTakenAs g by.house.0 dir.0 (accept g by.house.0 dir.0 (change_of update.now) (model.Held r)) a self.new floor.new.time) }
         ensures not_held { IsNotHeld (Some self.old) → IfOk result (λ a. a ≡ accepted.Refused why.NoReplica) }
     {
@@ -95,6 +99,8 @@ impl Held {
         ensures refused { IfOk result (λ a. IfRefused a (self.new ≡ self.old)) }
         ensures floor { IfOk result (λ a. IfRefused a (floor.new ≡ floor.old)) }
         ensures rises { floor.old.time ≤ floor.new.time }
+        ensures err { OnErr result (self.new ≡ self.old) }
+        ensures err_floor { OnErr result (floor.new ≡ floor.old) }
         ensures turn { (g : model.Cell) (r : model.Replica) → StandsHeld floor.old.time self.old r → ActsAt g by floor.old.time dir.0 r → IfOk result (λ a. IsTaken g by.house.0 dir.0 (accept g by.house.0 dir.0 (change_of update.now) (model.Held r)) a self.new floor.new.time) }
     {
         if !self.is_master(by.house) {
@@ -127,11 +133,15 @@ impl Held {
         ensures refused { IfOk result (λ a. IfRefused a (self.new ≡ self.old)) }
         ensures floor { IfOk result (λ a. IfRefused a (floor.new ≡ floor.old)) }
         ensures rises { floor.old.time ≤ floor.new.time }
+        ensures err { OnErr result (self.new ≡ self.old) }
+        ensures err_floor { OnErr result (floor.new ≡ floor.old) }
         ensures turn { (g : model.Cell) (r : model.Replica) → StandsHeld floor.old.time self.old r → ActsAt g by floor.old.time dir.0 r → IfOk result (λ a. IsTaken g by.house.0 dir.0 (accept_at g by.house.0 dir.0 (change_of update.now) r (stamp_at (g.house by.house.0))) a self.new floor.new.time) }
     {
-        match floor.issue(by.clock, by.node) {
+        let mut raised = *floor;
+        match raised.issue(by.clock, by.node) {
             Some(stamp) => {
                 let posted = self.add_marks(alloc, dir, by.house, &stamp, update)?;
+                *floor = raised;
                 Ok(Accepted::Done { stamp, posted })
             }
             None => Ok(Accepted::Refused(UpdateRefusal::StampsSpent)),
@@ -148,20 +158,21 @@ impl Held {
         update: &Update,
     ) -> Result<PostedList, AllocError>
         requires { refusal_of (shown_in self.old.replica.table (changed_name (change_of update.now))) (change_of update.now) ≡ None }
-        ensures { (r : model.Replica) (floor : ℕ) → StandsHeld floor self.old r → floor < stamp.now.time → IfOk result (λ posted. AddsMarks r house.0 dir.0 (change_of update.now) stamp.now self.new posted) }
+        ensures adds { (r : model.Replica) (floor : ℕ) → StandsHeld floor self.old r → floor < stamp.now.time → IfOk result (λ posted. AddsMarks r house.0 dir.0 (change_of update.now) stamp.now self.new posted) }
+        ensures err { OnErr result (self.new ≡ self.old) }
     {
         let epoch = self.epoch;
         let floor = stamp.time;
         let fragment = self.replica.table.fragment(alloc, update, *stamp)?;
-        self.replica.take_marks(alloc, &fragment)?;
         let message = Message {
             dir,
             from: house,
             epoch,
             floor,
-            body: Body::Update(fragment),
+            body: Body::Update(fragment.copy(alloc)?),
         };
         let posted = post_to_others(alloc, &self.members, &message)?;
+        self.replica.take_marks(alloc, &fragment)?;
         Ok(posted)
     }
 }

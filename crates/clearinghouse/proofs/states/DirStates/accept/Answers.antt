@@ -2,6 +2,7 @@ use Rattle.std.proofs.Common.{refl, sym, ap, subst, ◌∙◌, Some}
 use Rattle.std.specs.FinMap as map
 use Rattle.std.specs.BTreeMap.{is_at}
 use Rattle.std.proofs.lemmas.Map.Steps.{set_value_same}
+use Rattle.std.proofs.lemmas.Result.{on_err_weaker}
 use Rattle.cds_records.specs.Dirs.{dir_cmp}
 use Rattle.clearinghouse.specs.Turns.{IsNotHeld}
 use Rattle.clearinghouse.proofs.Maps.{written, found, if_ok_map, refused_map, some_is}
@@ -38,4 +39,13 @@ returns-clause-not_held c = λ none.
     elim c.match-get_mut.branch [
       | in-Some w ↦ rw w.result-is (w.accept.ensures.not_held (subst IsNotHeld (found c.args.self.now c.self.inside.states.entries c.args.dir c.self.view_is ∙ sym w.in-Some.ensures.value) none))
       | in-None w ↦ rw w.result-is refl
+    ]
+
+pub returns-clause-err : goal.returns-clause-err
+returns-clause-err c =
+    elim c.match-get_mut.branch [
+      | in-Some w ↦ rw (w.result-is, w.self-inside-is) (on_err_weaker w.accept.result
+          (λ same. ap map.from_entries ((c.get_mut.follows.holds w.accept.new.self).0 ∙ set_value_same (is_at (dir_cmp c.args.dir)) c.self.inside.states.entries w.accept.new.self (sym w.in-Some.ensures.value ∙ ap Some (sym same))) ∙ c.self.view_is)
+          w.accept.ensures.err)
+      | in-None w ↦ rw w.result-is tt
     ]
