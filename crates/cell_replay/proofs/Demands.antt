@@ -11,7 +11,8 @@ not_ten : (b : ℕ) → b ≢ 10 → (b == 10) ≡ false
 not_ten b other = grind (arith, nat_tests)
 
 -- clean octets join the line
-pub demand_clean : (number : ℕ) (state : LineState) (line p r : List ℕ) → AreClean number (length line + 1) p → scanned number state line (p ++ r) ≡ scanned number state (line ++ p) r
+pub demand_clean : (number : ℕ) (state : LineState) (line p r : List ℕ) → AreClean number (length line + 1) p
+    → scanned number state line (p ++ r) ≡ scanned number state (line ++ p) r
 unfolding scanned
 demand_clean number state line [] r clean = ap (λ (l : List ℕ). scanned number state l r) (sym (append-nil line))
 demand_clean number state line (b ∷ bs) r clean =

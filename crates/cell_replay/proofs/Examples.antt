@@ -69,7 +69,8 @@ printed : tower_text (record { left = 11 ∷ []; right = [] } ∷ record { left 
 unfolding encode_with
 printed = refl
 
-spelled_back : tower_said (words_of (codes "0b: 0708:01")) ≡ SaysTower (record { left = 11 ∷ []; right = [] } ∷ record { left = 7 ∷ 8 ∷ []; right = 1 ∷ [] } ∷ [])
+spelled_back : tower_said (words_of (codes "0b: 0708:01")) ≡ SaysTower
+    (record { left = 11 ∷ []; right = [] } ∷ record { left = 7 ∷ 8 ∷ []; right = 1 ∷ [] } ∷ [])
 unfolding floor_said cut decode_pairs
 spelled_back = refl
 

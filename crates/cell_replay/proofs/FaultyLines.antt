@@ -3,10 +3,11 @@ use Rattle.std.proofs.Common.{List, ℕ}
 use Rattle.cell_replay.specs.declared.replies.LineEnd.{LineEnd}
 use Rattle.cell_replay.specs.declared.replies.LineEnd.TheVariants as line
 use Rattle.cell_replay.specs.Demand.{LineState, Stops}
-use Rattle.cell_replay.specs.Standing.{Ends, Faults}
+use Rattle.cell_replay.specs.PrivateStanding.{Ends, Faults}
 
 -- whatever would follow
-pub faults_end : (end : LineEnd) (text waited waits : List ℕ) (Then : LineState → Type 0) → Faults end text waited waits → Ends end (Stops text) waited waits Then
+pub faults_end : (end : LineEnd) (text waited waits : List ℕ) (Then : LineState → Type 0) → Faults end text waited waits
+    → Ends end (Stops text) waited waits Then
 faults_end line.GoesOn text waited waits Then faults = absurd faults
 faults_end line.Stops text waited waits Then faults = faults
 faults_end line.NoMemory text waited waits Then faults = faults

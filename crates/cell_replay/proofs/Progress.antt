@@ -1,5 +1,6 @@
 -- How a run goes on step by step, a line or a tower at a time, and how it ends.
-use Rattle.std.proofs.Common.{◌≡◌, ◌⊎◌, inl, inr, ⊎_elim, ℕ, ◌+◌, ◌≤◌, ◌<◌, Bool, List, [], ◌++◌, length, take, drop, refl, sym, ◌∙◌, ap, subst, arith, append_assoc, append-nil, length-append, take-append-drop, length-take}
+use Rattle.std.proofs.Common.{◌≡◌, ◌⊎◌, inl, inr, ⊎_elim, ℕ, ◌+◌, ◌≤◌, ◌<◌, Bool, List, [], ◌++◌, length, take, drop, refl, sym, ◌∙◌, ap, subst, arith}
+use Rattle.std.proofs.Common.{append_assoc, append-nil, length-append, take-append-drop, length-take}
 use Rattle.std.specs.Prelude.{Option, None, Some, IfSome, IsTrue}
 use Rattle.std.specs.Io.KnownBytes.{Consumes, Appends}
 use Rattle.cds_base.specs.Counts.{Rose}
@@ -9,8 +10,9 @@ use Rattle.cell_replay.specs.Demand.{Demand, with_front}
 use Rattle.cell_replay.specs.Forms.{FormState, Demands}
 use Rattle.cell_replay.specs.declared.endings.Status.{Status}
 use Rattle.cell_replay.specs.declared.endings.Status.TheVariants.{Ok as AllRead, Usage, BadInput, ReadFault, WriteFault, OutOfMemory}
-use Rattle.cell_replay.specs.Waiting.{Flushes}
-use Rattle.cell_replay.specs.Runs.{IsFront, Wrote, IsWhole, IsFaulty, IsCutOff, IsPart, IsTakenAtOnce, read_ahead, WroteSoon, IsDue, IsQueued, Finishes, StopsWith, Ended}
+use Rattle.cell_replay.specs.PrivateWaiting.{Flushes}
+use Rattle.cell_replay.specs.Runs.{IsFront, Wrote, IsWhole, IsFaulty, IsBody, CameLate, WroteAllBefore, IsPart, IsTakenAtOnce, read_ahead, WroteSoon}
+use Rattle.cell_replay.specs.PrivateEndings.{IsDue, IsQueued, Finishes, StopsWith, side, Ended}
 
 -- ---- fronts
 
@@ -55,15 +57,18 @@ due_part left WriteFault d text due = absurd due
 -- ---- octets read
 
 -- what is held then was held before or was read
-pub reads_on : (first left left' : Option (List ℕ)) (consumed held held' : List ℕ) → Consumes first left (consumed ++ held) → GrowsByReading left left' held held' → Consumes first left' (consumed ++ held')
+pub reads_on : (first left left' : Option (List ℕ)) (consumed held held' : List ℕ) → Consumes first left (consumed ++ held)
+    → GrowsByReading left left' held held' → Consumes first left' (consumed ++ held')
 reads_on first left left' consumed held held' taken grows =
-    subst (Consumes first left') (append_assoc consumed held grows.read ∙ ap (λ (l : List ℕ). consumed ++ l) (sym grows.grown)) (consumes_more first left left' (consumed ++ held) grows.read taken grows.taken)
+    subst (Consumes first left') (append_assoc consumed held grows.read ∙ ap (λ (l : List ℕ). consumed ++ l) (sym grows.grown))
+    (consumes_more first left left' (consumed ++ held) grows.read taken grows.taken)
 
 -- nothing is read from a source that is untouched
 same_size : (left : List ℕ) (read : List ℕ) → left ≡ read ++ left → length read ≡ 0
 same_size left read is = let size = ap length is in omega (arith, size, length-append read left)
 
-untouched : (left left' : Option (List ℕ)) (held held' : List ℕ) → left' ≡ left → GrowsByReading left left' held held' → IfSome left (λ _. length held' ≡ length held)
+untouched : (left left' : Option (List ℕ)) (held held' : List ℕ) → left' ≡ left → GrowsByReading left left' held held'
+    → IfSome left (λ _. length held' ≡ length held)
 untouched None left' held held' same grows = tt
 untouched (Some xs) left' held held' same grows =
     let taken : Consumes (Some xs) (Some xs) grows.read = subst (λ l. Consumes (Some xs) l grows.read) same grows.taken in
@@ -122,13 +127,16 @@ pub record StopsHere (Behind : List ℕ → Demand → Type 0) : Type 0 where
   pub behind : Behind [] demand
   pub none : demand.body ≡ []
 
-moved : (state : FormState) (xs ys : List ℕ) (d e : Demand) → xs ≡ ys → d ≡ e → Demands state xs d → Demands state ys e
+-- the same octets demand the same
+pub moved : (state : FormState) (xs ys : List ℕ) (d e : Demand) → xs ≡ ys → d ≡ e → Demands state xs d → Demands state ys e
 moved state xs ys d e octets same demands = subst (λ (l : List ℕ). Demands state l e) octets (subst (Demands state xs) same demands)
 
-front_front : (xs ys : List ℕ) (d : Demand) → with_front xs (with_front ys d) ≡ with_front (xs ++ ys) d
+-- a text in front of another text in front
+pub front_front : (xs ys : List ℕ) (d : Demand) → with_front xs (with_front ys d) ≡ with_front (xs ++ ys) d
 front_front xs ys d = λ i. record { body = sym (append_assoc xs ys d.body) i; end = d.end; verdict = d.verdict }
 
-pub started : (state : FormState) (first old : Option (List ℕ)) (held waits : List ℕ) (Behind : List ℕ → Demand → Type 0) → held ≡ [] → waits ≡ []
+-- nothing was taken yet, and nothing waits
+abbrev pub started : (state : FormState) (first old : Option (List ℕ)) (held waits : List ℕ) (Behind : List ℕ → Demand → Type 0) → held ≡ [] → waits ≡ []
     → ((r : List ℕ) (d : Demand) → Behind r d → Demands state r d) → StopsHere Behind → Reached state first first old old held waits Behind
 started state first old held waits Behind none nothing whole stop = record {
   pending = record {
@@ -147,11 +155,13 @@ started state first old held waits Behind none nothing whole stop = record {
 }
 
 -- what waits is nothing, and so is what was taken for it; or the next line is there
-pub record Turn (state : FormState) (first left old new : Option (List ℕ)) (held waits : List ℕ) (Behind : List ℕ → Demand → Type 0) (Ready : Type 0) : Type 0 where
+pub record Turn (state : FormState) (first left old new : Option (List ℕ)) (held waits : List ℕ) (Behind : List ℕ → Demand
+    → Type 0) (Ready : Type 0) : Type 0 where
   pub reached : Reached state first left old new held waits Behind
   pub turn : ((reached.pending.since ≡ []) × (waits ≡ [])) ⊎ Ready
 
-module _ (state : FormState) (first left old new : Option (List ℕ)) (held waits : List ℕ) (Behind : List ℕ → Demand → Type 0) (reached : Reached state first left old new held waits Behind) where
+module _ (state : FormState) (first left old new : Option (List ℕ)) (held waits : List ℕ) (Behind : List ℕ → Demand
+    → Type 0) (reached : Reached state first left old new held waits Behind) where
   abbrev now : Pending state first left old new held
   now = reached.pending
 
@@ -161,7 +171,8 @@ module _ (state : FormState) (first left old new : Option (List ℕ)) (held wait
   -- ---- texts go out
 
   -- all that waited went out, so that nothing waits for its text
-  pub all_out : (new' : Option (List ℕ)) (sent : List ℕ) (Ready : Type 0) → Appends new new' sent → waits ≡ sent → StopsHere Behind → Turn state first left old new' held [] Behind Ready
+  abbrev pub all_out : (new' : Option (List ℕ)) (sent : List ℕ) (Ready : Type 0) → Appends new new' sent → waits ≡ sent → StopsHere Behind
+      → Turn state first left old new' held [] Behind Ready
   all_out new' sent Ready went same stop = record {
     reached = record {
       pending = record {
@@ -171,7 +182,8 @@ module _ (state : FormState) (first left old new : Option (List ℕ)) (held wait
         demand = with_front (now.out ++ waits) stop.demand;
         taken = subst (λ (c : List ℕ). Consumes first left (c ++ held)) (sym (append-nil consumed)) now.taken;
         written = appends_more old new new' now.out sent now.written went;
-        demands = moved state (consumed ++ []) consumed (with_front (now.out ++ waits) stop.demand) (with_front (now.out ++ waits) stop.demand) (append-nil consumed) refl (reached.so_far [] stop.demand stop.behind);
+        demands = moved state (consumed ++ []) consumed (with_front (now.out ++ waits) stop.demand) (with_front (now.out ++ waits) stop.demand)
+            (append-nil consumed) refl (reached.so_far [] stop.demand stop.behind);
         answered = ([], sent_body ∙ sym (append-nil ((now.out ++ waits) ++ stop.demand.body)));
         near = inl refl;
         few = now.few;
@@ -186,10 +198,12 @@ module _ (state : FormState) (first left old new : Option (List ℕ)) (held wait
   }
     where
       sent_body : now.out ++ sent ≡ (now.out ++ waits) ++ stop.demand.body
-      sent_body = ap (λ (w : List ℕ). now.out ++ w) (sym same) ∙ sym (append-nil (now.out ++ waits)) ∙ ap (λ (w : List ℕ). (now.out ++ waits) ++ w) (sym stop.none)
+      sent_body = ap (λ (w : List ℕ). now.out ++ w) (sym same) ∙ sym (append-nil (now.out ++ waits))
+          ∙ ap (λ (w : List ℕ). (now.out ++ waits) ++ w) (sym stop.none)
 
   -- a part of what waited went out
-  some_out : (new' : Option (List ℕ)) (sent waits' : List ℕ) → Appends new new' sent → waits ≡ sent ++ waits' → Reached state first left old new' held waits' Behind
+  some_out : (new' : Option (List ℕ)) (sent waits' : List ℕ) → Appends new new' sent → waits ≡ sent ++ waits'
+      → Reached state first left old new' held waits' Behind
   some_out new' sent waits' went split = record {
     pending = record {
       front = now.front;
@@ -211,7 +225,8 @@ module _ (state : FormState) (first left old new : Option (List ℕ)) (held wait
 
   -- ---- one more line or tower is taken
 
-  module _ (left' : Option (List ℕ)) (held' one : List ℕ) (at_once : IsTakenAtOnce state one) (grows : GrowsByReading left left' held (one ++ held')) (few : length held' ≤ read_ahead state) (turn : (now.since ≡ []) ⊎ (left' ≡ left)) where
+  module _ (left' : Option (List ℕ)) (held' one : List ℕ) (at_once : IsTakenAtOnce state one) (grows : GrowsByReading left left' held (one ++ held'))
+      (few : length held' ≤ read_ahead state) (turn : (now.since ≡ []) ⊎ (left' ≡ left)) where
     -- it is the first that waits, or one more behind that one
     leads_alone : now.since ≡ [] → Leads state first (now.since ++ one) held'
     leads_alone none = record {
@@ -232,7 +247,8 @@ module _ (state : FormState) (first left old new : Option (List ℕ)) (held wait
       more = leads.more ++ one;
       at_once = leads.at_once;
       split = ap (λ (s : List ℕ). s ++ one) leads.split ∙ append_assoc leads.one leads.more one;
-      close = if_both first leads.close (told (length (one ++ held') ≡ length held) first left (consumed ++ held) now.taken (untouched left left' held (one ++ held') same grows)) (λ close size.
+      close = if_both first leads.close (told (length (one ++ held') ≡ length held) first left (consumed ++ held) now.taken
+          (untouched left left' held (one ++ held') same grows)) (λ close size.
           omega (arith, close, size, length-append leads.more one, length-append one held'));
     }
 
@@ -257,24 +273,30 @@ module _ (state : FormState) (first left old new : Option (List ℕ)) (held wait
     }
 
     -- what it and all behind it demand
-    pub demands_with : (r : List ℕ) (d : Demand) → Behind (one ++ r) d → Demands state ((one_taken.front ++ one_taken.since) ++ r) (with_front (now.out ++ waits) d)
+    pub demands_with : (r : List ℕ) (d : Demand) → Behind (one ++ r) d
+        → Demands state ((one_taken.front ++ one_taken.since) ++ r) (with_front (now.out ++ waits) d)
     demands_with r d behind =
         moved state (consumed ++ (one ++ r)) ((now.front ++ (now.since ++ one)) ++ r) (with_front (now.out ++ waits) d) (with_front (now.out ++ waits) d)
         (sym (append_assoc consumed one r) ∙ ap (λ (c : List ℕ). c ++ r) (append_assoc now.front now.since one)) refl (reached.so_far (one ++ r) d behind)
 
     -- the run goes on behind it
-    pub goes_on : (text waits' : List ℕ) (Behind' : List ℕ → Demand → Type 0) → ((r : List ℕ) (d : Demand) → Behind' r d → Behind (one ++ r) (with_front text d)) → waits' ≡ waits ++ text → Reached state first left' old new held' waits' Behind'
+    abbrev pub goes_on : (text waits' : List ℕ) (Behind' : List ℕ → Demand → Type 0)
+        → ((r : List ℕ) (d : Demand) → Behind' r d → Behind (one ++ r) (with_front text d)) → waits' ≡ waits ++ text
+        → Reached state first left' old new held' waits' Behind'
     goes_on text waits' Behind' step waiting = record {
       pending = one_taken;
       so_far = λ r d behind.
-          moved state ((one_taken.front ++ one_taken.since) ++ r) ((one_taken.front ++ one_taken.since) ++ r) (with_front (now.out ++ waits) (with_front text d)) (with_front (now.out ++ waits') d) refl
-          (front_front (now.out ++ waits) text d ∙ ap (λ (w : List ℕ). with_front w d) (append_assoc now.out waits text ∙ ap (λ (w : List ℕ). now.out ++ w) (sym waiting)))
+          moved state ((one_taken.front ++ one_taken.since) ++ r) ((one_taken.front ++ one_taken.since) ++ r)
+          (with_front (now.out ++ waits) (with_front text d)) (with_front (now.out ++ waits') d) refl
+          (front_front (now.out ++ waits) text d ∙ ap (λ (w : List ℕ). with_front w d) (append_assoc now.out waits text
+          ∙ ap (λ (w : List ℕ). now.out ++ w) (sym waiting)))
           (demands_with r (with_front text d) (step r d behind));
     }
 
   -- ---- nothing more is taken
 
-  module _ (left' : Option (List ℕ)) (held' : List ℕ) (grows : GrowsByReading left left' held held') (few : length held' ≤ read_ahead state) (turn : (now.since ≡ []) ⊎ (left' ≡ left)) where
+  module _ (left' : Option (List ℕ)) (held' : List ℕ) (grows : GrowsByReading left left' held held') (few : length held' ≤ read_ahead state)
+      (turn : (now.since ≡ []) ⊎ (left' ≡ left)) where
     pub near_more : IsNear state first now.since held'
     near_more =
         ⊎_elim inl (λ same. ⊎_elim inl (λ leads. inr (record {
@@ -282,9 +304,11 @@ module _ (state : FormState) (first left old new : Option (List ℕ)) (held wait
           more = leads.more;
           at_once = leads.at_once;
           split = leads.split;
-          close = if_both first leads.close (told (length held' ≡ length held) first left (consumed ++ held) now.taken (untouched left left' held held' same grows)) (λ close size. omega (arith, close, size));
+          close = if_both first leads.close (told (length held' ≡ length held) first left (consumed ++ held) now.taken
+              (untouched left left' held held' same grows)) (λ close size. omega (arith, close, size));
         })) now.near) turn
 
+    -- more was read, and nothing more taken
     abbrev pub more_read : Pending state first left' old new held'
     more_read = record {
       front = now.front;
@@ -299,7 +323,8 @@ module _ (state : FormState) (first left old new : Option (List ℕ)) (held wait
       few = few;
     }
 
-    pub reached_more : Reached state first left' old new held' waits Behind
+    -- what was taken stays where more is read
+    abbrev pub reached_more : Reached state first left' old new held' waits Behind
     reached_more = record { pending = more_read; so_far = reached.so_far }
 
 -- ---- the ending
@@ -308,10 +333,35 @@ module _ (state : FormState) (first left' old new : Option (List ℕ)) (held : L
   abbrev pub all_read : List ℕ
   all_read = (now.front ++ now.since) ++ held
 
-  soon_of : (l : Option (List ℕ)) (new' : Option (List ℕ)) (one behind text : List ℕ) → Consumes l left' (now.front ++ (one ++ behind)) → Appends old new' text → IsFront now.demand.body text
+  soon_of : (l : Option (List ℕ)) (new' : Option (List ℕ)) (one behind text : List ℕ) → Consumes l left' (now.front ++ (one ++ behind))
+      → Appends old new' text → IsFront now.demand.body text
       → (one ≡ []) ⊎ IsTakenAtOnce state one → IfSome l (λ _. length behind ≤ read_ahead state) → WroteSoon state l left' old new'
-  soon_of None new' one behind text taken written answered at_once close = record { front = now.front; one = one; behind = []; text = text; demand = now.demand; taken = tt; written = written; demands = now.demands; answered = answered; at_once = at_once; soon = omega arith }
-  soon_of (Some xs) new' one behind text taken written answered at_once close = record { front = now.front; one = one; behind = behind; text = text; demand = now.demand; taken = taken; written = written; demands = now.demands; answered = answered; at_once = at_once; soon = close }
+  soon_of None new' one behind text taken written answered at_once close = record {
+    front = now.front;
+    one = one;
+    behind = [];
+    text = text;
+    demand = now.demand;
+    taken = tt;
+    written = written;
+    demands = now.demands;
+    answered = answered;
+    at_once = at_once;
+    soon = omega arith;
+  }
+  soon_of (Some xs) new' one behind text taken written answered at_once close = record {
+    front = now.front;
+    one = one;
+    behind = behind;
+    text = text;
+    demand = now.demand;
+    taken = taken;
+    written = written;
+    demands = now.demands;
+    answered = answered;
+    at_once = at_once;
+    soon = close;
+  }
 
   soon : (new' : Option (List ℕ)) (sent : List ℕ) → Appends new new' sent → WroteSoon state first left' old new'
   soon new' sent went = near_soon now.near
@@ -337,15 +387,17 @@ module _ (state : FormState) (first left' old new : Option (List ℕ)) (held : L
       near_soon (inr leads) =
           soon_of first new' leads.one (leads.more ++ held) (now.out ++ sent)
           (subst (Consumes first left')
-          (ap (λ (s : List ℕ). (now.front ++ s) ++ held) leads.split ∙ append_assoc now.front (leads.one ++ leads.more) held ∙ ap (λ (l : List ℕ). now.front ++ l) (append_assoc leads.one leads.more held))
+          (ap (λ (s : List ℕ). (now.front ++ s) ++ held) leads.split ∙ append_assoc now.front (leads.one ++ leads.more) held
+          ∙ ap (λ (l : List ℕ). now.front ++ l) (append_assoc leads.one leads.more held))
           now.taken)
           written answered (inr leads.at_once)
           (if_some first leads.close (λ close. omega (arith, close, length-append leads.more held)))
 
   module _ (d : Demand) (demands : Demands state all_read d) where
     -- a write failed, with what waited
-    pub write_failed : (new' : Option (List ℕ)) (waits : List ℕ) (k : ℕ) (writes writes' : ℕ) (reads reads' : ℕ) → (k < length waits) × Appends new new' (take k waits) → IsPart left' d (now.out ++ waits) → Rose writes writes' → reads' ≡ reads
-        → Ended state first left' old new' reads reads' writes writes' WriteFault
+    pub write_failed : (new' : Option (List ℕ)) (waits : List ℕ) (k : ℕ) (writes writes' : ℕ) (reads reads' : ℕ) → (k < length waits)
+        × Appends new new' (take k waits) → IsPart left' d (now.out ++ waits) → Rose writes writes' → reads' ≡ reads
+        → Ended state (side first reads) (side left' reads') (side old writes) (side new' writes') WriteFault
     write_failed new' waits k writes writes' reads reads' (few, went) part rose calm = (
       record {
         read = all_read;
@@ -356,7 +408,8 @@ module _ (state : FormState) (first left' old new : Option (List ℕ)) (held : L
         demands = demands;
         due = (
           part_of left' d (now.out ++ take k waits) (now.out ++ waits) (taken_front now.out waits k) part,
-          short_of left' d (now.out ++ take k waits) (now.out ++ waits) (omega (arith, few, length-append now.out (take k waits), length-append now.out waits, length-take k waits)) part,
+          short_of left' d (now.out ++ take k waits) (now.out ++ waits)
+              (omega (arith, few, length-append now.out (take k waits), length-append now.out waits, length-take k waits)) part,
         );
       },
       soon new' (take k waits) went,
@@ -364,7 +417,8 @@ module _ (state : FormState) (first left' old new : Option (List ℕ)) (held : L
       calm,
     )
 
-    wrote : (new' : Option (List ℕ)) (waits : List ℕ) (P : Demand → List ℕ → Type 0) → Appends new new' waits → P d (now.out ++ waits) → Wrote state first left' old new' P
+    wrote : (new' : Option (List ℕ)) (waits : List ℕ) (P : Demand → List ℕ → Type 0) → Appends new new' waits → P d (now.out ++ waits)
+        → Wrote state first left' old new' P
     wrote new' waits P went due = record {
       read = all_read;
       text = now.out ++ waits;
@@ -379,51 +433,80 @@ module _ (state : FormState) (first left' old new : Option (List ℕ)) (held : L
     rose_from a b c same rose = omega (arith, same, rose)
 
     -- what waits goes out, and the run ends
-    pub finishes : (new' : Option (List ℕ)) (waits : List ℕ) (status result : Status) (reads reads' writes mid writes' : ℕ) → IsDue left' status d (now.out ++ waits)
-        → Finishes new new' mid writes' waits status result → reads' ≡ reads → mid ≡ writes → Ended state first left' old new' reads reads' writes writes' result
+    pub finishes : (new' : Option (List ℕ)) (waits : List ℕ) (status result : Status) (reads reads' writes mid writes' : ℕ)
+        → IsDue left' status d (now.out ++ waits)
+        → Finishes (side new mid) (side new' writes') waits status result → reads' ≡ reads → mid ≡ writes
+        → Ended state (side first reads) (side left' reads') (side old writes) (side new' writes') result
     finishes new' waits status result reads reads' writes mid writes' due (inr failed) calm same =
-        subst (Ended state first left' old new' reads reads' writes writes') (sym failed.0)
-        (write_failed new' waits failed.1.0 writes writes' reads reads' (failed.1.1, failed.1.2) (due_part left' status d (now.out ++ waits) due) (rose_from writes mid writes' same failed.2) calm)
+        subst (Ended state (side first reads) (side left' reads') (side old writes) (side new' writes')) (sym failed.0)
+        (write_failed new' waits failed.1.0 writes writes' reads reads' (failed.1.1, failed.1.2) (due_part left' status d (now.out ++ waits) due)
+        (rose_from writes mid writes' same failed.2) calm)
     finishes new' waits status result reads reads' writes mid writes' due (inl done) calm same =
-        subst (Ended state first left' old new' reads reads' writes writes') (sym done.0) (by_status status due)
+        subst (Ended state (side first reads) (side left' reads') (side old writes) (side new' writes')) (sym done.0) (by_status status due)
       where
-        by_status : (s : Status) → IsDue left' s d (now.out ++ waits) → Ended state first left' old new' reads reads' writes writes' s
-        by_status AllRead due = (due.0, wrote new' waits IsWhole done.1 due.1, calm, done.2 ∙ same)
-        by_status BadInput due = (wrote new' waits (IsFaulty left') done.1 due, calm, done.2 ∙ same)
-        by_status OutOfMemory due = wrote new' waits (IsPart left') done.1 due
+        by_status : (s : Status) → IsDue left' s d (now.out ++ waits)
+            → Ended state (side first reads) (side left' reads') (side old writes) (side new' writes') s
+        by_status AllRead due = (due.0, wrote new' waits IsWhole done.1 due.1, (calm, done.2 ∙ same))
+        by_status BadInput due = (wrote new' waits (IsFaulty left') done.1 due, (calm, done.2 ∙ same))
+        by_status OutOfMemory due = (wrote new' waits (IsPart left') done.1 due, (calm, done.2 ∙ same))
         by_status Usage due = absurd due
         by_status ReadFault due = absurd due
         by_status WriteFault due = absurd due
 
     -- the same with a last text, where there was memory for it
-    pub stops_with : (new' : Option (List ℕ)) (text waits : List ℕ) (status result : Status) (reads reads' writes mid writes' : ℕ) → IsDue left' status d (now.out ++ (waits ++ text))
-        → StopsWith new new' mid writes' status text waits result → reads' ≡ reads → mid ≡ writes → Ended state first left' old new' reads reads' writes writes' result
+    pub stops_with : (new' : Option (List ℕ)) (text waits : List ℕ) (status result : Status) (reads reads' writes mid writes' : ℕ)
+        → IsDue left' status d (now.out ++ (waits ++ text))
+        → StopsWith (side new mid) (side new' writes') status text waits result → reads' ≡ reads → mid ≡ writes
+        → Ended state (side first reads) (side left' reads') (side old writes) (side new' writes') result
     stops_with new' text waits status result reads reads' writes mid writes' due stops calm same = by_memory stops.2
       where
-        by_memory : IsQueued status text waits stops.1 stops.0 → Ended state first left' old new' reads reads' writes writes' result
+        by_memory : IsQueued status text waits stops.1 stops.0 → Ended state (side first reads) (side left' reads') (side old writes) (side new' writes') result
         by_memory (inl is) =
             finishes new' stops.1 stops.0 result reads reads' writes mid writes'
-            (subst (λ (s : Status). IsDue left' s d (now.out ++ stops.1)) (sym is.0) (subst (λ (w : List ℕ). IsDue left' status d (now.out ++ w)) (sym is.1) due)) stops.3 calm same
+            (subst (λ (s : Status). IsDue left' s d (now.out ++ stops.1)) (sym is.0)
+            (subst (λ (w : List ℕ). IsDue left' status d (now.out ++ w)) (sym is.1) due)) stops.3 calm same
         by_memory (inr is) =
             finishes new' stops.1 stops.0 result reads reads' writes mid writes'
             (subst (λ (s : Status). IsDue left' s d (now.out ++ stops.1)) (sym is.0) (subst (λ (w : List ℕ). IsPart left' d (now.out ++ w)) (sym is.1)
-            (part_of left' d (now.out ++ waits) (now.out ++ (waits ++ text)) (text, sym (append_assoc now.out waits text)) (due_part left' status d (now.out ++ (waits ++ text)) due)))) stops.3 calm same
+            (part_of left' d (now.out ++ waits) (now.out ++ (waits ++ text)) (text, sym (append_assoc now.out waits text))
+            (due_part left' status d (now.out ++ (waits ++ text)) due)))) stops.3 calm same
 
-    -- a read failed, where nothing waited
-    pub read_failed : (reads reads' writes writes' : ℕ) → IsCutOff state d now.out → Rose reads reads' → writes' ≡ writes → Ended state first left' old new reads reads' writes writes' ReadFault
-    read_failed reads reads' writes writes' due rose quiet = (
-      record { read = all_read; text = now.out; demand = d; taken = now.taken; written = now.written; demands = demands; due = due },
-      soon new [] (appends_none new),
-      rose,
-      quiet,
-    )
+    -- all of the body is out, where nothing more came
+    pub wrote_all : CameLate state all_read [] → IsBody d now.out → WroteAllBefore state first left' old new
+    wrote_all late due = record {
+      octets = all_read;
+      came = [];
+      text = now.out;
+      demand = d;
+      with_came = d;
+      taken = subst (Consumes first left') (sym (append-nil all_read)) now.taken;
+      written = now.written;
+      demands = demands;
+      due = due;
+      late = late;
+      later = subst (λ (l : List ℕ). Demands state l d) (sym (append-nil all_read)) demands;
+      stays = ([], sym due.0 ∙ sym (append-nil now.out));
+    }
 
-pub flushed_before : (state : FormState) (first left old new new' : Option (List ℕ)) (held waits waits' : List ℕ) (Behind : List ℕ → Demand → Type 0) (ready : Bool) (Ready : Type 0)
-    → Reached state first left old new held waits Behind → StopsHere Behind → Flushes new new' waits waits' ready → (IsTrue ready → Ready) → Turn state first left old new' held waits' Behind Ready
+  -- a read failed, where nothing waited
+  pub read_failed : WroteAllBefore state first left' old new → (reads reads' writes writes' : ℕ) → Rose reads reads' → writes' ≡ writes
+      → Ended state (side first reads) (side left' reads') (side old writes) (side new writes') ReadFault
+  read_failed wrote reads reads' writes writes' rose quiet = (wrote, soon new [] (appends_none new), rose, quiet)
+
+-- what waited went out before the next line, unless that is there and little waits
+pub flushed_before : (state : FormState) (first left old new new' : Option (List ℕ)) (held waits waits' : List ℕ) (Behind : List ℕ → Demand
+    → Type 0) (ready : Bool) (Ready : Type 0)
+    → Reached state first left old new held waits Behind → StopsHere Behind → Flushes new new' waits waits' ready → (IsTrue ready → Ready)
+    → Turn state first left old new' held waits' Behind Ready
 flushed_before state first left old new new' held waits waits' Behind ready Ready reached stop writes means = by_whole writes.whole
   where
     by_whole : (waits' ≡ []) ⊎ (IsTrue ready × (length waits' < 65536)) → Turn state first left old new' held waits' Behind Ready
     by_whole (inl none) =
         let sent_all : waits ≡ writes.sent = writes.split ∙ ap (λ (w : List ℕ). writes.sent ++ w) none ∙ append-nil writes.sent in
-        subst (λ (w : List ℕ). Turn state first left old new' held w Behind Ready) (sym none) (all_out state first left old new held waits Behind reached new' writes.sent Ready writes.written sent_all stop)
-    by_whole (inr there) = record { reached = some_out state first left old new held waits Behind reached new' writes.sent waits' writes.written writes.split; turn = inr (means there.0) }
+        subst (λ (w : List ℕ). Turn state first left old new' held w Behind Ready) (sym none)
+        (all_out state first left old new held waits Behind reached new' writes.sent Ready writes.written sent_all stop)
+    by_whole (inr there) = record {
+      reached = some_out state first left old new held waits Behind reached new' writes.sent waits' writes.written
+          writes.split;
+      turn = inr (means there.0);
+    }

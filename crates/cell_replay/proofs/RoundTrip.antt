@@ -1,5 +1,6 @@
 -- The text of towers is lines that say them again.
-use Rattle.std.proofs.Common.{◌≡◌, ◌≢◌, inl, inr, ℕ, zero, suc, ◌+◌, ◌*◌, ◌/◌, ◌%◌, ◌≤◌, ◌<◌, Bool, true, false, ◌&&◌, not, List, [], ◌∷◌, ◌++◌, length, map, refl, sym, ◌∙◌, ap, subst, arith, append-nil, length-append}
+use Rattle.std.proofs.Common.{◌≡◌, ◌≢◌, inl, inr, ℕ, zero, suc, ◌+◌, ◌*◌, ◌/◌, ◌%◌, ◌≤◌, ◌<◌, Bool, true, false, ◌&&◌, not, List, [], ◌∷◌, ◌++◌, length}
+use Rattle.std.proofs.Common.{map, refl, sym, ◌∙◌, ap, subst, arith, append-nil, length-append}
 use Rattle.std.specs.Prelude.{Option, Some, None, nat_le, nat_lt, nat_eq, ◌==◌, codes, filter, slice_index, if◌then◌else◌}
 use Rattle.std.specs.List.{flat_map, slice_split, starts_with, AllByRecursion}
 use Rattle.std.specs.Option.{option_map, option_and_then}
@@ -19,10 +20,10 @@ use Rattle.tower_codec.proofs.Grammar.{IsBytes-rest, IsBytes-tail}
 use Rattle.tower_codec.proofs.SpellingLaws.{tower_spelled}
 use Rattle.tower_codec.proofs.Cuts.{lacks, cut_again}
 use Rattle.cell_script.specs.Words.{words_of}
-use Rattle.cell_replay.specs.TowerTexts.{floor_text, floors_text, floor_of_parts, floor_said, floors_said, is_dash, TowerLine, SaysNothing, SaysTower, short_tower, tower_in, tower_said}
-use Rattle.cell_replay.specs.Demand.{Demand, Sound, Spelling, spelled, then_rest, with_front, demanded}
+use Rattle.cell_replay.specs.TowerTexts.{floor_text, floors_text, floor_of_parts, floor_said, floors_said, is_dash, TowerLine, SaysNothing, SaysTower}
+use Rattle.cell_replay.specs.TowerTexts.{short_tower, tower_in, tower_said}
+use Rattle.cell_replay.specs.Demand.{Demand, Sound, Spelling, spelled, then_rest, with_front, demanded, whole}
 use Rattle.cell_replay.specs.TowerDemand.{Rest, Nothing, AtFault, PartOf, AreTowers, towers_demand, TowersDemand}
-use Rattle.cell_replay.specs.Scripts.{whole}
 use Rattle.cell_replay.proofs.Scanning.{scanned, demanded_scanned}
 use Rattle.cell_replay.proofs.Demands.{demand_line, demand_part}
 use Rattle.cell_replay.proofs.Streams.{IsBytes-front}
@@ -85,7 +86,8 @@ digit_marks c is = grind (arith, nat_tests)
 
 floor_marks : (f : Floor) → IsBytes f.left → IsBytes f.right → AreMarks (floor_text f)
 floor_marks f left right =
-    let marks = λ (octets : List ℕ) (bytes : IsBytes octets). weaker (λ c. is_lower_digit c ≡ true) (λ c. is_mark c ≡ true) (encode_lower octets) digit_marks (encoded_digits octets bytes) in
+    let marks = λ (octets : List ℕ) (bytes : IsBytes octets). weaker (λ c. is_lower_digit c ≡ true) (λ c. is_mark c ≡ true)
+    (encode_lower octets) digit_marks (encoded_digits octets bytes) in
     both (λ c. is_mark c ≡ true) (encode_lower f.left) (58 ∷ encode_lower f.right) (marks f.left left) (refl, marks f.right right)
 
 -- ---- a floor is read from its text
@@ -103,7 +105,8 @@ lacks_colon (c ∷ text) digits =
 floor_again : (f : Floor) → 0 < length f.left → IsBytes f.left → IsBytes f.right → floor_said (floor_text f) ≡ Some f
 unfolding floor_said
 floor_again f some left right =
-    ap (λ o. option_and_then (λ p. floor_of_parts (result_ok (decode_of p.0)) (result_ok (decode_of p.1))) o) (cut_again 58 (encode_lower f.left) (encode_lower f.right) (lacks_colon (encode_lower f.left) (encoded_digits f.left left)))
+    ap (λ o. option_and_then (λ p. floor_of_parts (result_ok (decode_of p.0)) (result_ok (decode_of p.1))) o)
+    (cut_again 58 (encode_lower f.left) (encode_lower f.right) (lacks_colon (encode_lower f.left) (encoded_digits f.left left)))
     ∙ ap (λ r. floor_of_parts (result_ok r) (result_ok (decode_of (encode_lower f.right)))) (decode_of-encode_lower f.left left)
     ∙ ap (λ r. floor_of_parts (Some f.left) (result_ok r)) (decode_of-encode_lower f.right right)
     ∙ by_left f.left f.right some
@@ -124,7 +127,8 @@ AreReadable = AllByRecursion IsReadable
 floors_again : (fs : List Floor) → AreReadable fs → floors_said (map floor_text fs) ≡ Some fs
 floors_again [] all = refl
 floors_again (f ∷ fs) all =
-    ap (λ (o : Option Floor). option_and_then (λ floor. option_map (λ floors. floor ∷ floors) (floors_said (map floor_text fs))) o) (floor_again f all.0.some all.0.left all.0.right)
+    ap (λ (o : Option Floor). option_and_then (λ floor. option_map (λ floors. floor ∷ floors) (floors_said (map floor_text fs))) o)
+    (floor_again f all.0.some all.0.left all.0.right)
     ∙ ap (λ (o : Option (List Floor)). option_map (λ floors. f ∷ floors) o) (floors_again fs all.1)
 
 -- ---- the words of a line
@@ -138,10 +142,13 @@ no_space c is = grind (arith, nat_tests)
 text_is_word : (f : Floor) → IsReadable f → AllByRecursion (λ c. is_space c ≡ false) (floor_text f)
 text_is_word f is = weaker (λ c. is_mark c ≡ true) (λ c. is_space c ≡ false) (floor_text f) no_space (floor_marks f is.left is.right)
 
-split_floors : (f : Floor) (fs : List Floor) → AreReadable (f ∷ fs) → slice_split is_space (floor_text f ++ flat_map (λ f. 32 ∷ floor_text f) fs) ≡ floor_text f ∷ map floor_text fs
-split_floors f [] all = ap (slice_split is_space) (append-nil (floor_text f)) ∙ slice_split_none is_space (floor_text f) (All-from_recursion (λ c. is_space c ≡ false) (floor_text f) (text_is_word f all.0))
+split_floors : (f : Floor) (fs : List Floor) → AreReadable (f ∷ fs) → slice_split is_space
+    (floor_text f ++ flat_map (λ f. 32 ∷ floor_text f) fs) ≡ floor_text f ∷ map floor_text fs
+split_floors f [] all = ap (slice_split is_space) (append-nil (floor_text f))
+    ∙ slice_split_none is_space (floor_text f) (All-from_recursion (λ c. is_space c ≡ false) (floor_text f) (text_is_word f all.0))
 split_floors f (g ∷ gs) all =
-    slice_split_at is_space (floor_text f) 32 (floor_text g ++ flat_map (λ f. 32 ∷ floor_text f) gs) (All-from_recursion (λ c. is_space c ≡ false) (floor_text f) (text_is_word f all.0)) refl
+    slice_split_at is_space (floor_text f) 32 (floor_text g ++ flat_map (λ f. 32 ∷ floor_text f) gs)
+    (All-from_recursion (λ c. is_space c ≡ false) (floor_text f) (text_is_word f all.0)) refl
     ∙ ap (λ (ws : List (List ℕ)). floor_text f ∷ ws) (split_floors g gs all.1)
 
 abbrev is_word : List ℕ → Bool
@@ -180,13 +187,15 @@ says_again (f ∷ fs) all few =
     ∙ by_dash (is_dash (map floor_text (f ∷ fs))) (no_dash fs) ∙ ap short_tower (floors_again (f ∷ fs) all) ∙ short (f ∷ fs) few
   where
     first : (starts_with nat_eq (floor_text f) (codes "#") ≡ false) × (bytes_eq (floor_text f) (codes "-") ≡ false)
-    first = first_digit (floor_text f) (let size = length-append (encode_lower f.left) (58 ∷ encode_lower f.right) in omega (arith, size)) (floor_marks f all.0.left all.0.right)
+    first = first_digit (floor_text f) (let size = length-append (encode_lower f.left) (58 ∷ encode_lower f.right) in omega (arith, size))
+        (floor_marks f all.0.left all.0.right)
 
     by_comment : (b : Bool) (t : TowerLine) → b ≡ false → (if b then SaysNothing else t) ≡ t
     by_comment true t is = absurd (cc (is))
     by_comment false t is = refl
 
-    by_dash : (b : Bool) → b ≡ false → short_tower (if b then Some [] else floors_said (map floor_text (f ∷ fs))) ≡ short_tower (floors_said (map floor_text (f ∷ fs)))
+    by_dash : (b : Bool) → b ≡ false → short_tower (if b then Some [] else floors_said (map floor_text (f ∷ fs))) ≡ short_tower
+        (floors_said (map floor_text (f ∷ fs)))
     by_dash true is = absurd (cc (is))
     by_dash false is = refl
 
@@ -211,7 +220,11 @@ floor_shown f is = weaker (λ c. is_mark c ≡ true) (λ c. is_shown c ≡ true)
 
 more_shown : (fs : List Floor) → AreReadable fs → AreShown (flat_map (λ f. 32 ∷ floor_text f) fs)
 more_shown [] all = tt
-more_shown (f ∷ fs) all = (refl, both (λ c. is_shown c ≡ true) (floor_text f) (flat_map (λ f. 32 ∷ floor_text f) fs) (floor_shown f all.0) (more_shown fs all.1))
+more_shown (f ∷ fs) all = (
+  refl,
+  both (λ c. is_shown c ≡ true) (floor_text f) (flat_map (λ f. 32 ∷ floor_text f) fs) (floor_shown f all.0)
+      (more_shown fs all.1),
+)
 
 floors_shown : (fs : List Floor) → AreReadable fs → AreShown (floors_text fs)
 floors_shown [] all = (refl, tt)
@@ -219,18 +232,40 @@ floors_shown (f ∷ fs) all = both (λ c. is_shown c ≡ true) (floor_text f) (f
 
 text_length : (f : Floor) → length (floor_text f) + 7 ≡ 2 * length (floor_octets f)
 text_length f =
-    omega (arith, length-append (encode_lower f.left) (58 ∷ encode_lower f.right), length-encode_with lower_digits f.left, length-encode_with lower_digits f.right, length-append (part_octets f.left) (part_octets f.right))
+    omega (
+      arith,
+      length-append (encode_lower f.left) (58 ∷ encode_lower f.right),
+      length-encode_with lower_digits f.left,
+      length-encode_with
+          lower_digits f.right,
+      length-append (part_octets f.left) (part_octets f.right),
+    )
 
 more_length : (fs : List Floor) → length (flat_map (λ f. 32 ∷ floor_text f) fs) ≤ 2 * length (flat_map floor_octets fs)
 more_length [] = omega arith
 more_length (f ∷ fs) =
     let later = more_length fs in
-    omega (arith, later, text_length f, length-append (floor_text f) (flat_map (λ f. 32 ∷ floor_text f) fs), length-append (floor_octets f) (flat_map floor_octets fs))
+    omega (
+      arith,
+      later,
+      text_length f,
+      length-append (floor_text f) (flat_map (λ f. 32 ∷ floor_text f) fs),
+      length-append (floor_octets f)
+          (flat_map floor_octets fs),
+    )
 
 floors_length_few : (fs : List Floor) → length (tower_octets fs) ≤ 1024 → length (floors_text fs) ≤ 4096
 floors_length_few [] few = omega arith
 floors_length_few (f ∷ fs) few =
-    omega (arith, few, more_length fs, text_length f, length-append (floor_text f) (flat_map (λ f. 32 ∷ floor_text f) fs), length-append (floor_octets f) (flat_map floor_octets fs))
+    omega (
+      arith,
+      few,
+      more_length fs,
+      text_length f,
+      length-append (floor_text f) (flat_map (λ f. 32 ∷ floor_text f) fs),
+      length-append
+          (floor_octets f) (flat_map floor_octets fs),
+    )
 
 no_fault : (number place c : ℕ) → number ≤ 16777216 → place ≤ 4096 → is_shown c ≡ true → (c ≢ 10) × (fault_at number place c ≡ None)
 unfolding fault_at
@@ -255,8 +290,11 @@ unfolding fault_at
 end_fits number place counted = let few : nat_lt 16777216 number ≡ false = grind (arith, nat_tests) in rw few refl
 
 tower_is_line : (number : ℕ) (fs : List Floor) → number ≤ 16777216 → AreReadable fs → length (tower_octets fs) ≤ 1024 → IsLine number (floors_text fs)
-tower_is_line number fs counted all few =
-    (shown_clean number 1 (floors_text fs) counted (omega (arith, floors_length_few fs few)) (floors_shown fs all), end_fits number (length (floors_text fs) + 1) counted)
+tower_is_line number fs counted all few = (
+  shown_clean number 1 (floors_text fs) counted (omega (arith, floors_length_few fs few)) (floors_shown fs all),
+  end_fits number
+      (length (floors_text fs) + 1) counted,
+)
 
 -- ---- the parts of a tower of octets are octets
 
@@ -285,7 +323,8 @@ readable fs octets bytes tower =
 
 -- ---- all towers
 
-lines_again : (number : ℕ) (octets : List ℕ) (ts : List (List Floor)) → IsBytes octets → AreTowers number octets ts Nothing → scanned number Spelling [] (towers_demand number ts Nothing).body ≡ whole octets
+lines_again : (number : ℕ) (octets : List ℕ) (ts : List (List Floor)) → IsBytes octets → AreTowers number octets ts Nothing
+    → scanned number Spelling [] (towers_demand number ts Nothing).body ≡ whole octets
 lines_again number octets [] bytes none = demand_part number Spelling [] tt ∙ ap whole (sym none)
 lines_again number octets (f ∷ ts) bytes are =
     let front : List ℕ = are.0 in
@@ -313,7 +352,9 @@ no_end : (number : ℕ) (ts : List (List Floor)) → (towers_demand number ts No
 no_end number [] = refl
 no_end number (t ∷ ts) = no_end (number + 1) ts
 
-pub towers_again : (octets : List ℕ) (d : Demand) → IsBytes octets → TowersDemand 1 octets d → d.verdict ≡ Sound → demanded Spelling (d.body ++ d.end) ≡ whole octets
+-- `untowers` gives back the octets whose text `towers` wrote
+pub towers_again : (octets : List ℕ) (d : Demand) → IsBytes octets → TowersDemand 1 octets d → d.verdict ≡ Sound
+    → demanded Spelling (d.body ++ d.end) ≡ whole octets
 towers_again octets d bytes demands sound =
     let none : demands.1 ≡ Nothing = sound_rest 1 demands.0 demands.1 (ap (λ (x : Demand). x.verdict) demands.3 ∙ sound) in
     let are : AreTowers 1 octets demands.0 Nothing = subst (AreTowers 1 octets demands.0) none demands.2 in

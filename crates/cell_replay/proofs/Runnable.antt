@@ -7,10 +7,11 @@ use Rattle.cds_stamps.specs.declared.numbers.HouseNo.{HouseNo}
 use Rattle.cell_script.specs.declared.command.ScriptLine.{ScriptLine}
 use Rattle.cell_script.specs.declared.fault.ParseFault.{ParseFault}
 use Rattle.cell_script.specs.declared.fault.ParseFault.TheVariants.{NotBuilt, UnknownCommand}
-use Rattle.cell_script.specs.Forms.{◌>>=◌, Form, House, Directory, Time, Node, SimpleName, FullName, AttrName, Value, Octets, Confidence, Houses, NoHouses, Said, Words, taken, no_houses, said_at, counted, is_open, least_of, Builds, built, read_as}
+use Rattle.cell_script.specs.Forms.{◌>>=◌, Form, House, Directory, Time, Node, SimpleName, FullName, AttrName, Value, Octets, Confidence, Houses}
+use Rattle.cell_script.specs.Forms.{NoHouses, Said, Words, taken, no_houses, said_at, counted, is_open, least_of, Builds, built, read_as}
 use Rattle.cell_script.specs.Commands.{Row, rows, is_later, said_in_row, said_by, some_line, said_in}
 use Rattle.cell_script.specs.Words.{house_of}
-use Rattle.cell_replay.specs.Standing.{IsRunnable}
+use Rattle.cell_replay.specs.PrivateStanding.{IsRunnable}
 
 -- a step and the next one come to a value
 bound : {A B : Type 0} (r : Result A ParseFault) (f : A → Result B ParseFault) (b : B) → (r >>= f) ≡ Ok b → (a : A) × (r ≡ Ok a) × (f a ≡ Ok b)
@@ -130,6 +131,7 @@ all_rows = (
   ),
 )
 
+-- what a line says can be run
 pub said_runs : (words : List (List ℕ)) (l : ScriptLine) → said_in words ≡ Ok (Some l) → IsRunnable l
 unfolding said_by
 said_runs [] l is = absurd (cc)

@@ -1,5 +1,6 @@
 -- What octets demand of `towers` is one thing, and what is due stays due whatever follows.
-use Rattle.std.proofs.Common.{◌≡◌, ◌⊎◌, inl, inr, ℕ, ◌+◌, ◌-◌, ◌≤◌, ◌<◌, List, [], ◌∷◌, ◌++◌, length, take, refl, sym, ◌∙◌, ap, subst, arith, append_assoc, append-nil, length-append}
+use Rattle.std.proofs.Common.{◌≡◌, ◌⊎◌, inl, inr, ℕ, ◌+◌, ◌-◌, ◌≤◌, ◌<◌, List, [], ◌∷◌, ◌++◌, length, take, refl, sym, ◌∙◌, ap, subst, arith}
+use Rattle.std.proofs.Common.{append_assoc, append-nil, length-append}
 use Rattle.std.proofs.lemmas.List.{take_all, take-append-le}
 use Rattle.std.proofs.Math.Seq.{take-append-add}
 use Rattle.tower_codec.specs.declared.fault.TowerFault.{TowerFault}
@@ -10,7 +11,8 @@ use Rattle.tower_codec.proofs.SpellingLaws.{towers_apart}
 use Rattle.cell_replay.specs.declared.towers.StreamFault.{StreamFault}
 use Rattle.cell_replay.specs.declared.towers.StreamFault.TheVariants as stream
 use Rattle.cell_replay.specs.TowerTexts.{tower_text}
-use Rattle.cell_replay.specs.TowerDemand.{in_sight, BeginsWithTower, ShowsFault, EndsWithin, Rest, Nothing, AtFault, PartOf, IsRest, AreTowers, rest_demand, towers_demand, TowersDemand, stream_fault_text}
+use Rattle.cell_replay.specs.TowerDemand.{in_sight, BeginsWithTower, ShowsFault, EndsWithin, Rest, Nothing, AtFault, PartOf, IsRest, AreTowers}
+use Rattle.cell_replay.specs.TowerDemand.{rest_demand, towers_demand, TowersDemand, stream_fault_text}
 use Rattle.cell_replay.specs.Demand.{Demand, Faulty, with_front}
 use Rattle.cell_replay.specs.Runs.{IsFront}
 use Rattle.cell_replay.proofs.Streams.{le_or_lt, tower_or_fault, one_fault, sight_whole}
@@ -93,7 +95,8 @@ one_shown number octets (stream.Tower (ShortPart p)) b first second = absurd fir
 one_shown number octets (stream.Tower (EmptyLeft p)) (stream.Tower (ShortCount q)) first second = absurd second
 one_shown number octets (stream.Tower (EmptyLeft p)) (stream.Tower (ShortLength q)) first second = absurd second
 one_shown number octets (stream.Tower (EmptyLeft p)) (stream.Tower (ShortPart q)) first second = absurd second
-one_shown number octets (stream.Tower (EmptyLeft p)) (stream.Tower (EmptyLeft q)) first second = ap stream.Tower (one_fault (in_sight octets) (EmptyLeft p) (EmptyLeft q) first.1 second.1)
+one_shown number octets (stream.Tower (EmptyLeft p)) (stream.Tower (EmptyLeft q)) first second = ap stream.Tower
+    (one_fault (in_sight octets) (EmptyLeft p) (EmptyLeft q) first.1 second.1)
 one_shown number octets (stream.Tower (EmptyLeft p)) stream.TooLong first second = absurd (second.3 p first.1)
 one_shown number octets (stream.Tower (EmptyLeft p)) stream.TooManyTowers first second =
     let counted = first.0 in
@@ -179,7 +182,8 @@ no_rest number octets Nothing none begins = nothing_begins begins.0 begins.1 beg
     nothing_begins floors [] rest tower is = absurd tower.1
     nothing_begins floors (a ∷ front) rest tower is = cc (is)
 no_rest number octets (AtFault fault) shows begins = no_tower number octets fault shows begins
-no_rest number octets (PartOf fault) within begins = tower_or_fault octets begins.0 begins.1 begins.2 fault begins.3.2 begins.4 (partial number octets fault within).is
+no_rest number octets (PartOf fault) within begins = tower_or_fault octets begins.0 begins.1 begins.2 fault begins.3.2 begins.4
+    (partial number octets fault within).is
 
 one_rest : (number : ℕ) (octets : List ℕ) (r s : Rest) → IsRest number octets r → IsRest number octets s → r ≡ s
 one_rest number octets Nothing Nothing first second = refl
@@ -196,12 +200,14 @@ one_rest number octets (PartOf a) Nothing first second =
     let size = ap length second in
     absurd (omega (arith, size, p.some))
 one_rest number octets (PartOf a) (AtFault b) first second = absurd (part_shows_none number octets b a second first)
-one_rest number octets (PartOf a) (PartOf b) first second = ap PartOf (one_fault octets a b (partial number octets a first).is (partial number octets b second).is)
+one_rest number octets (PartOf a) (PartOf b) first second = ap PartOf
+    (one_fault octets a b (partial number octets a first).is (partial number octets b second).is)
 
 -- ---- whole inputs
 
 -- the same octets are the same towers, with the same behind them
-pub one_reading : (number : ℕ) (octets : List ℕ) (ts us : List (List Floor)) (r s : Rest) → AreTowers number octets ts r → AreTowers number octets us s → towers_demand number ts r ≡ towers_demand number us s
+pub one_reading : (number : ℕ) (octets : List ℕ) (ts us : List (List Floor)) (r s : Rest) → AreTowers number octets ts r
+    → AreTowers number octets us s → towers_demand number ts r ≡ towers_demand number us s
 one_reading number octets [] [] r s first second = ap (rest_demand number) (one_rest number octets r s first second)
 one_reading number octets [] (u ∷ us) r s first second = absurd (no_rest number octets r first (u, second.0, second.1, second.3, second.2))
 one_reading number octets (t ∷ ts) [] r s first second = absurd (no_rest number octets s second (t, first.0, first.1, first.3, first.2))
@@ -211,15 +217,18 @@ one_reading number octets (t ∷ ts) (u ∷ us) r s first second =
     one_reading (number + 1) first.1 ts us r s first.4 (subst (λ (l : List ℕ). AreTowers (number + 1) l us s) (sym apart.2) second.4) in
     ap (λ (floors : List Floor). with_front (tower_text floors) (towers_demand (number + 1) ts r)) apart.0 ∙ ap (with_front (tower_text u)) later
 
+-- octets demand one thing of `towers`
 pub one_towers_demand : (octets : List ℕ) (d e : Demand) → TowersDemand 1 octets d → TowersDemand 1 octets e → d ≡ e
 one_towers_demand octets d e first second = sym first.3 ∙ one_reading 1 octets first.0 second.0 first.1 second.1 first.2 second.2 ∙ second.3
 
 -- what shows a fault demands the same whatever follows
-pub reading_stays : (number : ℕ) (xs ys : List ℕ) (ts : List (List Floor)) (fault : StreamFault) → AreTowers number xs ts (AtFault fault) → AreTowers number (xs ++ ys) ts (AtFault fault)
+pub reading_stays : (number : ℕ) (xs ys : List ℕ) (ts : List (List Floor)) (fault : StreamFault) → AreTowers number xs ts (AtFault fault)
+    → AreTowers number (xs ++ ys) ts (AtFault fault)
 reading_stays number xs ys [] fault shows = shows_more number xs ys fault shows
 reading_stays number xs ys (t ∷ ts) fault are =
     (are.0, are.1 ++ ys, ap (λ (l : List ℕ). l ++ ys) are.2 ∙ append_assoc are.0 are.1 ys, are.3, reading_stays (number + 1) are.1 ys ts fault are.4)
 
+-- a fault of towers that shows ends what is due
 pub towers_fault_stays : (xs ys : List ℕ) (d : Demand) → TowersDemand 1 xs d → d.verdict ≡ Faulty → TowersDemand 1 (xs ++ ys) d
 towers_fault_stays xs ys d demands faulty = by_rest demands.1 demands.2 demands.3
   where
@@ -238,13 +247,15 @@ towers_fault_stays xs ys d demands faulty = by_rest demands.1 demands.2 demands.
     by_rest (PartOf fault) are is = absurd (cc (verdict_of 1 demands.0 (PartOf fault), ap (λ (e : Demand). e.verdict) is, faulty))
 
 -- the texts of whole towers are due whatever follows
-pub body_stays : (number : ℕ) (xs ys : List ℕ) (ts us : List (List Floor)) (r s : Rest) → AreTowers number xs ts r → AreTowers number (xs ++ ys) us s → IsFront (towers_demand number ts r).body (towers_demand number us s).body
+pub body_stays : (number : ℕ) (xs ys : List ℕ) (ts us : List (List Floor)) (r s : Rest) → AreTowers number xs ts r → AreTowers number (xs ++ ys) us s
+    → IsFront (towers_demand number ts r).body (towers_demand number us s).body
 body_stays number xs ys [] us Nothing s first second = ((towers_demand number us s).body, refl)
 body_stays number xs ys [] us (PartOf fault) s first second = ((towers_demand number us s).body, refl)
 body_stays number xs ys [] us (AtFault fault) s first second =
     let same = one_reading number (xs ++ ys) [] us (AtFault fault) s (shows_more number xs ys fault first) second in
     ([], sym (ap (λ (d : Demand). d.body) same) ∙ sym (append-nil (stream_fault_text number fault)))
-body_stays number xs ys (t ∷ ts) [] r s first second = absurd (no_rest number (xs ++ ys) s second (t, first.0, first.1 ++ ys, first.3, ap (λ (l : List ℕ). l ++ ys) first.2 ∙ append_assoc first.0 first.1 ys))
+body_stays number xs ys (t ∷ ts) [] r s first second = absurd (no_rest number (xs ++ ys) s second
+    (t, first.0, first.1 ++ ys, first.3, ap (λ (l : List ℕ). l ++ ys) first.2 ∙ append_assoc first.0 first.1 ys))
 body_stays number xs ys (t ∷ ts) (u ∷ us) r s first second =
     let split : xs ++ ys ≡ first.0 ++ (first.1 ++ ys) = ap (λ (l : List ℕ). l ++ ys) first.2 ∙ append_assoc first.0 first.1 ys in
     let apart = towers_apart t u first.0 second.0 (first.1 ++ ys) second.1 first.3.2 second.3.2 (sym split ∙ second.2) in
@@ -254,6 +265,7 @@ body_stays number xs ys (t ∷ ts) (u ∷ us) r s first second =
           ∙ ap (λ (l : List ℕ). tower_text t ++ l) later.1 ∙ sym (append_assoc (tower_text t) (towers_demand (number + 1) ts r).body later.0),
     )
 
+-- the lines of towers are due whatever follows
 pub towers_body_stays : (xs ys : List ℕ) (d e : Demand) → TowersDemand 1 xs d → TowersDemand 1 (xs ++ ys) e → IsFront d.body e.body
 towers_body_stays xs ys d e first second =
     let front = body_stays 1 xs ys first.0 second.0 first.1 second.1 first.2 second.2 in

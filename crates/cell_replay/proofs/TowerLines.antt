@@ -1,5 +1,6 @@
 -- Lines of tower text, word by word.
-use Rattle.std.proofs.Common.{◌≡◌, ℕ, ◌+◌, ◌≤◌, ◌<◌, true, false, List, [], ◌∷◌, ◌++◌, length, refl, sym, ◌∙◌, ap, arith, append_assoc, append-nil, length-append}
+use Rattle.std.proofs.Common.{◌≡◌, ℕ, ◌+◌, ◌≤◌, ◌<◌, true, false, List, [], ◌∷◌, ◌++◌, length, refl, sym, ◌∙◌, ap, arith, append_assoc, append-nil}
+use Rattle.std.proofs.Common.{length-append}
 use Rattle.std.specs.Prelude.{Option, Some, None, nat_le}
 use Rattle.std.specs.List.{flat_map}
 use Rattle.std.specs.Option.{option_map, option_and_then}
@@ -9,7 +10,7 @@ use Rattle.tower_codec.specs.declared.view.FloorView.{FloorView}
 use Rattle.tower_codec.specs.FloorView.{floor_of}
 use Rattle.tower_codec.specs.Spelling.{floor_octets, tower_octets}
 use Rattle.cell_replay.specs.TowerTexts.{SaysTower, NoTower, floor_text, floor_said, floors_said, short_tower}
-use Rattle.cell_replay.specs.Standing.{AddsFloor}
+use Rattle.cell_replay.specs.PrivateStanding.{AddsFloor}
 
 -- ---- lengths
 
@@ -49,6 +50,7 @@ pub record FloorsLeft (before text : List ℕ) (all left : List Floor) : Type 0 
 too_long : (fs : List Floor) → 1024 < length (tower_octets fs) → short_tower (Some fs) ≡ NoTower
 too_long fs long = let no : nat_le (length (tower_octets fs)) 1024 ≡ false = grind (arith, nat_tests) in rw no refl
 
+-- a tower of few octets is said
 pub short : (fs : List Floor) → length (tower_octets fs) ≤ 1024 → short_tower (Some fs) ≡ SaysTower fs
 short fs few = let yes_it_is : nat_le (length (tower_octets fs)) 1024 ≡ true = grind (arith, nat_tests) in rw yes_it_is refl
 
@@ -65,7 +67,8 @@ floors_start all tower none = record { few = rw none (omega arith); rest = rw no
     by_said (Some fs) = refl
 
 -- one more word says a floor
-pub floors_on : (word : List ℕ) (words all : List (List ℕ)) (tower tower' : List Floor) → FloorsRead (word ∷ words) all tower → AddsFloor true (floor_said word) tower tower' → FloorsRead words all tower'
+pub floors_on : (word : List ℕ) (words all : List (List ℕ)) (tower tower' : List Floor) → FloorsRead (word ∷ words) all tower
+    → AddsFloor true (floor_said word) tower tower' → FloorsRead words all tower'
 floors_on word words all tower tower' read adds = by_floor (floor_said word) refl adds
   where
     joined : (f : Floor) (o : Option (List Floor)) → option_map (λ fs. (tower ++ f ∷ []) ++ fs) o ≡ option_map (λ fs. tower ++ fs) (option_map (λ fs. f ∷ fs) o)
@@ -79,21 +82,33 @@ floors_on word words all tower tower' read adds = by_floor (floor_said word) ref
       rest =
           ap (λ (t : List Floor). short_tower (option_map (λ fs. t ++ fs) (floors_said words))) adds.0
           ∙ ap short_tower (joined f (floors_said words))
-          ∙ ap (λ (o : Option Floor). short_tower (option_map (λ fs. tower ++ fs) (option_and_then (λ floor. option_map (λ floors. floor ∷ floors) (floors_said words)) o))) (sym is)
+          ∙ ap (λ (o : Option Floor). short_tower (option_map (λ fs. tower ++ fs)
+          (option_and_then (λ floor. option_map (λ floors. floor ∷ floors) (floors_said words)) o))) (sym is)
           ∙ read.rest;
     }
 
 -- one more word says none, or one too long
-pub floors_fail : (word : List ℕ) (words all : List (List ℕ)) (tower tower' : List Floor) → FloorsRead (word ∷ words) all tower → AddsFloor false (floor_said word) tower tower' → short_tower (floors_said all) ≡ NoTower
+pub floors_fail : (word : List ℕ) (words all : List (List ℕ)) (tower tower' : List Floor) → FloorsRead (word ∷ words) all tower
+    → AddsFloor false (floor_said word) tower tower' → short_tower (floors_said all) ≡ NoTower
 floors_fail word words all tower tower' read adds = sym read.rest ∙ by_floor (floor_said word) adds
   where
-    by_rest : (f : Floor) → 1024 < length (tower_octets (tower ++ f ∷ [])) → (o : Option (List Floor)) → short_tower (option_map (λ fs. tower ++ fs) (option_map (λ fs. f ∷ fs) o)) ≡ NoTower
+    by_rest : (f : Floor) → 1024 < length (tower_octets (tower ++ f ∷ [])) → (o : Option (List Floor))
+        → short_tower (option_map (λ fs. tower ++ fs) (option_map (λ fs. f ∷ fs) o)) ≡ NoTower
     by_rest f long None = refl
     by_rest f long (Some fs) =
         too_long (tower ++ f ∷ fs)
-        (omega (arith, long, floors_length tower (f ∷ fs), floors_length tower (f ∷ []), length-append (floor_octets f) (flat_map floor_octets fs), length-append (floor_octets f) []))
+        (omega (
+          arith,
+          long,
+          floors_length tower (f ∷ fs),
+          floors_length tower (f ∷ []),
+          length-append (floor_octets f)
+              (flat_map floor_octets fs),
+          length-append (floor_octets f) [],
+        ))
 
-    by_floor : (o : Option Floor) → AddsFloor false o tower tower' → short_tower (option_map (λ fs. tower ++ fs) (option_and_then (λ floor. option_map (λ floors. floor ∷ floors) (floors_said words)) o)) ≡ NoTower
+    by_floor : (o : Option Floor) → AddsFloor false o tower tower' → short_tower
+        (option_map (λ fs. tower ++ fs) (option_and_then (λ floor. option_map (λ floors. floor ∷ floors) (floors_said words)) o)) ≡ NoTower
     by_floor None adds = refl
     by_floor (Some f) adds = by_rest f adds (floors_said words)
 

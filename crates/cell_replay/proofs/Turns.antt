@@ -1,5 +1,6 @@
 -- Between two lines of a run, and what the call for the next line leaves.
-use Rattle.std.proofs.Common.{◌≡◌, ◌≢◌, ◌⊎◌, ◌↔◌, inl, inr, ⊎_elim, ℕ, ◌+◌, ◌≤◌, ◌<◌, length, Bool, List, [], ◌∷◌, ◌++◌, take, refl, sym, ◌∙◌, ap, subst, arith, append_assoc, append-nil}
+use Rattle.std.proofs.Common.{◌≡◌, ◌≢◌, ◌⊎◌, ◌↔◌, inl, inr, ⊎_elim, ℕ, ◌+◌, ◌≤◌, ◌<◌, length, Bool, List, [], ◌∷◌, ◌++◌, take, refl, sym, ◌∙◌, ap, subst}
+use Rattle.std.proofs.Common.{arith, append_assoc, append-nil}
 use Rattle.std.specs.Prelude.{Option, None, Some, Ok, Err, Result, IsTrue}
 use Rattle.std.specs.Io.KnownBytes.{Appends, IsAtEnd}
 use Rattle.cds_base.specs.Counts.{Rose}
@@ -15,14 +16,17 @@ use Rattle.cell_replay.specs.declared.forms.LineForm.{LineForm}
 use Rattle.cell_replay.specs.declared.replies.LineEnd.TheVariants as line
 use Rattle.cell_replay.specs.declared.endings.Status.{Status}
 use Rattle.cell_replay.specs.declared.endings.Status.TheVariants.{Ok as AllRead, BadInput, ReadFault, WriteFault, OutOfMemory}
-use Rattle.cell_replay.specs.Demand.{Demand, Faulty, LineState, demanded, Response, GoesOn, Stops, response, at_end, end_text, told_fault, then_rest, faulty_with, ends_with, cut_short_with, with_front}
+use Rattle.cell_replay.specs.Demand.{Demand, Faulty, LineState, demanded, Response, GoesOn, Stops, response, at_end, end_text, told_fault, then_rest}
+use Rattle.cell_replay.specs.Demand.{faulty_with, ends_with, cut_short_with, with_front}
 use Rattle.cell_replay.specs.Forms.{ByLines, Demands}
-use Rattle.cell_replay.specs.Standing.{IsAt, Ends}
-use Rattle.cell_replay.specs.Waiting.{Flushes}
-use Rattle.cell_replay.specs.Runs.{Wrote, IsBody, IsPart, IsDue, Finishes, StopsWith, Ended}
+use Rattle.cell_replay.specs.PrivateStanding.{IsAt, Ends}
+use Rattle.cell_replay.specs.PrivateWaiting.{Flushes}
+use Rattle.cell_replay.specs.Runs.{IsBody, IsPart}
+use Rattle.cell_replay.specs.PrivateEndings.{IsDue, Finishes, StopsWith, side, Ended}
 use Rattle.cell_replay.proofs.Scanning.{scanned, demanded_scanned}
 use Rattle.cell_replay.proofs.Demands.{demand_line, demand_broken, demand_part}
-use Rattle.cell_replay.proofs.Progress.{Pending, Reached, StopsHere, Turn, started, flushed_before, goes_on, one_taken, demands_with, more_read, write_failed, finishes, stops_with, read_failed}
+use Rattle.cell_replay.proofs.Progress.{Pending, Reached, StopsHere, Turn, started, flushed_before, goes_on, one_taken, demands_with, more_read}
+use Rattle.cell_replay.proofs.Progress.{write_failed, finishes, stops_with, wrote_all, read_failed}
 
 -- what the octets behind the lines so far demand
 abbrev pub BehindLines : ℕ → LineState → List ℕ → Demand → Type 0
@@ -31,13 +35,16 @@ BehindLines count at r d = scanned (count + 1) at [] r ≡ d
 pub lines_stop : (count : ℕ) (at : LineState) → StopsHere (BehindLines count at)
 lines_stop count at = record { demand = at_end (count + 1) at []; behind = demand_part (count + 1) at [] tt; none = refl }
 
-pub first_line : (state : LineState) (first old : Option (List ℕ)) (held waits : List ℕ) (count : ℕ) → held ≡ [] → waits ≡ [] → count ≡ 0 → Reached (ByLines state) first first old old held waits (BehindLines count state)
+-- before the first line
+pub first_line : (state : LineState) (first old : Option (List ℕ)) (held waits : List ℕ) (count : ℕ) → held ≡ [] → waits ≡ [] → count ≡ 0
+    → Reached (ByLines state) first first old old held waits (BehindLines count state)
 first_line state first old held waits count none nothing zero_count =
     started (ByLines state) first old held waits (BehindLines count state) none nothing
     (λ r d behind. demanded_scanned state r ∙ ap (λ (n : ℕ). scanned (n + 1) state [] r) (sym zero_count) ∙ behind) (lines_stop count state)
 
 -- the form stands where the lines so far bring it, no fault was met, and no call failed
-pub record IsBetween (state : LineState) (first left old new : Option (List ℕ)) (reads reads' writes writes' : ℕ) (lines : Lines) (form : LineForm) (waits : List ℕ) : Type 0 where
+pub record IsBetween (state : LineState) (first left old new : Option (List ℕ)) (reads reads' writes writes' : ℕ) (lines : Lines) (form : LineForm)
+    (waits : List ℕ) : Type 0 where
   pub at : LineState
   pub stands : IsAt form at
   pub reached : Reached (ByLines state) first left old new (held lines) waits (BehindLines (given lines) at)
@@ -48,22 +55,28 @@ pub record IsBetween (state : LineState) (first left old new : Option (List ℕ)
 none_read : (left : Option (List ℕ)) (octets : List ℕ) → GrowsByReading left left octets octets
 none_read left octets = record { read = []; taken = consumes_self left; grown = sym (append-nil octets) }
 
-module _ (state : LineState) (first left old new : Option (List ℕ)) (reads reads' writes writes' : ℕ) (lines : Lines) (form : LineForm) (waits : List ℕ) (b : IsBetween state first left old new reads reads' writes writes' lines form waits) where
+module _ (state : LineState) (first left old new : Option (List ℕ)) (reads reads' writes writes' : ℕ) (lines : Lines) (form : LineForm)
+    (waits : List ℕ) (b : IsBetween state first left old new reads reads' writes writes' lines form waits) where
   -- a write failed
-  pub write_fails : (new' : Option (List ℕ)) (k writes'' : ℕ) → (k < length waits) × Appends new new' (take k waits) → Rose writes' writes'' → Ended (ByLines state) first left old new' reads reads' writes writes'' WriteFault
+  pub write_fails : (new' : Option (List ℕ)) (k writes'' : ℕ) → (k < length waits) × Appends new new' (take k waits) → Rose writes' writes''
+      → Ended (ByLines state) (side first reads) (side left reads') (side old writes) (side new' writes'') WriteFault
   write_fails new' k writes'' went rose =
       let now = b.reached.pending in
       let rest : Demand = scanned (given lines + 1) b.at [] (held lines) in
-      write_failed (ByLines state) first left old new (held lines) now (with_front (now.out ++ waits) rest) (b.reached.so_far (held lines) rest refl) new' waits k writes writes'' reads reads' went
+      write_failed (ByLines state) first left old new (held lines) now (with_front (now.out ++ waits) rest)
+      (b.reached.so_far (held lines) rest refl) new' waits k writes writes'' reads reads' went
       (inl (rest.body, refl))
       (subst (λ n. Rose n writes'') b.quiet rose) b.calm
 
   -- way was made for the next line
-  pub turned : (new' : Option (List ℕ)) (waits' : List ℕ) (ready : Bool) → Flushes new new' waits waits' ready → (IsTrue ready ↔ IsReady lines) → Turn (ByLines state) first left old new' (held lines) waits' (BehindLines (given lines) b.at) (IsReady lines)
-  turned new' waits' ready writes means = flushed_before (ByLines state) first left old new new' (held lines) waits waits' (BehindLines (given lines) b.at) ready (IsReady lines) b.reached (lines_stop (given lines) b.at) writes means.0
+  pub turned : (new' : Option (List ℕ)) (waits' : List ℕ) (ready : Bool) → Flushes new new' waits waits' ready → (IsTrue ready ↔ IsReady lines)
+      → Turn (ByLines state) first left old new' (held lines) waits' (BehindLines (given lines) b.at) (IsReady lines)
+  turned new' waits' ready writes means = flushed_before (ByLines state) first left old new new' (held lines) waits waits'
+      (BehindLines (given lines) b.at) ready (IsReady lines) b.reached (lines_stop (given lines) b.at) writes means.0
 
 -- the count of failures stays where no read failed
-no_rise : (T : Type 0) (before now : ℕ) (fault : LineFault) → fault ≢ NotRead → (let failed : Result T LineFault = Err fault in HasLineCause before now failed) → now ≡ before
+no_rise : (T : Type 0) (before now : ℕ) (fault : LineFault) → fault ≢ NotRead
+    → (let failed : Result T LineFault = Err fault in HasLineCause before now failed) → now ≡ before
 no_rise T before now (LineTooLong n k) other cause = cause
 no_rise T before now (NotAscii n k) other cause = cause
 no_rise T before now (NoLineEnd n k) other cause = cause
@@ -79,7 +92,8 @@ is_read (TooManyLines n k) = inr (λ is. cc (is))
 is_read NotRead = inl refl
 
 -- what was counted is not more than the lines given
-pub counts_on : (left left' : Option (List ℕ)) (lines lines' : Lines) (number : ℕ) (octets : List ℕ) (x : ℕ) → IsNext left left' lines lines' (Ok (Some (number, octets))) → x ≤ number → x ≤ given lines'
+pub counts_on : (left left' : Option (List ℕ)) (lines lines' : Lines) (number : ℕ) (octets : List ℕ) (x : ℕ)
+    → IsNext left left' lines lines' (Ok (Some (number, octets))) → x ≤ number → x ≤ given lines'
 counts_on left left' lines lines' number octets x next few =
     let first = next.answer.0 in
     let more = next.number in
@@ -97,7 +111,8 @@ module _ (left' : Option (List ℕ)) (out waits : List ℕ) (count : ℕ) (at : 
   )
 
   -- the input ends
-  all_due : (held' : List ℕ) → held' ≡ [] → IsAtEnd left' → BehindLines count at held' (ends_with (end_text at)) × IsDue left' AllRead (with_front (out ++ waits) (ends_with (end_text at))) (out ++ (waits ++ end_text at))
+  all_due : (held' : List ℕ) → held' ≡ [] → IsAtEnd left' → BehindLines count at held' (ends_with (end_text at))
+      × IsDue left' AllRead (with_front (out ++ waits) (ends_with (end_text at))) (out ++ (waits ++ end_text at))
   all_due held' none ended = (
     ap (scanned (count + 1) at []) none ∙ demand_part (count + 1) at [] tt,
     (ended, (refl, sym (append_assoc out waits (end_text at)) ∙ ap (λ (w : List ℕ). w ++ end_text at) (sym (append-nil (out ++ waits))))),
@@ -105,7 +120,11 @@ module _ (left' : Option (List ℕ)) (out waits : List ℕ) (count : ℕ) (at : 
 
   -- a read failed: all that is due whatever follows was written
   body_due : (held' : List ℕ) → waits ≡ [] → IsBody (with_front (out ++ waits) (at_end (count + 1) at held')) out
-  body_due held' none = (sym (ap (λ (l : List ℕ). (out ++ waits) ++ l) (no_body held') ∙ append-nil (out ++ waits) ∙ ap (λ (w : List ℕ). out ++ w) none ∙ append-nil out), unshown held')
+  body_due held' none = (
+    sym (ap (λ (l : List ℕ). (out ++ waits) ++ l) (no_body held') ∙ append-nil (out ++ waits)
+        ∙ ap (λ (w : List ℕ). out ++ w) none ∙ append-nil out),
+    unshown held',
+  )
     where
       unshown : (l : List ℕ) → (at_end (count + 1) at l).verdict ≢ Faulty
       unshown [] is = cc (is)
@@ -116,7 +135,8 @@ module _ (left' : Option (List ℕ)) (out waits : List ℕ) (count : ℕ) (at : 
       no_body (b ∷ bs) = refl
 
   -- the octets held show a fault, or the input ends within the line
-  fault_due : (held' : List ℕ) (fault : LineFault) → ShowsFault (count + 1) fault held' ⊎ (IsAtEnd left' × AreClean (count + 1) 1 held' × (0 < length held') × (fault ≡ NoLineEnd (count + 1) (length held' + 1)))
+  fault_due : (held' : List ℕ) (fault : LineFault) → ShowsFault (count + 1) fault held'
+      ⊎ (IsAtEnd left' × AreClean (count + 1) 1 held' × (0 < length held') × (fault ≡ NoLineEnd (count + 1) (length held' + 1)))
       → (d : Demand) × BehindLines count at held' d × IsDue left' BadInput (with_front (out ++ waits) d) (out ++ (waits ++ told_fault at fault))
   fault_due held' fault (inl shows) = (
     faulty_with (told_fault at fault),
@@ -137,7 +157,8 @@ module _ (left' : Option (List ℕ)) (out waits : List ℕ) (count : ℕ) (at : 
 
 module _ {S : Type 0} (left_of : S → Option (List ℕ)) (faults_of : S → ℕ) (source source' : S)
     (state : LineState) (first old new : Option (List ℕ)) (reads writes : ℕ) (lines lines' : Lines) (waits : List ℕ) (at : LineState)
-    (t : Turn (ByLines state) first (left_of source) old new (held lines) waits (BehindLines (given lines) at) (IsReady lines)) (unbroken : kept lines ≡ None) (calm : faults_of source ≡ reads) where
+    (t : Turn (ByLines state) first (left_of source) old new (held lines) waits (BehindLines (given lines) at) (IsReady lines))
+    (unbroken : kept lines ≡ None) (calm : faults_of source ≡ reads) where
   abbrev left : Option (List ℕ)
   left = left_of source
 
@@ -172,23 +193,29 @@ module _ {S : Type 0} (left_of : S → Option (List ℕ)) (faults_of : S → ℕ
     turned_so = turn (Ok (Some (number, octets))) moved
 
     abbrev taken : Pending (ByLines state) first left' old new (held lines')
-    taken = one_taken (ByLines state) first left old new (held lines) waits Behind t.reached left' (held lines') one (given lines + 1, octets, is_line, refl) next.answer.2 moved.few turned_so
+    taken = one_taken (ByLines state) first left old new (held lines) waits Behind t.reached left' (held lines') one
+        (given lines + 1, octets, is_line, refl) next.answer.2 moved.few turned_so
 
     responds : (r : Response) → response number at octets ≡ r → response (given lines + 1) at octets ≡ r
     responds r is = subst (λ (n : ℕ). response n at octets ≡ r) next.answer.0 is
 
-    demands : (d : Demand) → Behind (one ++ held lines') d → Demands (ByLines state) ((taken.front ++ taken.since) ++ held lines') (with_front (now.out ++ waits) d)
-    demands d behind = demands_with (ByLines state) first left old new (held lines) waits Behind t.reached left' (held lines') one (given lines + 1, octets, is_line, refl) next.answer.2 moved.few turned_so (held lines') d behind
+    demands : (d : Demand) → Behind (one ++ held lines') d → Demands (ByLines state) ((taken.front ++ taken.since) ++ held lines')
+        (with_front (now.out ++ waits) d)
+    demands d behind = demands_with (ByLines state) first left old new (held lines) waits Behind t.reached left' (held lines') one
+        (given lines + 1, octets, is_line, refl) next.answer.2 moved.few turned_so (held lines') d behind
 
     -- the form goes on
-    pub line_goes_on : (form' : LineForm) (writes' : ℕ) → Ends line.GoesOn (response number at octets) waits waits' (IsAt form') → writes' ≡ writes → IsBetween state first left' old new reads (faults_of source') writes writes' lines' form' waits'
+    pub line_goes_on : (form' : LineForm) (writes' : ℕ) → Ends line.GoesOn (response number at octets) waits waits' (IsAt form') → writes' ≡ writes
+        → IsBetween state first left' old new reads (faults_of source') writes writes' lines' form' waits'
     line_goes_on form' writes' ends quiet = by_response (response number at octets) refl ends
       where
-        by_response : (r : Response) → response number at octets ≡ r → Ends line.GoesOn r waits waits' (IsAt form') → IsBetween state first left' old new reads (faults_of source') writes writes' lines' form' waits'
+        by_response : (r : Response) → response number at octets ≡ r → Ends line.GoesOn r waits waits' (IsAt form')
+            → IsBetween state first left' old new reads (faults_of source') writes writes' lines' form' waits'
         by_response (GoesOn text then) is ends = record {
           at = then;
           stands = ends.1;
-          reached = goes_on (ByLines state) first left old new (held lines) waits Behind t.reached left' (held lines') one (given lines + 1, octets, is_line, refl) next.answer.2 moved.few turned_so text waits' (BehindLines (given lines') then)
+          reached = goes_on (ByLines state) first left old new (held lines) waits Behind t.reached left' (held lines') one
+              (given lines + 1, octets, is_line, refl) next.answer.2 moved.few turned_so text waits' (BehindLines (given lines') then)
               (λ r d behind.
               demand_line (given lines + 1) at octets r is_line
               ∙ ap (λ e. then_rest e (λ next. scanned (given lines + 1 + 1) next [] r)) (responds (GoesOn text then) is)
@@ -203,18 +230,23 @@ module _ {S : Type 0} (left_of : S → Option (List ℕ)) (faults_of : S → ℕ
 
     module _ (new' : Option (List ℕ)) (mid writes' : ℕ) (result : Status) (quiet : mid ≡ writes) where
       -- the form stops at the line
-      pub line_stops : (form' : LineForm) → Ends line.Stops (response number at octets) waits waits' (IsAt form') → Finishes new new' mid writes' waits' BadInput result → Ended (ByLines state) first left' old new' reads (faults_of source') writes writes' result
+      pub line_stops : (form' : LineForm) → Ends line.Stops (response number at octets) waits waits' (IsAt form')
+          → Finishes (side new mid) (side new' writes') waits' BadInput result
+          → Ended (ByLines state) (side first reads) (side left' (faults_of source')) (side old writes) (side new' writes') result
       line_stops form' ends finished = by_response (response number at octets) refl ends
         where
-          by_response : (r : Response) → response number at octets ≡ r → Ends line.Stops r waits waits' (IsAt form') → Ended (ByLines state) first left' old new' reads (faults_of source') writes writes' result
+          by_response : (r : Response) → response number at octets ≡ r → Ends line.Stops r waits waits' (IsAt form')
+              → Ended (ByLines state) (side first reads) (side left' (faults_of source')) (side old writes) (side new' writes') result
           by_response (GoesOn text then) is ends = absurd ends
           by_response (Stops text) is ends =
               let due = line_due left' now.out waits (given lines) at octets (held lines') text waits' is_line (responds (Stops text) is) ends in
-              finishes (ByLines state) first left' old new (held lines') taken (with_front (now.out ++ waits) (faulty_with text)) (demands (faulty_with text) due.0)
+              finishes (ByLines state) first left' old new (held lines') taken (with_front (now.out ++ waits) (faulty_with text))
+              (demands (faulty_with text) due.0)
               new' waits' BadInput result reads (faults_of source') writes mid writes' due.1 finished (moved.cause unbroken ∙ calm) quiet
 
       -- there was no memory for the reply
-      pub line_without_memory : waits' ≡ waits → Finishes new new' mid writes' waits' OutOfMemory result → Ended (ByLines state) first left' old new' reads (faults_of source') writes writes' result
+      pub line_without_memory : waits' ≡ waits → Finishes (side new mid) (side new' writes') waits' OutOfMemory result
+          → Ended (ByLines state) (side first reads) (side left' (faults_of source')) (side old writes) (side new' writes') result
       line_without_memory same finished =
           let rest : Demand = scanned (given lines + 1) at [] (one ++ held lines') in
           finishes (ByLines state) first left' old new (held lines') taken (with_front (now.out ++ waits) rest) (demands rest refl)
@@ -228,60 +260,92 @@ module _ {S : Type 0} (left_of : S → Option (List ℕ)) (faults_of : S → ℕ
     read_so = more_read (ByLines state) first left old new (held lines) waits Behind t.reached left' (held lines') grows few turns
 
     -- what is due goes out with a last text
-    ends_so : (d : Demand) → Behind (held lines') d → (text : List ℕ) (status : Status) → IsDue left' status (with_front (now.out ++ waits) d) (now.out ++ (waits ++ text))
-        → (new' : Option (List ℕ)) (mid writes' : ℕ) (result : Status) → StopsWith new new' mid writes' status text waits result → faults_of source' ≡ reads → mid ≡ writes → Ended (ByLines state) first left' old new' reads (faults_of source') writes writes' result
+    ends_so : (d : Demand) → Behind (held lines') d → (text : List ℕ) (status : Status)
+        → IsDue left' status (with_front (now.out ++ waits) d) (now.out ++ (waits ++ text))
+        → (new' : Option (List ℕ)) (mid writes' : ℕ) (result : Status) → StopsWith (side new mid) (side new' writes') status text waits result
+        → faults_of source' ≡ reads → mid ≡ writes → Ended (ByLines state) (side first reads) (side left' (faults_of source')) (side old writes)
+        (side new' writes') result
     ends_so d behind text status due new' mid writes' result stops calm quiet =
         stops_with (ByLines state) first left' old new (held lines') read_so (with_front (now.out ++ waits) d) (t.reached.so_far (held lines') d behind)
         new' text waits status result reads (faults_of source') writes mid writes' due stops calm quiet
 
     -- a read failed, where nothing waited
-    fails_so : AreClean (given lines + 1) 1 (held lines') → waits ≡ [] → (writes' : ℕ) → Rose reads (faults_of source') → writes' ≡ writes → Ended (ByLines state) first left' old new reads (faults_of source') writes writes' ReadFault
+    fails_so : AreClean (given lines + 1) 1 (held lines') → waits ≡ [] → (writes' : ℕ) → Rose reads (faults_of source') → writes' ≡ writes
+        → Ended (ByLines state) (side first reads) (side left' (faults_of source')) (side old writes) (side new writes') ReadFault
     fails_so clean none writes' rose quiet =
-        read_failed (ByLines state) first left' old new (held lines') read_so (with_front (now.out ++ waits) (at_end (given lines + 1) at (held lines')))
+        read_failed (ByLines state) first left' old new (held lines') read_so
+        (wrote_all (ByLines state) first left' old new (held lines') read_so (with_front (now.out ++ waits) (at_end (given lines + 1) at (held lines')))
         (t.reached.so_far (held lines') (at_end (given lines + 1) at (held lines')) (demand_part (given lines + 1) at (held lines') clean))
-        reads (faults_of source') writes writes' (body_due left' now.out waits (given lines) at (held lines') none) rose quiet
+        refl (body_due left' now.out waits (given lines) at (held lines') none))
+        reads (faults_of source') writes writes' rose quiet
 
   module _ (new' : Option (List ℕ)) (mid writes' : ℕ) (result : Status) (quiet : mid ≡ writes) where
     -- the input ends
-    pub input_ends : Moved (Ok None) → StopsWith new new' mid writes' AllRead (end_text at) waits result → Ended (ByLines state) first left' old new' reads (faults_of source') writes writes' result
+    pub input_ends : Moved (Ok None) → StopsWith (side new mid) (side new' writes') AllRead (end_text at) waits result
+        → Ended (ByLines state) (side first reads) (side left' (faults_of source')) (side old writes) (side new' writes') result
     input_ends moved stops =
         let next = moved.next unbroken in
         let due = all_due left' now.out waits (given lines) at (held lines') next.answer.1 next.answer.2 in
-        ends_so next.answer.0 moved.few (turn (Ok None) moved) (ends_with (end_text at)) due.0 (end_text at) AllRead due.1 new' mid writes' result stops (moved.cause unbroken ∙ calm) quiet
+        ends_so next.answer.0 moved.few (turn (Ok None) moved) (ends_with (end_text at)) due.0
+        (end_text at) AllRead due.1 new' mid writes' result stops (moved.cause unbroken ∙ calm) quiet
 
     -- the octets show a fault, or the input ends within a line
-    pub line_breaks : (fault : LineFault) → Moved (Err fault) → fault ≢ NotRead → StopsWith new new' mid writes' BadInput (told_fault at fault) waits result → Ended (ByLines state) first left' old new' reads (faults_of source') writes writes' result
+    pub line_breaks : (fault : LineFault) → Moved (Err fault) → fault ≢ NotRead
+        → StopsWith (side new mid) (side new' writes') BadInput (told_fault at fault) waits result
+        → Ended (ByLines state) (side first reads) (side left' (faults_of source')) (side old writes) (side new' writes') result
     line_breaks fault moved other stops =
         let next = moved.next unbroken in
-        let due = fault_due left' now.out waits (given lines) at (held lines') fault (fault_shown (given lines + 1) (held lines') left' fault next.answer.1 other) in
+        let due = fault_due left' now.out waits (given lines) at (held lines') fault
+        (fault_shown (given lines + 1) (held lines') left' fault next.answer.1 other) in
         ends_so next.answer.0 moved.few (turn (Err fault) moved) due.0 due.1 (told_fault at fault) BadInput due.2 new' mid writes' result stops
         (no_rise (Option (ℕ × List ℕ)) (faults_of source) (faults_of source') fault other (moved.cause unbroken) ∙ calm) quiet
 
   -- a read failed
-  pub read_fails : (writes' : ℕ) → writes' ≡ writes → Moved (Err NotRead) → Ended (ByLines state) first left' old new reads (faults_of source') writes writes' ReadFault
+  pub read_fails : (writes' : ℕ) → writes' ≡ writes → Moved (Err NotRead)
+      → Ended (ByLines state) (side first reads) (side left' (faults_of source')) (side old writes) (side new writes') ReadFault
   read_fails writes' quiet moved = by_turn t.turn
     where
-      by_turn : ((now.since ≡ []) × (waits ≡ [])) ⊎ IsReady lines → Ended (ByLines state) first left' old new reads (faults_of source') writes writes' ReadFault
+      by_turn : ((now.since ≡ []) × (waits ≡ [])) ⊎ IsReady lines → Ended (ByLines state) (side first reads) (side left' (faults_of source'))
+          (side old writes) (side new writes') ReadFault
       by_turn (inr ready) = absurd ((moved.ready ready).1 unbroken refl)
       by_turn (inl none) =
           let next = moved.next unbroken in
-          fails_so next.answer.0 moved.few (turn (Err NotRead) moved) next.answer.1 none.1 writes' (subst (λ (n : ℕ). Rose n (faults_of source')) calm (moved.cause unbroken).1) quiet
+          fails_so next.answer.0 moved.few (turn (Err NotRead) moved) next.answer.1 none.1 writes'
+          (subst (λ (n : ℕ). Rose n (faults_of source')) calm (moved.cause unbroken).1) quiet
 
   -- either way
-  pub ends_at_fault : {K : Type 0} (written_of : K → Option (List ℕ)) (failed_of : K → ℕ) (sink sink' : K) (result : Status) (fault : LineFault) → written_of sink ≡ new → failed_of sink ≡ writes → Moved (Err fault)
-      → (fault ≡ NotRead → (result ≡ ReadFault) × (sink' ≡ sink)) → (fault ≢ NotRead → StopsWith (written_of sink) (written_of sink') (failed_of sink) (failed_of sink') BadInput (told_fault at fault) waits result)
-      → Ended (ByLines state) first left' old (written_of sink') reads (faults_of source') writes (failed_of sink') result
+  pub ends_at_fault : {K : Type 0} (written_of : K → Option (List ℕ)) (failed_of : K → ℕ) (sink sink' : K) (result : Status) (fault : LineFault)
+      → written_of sink ≡ new → failed_of sink ≡ writes → Moved (Err fault)
+      → (fault ≡ NotRead → (result ≡ ReadFault) × (sink' ≡ sink)) → (fault ≢ NotRead
+      → StopsWith (side (written_of sink) (failed_of sink)) (side (written_of sink') (failed_of sink')) BadInput (told_fault at fault) waits result)
+      → Ended (ByLines state) (side first reads) (side left' (faults_of source')) (side old writes) (side (written_of sink') (failed_of sink')) result
   ends_at_fault written_of failed_of sink sink' result fault at_sink quiet moved read other = by_fault (is_read fault)
     where
-      by_fault : (fault ≡ NotRead) ⊎ (fault ≢ NotRead) → Ended (ByLines state) first left' old (written_of sink') reads (faults_of source') writes (failed_of sink') result
+      by_fault : (fault ≡ NotRead) ⊎ (fault ≢ NotRead) → Ended (ByLines state) (side first reads) (side left' (faults_of source')) (side old writes)
+          (side (written_of sink') (failed_of sink')) result
       by_fault (inl is) =
-          subst (λ (s : Status). Ended (ByLines state) first left' old (written_of sink') reads (faults_of source') writes (failed_of sink') s) (sym (read is).0)
-          (subst (λ (w : Option (List ℕ)). Ended (ByLines state) first left' old w reads (faults_of source') writes (failed_of sink') ReadFault) (sym (ap written_of (read is).1 ∙ at_sink))
+          subst (λ (s : Status). Ended (ByLines state) (side first reads) (side left' (faults_of source')) (side old writes)
+          (side (written_of sink') (failed_of sink')) s) (sym (read is).0)
+          (subst (λ (w : Option (List ℕ)). Ended (ByLines state) (side first reads) (side left' (faults_of source')) (side old writes)
+          (side w (failed_of sink')) ReadFault) (sym (ap written_of (read is).1 ∙ at_sink))
           (read_fails (failed_of sink') (ap failed_of (read is).1 ∙ quiet) (subst (λ (f : LineFault). Moved (Err f)) is moved)))
       by_fault (inr is) =
           line_breaks (written_of sink') (failed_of sink) (failed_of sink') result quiet fault moved is
-          (subst (λ (w : Option (List ℕ)). StopsWith w (written_of sink') (failed_of sink) (failed_of sink') BadInput (told_fault at fault) waits result) at_sink (other is))
+          (subst (λ (w : Option (List ℕ)). StopsWith (side w (failed_of sink)) (side (written_of sink') (failed_of sink')) BadInput
+          (told_fault at fault) waits result) at_sink (other is))
 
 -- nothing is read and nothing written
-pub unread_lines : (state : LineState) (left old : Option (List ℕ)) → Wrote (ByLines state) left left old old (IsPart left)
-unread_lines state left old = record { read = []; text = []; demand = demanded state []; taken = consumes_self left; written = appends_none old; demands = refl; due = inl ((demanded state []).body, refl) }
+pub unread_lines : (state : LineState) (left old : Option (List ℕ)) (reads writes : ℕ)
+    → Ended (ByLines state) (side left reads) (side left reads) (side old writes) (side old writes) OutOfMemory
+unread_lines state left old reads writes = (
+  record {
+    read = [];
+    text = [];
+    demand = demanded state [];
+    taken = consumes_self left;
+    written = appends_none old;
+    demands = refl;
+    due = inl ((demanded state []).body, refl);
+  },
+  (refl, refl),
+)

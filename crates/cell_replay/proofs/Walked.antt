@@ -17,14 +17,18 @@ use Rattle.cds_cell.proofs.Told.{told_is_reading}
 use Rattle.cell_replay.specs.Replies.{walked, asked_of, values_read, target_read}
 
 -- what a call answers of some end of a walk, it answers of its end
-pub walk_answers : (reader : Reader) (last : Bool) (name : List (List ℕ)) (r : Result Found (AllocOr Refusal)) → SomeEnd reader last name (λ e. Answers r (found_of e)) → Answers r (walked reader last name)
+pub walk_answers : (reader : Reader) (last : Bool) (name : List (List ℕ)) (r : Result Found (AllocOr Refusal))
+    → SomeEnd reader last name (λ e. Answers r (found_of e)) → Answers r (walked reader last name)
 walk_answers reader last name r some = subst (λ e. Answers r (found_of e)) (end_is some.1) some.2
 
 -- what the program is told is what the model's cell tells
 pub read_alike : (c : Cell) (g : model.Cell) (s : Stands c g) (h : ℕ) (high : Bool) (name : List (List ℕ)) (attr : List ℕ)
-    → asked_of g h (values_read (told c) attr (walked (told c) true name)) ≡ asked_of g h (values_read (reading g (Some h) high) attr (walked (reading g (Some h) high) true name))
+    → asked_of g h (values_read (told c) attr (walked (told c) true name)) ≡ asked_of g h
+    (values_read (reading g (Some h) high) attr (walked (reading g (Some h) high) true name))
 read_alike c g s h high name attr = ap (λ r. asked_of g h (values_read r attr (walked r true name))) (told_is_reading c g s (Some h) high)
 
+-- a link is read alike through two readers that tell the same
 pub target_alike : (c : Cell) (g : model.Cell) (s : Stands c g) (h : ℕ) (high : Bool) (name : List (List ℕ))
-    → asked_of g h (target_read (told c) (walked (told c) false name)) ≡ asked_of g h (target_read (reading g (Some h) high) (walked (reading g (Some h) high) false name))
+    → asked_of g h (target_read (told c) (walked (told c) false name)) ≡ asked_of g h
+    (target_read (reading g (Some h) high) (walked (reading g (Some h) high) false name))
 target_alike c g s h high name = ap (λ r. asked_of g h (target_read r (walked r false name))) (told_is_reading c g s (Some h) high)

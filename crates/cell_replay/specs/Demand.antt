@@ -24,10 +24,15 @@ pub data Verdict : Type 0 where
   Faulty : Verdict
   CutShort : Verdict
 
+-- what an input demands of a form (own)
 pub record Demand : Type 0 where
   pub body : List ℕ
   pub end : List ℕ
   pub verdict : Verdict
+
+-- a text is due, and nothing is faulty (own)
+abbrev pub whole : List ℕ → Demand
+whole text = record { body = text; end = []; verdict = Sound }
 
 -- nothing is due behind a fault (own)
 abbrev pub faulty_with : List ℕ → Demand
@@ -37,9 +42,11 @@ faulty_with text = record { body = text; end = []; verdict = Faulty }
 abbrev pub ends_with : List ℕ → Demand
 ends_with text = record { body = []; end = text; verdict = Sound }
 
+-- the input ends within something, which is told so (own)
 abbrev pub cut_short_with : List ℕ → Demand
 cut_short_with text = record { body = []; end = text; verdict = CutShort }
 
+-- a text is due in front (own)
 abbrev pub with_front : List ℕ → Demand → Demand
 with_front text rest = record { body = text ++ rest.body; end = rest.end; verdict = rest.verdict }
 
@@ -55,6 +62,7 @@ pub data Response : Type 0 where
   GoesOn : (text : List ℕ) → (next : LineState) → Response
   Stops : (text : List ℕ) → Response
 
+-- what `run` makes of what a line says (own)
 abbrev pub replayed : ℕ → Cell → Result (Option ScriptLine) ParseFault → Response
 replayed number g (Ok None) = GoesOn [] (Replaying g)
 replayed number g (Ok (Some l)) = GoesOn (reply_text number g l) (Replaying (cell_after g l))
@@ -72,6 +80,7 @@ spelled SaysNothing = GoesOn [] Spelling
 spelled (SaysTower floors) = GoesOn (tower_octets floors) Spelling
 spelled NoTower = Stops []
 
+-- what a form makes of a line (own)
 abbrev pub response : ℕ → LineState → List ℕ → Response
 response number (Replaying g) line = replayed number g (said_in (words_of line))
 response number (Checking lines commands) line = checked number commands (said_in (words_of line))

@@ -3,9 +3,11 @@ pub mod Replies
 pub mod TowerTexts
 pub mod Demand
 pub mod TowerDemand
-pub mod Sights
+pub mod PrivateSights
 pub mod Forms
-pub mod Standing
-pub mod Waiting
+pub mod Fillings
+pub mod PrivateStanding
+pub mod PrivateWaiting
 pub mod Runs
+pub mod PrivateEndings
 pub mod Scripts

@@ -54,11 +54,13 @@ abbrev pub first_target : List (List ℕ) → Answer
 first_target [] = answer.Refused why.NotLink
 first_target (v ∷ vs) = answer.Target (components_of v)
 
+-- where an entry leads: a link to its target, and no other anywhere (own, after C705, soft links)
 abbrev pub target_of : Kind → List (List ℕ) → Answer
 target_of kind.Object values = answer.Refused why.NotLink
 target_of kind.Link values = first_target (targets values)
 target_of kind.Child values = answer.Refused why.NotLink
 
+-- where the entry that is found leads (own)
 abbrev pub target_read : Reader → Result Found Refusal → Answer
 target_read reader (Ok found) = target_of found.kind (reader.values found link_target)
 target_read reader (Err r) = answer.Refused (refusal_of_walk r)
@@ -83,6 +85,7 @@ message_told (Err f) = answer.Refused (refusal_of_octets f)
 abbrev pub asked_of : Cell → (house : ℕ) → Answer → Answer
 asked_of g house said = if has house g.made then said else answer.Refused why.NoHouse
 
+-- the answer to a question (own)
 abbrev pub question_answer : Cell → Question → Answer
 question_answer g (question.Read h high name attr) =
     asked_of g h.0 (values_read (reading g (Some h.0) high) attr (walked (reading g (Some h.0) high) true name))
@@ -95,6 +98,7 @@ abbrev pub reply_to : Cell → ScriptLine → Answer
 reply_to g (line.Cell c) = answer_of (outcome g (step_of c)).answer
 reply_to g (line.Question q) = question_answer g q
 
+-- the cell behind a line (own)
 abbrev pub cell_after : Cell → ScriptLine → Cell
 cell_after g (line.Cell c) = (outcome g (step_of c)).cell
 cell_after g (line.Question q) = g

@@ -1,14 +1,16 @@
 -- How a run of the program ends (own).
-use Rattle.std.specs.Prelude.{◌≡◌, ◌≢◌, ◌⊎◌, ℕ, ◌≤◌, ◌<◌, List, [], ◌∷◌, ◌++◌, length, take, Option}
+use Rattle.std.specs.Prelude.{◌≡◌, ◌≢◌, ◌⊎◌, ℕ, ◌≤◌, ◌<◌, List, [], ◌∷◌, ◌++◌, length, Option}
 use Rattle.std.specs.Io.KnownBytes.{Consumes, Appends, IsAtEnd}
-use Rattle.cds_base.specs.Counts.{Rose}
+use Rattle.cds_base.specs.declared.lines.TheConstants.{MOST_HELD}
 use Rattle.cds_base.specs.LineFaults.{IsLine}
+use Rattle.cell_replay.specs.declared.limits.TheConstants.{TOWER_SIGHT}
 use Rattle.cell_replay.specs.declared.endings.Status.{Status}
 use Rattle.cell_replay.specs.declared.endings.Status.TheVariants.{Ok as AllRead, Usage, BadInput, ReadFault, WriteFault, OutOfMemory}
 use Rattle.tower_codec.specs.Tower.{Floor}
 use Rattle.cell_replay.specs.Demand.{Demand, Sound, Faulty, CutShort}
 use Rattle.cell_replay.specs.TowerDemand.{IsTaken}
 use Rattle.cell_replay.specs.Forms.{FormState, ByLines, ByTowers, Demands}
+use Rattle.cell_replay.specs.Fillings.{IsUnfilled}
 
 -- xs is a front of ys (own)
 abbrev pub IsFront : List ℕ → List ℕ → Type 0
@@ -45,11 +47,27 @@ IsFaulty left d text = ((d.verdict ≡ Faulty) × (text ≡ d.body)) ⊎ ((d.ver
 abbrev pub IsBody : Demand → List ℕ → Type 0
 IsBody d text = (text ≡ d.body) × (d.verdict ≢ Faulty)
 
--- where a read failed: of lines the whole body, and no fault shows; of towers a front of the body, since the reads that
--- fill the window may fail behind octets that came (own)
-abbrev pub IsCutOff : FormState → Demand → List ℕ → Type 0
-IsCutOff (ByLines state) d text = IsBody d text
-IsCutOff ByTowers d text = IsFront text d.body
+-- the octets that came behind the others before a read failed: of lines none; of towers those of the filling that the read
+-- was to end (own)
+abbrev pub CameLate : FormState → List ℕ → List ℕ → Type 0
+CameLate (ByLines state) octets came = came ≡ []
+CameLate ByTowers octets came = IsUnfilled octets came
+
+-- where a read failed: the whole body of the octets that had come, in which no fault shows, whatever those that came late
+-- demand (own)
+pub record WroteAllBefore (state : FormState) (left left' old new : Option (List ℕ)) : Type 0 where
+  pub octets : List ℕ
+  pub came : List ℕ
+  pub text : List ℕ
+  pub demand : Demand
+  pub with_came : Demand
+  pub taken : Consumes left left' (octets ++ came)
+  pub written : Appends old new text
+  pub demands : Demands state octets demand
+  pub due : IsBody demand text
+  pub late : CameLate state octets came
+  pub later : Demands state (octets ++ came) with_came
+  pub stays : IsFront text with_came.body
 
 -- a front of the body, or of the body and the end where nothing is left (own)
 abbrev pub IsPart : Option (List ℕ) → Demand → List ℕ → Type 0
@@ -66,8 +84,8 @@ IsTakenAtOnce ByTowers octets = (number : ℕ) × (floors : List Floor) × IsTak
 
 -- how many octets are read at most behind what is taken (own)
 abbrev pub read_ahead : FormState → ℕ
-read_ahead (ByLines state) = 8192
-read_ahead ByTowers = 1025
+read_ahead (ByLines state) = MOST_HELD
+read_ahead ByTowers = TOWER_SIGHT
 
 -- What was written is at least all that the octets in front demand; then comes one more line or tower, of whose text
 -- not all was written, or none; and behind it at most so many octets were read (own)
@@ -91,42 +109,4 @@ NoCallFailed Usage = Unit {0}
 NoCallFailed BadInput = Unit {0}
 NoCallFailed ReadFault = ⊥
 NoCallFailed WriteFault = ⊥
-NoCallFailed OutOfMemory = ⊥
-
--- ---- the parts of a run
-
--- what ends a run, where this was written of what the octets read demand
-abbrev pub IsDue : Option (List ℕ) → Status → Demand → List ℕ → Type 0
-IsDue left AllRead d text = IsAtEnd left × IsWhole d text
-IsDue left BadInput d text = IsFaulty left d text
-IsDue left OutOfMemory d text = IsPart left d text
-IsDue left Usage d text = ⊥
-IsDue left ReadFault d text = ⊥
-IsDue left WriteFault d text = ⊥
-
--- what waited went out, and the run ends so; or a part of it, and the sink failed
-abbrev pub Finishes : Option (List ℕ) → Option (List ℕ) → ℕ → ℕ → (waits : List ℕ) → Status → Status → Type 0
-Finishes old new before now waits status result =
-    ((result ≡ status) × Appends old new waits × (now ≡ before))
-    ⊎ ((result ≡ WriteFault) × ((k : ℕ) × (k < length waits) × Appends old new (take k waits)) × Rose before now)
-
--- a text waits behind the others, or there was no memory for it
-abbrev pub IsQueued : Status → (text waited waits : List ℕ) → Status → Type 0
-IsQueued status text waited waits result = ((result ≡ status) × (waits ≡ waited ++ text)) ⊎ ((result ≡ OutOfMemory) × (waits ≡ waited))
-
--- what waited goes out with a text, and the run ends
-abbrev pub StopsWith : Option (List ℕ) → Option (List ℕ) → ℕ → ℕ → Status → (text waited : List ℕ) → Status → Type 0
-StopsWith old new before now status text waited result = (mid : Status) × (waits : List ℕ) × IsQueued status text waited waits mid × Finishes old new before now waits mid result
-
--- each ending, for the counts of failures of the source and of the sink before and after
-abbrev pub Ended : FormState → (left left' old new : Option (List ℕ)) → (reads reads' writes writes' : ℕ) → Status → Type 0
-Ended state left left' old new reads reads' writes writes' AllRead =
-    IsAtEnd left' × Wrote state left left' old new IsWhole × (reads' ≡ reads) × (writes' ≡ writes)
-Ended state left left' old new reads reads' writes writes' Usage = ⊥
-Ended state left left' old new reads reads' writes writes' BadInput =
-    Wrote state left left' old new (IsFaulty left') × (reads' ≡ reads) × (writes' ≡ writes)
-Ended state left left' old new reads reads' writes writes' ReadFault =
-    Wrote state left left' old new (IsCutOff state) × WroteSoon state left left' old new × Rose reads reads' × (writes' ≡ writes)
-Ended state left left' old new reads reads' writes writes' WriteFault =
-    Wrote state left left' old new (IsCutShort left') × WroteSoon state left left' old new × Rose writes writes' × (reads' ≡ reads)
-Ended state left left' old new reads reads' writes writes' OutOfMemory = Wrote state left left' old new (IsPart left')
+NoCallFailed OutOfMemory = Unit {0}

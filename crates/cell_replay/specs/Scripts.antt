@@ -8,7 +8,6 @@ use Rattle.cell_script.specs.declared.fault.ParseFault.{ParseFault}
 use Rattle.cell_script.specs.Words.{words_of}
 use Rattle.cell_script.specs.Commands.{said_in}
 use Rattle.cell_replay.specs.Replies.{Numbered, transcript}
-use Rattle.cell_replay.specs.Demand.{Demand, Sound}
 
 -- lines, each with its end (own)
 abbrev pub text_of : List (List ℕ) → List ℕ
@@ -25,10 +24,6 @@ Says number (Err fault) said Behind = ⊥
 abbrev pub IsScript : ℕ → (lines : List (List ℕ)) → List Numbered → Type 0
 IsScript number [] said = said ≡ []
 IsScript number (l ∷ ls) said = IsLine number l × Says number (said_in (words_of l)) said (IsScript (number + 1) ls)
-
--- a text is due, and nothing is faulty (own)
-abbrev pub whole : List ℕ → Demand
-whole text = record { body = text; end = []; verdict = Sound }
 
 -- a script was read, and its transcript by the model was written, from this cell on (own)
 pub record IsReplay (g : Cell) (left left' old new : Option (List ℕ)) : Type 0 where

@@ -3,6 +3,7 @@ use Rattle.std.specs.Prelude.{◌≡◌, ℕ, ◌+◌, ◌≤◌, ◌<◌, List,
 use Rattle.tower_codec.specs.declared.fault.TowerFault.{TowerFault}
 use Rattle.tower_codec.specs.declared.fault.TowerFault.TheVariants.{ShortCount, ShortLength, ShortPart, EmptyLeft}
 use Rattle.tower_codec.specs.Tower.{Floor, IsTower, IsFault}
+use Rattle.cell_replay.specs.declared.limits.TheConstants.{LONGEST_TOWER, MOST_TOWERS, TOWER_SIGHT}
 use Rattle.cell_replay.specs.declared.towers.StreamFault.{StreamFault}
 use Rattle.cell_replay.specs.declared.towers.StreamFault.TheVariants as stream
 use Rattle.cell_script.specs.Texts.{fault_text}
@@ -11,11 +12,11 @@ use Rattle.cell_replay.specs.Demand.{Demand, faulty_with, ends_with, cut_short_w
 
 -- a tower of at most 1,024 octets, and there are at most 16,777,216 of them (own)
 abbrev pub IsTaken : ℕ → List Floor → List ℕ → Type 0
-IsTaken number floors octets = (number ≤ 16777216) × (length octets ≤ 1024) × IsTower floors octets
+IsTaken number floors octets = (number ≤ MOST_TOWERS) × (length octets ≤ LONGEST_TOWER) × IsTower floors octets
 
 -- the octets that are looked at for one tower: one more than it may have (own)
 abbrev pub in_sight : List ℕ → List ℕ
-in_sight octets = take 1025 octets
+in_sight octets = take TOWER_SIGHT octets
 
 -- a tower that is taken stands in front (own)
 abbrev pub BeginsWithTower : ℕ → List ℕ → Type 0
@@ -24,19 +25,19 @@ BeginsWithTower number octets = (floors : List Floor) × (front : List ℕ) × (
 -- the octets show that tower number is at fault, whatever follows them: it is one too many; a left part is empty; or
 -- there is neither that nor a whole tower before octet 1,025 (own)
 abbrev pub ShowsFault : ℕ → List ℕ → StreamFault → Type 0
-ShowsFault number octets (stream.Tower (EmptyLeft place)) = (number ≤ 16777216) × IsFault (in_sight octets) (EmptyLeft place)
+ShowsFault number octets (stream.Tower (EmptyLeft place)) = (number ≤ MOST_TOWERS) × IsFault (in_sight octets) (EmptyLeft place)
 ShowsFault number octets (stream.Tower (ShortCount place)) = ⊥
 ShowsFault number octets (stream.Tower (ShortLength place)) = ⊥
 ShowsFault number octets (stream.Tower (ShortPart place)) = ⊥
 ShowsFault number octets stream.TooLong =
-    (number ≤ 16777216) × (1024 < length octets) × ¬ (BeginsWithTower number (in_sight octets))
+    (number ≤ MOST_TOWERS) × (LONGEST_TOWER < length octets) × ¬ (BeginsWithTower number (in_sight octets))
     × ((place : ℕ) → ¬ (IsFault (in_sight octets) (EmptyLeft place)))
-ShowsFault number octets stream.TooManyTowers = (16777216 < number) × (0 < length octets)
+ShowsFault number octets stream.TooManyTowers = (MOST_TOWERS < number) × (0 < length octets)
 
 -- the input ends within tower number (own)
 abbrev pub EndsWithin : ℕ → List ℕ → TowerFault → Type 0
 EndsWithin number octets (EmptyLeft place) = ⊥
-EndsWithin number octets fault = (number ≤ 16777216) × (0 < length octets) × (length octets ≤ 1024) × IsFault octets fault
+EndsWithin number octets fault = (number ≤ MOST_TOWERS) × (0 < length octets) × (length octets ≤ LONGEST_TOWER) × IsFault octets fault
 
 -- what stands behind the whole towers: nothing, a fault that shows, or a part of a tower (own)
 pub data Rest : Type 0 where
@@ -44,6 +45,7 @@ pub data Rest : Type 0 where
   AtFault : (fault : StreamFault) → Rest
   PartOf : (fault : TowerFault) → Rest
 
+-- this stands behind the whole towers, from tower number on (own)
 abbrev pub IsRest : ℕ → List ℕ → Rest → Type 0
 IsRest number octets Nothing = octets ≡ []
 IsRest number octets (AtFault fault) = ShowsFault number octets fault
@@ -63,9 +65,10 @@ stream_fault_text number (stream.Tower (ShortCount place)) = fault_text number (
 stream_fault_text number (stream.Tower (ShortLength place)) = fault_text number (codes "ShortLength") place
 stream_fault_text number (stream.Tower (ShortPart place)) = fault_text number (codes "ShortPart") place
 stream_fault_text number (stream.Tower (EmptyLeft place)) = fault_text number (codes "EmptyLeft") place
-stream_fault_text number stream.TooLong = fault_text number (codes "TooLong") 1025
+stream_fault_text number stream.TooLong = fault_text number (codes "TooLong") TOWER_SIGHT
 stream_fault_text number stream.TooManyTowers = fault_text number (codes "TooManyTowers") 1
 
+-- what is due behind the last tower (own)
 abbrev pub rest_demand : ℕ → Rest → Demand
 rest_demand number Nothing = ends_with []
 rest_demand number (AtFault fault) = faulty_with (stream_fault_text number fault)

@@ -5,6 +5,7 @@ use Rattle.std.specs.Option.{option_and_then, option_map}
 use Rattle.std.specs.Result.{result_ok}
 use Rattle.std.specs.Str.{bytes_eq}
 use Rattle.hex.specs.Hex.{decode_of, encode_lower}
+use Rattle.cell_replay.specs.declared.limits.TheConstants.{LONGEST_TOWER}
 use Rattle.tower_codec.specs.Tower.{Floor}
 use Rattle.tower_codec.specs.Spelling.{tower_octets}
 use Rattle.tower_codec.specs.BindingReading.{cut}
@@ -18,6 +19,7 @@ abbrev pub floors_text : List Floor → List ℕ
 floors_text [] = codes "-"
 floors_text (floor ∷ floors) = floor_text floor ++ flat_map (λ f. 32 ∷ floor_text f) floors
 
+-- the same with its end (own)
 abbrev pub tower_text : List Floor → List ℕ
 tower_text floors = floors_text floors ++ 10 ∷ []
 
@@ -50,13 +52,16 @@ pub data TowerLine : Type 0 where
   SaysTower : (floors : List Floor) → TowerLine
   NoTower : TowerLine
 
+-- the tower of floors, if it has at most 1,024 octets (own)
 abbrev pub short_tower : Option (List Floor) → TowerLine
 short_tower None = NoTower
-short_tower (Some floors) = if nat_le (length (tower_octets floors)) 1024 then SaysTower floors else NoTower
+short_tower (Some floors) = if nat_le (length (tower_octets floors)) LONGEST_TOWER then SaysTower floors else NoTower
 
+-- the tower that words say (own)
 abbrev pub tower_in : List (List ℕ) → TowerLine
 tower_in words = short_tower (if is_dash words then Some [] else floors_said words)
 
+-- what the words of a line say (own)
 abbrev pub tower_said : List (List ℕ) → TowerLine
 tower_said [] = SaysNothing
 tower_said (word ∷ words) = if starts_with nat_eq word (codes "#") then SaysNothing else tower_in (word ∷ words)

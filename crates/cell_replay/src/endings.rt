@@ -1,6 +1,7 @@
 // How a run ends.
 ghost use Rattle.std.specs.Prelude.{◌≡◌, ◌++◌, ℕ, List, OnOk, OnErr, IfOk};
-ghost use Rattle.cell_replay.specs.Runs.{Finishes, IsQueued, StopsWith, code_of};
+ghost use Rattle.cell_replay.specs.Runs.{code_of};
+ghost use Rattle.cell_replay.specs.PrivateEndings.{Finishes, IsQueued, StopsWith, side_of};
 
 use crate::replies::Waiting;
 use cds_base::Sink;
@@ -35,7 +36,7 @@ impl Status {
 
 /// Flushes what waits, and ends.
 pub(crate) fn finish<K: Sink>(waiting: &mut Waiting, sink: &mut K, status: Status) -> Status
-    ensures { Finishes (K.written sink.old) (K.written sink.new) (K.faults sink.old) (K.faults sink.new) waiting.old status result }
+    ensures { Finishes (side_of K.written K.faults sink.old) (side_of K.written K.faults sink.new) waiting.old status result }
 {
     match waiting.write_out(sink) {
         Ok(()) => status,
@@ -68,7 +69,8 @@ pub(crate) fn stop_with<K: Sink>(
     sink: &mut K,
     status: Status,
 ) -> Status
-    ensures { (octets : List ℕ) → IfOk text (λ t. t.items ≡ octets) → StopsWith (K.written sink.old) (K.written sink.new) (K.faults sink.old) (K.faults sink.new) status octets waiting.old result }
+    ensures { (octets : List ℕ) → IfOk text (λ t. t.items ≡ octets) → StopsWith (side_of K.written K.faults sink.old)
+        (side_of K.written K.faults sink.new) status octets waiting.old result }
 {
     let status = queue(text, waiting, status);
     finish(waiting, sink, status)

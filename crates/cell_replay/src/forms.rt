@@ -10,7 +10,7 @@ ghost use Rattle.cell_replay.specs.Replies.{reply_text, reply_to, cell_after};
 ghost use Rattle.std.specs.Option.{option_map};
 ghost use Rattle.cell_replay.specs.Demand.{LineState, response, replayed, checked, end_text, told_fault};
 ghost use Rattle.cell_replay.specs.Forms.{form_named, form_of};
-ghost use Rattle.cell_replay.specs.Standing.{IsReply, IsRunnable, Faults, IsAt, Replies, Replays, Counts, counted, start_of};
+ghost use Rattle.cell_replay.specs.PrivateStanding.{IsReply, IsRunnable, Faults, IsAt, Replies, Replays, Counts, counted, start_of};
 
 use crate::answers::print_line_fault;
 use crate::check::Tally;
@@ -170,7 +170,8 @@ fn answered(
     waiting: &mut Waiting,
 ) -> Result<(), AllocError>
     requires { IsRunnable line }
-    ensures ok { (g : model.Cell) → Stands cell.old g → OnOk result ((waiting.new ≡ waiting.old ++ reply_text number g line) × Stands cell.new (cell_after g line)) }
+    ensures ok { (g : model.Cell) → Stands cell.old g → OnOk result ((waiting.new ≡ waiting.old ++ reply_text number g line)
+        × Stands cell.new (cell_after g line)) }
     ensures err { OnErr result (waiting.new ≡ waiting.old) }
 {
     let answer = reply(alloc, cell, line)?;

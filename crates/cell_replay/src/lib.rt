@@ -6,6 +6,7 @@ mod check;
 mod endings;
 mod forms;
 pub mod laws;
+mod limits;
 mod questions;
 mod replay;
 mod replies;
@@ -19,4 +20,5 @@ mod untowers;
 mod words;
 
 pub use endings::Status;
+pub use limits::{LONGEST_TOWER, MOST_TOWERS, MOST_WAITING, TOWER_SIGHT};
 pub use replay::run;

@@ -5,7 +5,8 @@ ghost use Rattle.directory.specs.Kinds.{link_target};
 ghost use Rattle.cds_cell.specs.Standing.{Stands};
 ghost use Rattle.cds_cell.specs.Readings.{reading};
 ghost use Rattle.cds_cell.specs.Telling.{told};
-ghost use Rattle.cell_replay.specs.Replies.{asked_of, first_target, message_told, question_answer, refusal_of_octets, refusal_of_walk, target_of, target_read, values_read, walked};
+ghost use Rattle.cell_replay.specs.Replies.{asked_of, first_target, message_told, question_answer, refusal_of_octets, refusal_of_walk, target_of};
+ghost use Rattle.cell_replay.specs.Replies.{target_read, values_read, walked};
 ghost use Rattle.directory.specs.Shown.{targets};
 ghost use Rattle.cds_records.specs.Decoding.{decoding};
 ghost use Rattle.cds_records.specs.Records.{message};
@@ -46,7 +47,8 @@ fn read(
     name: &FullName,
     attr: &AttrName,
 ) -> Result<Answer, AllocError>
-    ensures { (g : model.Cell) → Stands cell.now g → IfOk result (λ a. a ≡ asked_of g house.0 (values_read (told cell.now) attr.now (walked (told cell.now) true name.now))) }
+    ensures { (g : model.Cell) → Stands cell.now g → IfOk result (λ a. a ≡ asked_of g house.0
+        (values_read (told cell.now) attr.now (walked (told cell.now) true name.now))) }
 {
     if cell.has_house(house) {
         values_at(alloc, &CellReader { cell }, name, attr)
@@ -61,7 +63,8 @@ fn read_link(
     house: HouseNo,
     name: &FullName,
 ) -> Result<Answer, AllocError>
-    ensures { (g : model.Cell) → Stands cell.now g → IfOk result (λ a. a ≡ asked_of g house.0 (target_read (told cell.now) (walked (told cell.now) false name.now))) }
+    ensures { (g : model.Cell) → Stands cell.now g → IfOk result (λ a. a ≡ asked_of g house.0
+        (target_read (told cell.now) (walked (told cell.now) false name.now))) }
 {
     if cell.has_house(house) {
         target_at(alloc, &CellReader { cell }, name)

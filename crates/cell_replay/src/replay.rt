@@ -7,8 +7,9 @@ ghost use Rattle.cell_model.specs.Cells as model;
 ghost use Rattle.cell_replay.specs.Demand.{LineState, Replaying, end_text, told_fault};
 ghost use Rattle.cell_replay.specs.Forms.{FormState, ByLines, form_of};
 ghost use Rattle.cell_replay.specs.Scripts.{IsReplay};
-ghost use Rattle.cell_replay.specs.Standing.{IsAt, counted, start_of};
-ghost use Rattle.cell_replay.specs.Runs.{Wrote, WroteSoon, IsWhole, IsFaulty, IsCutOff, IsPart, IsCutShort, NoCallFailed, StopsWith, Ended};
+ghost use Rattle.cell_replay.specs.PrivateStanding.{IsAt, counted, start_of};
+ghost use Rattle.cell_replay.specs.Runs.{Wrote, WroteSoon, IsWhole, IsFaulty, WroteAllBefore, IsPart, IsCutShort, NoCallFailed};
+ghost use Rattle.cell_replay.specs.PrivateEndings.{StopsWith, side_of, Ended};
 
 use crate::check::Tally;
 use crate::endings::{Status, finish, stop_with};
@@ -27,7 +28,8 @@ fn stop_at_end<K: Sink>(
     waiting: &mut Waiting,
     sink: &mut K,
 ) -> Status
-    ensures { (state : LineState) → IsAt form.now state → StopsWith (K.written sink.old) (K.written sink.new) (K.faults sink.old) (K.faults sink.new) Status.Ok (end_text state) waiting.old result }
+    ensures { (state : LineState) → IsAt form.now state → StopsWith (side_of K.written K.faults sink.old)
+        (side_of K.written K.faults sink.new) Status.Ok (end_text state) waiting.old result }
 {
     stop_with(form.print_end(alloc), waiting, sink, Status::Ok)
 }
@@ -41,7 +43,8 @@ fn stop_at<K: Sink>(
     sink: &mut K,
 ) -> Status
     ensures read { fault ≡ LineFault.ReadFault → (result ≡ Status.ReadFault) × (sink.new ≡ sink.old) }
-    ensures other { (state : LineState) → IsAt form.now state → fault ≢ LineFault.ReadFault → StopsWith (K.written sink.old) (K.written sink.new) (K.faults sink.old) (K.faults sink.new) Status.BadInput (told_fault state fault) waiting.old result }
+    ensures other { (state : LineState) → IsAt form.now state → fault ≢ LineFault.ReadFault
+        → StopsWith (side_of K.written K.faults sink.old) (side_of K.written K.faults sink.new) Status.BadInput (told_fault state fault) waiting.old result }
 {
     match fault {
         LineFault::ReadFault => Status::ReadFault,
@@ -64,7 +67,8 @@ fn answer_lines<S: Source, K: Sink>(
 ) -> Status
     requires fresh { IsFresh lines }
     requires start { counted form ≡ 0 }
-    ensures { (state : LineState) → IsAt form state → Ended (ByLines state) (S.left source.old) (S.left source.new) (K.written sink.old) (K.written sink.new) (S.faults source.old) (S.faults source.new) (K.faults sink.old) (K.faults sink.new) result }
+    ensures { (state : LineState) → IsAt form state → Ended (ByLines state) (side_of S.left S.faults source.old) (side_of S.left S.faults source.new)
+        (side_of K.written K.faults sink.old) (side_of K.written K.faults sink.new) result }
 {
     let mut waiting = Waiting::new(alloc);
     'lines: loop {
@@ -92,7 +96,8 @@ fn serve_lines<S: Source, K: Sink>(
     sink: &mut K,
 ) -> Status
     requires start { counted form ≡ 0 }
-    ensures { (state : LineState) → IsAt form state → Ended (ByLines state) (S.left source.old) (S.left source.new) (K.written sink.old) (K.written sink.new) (S.faults source.old) (S.faults source.new) (K.faults sink.old) (K.faults sink.new) result }
+    ensures { (state : LineState) → IsAt form state → Ended (ByLines state) (side_of S.left S.faults source.old) (side_of S.left S.faults source.new)
+        (side_of K.written K.faults sink.old) (side_of K.written K.faults sink.new) result }
 {
     match Lines::new(alloc) {
         Ok(lines) => answer_lines(alloc, form, lines, source, sink),
@@ -102,7 +107,8 @@ fn serve_lines<S: Source, K: Sink>(
 
 /// The work of a form.
 fn serve<S: Source, K: Sink>(alloc: Global, form: Form, source: &mut S, sink: &mut K) -> Status
-    ensures { Ended (start_of form) (S.left source.old) (S.left source.new) (K.written sink.old) (K.written sink.new) (S.faults source.old) (S.faults source.new) (K.faults sink.old) (K.faults sink.new) result }
+    ensures { Ended (start_of form) (side_of S.left S.faults source.old) (side_of S.left S.faults source.new) (side_of K.written K.faults sink.old)
+        (side_of K.written K.faults sink.new) result }
 {
     match form {
         Form::Run => serve_lines(alloc, LineForm::Run(Cell::new(alloc)), source, sink),
@@ -124,17 +130,24 @@ pub fn run<S: Source, K: Sink>(
 ) -> Status
     ensures usage { (result ≡ Status.Usage) ↔ (form_of (map string_bytes words.now) ≡ None) }
     ensures unused { result ≡ Status.Usage → (source.new ≡ source.old) × (sink.new ≡ sink.old) }
-    ensures ok { (state : FormState) → form_of (map string_bytes words.now) ≡ Some state → result ≡ Status.Ok → IsAtEnd (S.left source.new) × Wrote state (S.left source.old) (S.left source.new) (K.written sink.old) (K.written sink.new) IsWhole }
-    ensures transcript { (g : model.Cell) → form_of (map string_bytes words.now) ≡ Some (ByLines (Replaying g)) → result ≡ Status.Ok → IsReplay g (S.left source.old) (S.left source.new) (K.written sink.old) (K.written sink.new) }
-    ensures bad { (state : FormState) → form_of (map string_bytes words.now) ≡ Some state → result ≡ Status.BadInput → Wrote state (S.left source.old) (S.left source.new) (K.written sink.old) (K.written sink.new) (IsFaulty (S.left source.new)) }
-    ensures read { (state : FormState) → form_of (map string_bytes words.now) ≡ Some state → result ≡ Status.ReadFault → Wrote state (S.left source.old) (S.left source.new) (K.written sink.old) (K.written sink.new) (IsCutOff state) }
-    ensures write { (state : FormState) → form_of (map string_bytes words.now) ≡ Some state → result ≡ Status.WriteFault → Wrote state (S.left source.old) (S.left source.new) (K.written sink.old) (K.written sink.new) (IsCutShort (S.left source.new)) }
-    ensures soon { (state : FormState) → form_of (map string_bytes words.now) ≡ Some state → (result ≡ Status.WriteFault) ⊎ (result ≡ Status.ReadFault) → WroteSoon state (S.left source.old) (S.left source.new) (K.written sink.old) (K.written sink.new) }
-    ensures memory { (state : FormState) → form_of (map string_bytes words.now) ≡ Some state → result ≡ Status.OutOfMemory → Wrote state (S.left source.old) (S.left source.new) (K.written sink.old) (K.written sink.new) (IsPart (S.left source.new)) }
+    ensures ok { (state : FormState) → form_of (map string_bytes words.now) ≡ Some state → result ≡ Status.Ok → IsAtEnd (S.left source.new)
+        × Wrote state (S.left source.old) (S.left source.new) (K.written sink.old) (K.written sink.new) IsWhole }
+    ensures transcript { (g : model.Cell) → form_of (map string_bytes words.now) ≡ Some (ByLines (Replaying g)) → result ≡ Status.Ok
+        → IsReplay g (S.left source.old) (S.left source.new) (K.written sink.old) (K.written sink.new) }
+    ensures bad { (state : FormState) → form_of (map string_bytes words.now) ≡ Some state → result ≡ Status.BadInput
+        → Wrote state (S.left source.old) (S.left source.new) (K.written sink.old) (K.written sink.new) (IsFaulty (S.left source.new)) }
+    ensures read { (state : FormState) → form_of (map string_bytes words.now) ≡ Some state → result ≡ Status.ReadFault
+        → WroteAllBefore state (S.left source.old) (S.left source.new) (K.written sink.old) (K.written sink.new) }
+    ensures write { (state : FormState) → form_of (map string_bytes words.now) ≡ Some state → result ≡ Status.WriteFault
+        → Wrote state (S.left source.old) (S.left source.new) (K.written sink.old) (K.written sink.new) (IsCutShort (S.left source.new)) }
+    ensures soon { (state : FormState) → form_of (map string_bytes words.now) ≡ Some state → (result ≡ Status.WriteFault)
+        ⊎ (result ≡ Status.ReadFault) → WroteSoon state (S.left source.old) (S.left source.new) (K.written sink.old) (K.written sink.new) }
+    ensures memory { (state : FormState) → form_of (map string_bytes words.now) ≡ Some state → result ≡ Status.OutOfMemory
+        → Wrote state (S.left source.old) (S.left source.new) (K.written sink.old) (K.written sink.new) (IsPart (S.left source.new)) }
     ensures read_cause { result ≡ Status.ReadFault → Rose (S.faults source.old) (S.faults source.new) × (K.faults sink.new ≡ K.faults sink.old) }
     ensures write_cause { result ≡ Status.WriteFault → Rose (K.faults sink.old) (K.faults sink.new) × (S.faults source.new ≡ S.faults source.old) }
     ensures calm { NoCallFailed result → (S.faults source.new ≡ S.faults source.old) × (K.faults sink.new ≡ K.faults sink.old) }
-    ensures complete { ¬ (Rose (S.faults source.old) (S.faults source.new)) → ¬ (Rose (K.faults sink.old) (K.faults sink.new)) → NoCallFailed result ⊎ (result ≡ Status.OutOfMemory) }
+    ensures complete { ¬ (Rose (S.faults source.old) (S.faults source.new)) → ¬ (Rose (K.faults sink.old) (K.faults sink.new)) → NoCallFailed result }
 {
     match form_in(words) {
         Some(form) => serve(alloc, form, source, sink),

@@ -4,16 +4,15 @@ ghost use Rattle.std.specs.Io.KnownBytes.{Appends};
 ghost use Rattle.cds_base.specs.Counts.{HasCause};
 ghost use Rattle.tower_codec.specs.Spelling.{tower_octets};
 ghost use Rattle.cell_replay.specs.TowerTexts.{tower_text};
-ghost use Rattle.cell_replay.specs.Waiting.{Flushes};
+ghost use Rattle.cell_replay.specs.PrivateWaiting.{Flushes};
+ghost use Rattle.cell_replay.specs.declared.limits.TheConstants.{LONGEST_TOWER};
 
+use crate::limits::MOST_WAITING;
 use crate::tower_text::append_tower;
 use cds_base::{PutFault, Sink, put_all};
 use std::alloc::{AllocError, Global};
 use std::marker::Model;
 use tower_codec::TowerView;
-
-/// Replies are written at the latest when this many octets wait.
-const MOST: usize = 65536;
 
 /// How the work on a line ends.
 #[derive(Clone, Copy)]
@@ -56,7 +55,7 @@ impl Waiting {
 
     /// The line of a tower more.
     pub(crate) fn add_tower(&mut self, tower: &TowerView<'_>) -> Result<(), AllocError>
-        requires { length (tower_octets tower.now) ≤ 1024 }
+        requires { length (tower_octets tower.now) ≤ LONGEST_TOWER }
         ensures ok { OnOk result (self.new ≡ self.old ++ tower_text tower.now) }
         ensures err { OnErr result (self.new ≡ self.old) }
     {
@@ -94,7 +93,7 @@ impl Waiting {
         ensures err { IfErr result (λ e. (e.0 < length self.old) × Appends (K.written sink.old) (K.written sink.new) (take e.0 self.old)) }
         ensures cause { HasCause (K.faults sink.old) (K.faults sink.new) result }
     {
-        if ready && self.octets.len() < MOST {
+        if ready && self.octets.len() < MOST_WAITING {
             return Ok(());
         }
         self.write_out(sink)

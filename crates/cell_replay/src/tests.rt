@@ -533,3 +533,30 @@ fn little_is_read_ahead(rt: HostRuntime) -> Result<(), Fail> {
     assert!(rt; source.left().len() >= 91957);
     Ok(())
 }
+
+// Replies are written once 64 KiB of them wait, also where further lines are there already.
+#[test]
+fn few_answers_wait(rt: HostRuntime) -> Result<(), Fail> {
+    let alloc = rt.alloc();
+    let mut script = b"house 1 00000000000a\nroot 1\ncreate 1 1 e\n".to_vec(alloc)?;
+    for digit in [b'1', b'2', b'3', b'4'] {
+        script.extend_from_slice(b"add 1 1 e A ")?;
+        script.extend_from_slice(&vec![in alloc; digit; 2048]?)?;
+        script.push(b'\n')?;
+    }
+    for _ in 0..1000 {
+        script.extend_from_slice(b"read 1 low /.:/e A\n")?;
+    }
+    let words = words_of(alloc, &["run"])?;
+    let mut source = MemSource::new(script, Vec::new(alloc), 100_000);
+    // The answers to the lines of the first read, then those that are told at once.
+    let mut sink = MemSink::new(alloc, 10_000_000, vec![in alloc; 3]?, 10_000_000)?;
+    let status = run(alloc, &words, &mut source, &mut sink);
+    assert_eq!(rt; status, Status::WriteFault);
+    let written = sink.written().len();
+    assert!(rt;
+        65_536 <= written && written < 65_536 + 2 * 8_300,
+        "{written} octets"
+    );
+    Ok(())
+}

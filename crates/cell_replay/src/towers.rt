@@ -1,26 +1,21 @@
 // The form `towers`: a line of text for each tower of the octets.
-ghost use Rattle.std.specs.Prelude.{◌≡◌, ◌≤◌, ◌<◌, ◌↔◌, [], length, IsTrue, IfOk};
+ghost use Rattle.std.specs.Prelude.{◌≡◌, ◌≤◌, ◌<◌, ◌↔◌, [], length, IsTrue, IfOk, OnErr};
 ghost use Rattle.std.specs.Io.KnownBytes.{IsAtEnd};
 ghost use Rattle.hex.specs.Hex.{IsBytes};
 ghost use Rattle.cds_base.specs.Counts.{HasCause};
 ghost use Rattle.cds_base.specs.Reading.{GrowsByReading};
 ghost use Rattle.cell_replay.specs.TowerDemand.{stream_fault_text};
 ghost use Rattle.cell_replay.specs.Forms.{ByTowers};
-ghost use Rattle.cell_replay.specs.Runs.{Ended, StopsWith};
-ghost use Rattle.cell_replay.specs.Sights.{Sees, seen_fault};
+ghost use Rattle.cell_replay.specs.PrivateEndings.{Ended, StopsWith, side_of};
+ghost use Rattle.cell_replay.specs.PrivateSights.{Sees, seen_fault};
 
 use crate::endings::{Status, finish, stop_with};
+use crate::limits::{LONGEST_TOWER, MOST_TOWERS, TOWER_SIGHT};
 use crate::replies::Waiting;
 use cds_base::{Failed, Sink, Source, Window};
 use cell_script::print_fault;
 use std::alloc::{AllocError, Global};
 use tower_codec::{TowerFault, TowerView};
-
-/// How many octets a tower has at most.
-const MOST_OCTETS: usize = 1024;
-
-/// How many towers there are at most.
-const MOST_TOWERS: u32 = 16_777_216;
 
 /// Why there is no further tower.
 #[derive(Clone, Copy, Debug, PartialEq, Eq)]
@@ -48,7 +43,7 @@ fn print_stream_fault(alloc: Global, number: u32, fault: StreamFault) -> Result<
 {
     match fault {
         StreamFault::Tower(fault) => print_tower_fault(alloc, number, fault),
-        StreamFault::TooLong => print_fault(alloc, number, "TooLong", MOST_OCTETS + 1),
+        StreamFault::TooLong => print_fault(alloc, number, "TooLong", TOWER_SIGHT),
         StreamFault::TooManyTowers => print_fault(alloc, number, "TooManyTowers", 1),
     }
 }
@@ -71,7 +66,7 @@ fn see_fault(len: usize, fault: TowerFault, ended: bool) -> Seen<'static>
     match fault {
         TowerFault::EmptyLeft(_) => Seen::Fault(StreamFault::Tower(fault)),
         _ => {
-            if len > MOST_OCTETS {
+            if len > LONGEST_TOWER {
                 Seen::Fault(StreamFault::TooLong)
             } else if ended {
                 Seen::Fault(StreamFault::Tower(fault))
@@ -84,7 +79,7 @@ fn see_fault(len: usize, fault: TowerFault, ended: bool) -> Seen<'static>
 
 // What the octets held show of the tower of this number. Where the input has ended nothing follows them.
 fn look(number: u32, octets: &[u8], ended: bool) -> Seen<'_>
-    requires { length octets.now ≤ 1025 }
+    requires { length octets.now ≤ TOWER_SIGHT }
     ensures seen { Sees number octets.now ended result }
     ensures bytes { IsBytes octets.now }
 {
@@ -96,7 +91,7 @@ fn look(number: u32, octets: &[u8], ended: bool) -> Seen<'_>
     }
     match TowerView::read(octets) {
         Ok((tower, len)) => {
-            if len > MOST_OCTETS {
+            if len > LONGEST_TOWER {
                 return Seen::Fault(StreamFault::TooLong);
             }
             Seen::Tower(tower, len)
@@ -115,6 +110,7 @@ fn refill<S: Source>(window: &mut Window, source: &mut S) -> Result<bool, Failed
     ensures reads { GrowsByReading (S.left source.old) (S.left source.new) window.old.octets window.new.octets }
     ensures short { IfOk result (λ ended. IsTrue ended ↔ (length window.new.octets < window.new.room)) }
     ensures end { IfOk result (λ ended. IsTrue ended → IsAtEnd (S.left source.new)) }
+    ensures err { OnErr result (length window.new.octets < window.new.room) }
     ensures room { window.new.room ≡ window.old.room }
     ensures within { length window.new.octets ≤ window.new.room }
     ensures bytes { IsBytes window.new.octets }
@@ -133,7 +129,8 @@ fn stop_at<K: Sink>(
     waiting: &mut Waiting,
     sink: &mut K,
 ) -> Status
-    ensures { StopsWith (K.written sink.old) (K.written sink.new) (K.faults sink.old) (K.faults sink.new) Status.BadInput (stream_fault_text number fault) waiting.old result }
+    ensures { StopsWith (side_of K.written K.faults sink.old) (side_of K.written K.faults sink.new) Status.BadInput
+        (stream_fault_text number fault) waiting.old result }
 {
     stop_with(
         print_stream_fault(alloc, number, fault),
@@ -151,8 +148,9 @@ fn print_each<S: Source, K: Sink>(
     sink: &mut K,
 ) -> Status
     requires empty { window.octets ≡ [] }
-    requires room { window.room ≡ 1025 }
-    ensures { Ended ByTowers (S.left source.old) (S.left source.new) (K.written sink.old) (K.written sink.new) (S.faults source.old) (S.faults source.new) (K.faults sink.old) (K.faults sink.new) result }
+    requires room { window.room ≡ TOWER_SIGHT }
+    ensures { Ended ByTowers (side_of S.left S.faults source.old) (side_of S.left S.faults source.new) (side_of K.written K.faults sink.old)
+        (side_of K.written K.faults sink.new) result }
 {
     let mut waiting = Waiting::new(alloc);
     let mut number = 1;
@@ -187,9 +185,10 @@ pub(crate) fn print_towers<S: Source, K: Sink>(
     source: &mut S,
     sink: &mut K,
 ) -> Status
-    ensures { Ended ByTowers (S.left source.old) (S.left source.new) (K.written sink.old) (K.written sink.new) (S.faults source.old) (S.faults source.new) (K.faults sink.old) (K.faults sink.new) result }
+    ensures { Ended ByTowers (side_of S.left S.faults source.old) (side_of S.left S.faults source.new) (side_of K.written K.faults sink.old)
+        (side_of K.written K.faults sink.new) result }
 {
-    match Window::new(alloc, MOST_OCTETS + 1) {
+    match Window::new(alloc, TOWER_SIGHT) {
         Ok(window) => print_each(alloc, window, source, sink),
         Err(AllocError) => Status::OutOfMemory,
     }

@@ -6,15 +6,13 @@ ghost use Rattle.tower_codec.specs.Spelling.{tower_octets};
 ghost use Rattle.cell_script.specs.Words.{words_of};
 ghost use Rattle.cell_replay.specs.TowerTexts.{floor_of_parts, floor_said, floors_said, is_dash, short_tower, tower_in, tower_said};
 ghost use Rattle.cell_replay.specs.Demand.{spelled};
-ghost use Rattle.cell_replay.specs.Standing.{Spells, AddsFloor, ReadsTower};
+ghost use Rattle.cell_replay.specs.PrivateStanding.{Spells, AddsFloor, ReadsTower};
 
+use crate::limits::LONGEST_TOWER;
 use crate::replies::{LineEnd, Waiting};
 use crate::words::split_words;
 use std::alloc::{AllocError, Global};
 use tower_codec::{TowerWriter, split_at_mark};
-
-/// How many octets a tower has at most.
-const MOST_OCTETS: usize = 1024;
 
 const COMMENT: &[u8] = b"#";
 
@@ -126,7 +124,7 @@ impl Speller {
     // Puts the floor that a word says behind the others; false where it says none, or the tower gets too long.
     #[tactic(auto, unfolding(crate::specs::TowerTexts::floor_said))]
     fn add_floor(&mut self, word: &[u8]) -> Result<bool, AllocError>
-        requires { length (tower_octets self.old.tower) ≤ 1024 }
+        requires { length (tower_octets self.old.tower) ≤ LONGEST_TOWER }
         ensures { IfOk result (λ is. AddsFloor is (floor_said word.now) self.old.tower self.new.tower) }
     {
         match split_at_mark(word, b':') {
@@ -136,8 +134,9 @@ impl Speller {
     }
 
     fn add_parts(&mut self, left: &[u8], right: &[u8]) -> Result<bool, AllocError>
-        requires { length (tower_octets self.old.tower) ≤ 1024 }
-        ensures { IfOk result (λ is. AddsFloor is (floor_of_parts (result_ok (decode_of left.now)) (result_ok (decode_of right.now))) self.old.tower self.new.tower) }
+        requires { length (tower_octets self.old.tower) ≤ LONGEST_TOWER }
+        ensures { IfOk result (λ is. AddsFloor is (floor_of_parts (result_ok (decode_of left.now)) (result_ok (decode_of right.now))) self.old.tower
+            self.new.tower) }
     {
         if !read_part(left, &mut self.left)? || self.left.is_empty() {
             return Ok(false);
@@ -150,13 +149,13 @@ impl Speller {
 
     // Puts the parts that were read behind the floors so far; false where the tower gets too long.
     fn push_floor(&mut self) -> Result<bool, AllocError>
-        requires few { length (tower_octets self.old.tower) ≤ 1024 }
+        requires few { length (tower_octets self.old.tower) ≤ LONGEST_TOWER }
         requires some { 0 < length self.old.left.items }
         ensures { IfOk result (λ is. AddsFloor is (Some (record { left = self.old.left.items; right = self.old.right.items })) self.old.tower self.new.tower) }
     {
         let used = self.tower.octets().len() + 4;
         let (left, right) = (self.left.len(), self.right.len());
-        if left > MOST_OCTETS || right > MOST_OCTETS || used + left + right > MOST_OCTETS {
+        if left > LONGEST_TOWER || right > LONGEST_TOWER || used + left + right > LONGEST_TOWER {
             return Ok(false);
         }
         self.tower.push(&self.left, &self.right)?;

@@ -1,4 +1,4 @@
-use Rattle.cell_replay.specs.Standing.{StandsAt}
+use Rattle.cell_replay.specs.PrivateStanding.{StandsAt}
 use Rattle.cell_script.specs.Words.{words_of}
 use Rattle.cell_replay.proofs.Runnable.{said_runs}
 use Rattle.cell_replay.proofs.FaultyLines.{faults_end}

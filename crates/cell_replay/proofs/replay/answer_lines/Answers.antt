@@ -31,7 +31,8 @@ lines-preserved g c =
           let way = c.in-Ok.ensures in
           let t = turned state _ _ _ _ _ _ _ _ _ _ _ b _ _ _ way.ok c.has_line-ready.ensures in
           let moved = rw (c.in-Ok-Some.is, c.in-Ok-Some.field-0-is) at c.next.follows.holds-at-none in
-          line_goes_on g.S.Source.left g.S.Source.faults c.lines.source c.next.new.source state _ _ _ _ _ _ _ _ _ t b.unbroken b.calm _ _ moved _ _ _ (c.in-GoesOn.ensures.reply b.at b.stands) (way.cause.answered ∙ b.quiet);
+          line_goes_on g.S.Source.left g.S.Source.faults c.lines.source c.next.new.source state _ _ _ _ _ _ _ _ _ t b.unbroken b.calm _ _ moved _ _ _
+          (c.in-GoesOn.ensures.reply b.at b.stands) (way.cause.answered ∙ b.quiet);
       unbroken = next.fault;
       counted = counts_on _ _ _ _ _ _ _ next c.answer.ensures.counted;
     }
@@ -42,7 +43,8 @@ returns-in-Stops g c state at =
     let way = c.in-Ok.ensures in
     let t = turned state _ _ _ _ _ _ _ _ _ _ _ b _ _ _ way.ok c.has_line-ready.ensures in
     let moved = rw (c.in-Ok-Some.is, c.in-Ok-Some.field-0-is) at c.next.follows.holds-at-none in
-    line_stops g.S.Source.left g.S.Source.faults c.lines.source c.next.new.source state _ _ _ _ _ _ _ _ _ t b.unbroken b.calm _ _ moved _ _ _ _ _ (way.cause.answered ∙ b.quiet) _ (c.in-Stops.ensures.reply b.at b.stands) c.finish.ensures
+    line_stops g.S.Source.left g.S.Source.faults c.lines.source c.next.new.source state _ _ _ _ _ _ _ _ _ t b.unbroken b.calm _ _ moved _ _ _ _ _
+    (way.cause.answered ∙ b.quiet) _ (c.in-Stops.ensures.reply b.at b.stands) c.finish.ensures
 
 pub returns-in-NoMemory : goal.returns-in-NoMemory
 returns-in-NoMemory g c state at =
@@ -50,7 +52,8 @@ returns-in-NoMemory g c state at =
     let way = c.in-Ok.ensures in
     let t = turned state _ _ _ _ _ _ _ _ _ _ _ b _ _ _ way.ok c.has_line-ready.ensures in
     let moved = rw (c.in-Ok-Some.is, c.in-Ok-Some.field-0-is) at c.next.follows.holds-at-none in
-    line_without_memory g.S.Source.left g.S.Source.faults c.lines.source c.next.new.source state _ _ _ _ _ _ _ _ _ t b.unbroken b.calm _ _ moved _ _ _ _ _ (way.cause.answered ∙ b.quiet) (c.in-NoMemory.ensures.reply b.at b.stands) c.finish-in-NoMemory.ensures
+    line_without_memory g.S.Source.left g.S.Source.faults c.lines.source c.next.new.source state _ _ _ _ _ _ _ _ _ t b.unbroken b.calm _ _ moved _ _ _
+    _ _ (way.cause.answered ∙ b.quiet) (c.in-NoMemory.ensures.reply b.at b.stands) c.finish-in-NoMemory.ensures
 
 pub returns-in-Ok-None : goal.returns-in-Ok-None
 returns-in-Ok-None g c state at =
@@ -58,7 +61,8 @@ returns-in-Ok-None g c state at =
     let way = c.in-Ok.ensures in
     let t = turned state _ _ _ _ _ _ _ _ _ _ _ b _ _ _ way.ok c.has_line-ready.ensures in
     let moved = rw (c.in-Ok-None.is, c.in-Ok-None.field-0-is) at c.next.follows.holds-at-none in
-    input_ends g.S.Source.left g.S.Source.faults c.lines.source c.next.new.source state _ _ _ _ _ _ _ _ _ t b.unbroken b.calm _ _ _ _ (way.cause.answered ∙ b.quiet) moved (c.stop_at_end.ensures b.at b.stands)
+    input_ends g.S.Source.left g.S.Source.faults c.lines.source c.next.new.source state _ _ _ _ _ _ _ _ _ t b.unbroken b.calm _ _ _ _
+    (way.cause.answered ∙ b.quiet) moved (c.stop_at_end.ensures b.at b.stands)
 
 pub returns-in-Err : goal.returns-in-Err
 returns-in-Err g c state at =
@@ -66,4 +70,5 @@ returns-in-Err g c state at =
     let way = c.in-Ok.ensures in
     let t = turned state _ _ _ _ _ _ _ _ _ _ _ b _ _ _ way.ok c.has_line-ready.ensures in
     let moved = rw (c.in-Err.is) at c.next.follows.holds-at-none in
-    ends_at_fault g.S.Source.left g.S.Source.faults c.lines.source c.next.new.source state _ _ _ _ _ _ _ _ _ t b.unbroken b.calm g.K.Sink.written g.K.Sink.faults _ _ _ _ refl (way.cause.answered ∙ b.quiet) moved c.stop_at.ensures.read (c.stop_at.ensures.other b.at b.stands)
+    ends_at_fault g.S.Source.left g.S.Source.faults c.lines.source c.next.new.source state _ _ _ _ _ _ _ _ _ t b.unbroken b.calm g.K.Sink.written
+    g.K.Sink.faults _ _ _ _ refl (way.cause.answered ∙ b.quiet) moved c.stop_at.ensures.read (c.stop_at.ensures.other b.at b.stands)

@@ -4,7 +4,7 @@ use Rattle.cds_base.specs.Lines.{given, kept}
 use Rattle.cds_base.specs.declared.lines.Lines.{Lines}
 use Rattle.cell_replay.specs.declared.forms.LineForm.{LineForm}
 use Rattle.cell_replay.specs.Demand.{LineState}
-use Rattle.cell_replay.specs.Standing.{IsAt, counted}
+use Rattle.cell_replay.specs.PrivateStanding.{IsAt, counted}
 use Rattle.cell_replay.proofs.Turns.{IsBetween}
 use Rattle.cell_replay.proofs.replay.answer_lines.Given as goal
 
@@ -17,7 +17,8 @@ pub record IsGoingOn (Between Starts : LineState → Type 0) (lines : Lines) (fo
 abbrev pub invariant-lines : goal.invariant-lines
 invariant-lines g l =
     IsGoingOn
-    (λ state. IsBetween state (g.S.Source.left l.fn.source) (g.S.Source.left l.source) (g.K.Sink.written l.fn.sink) (g.K.Sink.written l.sink) (g.S.Source.faults l.fn.source) (g.S.Source.faults l.source) (g.K.Sink.faults l.fn.sink) (g.K.Sink.faults l.sink) l.lines l.form l.waiting)
+    (λ state. IsBetween state (g.S.Source.left l.fn.source) (g.S.Source.left l.source) (g.K.Sink.written l.fn.sink) (g.K.Sink.written l.sink)
+    (g.S.Source.faults l.fn.source) (g.S.Source.faults l.source) (g.K.Sink.faults l.fn.sink) (g.K.Sink.faults l.sink) l.lines l.form l.waiting)
     (λ state. IsAt l.fn.form state)
     l.lines
     l.form

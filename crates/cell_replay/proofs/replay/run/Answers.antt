@@ -1,7 +1,7 @@
 use Rattle.std.proofs.Common.{◌≡◌}
 use Rattle.cell_replay.specs.Demand.{Replaying}
 use Rattle.cell_replay.specs.Forms.{ByLines}
-use Rattle.cell_replay.specs.Standing.{start_of}
+use Rattle.cell_replay.specs.PrivateStanding.{start_of}
 use Rattle.cell_replay.proofs.Scripts.{is_replay}
 use Rattle.cell_replay.proofs.replay.run.Goals as goal
 

@@ -10,4 +10,4 @@ pub returns-in-Check : goal.returns-in-Check
 returns-in-Check g c = rw c.in-Check.is (c.serve_lines-in-Check.ensures (Checking 0 0) (c.new-in-Check.ensures.lines, c.new-in-Check.ensures.commands))
 
 pub returns-in-Err : goal.returns-in-Err
-returns-in-Err g c = rw c.in-Untowers.is (unread_lines Spelling _ _)
+returns-in-Err g c = rw c.in-Untowers.is (unread_lines Spelling _ _ _ _)

@@ -1,16 +1,10 @@
-use Rattle.std.proofs.Common.{refl, take, arith}
-use Rattle.cell_replay.proofs.TowerTurns.{first_tower, taken_short, tower_told, tower_without_memory, towers_end, tower_at_fault, text_unwritten, window_filled, fill_fails}
+use Rattle.std.proofs.Common.{◌≤◌, ◌∙◌, length, take, arith}
+use Rattle.cell_replay.proofs.TowerTurns.{first_tower, taken_short, tower_told, tower_without_memory, towers_end, tower_at_fault, text_unwritten}
+use Rattle.cell_replay.proofs.TowerTurns.{window_filled, full_window, fill_fails}
 use Rattle.cell_replay.proofs.towers.print_each.Goals as goal
 
 pub towers-init : goal.towers-init
-towers-init g c = record {
-  reached = first_tower _ _ _ _ c.requires.empty c.new-waiting.ensures;
-  stopped = λ is. cc (is);
-  room = c.requires.room;
-  counted = omega arith;
-  calm = refl;
-  quiet = refl;
-}
+towers-init g c = first_tower _ _ _ _ _ _ c.requires.empty c.requires.room c.new-waiting.ensures
 
 pub add_tower-requires : goal.add_tower-requires
 add_tower-requires g c = taken_short c.towers.number c.in-Tower.tower (take c.in-Tower.len c.octets.result.now) c.in-Tower.ensures.seen.1
@@ -33,15 +27,22 @@ returns-in_default-write_out g c =
 
 pub towers-preserved : goal.towers-preserved
 towers-preserved g c =
+    let seen = rw c.octets.ensures at c.in-More.ensures.seen in
     let went = c.in-Ok-write_out.ensures in
     let filled = c.in-Ok-refill.ensures in
-    window_filled _ _ _ _ _ _ _ _ _ _ _ _ c.towers.invariant _ _ _ went.ok filled.reads (omega (arith, filled.within, filled.room, c.towers.invariant.room)) _ _ _ c.in-Ok-refill.end went.empty filled.room filled.end filled.cause.answered went.cause.answered
+    let few : length c.refill.new.window.octets ≤ 1025 = omega (arith, filled.within, filled.room, c.towers.invariant.room) in
+    window_filled _ _ _ _ _ _ _ _ _ _ _ _ c.towers.invariant _ _ _ seen.0 seen.2 went.ok filled.reads few _ _ _ c.in-Ok-refill.end went.empty
+    filled.room filled.end
+    (full_window c.in-Ok-refill.end _ _ filled.short (filled.room ∙ c.towers.invariant.room) few) filled.cause.answered went.cause.answered
 
 pub returns-in-Err : goal.returns-in-Err
 returns-in-Err g c =
+    let seen = rw c.octets.ensures at c.in-More.ensures.seen in
     let went = c.in-Ok-write_out.ensures in
     let failed = c.in-Err.ensures in
-    fill_fails _ _ _ _ _ _ _ _ _ _ _ _ c.towers.invariant _ _ c.refill.new.window went.ok failed.reads (omega (arith, failed.within, failed.room, c.towers.invariant.room)) failed.bytes _ _ failed.cause.failed went.cause.answered
+    fill_fails _ _ _ _ _ _ _ _ _ _ _ _ c.towers.invariant _ _ c.refill.new.window seen.0 seen.2 went.ok failed.reads
+    (omega (arith, failed.within, failed.room, c.towers.invariant.room))
+    failed.bytes (omega (arith, failed.err, failed.room, c.towers.invariant.room)) _ _ failed.cause.failed went.cause.answered
 
 pub returns-in-Fault : goal.returns-in-Fault
 returns-in-Fault g c =

@@ -1,5 +1,6 @@
--- Replies that wait to be written (own).
+-- Words of private contracts: replies that wait to be written (own).
 use Rattle.std.specs.Prelude.{◌≡◌, ◌⊎◌, ℕ, ◌<◌, Bool, IsTrue, List, [], ◌++◌, length, Option}
+use Rattle.cell_replay.specs.declared.limits.TheConstants.{MOST_WAITING}
 use Rattle.std.specs.Io.KnownBytes.{Appends}
 
 -- a part of what waited was written; if anything still waits, it is little, and the next line is there already (own)
@@ -7,4 +8,4 @@ pub record Flushes (old new : Option (List ℕ)) (waited waits : List ℕ) (read
   pub sent : List ℕ
   pub written : Appends old new sent
   pub split : waited ≡ sent ++ waits
-  pub whole : (waits ≡ []) ⊎ (IsTrue ready × (length waits < 65536))
+  pub whole : (waits ≡ []) ⊎ (IsTrue ready × (length waits < MOST_WAITING))

@@ -1,4 +1,4 @@
--- What a form of the program is at, and what it makes of a line (own).
+-- Words of private contracts: what a form of the program is at, and what it makes of a line (own).
 use Rattle.std.specs.Prelude.{◌≡◌, ℕ, ◌≤◌, ◌<◌, Bool, true, false, length, List, [], ◌∷◌, ◌++◌, Option, Some, None}
 use Rattle.cell_model.specs.Cells as model
 use Rattle.cell_script.specs.declared.command.ScriptLine.{ScriptLine}
@@ -9,6 +9,7 @@ use Rattle.cds_cell.specs.declared.cell.Cell.{Cell}
 use Rattle.cds_cell.specs.Standing.{Stands}
 use Rattle.tower_codec.specs.Tower.{Floor}
 use Rattle.tower_codec.specs.Spelling.{tower_octets}
+use Rattle.cell_replay.specs.declared.limits.TheConstants.{LONGEST_TOWER}
 use Rattle.cell_replay.specs.Replies.{reply_to, cell_after}
 use Rattle.cell_replay.specs.Demand.{LineState, Replaying, Checking, Spelling, Response, GoesOn, Stops}
 use Rattle.cell_replay.specs.TowerTexts.{TowerLine, SaysTower, NoTower}
@@ -51,6 +52,7 @@ CountsTo t (Replaying g) = ⊥
 CountsTo t (Checking lines commands) = (t.lines ≡ lines) × (t.commands ≡ commands)
 CountsTo t Spelling = ⊥
 
+-- a form stands at this state
 abbrev pub IsAt : LineForm → LineState → Type 0
 IsAt (form.Run cell) state = StandsAt cell state
 IsAt (form.Check tally) state = CountsTo tally state
@@ -78,6 +80,7 @@ Replies end r waited waits f = Ends end r waited waits (IsAt f)
 abbrev pub Replays : LineEnd → Response → (waited waits : List ℕ) → Cell → Type 0
 Replays end r waited waits c = Ends end r waited waits (StandsAt c)
 
+-- the counts of `check` go on with those behind the line
 abbrev pub Counts : LineEnd → Response → (waited waits : List ℕ) → Tally → Type 0
 Counts end r waited waits t = Ends end r waited waits (CountsTo t)
 
@@ -92,9 +95,9 @@ Spells end r waited waits = Ends end r waited waits (λ next. next ≡ Spelling)
 -- whether a word said a floor: it stands behind the others, and the tower is not too long; or the tower would be
 abbrev pub AddsFloor : Bool → Option Floor → (old new : List Floor) → Type 0
 AddsFloor true None old new = ⊥
-AddsFloor true (Some floor) old new = (new ≡ old ++ floor ∷ []) × (length (tower_octets new) ≤ 1024)
+AddsFloor true (Some floor) old new = (new ≡ old ++ floor ∷ []) × (length (tower_octets new) ≤ LONGEST_TOWER)
 AddsFloor false None old new = Unit {0}
-AddsFloor false (Some floor) old new = 1024 < length (tower_octets (old ++ floor ∷ []))
+AddsFloor false (Some floor) old new = LONGEST_TOWER < length (tower_octets (old ++ floor ∷ []))
 
 -- whether a line said a tower
 abbrev pub ReadsTower : Bool → TowerLine → List Floor → Type 0

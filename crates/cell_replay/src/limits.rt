@@ -1,0 +1,13 @@
+//! The limits of towers, and of the replies that wait.
+
+/// How many octets a tower has at most.
+pub const LONGEST_TOWER: usize = 1024;
+
+/// The octets that are looked at for one tower: one more than it may have.
+pub const TOWER_SIGHT: usize = 1025;
+
+/// How many towers there are at most.
+pub const MOST_TOWERS: u32 = 16_777_216;
+
+/// Replies are written at the latest when this many octets wait.
+pub const MOST_WAITING: usize = 65_536;
