@@ -1,4 +1,5 @@
 pub mod Numbers
 pub mod Splitting
 pub mod Reading
+pub mod Printing
 mod Examples

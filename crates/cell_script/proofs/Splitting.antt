@@ -1,9 +1,10 @@
 -- The first word of a line, and the words behind it.
-use Rattle.std.proofs.Common.{◌≡◌, ℕ, ◌<◌, Bool, true, false, List, [], ◌∷◌, take, drop, length, refl, ap, ◌∙◌, sym, arith}
-use Rattle.std.specs.Prelude.{not, ◌==◌, filter}
+use Rattle.std.proofs.Common.{◌≡◌, ℕ, ◌+◌, ◌<◌, ◌≤◌, suc, Bool, true, false, List, [], ◌∷◌, take, drop, drop-cons, get_or, add-one, length, refl, ap, ◌∙◌, sym, arith}
+use Rattle.std.specs.Prelude.{not, ◌==◌, ◌&&◌, filter, if◌then◌else◌}
 use Rattle.std.specs.List.{slice_split, prefix_len, onto_first}
 use Rattle.std.proofs.lemmas.Bool.Decides.{nat_tests}
 use Rattle.std.proofs.Math.Numerals.{one-add}
+use mir.Val.{bool_byte}
 use Rattle.cell_script.specs.Words.{words_of}
 
 abbrev is_space : ℕ → Bool
@@ -49,3 +50,66 @@ first_word l n is some =
     let front : words_of l ≡ some_octets (take n l ∷ drop 1 (slice_split is_space (drop n l))) = rw is (ap some_octets (parts l)) in
     let back : words_of (drop n l) ≡ some_octets (drop 1 (slice_split is_space (drop n l))) = rw is (ap some_octets (empty_part l)) in
     front ∙ kept (take n l) (drop 1 (slice_split is_space (drop n l))) some ∙ ap (λ (ws : List (List ℕ)). take n l ∷ ws) (sym back)
+
+-- ---- how many words there are
+
+-- how many words begin in these octets, in the midst of a word or not
+abbrev pub words_behind : Bool → List ℕ → ℕ
+words_behind true l = length (words_of (drop (prefix_len is_other l) l))
+words_behind false l = length (words_of l)
+
+-- the octets behind the first word of these, and with one more octet in front that is no space
+behind_word : (b : ℕ) (bs : List ℕ) → (b == 32) ≡ false → drop (prefix_len is_other (b ∷ bs)) (b ∷ bs) ≡ drop (prefix_len is_other bs) bs
+behind_word b bs other = rw (other, one-add (prefix_len is_other bs)) refl
+
+-- a word begins with an octet that is no space, behind none
+pub word_begins : (b : ℕ) (bs : List ℕ) → (b == 32) ≡ false → words_behind false (b ∷ bs) ≡ suc (words_behind true bs)
+word_begins b bs other =
+    let n : ℕ = prefix_len is_other (b ∷ bs) in
+    let size : n ≡ suc (prefix_len is_other bs) = rw (other, one-add (prefix_len is_other bs)) refl in
+    let some : 0 < length (take n (b ∷ bs)) = rw size (omega arith) in
+    ap length (first_word (b ∷ bs) n refl some) ∙ ap (λ (l : List ℕ). suc (length (words_of l))) (behind_word b bs other)
+
+-- within a word none begins
+pub word_goes_on : (b : ℕ) (bs : List ℕ) → (b == 32) ≡ false → words_behind true (b ∷ bs) ≡ words_behind true bs
+word_goes_on b bs other = ap (λ (l : List ℕ). length (words_of l)) (behind_word b bs other)
+
+-- a space ends a word, or stands between words
+pub space_between : (in_word : Bool) (b : ℕ) (bs : List ℕ) → (b == 32) ≡ true → words_behind in_word (b ∷ bs) ≡ words_behind false bs
+space_between true b bs space = rw (space, space) refl
+space_between false b bs space = rw space refl
+
+is_no_space : (t : Bool) → true ≡ not t → t ≡ false
+is_no_space true e = cc
+is_no_space false e = refl
+
+is_a_space : (t : Bool) → false ≡ not t → t ≡ true
+is_a_space true e = refl
+is_a_space false e = cc
+
+-- an octet is counted where a word begins with it
+pub counts_on : (in_word other : Bool) (b : ℕ) (bs : List ℕ) → other ≡ not (b == 32) → words_behind in_word (b ∷ bs) ≡ (if other && not in_word then 1 else 0) + words_behind other bs
+counts_on true true b bs is = let h = word_goes_on b bs (is_no_space (b == 32) is) in omega (arith, h)
+counts_on false true b bs is = let h = word_begins b bs (is_no_space (b == 32) is) in omega (arith, h)
+counts_on true false b bs is = let h = space_between true b bs (is_a_space (b == 32) is) in omega (arith, h)
+counts_on false false b bs is = let h = space_between false b bs (is_a_space (b == 32) is) in omega (arith, h)
+
+-- the number of a test
+pub byte_is : (b : Bool) → bool_byte b ≡ (if b then 1 else 0)
+byte_is true = refl
+byte_is false = refl
+
+-- one octet further, with the word that begins there counted
+pub counted_on : (xs : List ℕ) (i count k total : ℕ) (in_word : Bool) → i < length xs → count + words_behind in_word (drop i xs) ≡ total
+    → k ≡ bool_byte (not (get_or xs i 0 == 32) && not in_word) → (count + k) + words_behind (not (get_or xs i 0 == 32)) (drop (i + 1) xs) ≡ total
+counted_on xs i count k total in_word within so_far is =
+    let e = counts_on in_word (not (get_or xs i 0 == 32)) (get_or xs i 0) (drop (i + 1) xs) refl in
+    let here : drop i xs ≡ get_or xs i 0 ∷ drop (i + 1) xs = drop-cons xs i 0 within ∙ ap (λ (n : ℕ). get_or xs i 0 ∷ drop n xs) (sym (add-one i)) in
+    let all = ap (words_behind in_word) here ∙ e in
+    let one = is ∙ byte_is (not (get_or xs i 0 == 32) && not in_word) in
+    omega (arith, so_far, all, one)
+
+-- no more than one
+pub at_most_one : (b : Bool) (k : ℕ) → k ≡ bool_byte b → k ≤ 1
+at_most_one true k is = omega (arith, is)
+at_most_one false k is = omega (arith, is)

@@ -1,5 +1,5 @@
 // Answers and faults to text.
-ghost use Rattle.std.specs.Prelude.{◌≡◌, ◌++◌, ◌∷◌, IfOk, OnOk, codes, decimal};
+ghost use Rattle.std.specs.Prelude.{◌≡◌, ◌++◌, ◌∷◌, length, take, IfOk, OnOk, OnErr, codes, decimal};
 ghost use Rattle.hex.specs.Hex.{encode_lower};
 ghost use Rattle.cell_names.specs.FullNames.{spelling};
 ghost use Rattle.cell_script.specs.Texts.{line_text, spaced, stamp_text, posted_text, values_text, accepted_text, refusal_name, refusal_numbers, message_name, answer_text, fault_text, parse_fault_text};
@@ -16,7 +16,8 @@ const USUAL_LINE: usize = 80;
 
 // A number, in decimal digits.
 fn push_number(line: &mut Vec<u8>, number: u64) -> Result<(), AllocError>
-    ensures { OnOk result (line.new.items ≡ line.old.items ++ decimal number) }
+    ensures ok { OnOk result (line.new.items ≡ line.old.items ++ decimal number) }
+    ensures err { OnErr result (take (length line.old.items) line.new.items ≡ line.old.items) }
 {
     let mut digits = Buffer::new();
     line.extend_from_slice(digits.format(number).as_bytes())
@@ -24,7 +25,8 @@ fn push_number(line: &mut Vec<u8>, number: u64) -> Result<(), AllocError>
 
 // The same behind a space.
 fn push_spaced(line: &mut Vec<u8>, number: u64) -> Result<(), AllocError>
-    ensures { OnOk result (line.new.items ≡ line.old.items ++ 32 ∷ decimal number) }
+    ensures ok { OnOk result (line.new.items ≡ line.old.items ++ 32 ∷ decimal number) }
+    ensures err { OnErr result (take (length line.old.items) line.new.items ≡ line.old.items) }
 {
     line.push(b' ')?;
     push_number(line, number)
@@ -32,7 +34,8 @@ fn push_spaced(line: &mut Vec<u8>, number: u64) -> Result<(), AllocError>
 
 // Octets, each in two hexadecimal digits.
 fn push_hex(line: &mut Vec<u8>, octets: &[u8]) -> Result<(), AllocError>
-    ensures { OnOk result (line.new.items ≡ line.old.items ++ encode_lower octets.now) }
+    ensures ok { OnOk result (line.new.items ≡ line.old.items ++ encode_lower octets.now) }
+    ensures err { OnErr result (take (length line.old.items) line.new.items ≡ line.old.items) }
 {
     let start = line.len();
     let end = start.checked_add(2 * octets.len()).ok_or(AllocError)?;
@@ -45,7 +48,8 @@ fn push_hex(line: &mut Vec<u8>, octets: &[u8]) -> Result<(), AllocError>
 
 // A stamp: its time, `@` and its node.
 fn push_stamp(line: &mut Vec<u8>, stamp: &Stamp) -> Result<(), AllocError>
-    ensures { OnOk result (line.new.items ≡ line.old.items ++ stamp_text stamp.now) }
+    ensures ok { OnOk result (line.new.items ≡ line.old.items ++ stamp_text stamp.now) }
+    ensures err { OnErr result (take (length line.old.items) line.new.items ≡ line.old.items) }
 {
     push_number(line, stamp.time)?;
     line.push(b'@')?;
@@ -54,7 +58,8 @@ fn push_stamp(line: &mut Vec<u8>, stamp: &Stamp) -> Result<(), AllocError>
 
 // The serial numbers of the messages that were posted, if any.
 fn push_posted(line: &mut Vec<u8>, serials: &[u64]) -> Result<(), AllocError>
-    ensures { OnOk result (line.new.items ≡ line.old.items ++ posted_text serials.now) }
+    ensures ok { OnOk result (line.new.items ≡ line.old.items ++ posted_text serials.now) }
+    ensures err { OnErr result (take (length line.old.items) line.new.items ≡ line.old.items) }
 {
     if serials.is_empty() {
         return Ok(());
@@ -68,7 +73,8 @@ fn push_posted(line: &mut Vec<u8>, serials: &[u64]) -> Result<(), AllocError>
 
 // How many values, and each in hexadecimal digits.
 fn push_values(line: &mut Vec<u8>, values: &[Value]) -> Result<(), AllocError>
-    ensures { OnOk result (line.new.items ≡ line.old.items ++ values_text values.now) }
+    ensures ok { OnOk result (line.new.items ≡ line.old.items ++ values_text values.now) }
+    ensures err { OnErr result (take (length line.old.items) line.new.items ≡ line.old.items) }
 {
     push_number(line, values.len() as u64)?;
     for value in values {
@@ -114,7 +120,8 @@ fn name_of(refusal: &ScriptRefusal) -> &'static [u8]
 
 // The numbers of a refusal.
 fn push_numbers(line: &mut Vec<u8>, refusal: &ScriptRefusal) -> Result<(), AllocError>
-    ensures { OnOk result (line.new.items ≡ line.old.items ++ refusal_numbers refusal.now) }
+    ensures ok { OnOk result (line.new.items ≡ line.old.items ++ refusal_numbers refusal.now) }
+    ensures err { OnErr result (take (length line.old.items) line.new.items ≡ line.old.items) }
 {
     match refusal {
         ScriptRefusal::StampsSpent(accepted, serials) => {
@@ -136,7 +143,8 @@ fn push_numbers(line: &mut Vec<u8>, refusal: &ScriptRefusal) -> Result<(), Alloc
 
 // How many updates were accepted, if that is said.
 fn push_accepted(line: &mut Vec<u8>, accepted: Option<u64>) -> Result<(), AllocError>
-    ensures { OnOk result (line.new.items ≡ line.old.items ++ accepted_text accepted) }
+    ensures ok { OnOk result (line.new.items ≡ line.old.items ++ accepted_text accepted) }
+    ensures err { OnErr result (take (length line.old.items) line.new.items ≡ line.old.items) }
 {
     match accepted {
         None => Ok(()),
@@ -163,7 +171,8 @@ fn message_of(tag: u8) -> &'static [u8]
 
 // What an answer says.
 fn push_answer(alloc: Global, line: &mut Vec<u8>, answer: &Answer) -> Result<(), AllocError>
-    ensures { OnOk result (line.new.items ≡ line.old.items ++ answer_text answer.now) }
+    ensures ok { OnOk result (line.new.items ≡ line.old.items ++ answer_text answer.now) }
+    ensures err { OnErr result (take (length line.old.items) line.new.items ≡ line.old.items) }
 {
     match answer {
         Answer::Done => line.extend_from_slice(b"ok"),
@@ -204,15 +213,47 @@ fn push_answer(alloc: Global, line: &mut Vec<u8>, answer: &Answer) -> Result<(),
     }
 }
 
+// The line of an answer. After want of memory the text may have grown.
+fn push_line(
+    alloc: Global,
+    line: &mut Vec<u8>,
+    number: u32,
+    answer: &Answer,
+) -> Result<(), AllocError>
+    ensures ok { OnOk result (line.new.items ≡ line.old.items ++ line_text number (answer_text answer.now)) }
+    ensures err { OnErr result (take (length line.old.items) line.new.items ≡ line.old.items) }
+{
+    push_number(line, u64::from(number))?;
+    line.push(b' ')?;
+    push_answer(alloc, line, answer)?;
+    line.push(b'\n')?;
+    Ok(())
+}
+
+/// Puts the line of an answer behind the text. After want of memory the text is as it was.
+pub fn append_answer(
+    alloc: Global,
+    text: &mut Vec<u8>,
+    number: u32,
+    answer: &Answer,
+) -> Result<(), AllocError>
+    ensures ok { OnOk result (text.new.items ≡ text.old.items ++ line_text number (answer_text answer.now)) }
+    ensures err { OnErr result (text.new.items ≡ text.old.items) }
+{
+    let before = text.len();
+    if let Err(error) = push_line(alloc, text, number, answer) {
+        text.truncate(before);
+        return Err(error);
+    }
+    Ok(())
+}
+
 /// The line of an answer.
 pub fn print_answer(alloc: Global, number: u32, answer: &Answer) -> Result<Vec<u8>, AllocError>
     ensures { IfOk result (λ line. line.items ≡ line_text number (answer_text answer.now)) }
 {
     let mut line = Vec::with_capacity(alloc, USUAL_LINE)?;
-    push_number(&mut line, u64::from(number))?;
-    line.push(b' ')?;
-    push_answer(alloc, &mut line, answer)?;
-    line.push(b'\n')?;
+    push_line(alloc, &mut line, number, answer)?;
     Ok(line)
 }
 

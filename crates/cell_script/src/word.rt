@@ -1,5 +1,5 @@
 // What a single word says.
-ghost use Rattle.std.specs.Prelude.{◌≡◌, ◌*◌, ◌∷◌, length, IfOk};
+ghost use Rattle.std.specs.Prelude.{◌≡◌, ◌*◌, ◌%◌, ◌≤◌, ◌∷◌, length, IfOk};
 ghost use Rattle.std.specs.Int.{from_be_bytes, w64};
 ghost use Rattle.cell_script.specs.Words.{number_of, number_to, house_of, directory_of, node_of, octets_value_of, octets_of, confidence_of};
 
@@ -15,6 +15,9 @@ const HIGH: &[u8] = b"high";
 
 // The most digits of a value.
 const MOST_DIGITS: usize = 2048;
+
+// The most digits for which little room is made.
+const USUAL_DIGITS: usize = 32;
 
 /// A decimal number of 64 bits, with no sign and no leading zero.
 #[tactic(auto, unfolding(crate::specs::Words::number_of))]
@@ -115,6 +118,19 @@ pub(crate) fn value(alloc: Global, word: &[u8]) -> Result<Option<Value>, AllocEr
     if word.len() % 2 == 1 || word.len() > MOST_DIGITS {
         return Ok(None);
     }
+    if word.len() > USUAL_DIGITS {
+        return long_value(alloc, word);
+    }
+    let mut octets = [0; USUAL_DIGITS / 2];
+    value_in(alloc, word, &mut octets[..word.len() / 2])
+}
+
+// The value of many digits: its room is made only where there are so many.
+fn long_value(alloc: Global, word: &[u8]) -> Result<Option<Value>, AllocError>
+    requires even { length word.now % 2 ≡ 0 }
+    requires within { length word.now ≤ 2048 }
+    ensures { IfOk result (λ v. v ≡ octets_value_of word.now) }
+{
     let mut octets = [0; MOST_DIGITS / 2];
     value_in(alloc, word, &mut octets[..word.len() / 2])
 }

@@ -69,6 +69,21 @@ fn word_len(octets: &[u8]) -> usize
     octets.len()
 }
 
+// How many words there are: each begins behind a space or at the front.
+fn word_count(octets: &[u8]) -> usize
+    ensures counted { result ≡ length (words_of octets.now) }
+    ensures within { result ≤ length octets.now }
+{
+    let mut count = 0;
+    let mut in_word = false;
+    for octet in octets {
+        let is_other = *octet != b' ';
+        count += usize::from(is_other & !in_word);
+        in_word = is_other;
+    }
+    count
+}
+
 impl<'a> Words<'a> {
     /// The words of a line.
     pub(crate) fn of(line: &'a [u8]) -> Words<'a>
@@ -103,12 +118,7 @@ impl<'a> Words<'a> {
         ensures counted { result ≡ length self.now.rest }
         ensures within { self.now.read + result < 2 ^ 64 }
     {
-        let mut left = Words {
-            read: self.read,
-            rest: self.rest,
-        };
-        while left.next().is_some() {}
-        left.read - self.read
+        word_count(self.rest)
     }
 
     /// There have to be so many words.

@@ -1,0 +1,21 @@
+-- Text that grows behind what stood before.
+use Rattle.std.proofs.Common.{◌≡◌, List, ℕ, ◌++◌, take, drop, length, sym, ap, ◌∙◌, append_assoc}
+use Rattle.std.specs.Prelude.{Result, Ok, Err, OnErr}
+use Rattle.std.proofs.lemmas.List.{take-append-drop}
+use Rattle.std.proofs.Math.Seq.{take-append_seam}
+
+-- what a text began with before it grew still begins it, where the grown text does
+pub still_begins : (a x b c : List ℕ) → b ≡ a ++ x → take (length b) c ≡ b → take (length a) c ≡ a
+still_begins a x b c grown begun =
+    let whole : c ≡ a ++ (x ++ drop (length b) c) =
+    sym (take-append-drop (length b) c) ∙ ap (λ (l : List ℕ). l ++ drop (length b) c) (begun ∙ grown) ∙ append_assoc a x (drop (length b) c) in
+    ap (take (length a)) whole ∙ take-append_seam a (x ++ drop (length b) c)
+
+-- a text that grew twice
+pub grown_twice : (a x b y c : List ℕ) → b ≡ a ++ x → c ≡ b ++ y → c ≡ a ++ (x ++ y)
+grown_twice a x b y c one two = two ∙ ap (λ (l : List ℕ). l ++ y) one ∙ append_assoc a x y
+
+-- what holds holds after an error
+pub on_err : {T E P : Type 0} (r : Result T E) → P → OnErr r P
+on_err (Ok x) p = tt
+on_err (Err e) p = p
