@@ -22,7 +22,8 @@ pub record MayBeAdded (interface : Option Interface) (member : List (List ℕ)) 
   pub priority_kept : is_priority interface priority ≡ true
   pub short : length (spelling member) + length annotation ≤ 1001
 
-pub may_be_added : (interface : Option Interface) (member : List (List ℕ)) (priority : ℕ) (annotation : List ℕ) → add_fault interface member priority annotation ≡ None → MayBeAdded interface member priority annotation
+pub may_be_added : (interface : Option Interface) (member : List (List ℕ)) (priority : ℕ) (annotation : List ℕ)
+    → add_fault interface member priority annotation ≡ None → MayBeAdded interface member priority annotation
 may_be_added interface member priority annotation e =
     let first = no_fault (not (is_priority interface priority)) _ _ e in
     let second = no_fault (nat_lt most_text (length (spelling member) + length annotation)) _ _ first.1 in
@@ -37,7 +38,8 @@ nil_where_default None priority e is = refl
 nil_where_default (Some interface) priority e is = let below : priority < 8 = grind (arith, e) in absurd (omega arith)
 
 -- what is added is read again
-pub added_read : (interface : Option Interface) (member : List (List ℕ)) (priority : ℕ) (annotation : List ℕ) → add_fault interface member priority annotation ≡ None
+pub added_read : (interface : Option Interface) (member : List (List ℕ)) (priority : ℕ) (annotation : List ℕ)
+    → add_fault interface member priority annotation ≡ None
     → IsInterface (written interface) → IsComponentList member → All (λ b. IsTrue (is_annotation_octet b)) annotation
     → element_of (element_octets (new_element interface member priority annotation)) ≡ Some (new_element interface member priority annotation)
 added_read interface member priority annotation e fits named printable =

@@ -1,5 +1,7 @@
 -- Octets without a fault are those of elements, and what elements are written as has none.
-use Rattle.std.proofs.Common.{Fits, w8, ◌≡◌, ℕ, zero, suc, ◌+◌, ◌-◌, ◌≤◌, ◌<◌, ◌^◌, Bool, true, false, ◌⊎◌, inl, inr, List, [], ◌∷◌, ◌++◌, length, get_or, take, drop, replicate, Option, Some, None, Result, Ok, Err, refl, sym, ap, subst, ◌∙◌, arith, length-take, length-drop}
+use Rattle.std.proofs.Common.{Fits, w8, ◌≡◌, ℕ, zero, suc, ◌+◌, ◌-◌, ◌≤◌, ◌<◌, ◌^◌, Bool, true, false, ◌⊎◌, inl, inr, List, [], ◌∷◌, ◌++◌, length}
+use Rattle.std.proofs.Common.{get_or, take, drop, replicate, Option, Some, None, Result, Ok, Err, refl, sym, ap, subst, ◌∙◌, arith, length-take}
+use Rattle.std.proofs.Common.{length-drop}
 use Rattle.std.proofs.lemmas.Bool.{cases_lt}
 use Rattle.std.proofs.lemmas.List.{take-append-drop, drop-drop, take_rest, append-nil, get_or_past}
 use Rattle.std.proofs.lemmas.List.Elements.{All-take, All-drop, All-from_get_or}
@@ -14,14 +16,20 @@ use Rattle.cell_names.specs.FullNames.{spelling, components_of, name_fault}
 use Rattle.cell_names.proofs.FullNameLaws.{spelling-components}
 use Rattle.ns_profiles.specs.declared.fault.ProfileFault.{ProfileFault}
 use Rattle.ns_profiles.specs.declared.fault.ProfileFault.TheVariants.{BadElement}
-use Rattle.ns_profiles.specs.Elements.{Field, field_octets, field_fault, first_fault, priority_field, interface_field, length_field, member_field, annotation_field, is_default, name_length, element_fault, element_octets, interface_in, member_octets, said, element_of, is_annotation_octet, no_interface, IsElement, IsElementOf}
+use Rattle.ns_profiles.specs.Elements.{Field, field_octets, field_fault, first_fault, priority_field, interface_field, length_field, member_field}
+use Rattle.ns_profiles.specs.Elements.{annotation_field, is_default, name_length, element_fault, element_octets, interface_in, member_octets, said}
+use Rattle.ns_profiles.specs.Elements.{element_of, is_annotation_octet, no_interface, IsElement, IsElementOf}
 
 -- ---- faults, field by field
 
-pub after_field : (octets : List ℕ) (field : Field) (fields : List Field) → field_fault octets field ≡ None → first_fault octets (field ∷ fields) ≡ first_fault octets fields
+-- behind a field without a fault the first fault is that of the other fields
+pub after_field : (octets : List ℕ) (field : Field) (fields : List Field) → field_fault octets field ≡ None
+    → first_fault octets (field ∷ fields) ≡ first_fault octets fields
 after_field octets field fields e = ap (λ (o : Option ProfileFault). option_or o (first_fault octets fields)) e
 
-pub at_field : (octets : List ℕ) (field : Field) (fields : List Field) (fault : ProfileFault) → field_fault octets field ≡ Some fault → first_fault octets (field ∷ fields) ≡ Some fault
+-- the fault of the first field that has one is the first fault
+pub at_field : (octets : List ℕ) (field : Field) (fields : List Field) (fault : ProfileFault) → field_fault octets field ≡ Some fault
+    → first_fault octets (field ∷ fields) ≡ Some fault
 at_field octets field fields fault e = ap (λ (o : Option ProfileFault). option_or o (first_fault octets fields)) e
 
 no_first : {E : Type 0} (x y : Option E) → option_or x y ≡ None → (x ≡ None) × (y ≡ None)
@@ -29,7 +37,8 @@ no_first None y e = (refl, e)
 no_first (Some x) y e = cc
 
 -- a field without a fault is whole and keeps its rule
-pub field_kept : (octets : List ℕ) (field : Field) → field_fault octets field ≡ None → (field.before + field.width ≤ length octets) × (field.keeps (field_octets field octets) ≡ true)
+pub field_kept : (octets : List ℕ) (field : Field) → field_fault octets field ≡ None → (field.before + field.width ≤ length octets)
+    × (field.keeps (field_octets field octets) ≡ true)
 field_kept octets field e = by_tests (nat_lt (length octets) (field.before + field.width)) refl (field.keeps (field_octets field octets)) refl e
   where
     by_tests : (short : Bool) → nat_lt (length octets) (field.before + field.width) ≡ short → (kept : Bool) → field.keeps (field_octets field octets) ≡ kept
@@ -39,7 +48,9 @@ field_kept octets field e = by_tests (nat_lt (length octets) (field.before + fie
     by_tests false s true k e = (grind (arith, s), refl)
     by_tests false s false k e = cc
 
-pub kept_field : (octets : List ℕ) (field : Field) → field.before + field.width ≤ length octets → field.keeps (field_octets field octets) ≡ true → field_fault octets field ≡ None
+-- a field that is whole and keeps its rule has no fault
+pub kept_field : (octets : List ℕ) (field : Field) → field.before + field.width ≤ length octets → field.keeps (field_octets field octets) ≡ true
+    → field_fault octets field ≡ None
 kept_field octets field whole kept =
     let fits : nat_lt (length octets) (field.before + field.width) ≡ false = grind arith in
     rw (fits, kept) refl
@@ -58,6 +69,7 @@ none_found : {E : Type 0} (fault : Option E) → is_none fault ≡ true → faul
 none_found None e = refl
 none_found (Some fault) e = cc
 
+-- octets without a fault keep all rules
 pub whole_from : (octets : List ℕ) → element_fault octets ≡ None → IsWhole octets
 unfolding element_fault
 whole_from octets e =
@@ -141,15 +153,19 @@ module _ (octets : List ℕ) (all : All (λ b. b < 2 ^ 8) octets) (whole : IsWho
   long = whole.long
 
   priority_is : nat_le (slice_index octets 0) 8 ≡ true
-  priority_is = let h = long in let first : take 1 octets ≡ slice_index octets 0 ∷ [] = first_octet octets (omega arith) in rw (ap (λ (xs : List ℕ). slice_index xs 0) first) at whole.priority
+  priority_is = let h = long in let first : take 1 octets ≡ slice_index octets 0 ∷ [] = first_octet octets (omega arith) in
+      rw (ap (λ (xs : List ℕ). slice_index xs 0) first) at whole.priority
 
   no_interface_is : slice_index octets 0 ≡ 8 → interface_in octets ≡ no_interface
   no_interface_is e =
       let h = long in
       let d : is_default octets ≡ true = grind (arith, e) in
-      let uuid = zeros_are 16 (take 16 (drop 1 octets)) (range_length octets 1 16 (omega arith)) (zeros_of (is_default octets) (slice_range octets 1 17) whole.uuid d) in
-      let major = zeros_are 2 (take 2 (drop 17 octets)) (range_length octets 17 2 (omega arith)) (zeros_of (is_default octets) (slice_range octets 17 19) whole.major d) in
-      let minor = zeros_are 2 (take 2 (drop 19 octets)) (range_length octets 19 2 (omega arith)) (zeros_of (is_default octets) (slice_range octets 19 21) whole.minor d) in
+      let uuid = zeros_are 16 (take 16 (drop 1 octets)) (range_length octets 1 16 (omega arith))
+      (zeros_of (is_default octets) (slice_range octets 1 17) whole.uuid d) in
+      let major = zeros_are 2 (take 2 (drop 17 octets)) (range_length octets 17 2 (omega arith))
+      (zeros_of (is_default octets) (slice_range octets 17 19) whole.major d) in
+      let minor = zeros_are 2 (take 2 (drop 19 octets)) (range_length octets 19 2 (omega arith))
+      (zeros_of (is_default octets) (slice_range octets 19 21) whole.minor d) in
       λ i. record { uuid = uuid i; major = from_be_bytes w16 (major i); minor = from_be_bytes w16 (minor i) }
 
   rest_is : slice_range octets (23 + name_length octets) (length octets) ≡ drop (23 + name_length octets) octets
@@ -187,11 +203,13 @@ module _ (octets : List ℕ) (all : All (λ b. b < 2 ^ 8) octets) (whole : IsWho
   said_spelled =
       let h = long in
       let n = name_length octets in
-      let first : octets ≡ slice_index octets 0 ∷ drop 1 octets = cut octets 0 1 ∙ ap (λ (xs : List ℕ). xs ++ drop 1 octets) (first_octet octets (omega arith)) in
+      let first : octets ≡ slice_index octets 0 ∷ drop 1 octets = cut octets 0 1
+      ∙ ap (λ (xs : List ℕ). xs ++ drop 1 octets) (first_octet octets (omega arith)) in
       let e6 : drop (23 + n) octets ≡ drop (23 + n) octets ++ [] = sym (append-nil _) in
       let e5 : drop 23 octets ≡ spelling (components_of (member_octets octets)) ++ (drop (23 + n) octets ++ []) =
       cut octets 23 n ∙ (λ i. sym name_is i ++ e6 i) in
-      let e4 : drop 21 octets ≡ to_be_bytes w16 (length (spelling (components_of (member_octets octets)))) ++ (spelling (components_of (member_octets octets)) ++ (drop (23 + n) octets ++ [])) =
+      let e4 : drop 21 octets ≡ to_be_bytes w16 (length (spelling (components_of (member_octets octets)))) ++
+      (spelling (components_of (member_octets octets)) ++ (drop (23 + n) octets ++ [])) =
       cut octets 21 2 ∙ (λ i. sym name_length_is i ++ e5 i) in
       let e3 = cut octets 19 2 ∙ (λ i. sym (number_in octets 19 (omega arith) all).1 i ++ e4 i) in
       let e2 = cut octets 17 2 ∙ (λ i. sym (number_in octets 17 (omega arith) all).1 i ++ e3 i) in
@@ -203,10 +221,12 @@ pub said_element : (octets : List ℕ) → All (λ b. b < 2 ^ 8) octets → elem
 said_element octets all e = let whole = whole_from octets e in record { lawful = said_lawful octets all whole; spelled = said_spelled octets all whole }
 
 -- what a check found
-pub fault_found : (octets : List ℕ) (result : Result (Unit {0}) ProfileFault) → result ≡ ok_unless (element_fault octets) tt → MatchResult result (λ _. element_fault octets ≡ None) (λ fault. element_fault octets ≡ Some fault)
+pub fault_found : (octets : List ℕ) (result : Result (Unit {0}) ProfileFault) → result ≡ ok_unless (element_fault octets) tt
+    → MatchResult result (λ _. element_fault octets ≡ None) (λ fault. element_fault octets ≡ Some fault)
 fault_found octets result is = by_fault (element_fault octets) result is
   where
-    by_fault : (fault : Option ProfileFault) (result : Result (Unit {0}) ProfileFault) → result ≡ ok_unless fault tt → MatchResult result (λ _. fault ≡ None) (λ f. fault ≡ Some f)
+    by_fault : (fault : Option ProfileFault) (result : Result (Unit {0}) ProfileFault) → result ≡ ok_unless fault tt
+        → MatchResult result (λ _. fault ≡ None) (λ f. fault ≡ Some f)
     by_fault None (Ok u) is = refl
     by_fault None (Err f) is = cc
     by_fault (Some fault) (Ok u) is = cc
@@ -216,14 +236,19 @@ fault_found octets result is = by_fault (element_fault octets) result is
 pub element_there : (octets : List ℕ) → element_fault octets ≡ None → element_of octets ≡ Some (said octets)
 element_there octets e = ap (λ (f : Option ProfileFault). if is_none f then Some (said octets) else None) e
 
-pub known_found : (octets : List ℕ) (result : Result (Unit {0}) ProfileFault) → result ≡ ok_unless (element_fault octets) tt → OnOk result (element_of octets ≡ Some (said octets))
+-- octets in which no fault was found are read as what they say
+pub known_found : (octets : List ℕ) (result : Result (Unit {0}) ProfileFault) → result ≡ ok_unless (element_fault octets) tt
+    → OnOk result (element_of octets ≡ Some (said octets))
 known_found octets (Ok u) is = element_there octets (fault_found octets (Ok u) is)
 known_found octets (Err f) is = tt
 
-pub said_found : (octets : List ℕ) → ((i : ℕ) → Fits w8 (get_or octets i 0)) → (result : Result (Unit {0}) ProfileFault) → result ≡ ok_unless (element_fault octets) tt → OnOk result (IsElementOf octets (said octets))
+-- and what they say is an element of which they are the octets
+pub said_found : (octets : List ℕ) → ((i : ℕ) → Fits w8 (get_or octets i 0)) → (result : Result (Unit {0}) ProfileFault)
+    → result ≡ ok_unless (element_fault octets) tt → OnOk result (IsElementOf octets (said octets))
 said_found octets fits result is = by_fault (element_fault octets) refl result is
   where
-    by_fault : (fault : Option ProfileFault) → element_fault octets ≡ fault → (result : Result (Unit {0}) ProfileFault) → result ≡ ok_unless fault tt → OnOk result (IsElementOf octets (said octets))
+    by_fault : (fault : Option ProfileFault) → element_fault octets ≡ fault → (result : Result (Unit {0}) ProfileFault) → result ≡ ok_unless fault tt
+        → OnOk result (IsElementOf octets (said octets))
     by_fault None e (Ok u) is = said_element octets (All-from_get_or (λ b. b < 2 ^ 8) octets 0 (λ i h. omega (arith, fits i))) e
     by_fault None e (Err f) is = cc
     by_fault (Some fault) e (Ok u) is = cc

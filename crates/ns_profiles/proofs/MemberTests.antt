@@ -8,7 +8,8 @@ use Rattle.ns_profiles.specs.Elements.{element_fault, member_octets, said}
 use Rattle.ns_profiles.proofs.ElementLaws.{whole_from}
 use Rattle.cell_names.proofs.SpelledWalks.{same_octets}
 
-names_alike : (octets : List ℕ) (name : List (List ℕ)) → name_fault octets ≡ None → IsComponentList name → is_octets (spelling name) octets ≡ is_name (components_of octets) name
+names_alike : (octets : List ℕ) (name : List (List ℕ)) → name_fault octets ≡ None → IsComponentList name
+    → is_octets (spelling name) octets ≡ is_name (components_of octets) name
 names_alike octets name readable lawful = by_octets (is_octets (spelling name) octets) refl (is_name (components_of octets) name) refl
   where
     spelled : octets ≡ spelling (components_of octets)
@@ -25,5 +26,7 @@ names_alike octets name readable lawful = by_octets (is_octets (spelling name) o
         sym e ∙ ap (is_octets (spelling name)) at ∙ same_octets (spelling name)
     by_octets false e false f = refl
 
-pub member_test : (octets : List ℕ) (name : List (List ℕ)) → element_fault octets ≡ None → IsComponentList name → is_octets (spelling name) (member_octets octets) ≡ is_name (said octets).member name
+-- the octets of the member spell a name exactly where it is the member
+pub member_test : (octets : List ℕ) (name : List (List ℕ)) → element_fault octets ≡ None → IsComponentList name
+    → is_octets (spelling name) (member_octets octets) ≡ is_name (said octets).member name
 member_test octets name whole lawful = names_alike (member_octets octets) name (whole_from octets whole).member lawful

@@ -1,5 +1,6 @@
 -- What an element is written as is read as this element.
-use Rattle.std.proofs.Common.{◌≡◌, ◌↔◌, ℕ, ◌+◌, ◌-◌, ◌≤◌, ◌<◌, ◌^◌, Bool, true, false, List, [], ◌∷◌, ◌++◌, length, take, drop, Option, Some, None, refl, sym, ap, subst, ◌∙◌, arith, length-append, length-drop}
+use Rattle.std.proofs.Common.{◌≡◌, ◌↔◌, ℕ, ◌+◌, ◌-◌, ◌≤◌, ◌<◌, ◌^◌, Bool, true, false, List, [], ◌∷◌, ◌++◌, length, take, drop, Option, Some, None}
+use Rattle.std.proofs.Common.{refl, sym, ap, subst, ◌∙◌, arith, length-append, length-drop}
 use Rattle.std.specs.Prelude.{is_none, not, nat_le, ◌==◌, ◌||◌, if◌then◌else◌}
 use Rattle.std.specs.Int.{to_be_bytes, from_be_bytes, w16}
 use Rattle.std.specs.List.{All, list_all, slice_range}
@@ -11,7 +12,9 @@ use Rattle.cell_names.specs.FullNames.{spelling, components_of, is_full_name}
 use Rattle.cell_names.proofs.FullNameLaws.{components_of-spelling, name_fault-spelling}
 use Rattle.ns_profiles.specs.declared.element.Element.{Element}
 use Rattle.ns_profiles.specs.declared.fault.ProfileFault.{ProfileFault}
-use Rattle.ns_profiles.specs.Elements.{Field, field_fault, first_fault, priority_field, interface_field, length_field, member_field, annotation_field, is_default, name_length, element_fault, element_octets, said, element_of, is_annotation_octet, no_interface, IsElement, IsElementOf}
+use Rattle.ns_profiles.specs.Elements.{Field, field_fault, first_fault, priority_field, interface_field, length_field, member_field, annotation_field}
+use Rattle.ns_profiles.specs.Elements.{is_default, name_length, element_fault, element_octets, said, element_of, is_annotation_octet, no_interface}
+use Rattle.ns_profiles.specs.Elements.{IsElement, IsElementOf}
 use Rattle.ns_profiles.proofs.ElementLaws.{after_field, kept_field, said_element, element_there}
 
 -- the field that stands behind so many octets, and what stands behind it
@@ -106,12 +109,14 @@ module _ (e : Element) (lawful : IsElement e) where
   major_kept : field_fault x (interface_field (is_default x) 17 2) ≡ None
   major_kept =
       kept_field x (interface_field (is_default x) 17 2) major_stands.whole
-      (zeros_kept e.priority (take 2 (drop 17 x)) (λ is. ap (list_all (λ b. b == 0)) (major_stands.here ∙ ap (λ (i : Interface). to_be_bytes w16 i.major) (nil_interface is))))
+      (zeros_kept e.priority (take 2 (drop 17 x))
+      (λ is. ap (list_all (λ b. b == 0)) (major_stands.here ∙ ap (λ (i : Interface). to_be_bytes w16 i.major) (nil_interface is))))
 
   minor_kept : field_fault x (interface_field (is_default x) 19 2) ≡ None
   minor_kept =
       kept_field x (interface_field (is_default x) 19 2) minor_stands.whole
-      (zeros_kept e.priority (take 2 (drop 19 x)) (λ is. ap (list_all (λ b. b == 0)) (minor_stands.here ∙ ap (λ (i : Interface). to_be_bytes w16 i.minor) (nil_interface is))))
+      (zeros_kept e.priority (take 2 (drop 19 x))
+      (λ is. ap (list_all (λ b. b == 0)) (minor_stands.here ∙ ap (λ (i : Interface). to_be_bytes w16 i.minor) (nil_interface is))))
 
   name_range : slice_range x 23 (23 + length name) ≡ name
   name_range = let n : 23 + length name - 23 ≡ length name = omega arith in ap (λ (k : ℕ). take k (drop 23 x)) n ∙ name_stands.here
@@ -125,7 +130,8 @@ module _ (e : Element) (lawful : IsElement e) where
       let to : 23 + length name + (length x - (23 + length name)) ≡ length x = omega arith in
       let all : list_all is_annotation_octet e.annotation ≡ true = list_all-from_AllPass is_annotation_octet e.annotation lawful.annotation in
       kept_field x (annotation_field (length name) (length x)) (omega arith)
-      (ap (λ (k : ℕ). list_all is_annotation_octet (slice_range x (23 + length name) k)) to ∙ ap (list_all is_annotation_octet) (take_rest x (23 + length name) ∙ annotation_again) ∙ all)
+      (ap (λ (k : ℕ). list_all is_annotation_octet (slice_range x (23 + length name) k)) to
+      ∙ ap (list_all is_annotation_octet) (take_rest x (23 + length name) ∙ annotation_again) ∙ all)
 
   -- the fields behind the length, the minor version, the major version, the UUID and the priority
   abbrev f6 : List Field
@@ -164,7 +170,8 @@ module _ (e : Element) (lawful : IsElement e) where
       let uuid = uuid_stands.here in
       let major = ap (from_be_bytes w16) major_stands.here ∙ number_again e.interface.major lawful.interface.major in
       let minor = ap (from_be_bytes w16) minor_stands.here ∙ number_again e.interface.minor lawful.interface.minor in
-      let member = ap (λ (n : ℕ). components_of (slice_range x 23 (23 + n))) name_length_again ∙ ap components_of name_range ∙ components_of-spelling e.member lawful.member in
+      let member = ap (λ (n : ℕ). components_of (slice_range x 23 (23 + n))) name_length_again ∙ ap components_of name_range
+      ∙ components_of-spelling e.member lawful.member in
       let annotation = ap (λ (n : ℕ). drop (23 + n) x) name_length_again ∙ annotation_again in
       λ i. record {
         priority = e.priority;
@@ -176,9 +183,11 @@ module _ (e : Element) (lawful : IsElement e) where
 pub written_fault : (e : Element) → IsElement e → element_fault (element_octets e) ≡ None
 written_fault e lawful = written_whole e lawful
 
+-- what is written of an element is read as it
 pub written_read : (e : Element) → IsElement e → element_of (element_octets e) ≡ Some e
 written_read e lawful = element_there (element_octets e) (written_whole e lawful) ∙ ap Some (written_said e lawful)
 
+-- the octets of an element are read as it
 pub read_again : (octets : List ℕ) (e : Element) → IsElementOf octets e → element_of octets ≡ Some e
 read_again octets e is = ap element_of is.spelled ∙ written_read e is.lawful
 
@@ -188,7 +197,8 @@ answered (Some fault) x e is = cc
 
 -- what is read was written of the element
 pub read_written : (octets : List ℕ) (e : Element) → All (λ b. b < 2 ^ 8) octets → element_of octets ≡ Some e → IsElementOf octets e
-read_written octets e all is = let found = answered (element_fault octets) (said octets) e is in subst (IsElementOf octets) found.1 (said_element octets all found.0)
+read_written octets e all is = let found = answered (element_fault octets) (said octets) e is in
+    subst (IsElementOf octets) found.1 (said_element octets all found.0)
 
 -- no fault is found exactly in the octets of elements
 pub element_fault-none : (octets : List ℕ) → All (λ b. b < 2 ^ 8) octets → (element_fault octets ≡ None) ↔ ((e : Element) × IsElementOf octets e)

@@ -1,22 +1,18 @@
 -- Values that were sorted and whose repeats were removed, and the order of a search.
-use Rattle.std.proofs.Common.{◌≡◌, ◌≢◌, ℕ, zero, suc, ◌+◌, ◌≤◌, ◌<◌, Bool, true, false, cond, List, [], ◌∷◌, ◌++◌, map, filter, Option, Some, None, Ok, Bor, refl, sym, ap, subst, ◌∙◌, arith}
-use Rattle.std.specs.Prelude.{◌==◌, ◌||◌, ◌&&◌, not, is_none, nat_eq, nat_lt, slice_index, length, if◌then◌else◌}
+use Rattle.std.proofs.Common.{◌≡◌, ◌≢◌, ℕ, zero, suc, ◌+◌, ◌≤◌, ◌<◌, Bool, true, false, cond, List, [], ◌∷◌, ◌++◌, map, filter, Option, Some, None}
+use Rattle.std.proofs.Common.{Ok, Bor, refl, sym, ap, subst, ◌∙◌, arith}
+use Rattle.std.specs.Prelude.{◌==◌, ◌||◌, not, is_none, nat_lt, slice_index, length, if◌then◌else◌}
 use Rattle.std.specs.declared.cmp.Ordering.{Ordering}
 use Rattle.std.specs.declared.cmp.Ordering.TheVariants.{Less, Equal, Greater}
 use Rattle.std.specs.Ordering.{nat_cmp, ordering_then}
 use Rattle.std.specs.Option.{option_map_or}
-use Rattle.std.specs.Cmp.Lexicographic.{slice_cmp, pointwise, on_texts, texts_ties}
-use Rattle.std.specs.List.{All, AllByRecursion, list_any, filter_map, cons_option, flat_map, dedup, dedup_from}
-use Rattle.std.specs.List.Sorted.{IsPermutation, IsSorted, IsStrictlySortedBy}
+use Rattle.std.specs.Cmp.Lexicographic.{slice_cmp}
+use Rattle.std.specs.List.{All, AllByRecursion, list_any, filter_map, cons_option, flat_map}
+use Rattle.std.specs.List.Sorted.{IsStrictlySortedBy}
 use Rattle.std.proofs.lemmas.List.{append-nil}
 use Rattle.std.proofs.lemmas.List.Elements.{filter_passes, All-weaker, All-from_recursion, recursion_from_All}
-use Rattle.std.proofs.lemmas.List.Kept.{IsStrictlySortedBy-dedup, IsStrictlySortedBy-filter}
-use Rattle.std.proofs.lemmas.List.Sorted.{list_any-IsPermutation}
 use Rattle.std.proofs.lemmas.Grind.{flat_map-append}
-use Rattle.std.proofs.lemmas.Map.Views.{any-filter_same}
-use Rattle.std.proofs.lemmas.Slice.Eq.{bytes_eq-Decides}
-use Rattle.cds_stamps.specs.Keyed.{tied}
-use Rattle.cds_stamps.specs.Octets.{octets_cmp, octets_exact, is_octets}
+use Rattle.cds_stamps.specs.Octets.{octets_cmp}
 use Rattle.cds_stamps.specs.Outcomes.{ok_unless}
 use Rattle.cds_stamps.specs.Ascending.{ascending}
 use Rattle.cds_stamps.proofs.AscendingLaws.{ascending-rises, ascending-filter}
@@ -27,7 +23,8 @@ use Rattle.ns_profiles.specs.declared.fault.ProfileFault.TheVariants.{NoSuchElem
 use Rattle.ns_profiles.specs.declared.element.Element.{Element}
 use Rattle.ns_profiles.specs.declared.fault.ProfileFault.{ProfileFault}
 use Rattle.ns_profiles.specs.Elements.{element_fault, element_of, said}
-use Rattle.ns_profiles.specs.Profiles.{profile, is_element, delete_fault, deleted, reads_as, is_taken, is_sought, elements_in, of_priority, priorities, search_order}
+use Rattle.ns_profiles.specs.Profiles.{profile, is_element, delete_fault, deleted, reads_as, is_taken, is_sought, elements_in, of_priority}
+use Rattle.ns_profiles.specs.Profiles.{priorities, search_order}
 use Rattle.ns_profiles.proofs.ElementLaws.{priority_within}
 
 -- the octets that references refer to
@@ -36,9 +33,11 @@ behind = map (λ o. o.now)
 
 -- ---- what octets are read as
 
+-- a test of octets that are an element is the test of the element
 pub read_test : (t : Element → Bool) (octets : List ℕ) → element_fault octets ≡ None → reads_as t octets ≡ t (said octets)
 read_test t octets e = ap (λ (f : Option ProfileFault). option_map_or t (if is_none f then Some (said octets) else None) false) e
 
+-- octets that are none pass no test
 pub fault_test : (t : Element → Bool) (octets : List ℕ) (fault : ProfileFault) → element_fault octets ≡ Some fault → reads_as t octets ≡ false
 fault_test t octets fault e = ap (λ (f : Option ProfileFault). option_map_or t (if is_none f then Some (said octets) else None) false) e
 
@@ -46,7 +45,8 @@ fault_test t octets fault e = ap (λ (f : Option ProfileFault). option_map_or t 
 tested : (t : Element → Bool) (octets : List ℕ) → option_map_or t (element_of octets) false ≡ true → element_fault octets ≡ None
 tested t octets e = by_fault (element_fault octets) refl e
   where
-    by_fault : (fault : Option ProfileFault) → element_fault octets ≡ fault → option_map_or t (if is_none fault then Some (said octets) else None) false ≡ true → fault ≡ None
+    by_fault : (fault : Option ProfileFault) → element_fault octets ≡ fault
+        → option_map_or t (if is_none fault then Some (said octets) else None) false ≡ true → fault ≡ None
     by_fault None is e = refl
     by_fault (Some fault) is e = cc
 
@@ -59,7 +59,8 @@ first_rises [] y e = omega arith
 first_rises (a ∷ x) [] e = cc (e)
 first_rises (a ∷ x) (b ∷ y) e = by_first (nat_lt a b) refl (a == b) refl (slice_cmp nat_cmp x y) e
   where
-    by_first : (lt : Bool) → nat_lt a b ≡ lt → (eq : Bool) → (a == b) ≡ eq → (rest : Ordering) → ordering_then (cond lt Less (cond eq Equal Greater)) rest ≡ Less → a ≤ b
+    by_first : (lt : Bool) → nat_lt a b ≡ lt → (eq : Bool) → (a == b) ≡ eq → (rest : Ordering)
+        → ordering_then (cond lt Less (cond eq Equal Greater)) rest ≡ Less → a ≤ b
     by_first true l eq q rest e = grind (arith, l)
     by_first false l true q rest e = grind (arith, q)
     by_first false l false q rest e = cc (e)
@@ -118,11 +119,13 @@ all_weaker P Q w [] all = tt
 all_weaker P Q w (e ∷ es) all = (w e all.0, all_weaker P Q w es all.1)
 
 -- an element of the least priority comes first
-put_in : (n a : ℕ) (e : Element) (es : List Element) → AllByRecursion (λ f. e.priority ≤ f.priority) es → a ≤ e.priority → e.priority < a + n → groups a n (e ∷ es) ≡ e ∷ groups a n es
+put_in : (n a : ℕ) (e : Element) (es : List Element) → AllByRecursion (λ f. e.priority ≤ f.priority) es → a ≤ e.priority → e.priority < a + n
+    → groups a n (e ∷ es) ≡ e ∷ groups a n es
 put_in zero a e es least low high = absurd (omega arith)
 put_in (suc n) a e es least low high = by_cases (e.priority == a) refl (λ more. put_in n (a + 1) e es least more (omega arith))
   where
-    by_cases : (t : Bool) → (e.priority == a) ≡ t → (a + 1 ≤ e.priority → groups (a + 1) n (e ∷ es) ≡ e ∷ groups (a + 1) n es) → groups a (suc n) (e ∷ es) ≡ e ∷ groups a (suc n) es
+    by_cases : (t : Bool) → (e.priority == a) ≡ t → (a + 1 ≤ e.priority → groups (a + 1) n (e ∷ es) ≡ e ∷ groups (a + 1) n es)
+        → groups a (suc n) (e ∷ es) ≡ e ∷ groups a (suc n) es
     by_cases true at later =
         let is : e.priority ≡ a = grind (arith, at) in
         let here : of_priority a (e ∷ es) ≡ e ∷ of_priority a es = is_of a e es is in
@@ -146,7 +149,8 @@ all_groups n (e ∷ es) rises high =
     put_in n 0 e es rises.0 (omega arith) (omega arith) ∙ ap (λ (rest : List Element). e ∷ rest) (all_groups n es rises.1 high.1)
 
 -- two tests that agree on the elements of a priority
-agree : (p : ℕ) (q r : Element → Bool) (alike : (e : Element) → e.priority ≡ p → q e ≡ r e) → (es : List Element) → of_priority p (filter q es) ≡ of_priority p (filter r es)
+agree : (p : ℕ) (q r : Element → Bool) (alike : (e : Element) → e.priority ≡ p → q e ≡ r e) → (es : List Element)
+    → of_priority p (filter q es) ≡ of_priority p (filter r es)
 agree p q r alike [] = refl
 agree p q r alike (e ∷ es) = by_priority (e.priority == p) refl (agree p q r alike es)
   where
@@ -154,11 +158,13 @@ agree p q r alike (e ∷ es) = by_priority (e.priority == p) refl (agree p q r a
     dropped true xs ne = not_of p e xs ne
     dropped false xs ne = refl
 
-    kept : (t : Bool) (xs ys : List Element) → e.priority ≡ p → of_priority p xs ≡ of_priority p ys → of_priority p (cond t (e ∷ xs) xs) ≡ of_priority p (cond t (e ∷ ys) ys)
+    kept : (t : Bool) (xs ys : List Element) → e.priority ≡ p → of_priority p xs ≡ of_priority p ys
+        → of_priority p (cond t (e ∷ xs) xs) ≡ of_priority p (cond t (e ∷ ys) ys)
     kept true xs ys is rest = is_of p e xs is ∙ ap (λ (rest : List Element). e ∷ rest) rest ∙ sym (is_of p e ys is)
     kept false xs ys is rest = rest
 
-    by_priority : (t : Bool) → (e.priority == p) ≡ t → of_priority p (filter q es) ≡ of_priority p (filter r es) → of_priority p (filter q (e ∷ es)) ≡ of_priority p (filter r (e ∷ es))
+    by_priority : (t : Bool) → (e.priority == p) ≡ t → of_priority p (filter q es) ≡ of_priority p (filter r es)
+        → of_priority p (filter q (e ∷ es)) ≡ of_priority p (filter r (e ∷ es))
     by_priority true at rest =
         let is : e.priority ≡ p = grind (arith, at) in
         ap (λ (t : Bool). of_priority p (cond t (e ∷ filter q es) (filter q es))) (alike e is) ∙ kept (r e) (filter q es) (filter r es) is rest
@@ -171,11 +177,13 @@ keep_all [] = refl
 keep_all (e ∷ es) = ap (λ (rest : List Element). e ∷ rest) (keep_all es)
 
 -- below 8 a search takes what serves the interface, and at 8 all
-below_default : (n a : ℕ) (wanted : Interface) (es : List Element) → a + n ≤ 8 → groups a n (filter (is_taken wanted) es) ≡ groups a n (filter (λ e. serves e.interface wanted) es)
+below_default : (n a : ℕ) (wanted : Interface) (es : List Element) → a + n ≤ 8
+    → groups a n (filter (is_taken wanted) es) ≡ groups a n (filter (λ e. serves e.interface wanted) es)
 below_default zero a wanted es h = refl
 below_default (suc n) a wanted es h =
     let here = agree a (is_taken wanted) (λ e. serves e.interface wanted) alike es in
-    let rest : groups (a + 1) n (filter (is_taken wanted) es) ≡ groups (a + 1) n (filter (λ e. serves e.interface wanted) es) = below_default n (a + 1) wanted es (omega arith) in
+    let rest : groups (a + 1) n (filter (is_taken wanted) es) ≡ groups (a + 1) n (filter (λ e. serves e.interface wanted) es) =
+    below_default n (a + 1) wanted es (omega arith) in
     λ i. here i ++ rest i
   where
     alike : (e : Element) → e.priority ≡ a → is_taken wanted e ≡ serves e.interface wanted
@@ -208,7 +216,8 @@ by_read P octets none some = by_fault (element_fault octets) refl
     by_fault None e = some e
     by_fault (Some fault) e = none
 
-later_rise : (x : List ℕ) (xs : List (List ℕ)) → AllByRecursion (λ y. octets_cmp x y ≡ Less) xs → AllByRecursion (λ f. slice_index x 0 ≤ f.priority) (filter_map element_of xs)
+later_rise : (x : List ℕ) (xs : List (List ℕ)) → AllByRecursion (λ y. octets_cmp x y ≡ Less) xs
+    → AllByRecursion (λ f. slice_index x 0 ≤ f.priority) (filter_map element_of xs)
 later_rise x [] above = tt
 later_rise x (y ∷ ys) above =
     let rest = later_rise x ys above.1 in
@@ -225,29 +234,37 @@ high_read : (xs : List (List ℕ)) → AllByRecursion (λ e. e.priority < 9) (fi
 high_read [] = tt
 high_read (x ∷ xs) =
     let rest = high_read xs in
-    by_read (λ o. AllByRecursion (λ e. e.priority < 9) (cons_option o (filter_map element_of xs))) x rest (λ e. let within = priority_within x e in (omega arith, rest))
+    by_read (λ o. AllByRecursion (λ e. e.priority < 9) (cons_option o (filter_map element_of xs))) x rest
+    (λ e. let within = priority_within x e in (omega arith, rest))
 
 -- the members of the octets that pass a test of elements
-map_taken : (t : Element → Bool) (xs : List (List ℕ)) → map (λ v. (said v).member) (filter (reads_as t) xs) ≡ map (λ e. e.member) (filter t (filter_map element_of xs))
+map_taken : (t : Element → Bool) (xs : List (List ℕ))
+    → map (λ v. (said v).member) (filter (reads_as t) xs) ≡ map (λ e. e.member) (filter t (filter_map element_of xs))
 map_taken t [] = refl
 map_taken t (x ∷ xs) =
     let rest = map_taken t xs in
     by_read
-    (λ o. map (λ v. (said v).member) (cond (option_map_or t o false) (x ∷ filter (reads_as t) xs) (filter (reads_as t) xs)) ≡ map (λ e. e.member) (filter t (cons_option o (filter_map element_of xs))))
+    (λ o. map (λ v. (said v).member) (cond (option_map_or t o false) (x ∷ filter (reads_as t) xs) (filter (reads_as t) xs)) ≡ map (λ e. e.member)
+    (filter t (cons_option o (filter_map element_of xs))))
     x rest (λ e. by_test (t (said x)) rest)
   where
     by_test : (b : Bool) → map (λ v. (said v).member) (filter (reads_as t) xs) ≡ map (λ e. e.member) (filter t (filter_map element_of xs))
-        → map (λ v. (said v).member) (cond b (x ∷ filter (reads_as t) xs) (filter (reads_as t) xs)) ≡ map (λ e. e.member) (cond b (said x ∷ filter t (filter_map element_of xs)) (filter t (filter_map element_of xs)))
+        → map (λ v. (said v).member) (cond b (x ∷ filter (reads_as t) xs) (filter (reads_as t) xs)) ≡ map (λ e. e.member)
+        (cond b (said x ∷ filter t (filter_map element_of xs)) (filter t (filter_map element_of xs)))
     by_test true rest = ap (λ (ms : List (List (List ℕ))). (said x).member ∷ ms) rest
     by_test false rest = rest
 
-pub members_in_order : (wanted : Interface) (values : List (List ℕ)) → map (λ v. (said v).member) (filter (is_sought wanted) (ascending values)) ≡ search_order wanted values
+-- the members of the values that a search takes, ascending, are those of the search
+pub members_in_order : (wanted : Interface) (values : List (List ℕ))
+    → map (λ v. (said v).member) (filter (is_sought wanted) (ascending values)) ≡ search_order wanted values
 members_in_order wanted values =
     map_taken (is_taken wanted) (ascending values)
-    ∙ ap (map (λ e. e.member)) (taken_in_order wanted (elements_in values) (rises_read (ascending values) (ascending-rises values)) (high_read (ascending values)))
+    ∙ ap (map (λ e. e.member)) (taken_in_order wanted (elements_in values) (rises_read (ascending values) (ascending-rises values))
+    (high_read (ascending values)))
 
 -- ---- references to values
 
+-- a function of references is the function of what they refer to
 pub map_behind : {A : Type 0} (f : List ℕ → A) (bs : List (Bor (List ℕ))) → map (λ b. f b.now) bs ≡ map f (behind bs)
 map_behind f [] = refl
 map_behind {A} f (b ∷ bs) = ap (λ (rest : List A). f b.now ∷ rest) (map_behind f bs)
@@ -257,15 +274,18 @@ all_behind P [] all = tt
 all_behind P (b ∷ bs) all = (all.0, all_behind P bs all.1)
 
 -- the values that pass a test, sorted and each once
-pub in_order_is : (p : List ℕ → Bool) (values found sorted : List (List ℕ)) → sorted ≡ ascending found → found ≡ filter p values → sorted ≡ filter p (ascending values)
+pub in_order_is : (p : List ℕ → Bool) (values found sorted : List (List ℕ)) → sorted ≡ ascending found → found ≡ filter p values
+    → sorted ≡ filter p (ascending values)
 in_order_is p values found sorted s f = s ∙ ap ascending f ∙ ascending-filter p values
 
 -- what a search takes is elements
-pub all_whole : (wanted : Interface) (values : List (List ℕ)) (bs : List (Bor (List ℕ))) → behind bs ≡ filter (is_sought wanted) (ascending values) → All (λ b. element_fault b.now ≡ None) bs
+pub all_whole : (wanted : Interface) (values : List (List ℕ)) (bs : List (Bor (List ℕ))) → behind bs ≡ filter (is_sought wanted) (ascending values)
+    → All (λ b. element_fault b.now ≡ None) bs
 all_whole wanted values bs e =
     let P : List ℕ → Type 0 = λ o. element_fault o ≡ None in
     let whole : All P (filter (is_sought wanted) (ascending values)) =
-    All-weaker (λ o. is_sought wanted o ≡ true) P (sought_whole wanted) (filter (is_sought wanted) (ascending values)) (filter_passes (is_sought wanted) (ascending values)) in
+    All-weaker (λ o. is_sought wanted o ≡ true) P (sought_whole wanted) (filter (is_sought wanted) (ascending values))
+    (filter_passes (is_sought wanted) (ascending values)) in
     All-from_recursion (λ b. P b.now) bs (all_behind P bs (recursion_from_All P (behind bs) (subst (All P) (sym e) whole)))
 
 -- ---- values that are deleted
@@ -283,7 +303,9 @@ length_behind : (bs : List (Bor (List ℕ))) → length (behind bs) ≡ length b
 length_behind [] = refl
 length_behind (b ∷ bs) = ap suc (length_behind bs)
 
-pub none_found : (p : List ℕ → Bool) (n : ℕ) (bs : List (Bor (List ℕ))) (values : List (List ℕ)) → n ≡ length bs → behind bs ≡ filter p values → (n == 0) ≡ not (list_any p values)
+-- no reference was found exactly where no value passes the test
+pub none_found : (p : List ℕ → Bool) (n : ℕ) (bs : List (Bor (List ℕ))) (values : List (List ℕ)) → n ≡ length bs → behind bs ≡ filter p values
+    → (n == 0) ≡ not (list_any p values)
 none_found p n bs values len is =
     let all : n ≡ length (filter p values) = len ∙ sym (length_behind bs) ∙ ap length is in
     ap (λ (k : ℕ). k == 0) all ∙ empty_filter p values
@@ -296,13 +318,17 @@ pub deleted_are : (name : List ℕ) (interface : Option Interface) (member value
     → behind found ≡ filter (is_element interface member) values → behind sorted ≡ ascending (behind found)
     → map (λ value. Remove name profile value.now) sorted ≡ deleted name interface member values
 deleted_are name interface member values found sorted f s =
-    map_behind (Remove name profile) sorted ∙ ap (map (Remove name profile)) (in_order_is (is_element interface member) values (behind found) (behind sorted) s f)
+    map_behind (Remove name profile) sorted ∙ ap (map (Remove name profile))
+    (in_order_is (is_element interface member) values (behind found) (behind sorted) s f)
 
 -- the answer where there is something to delete
-pub deleted_answer : (name : List ℕ) (interface : Option Interface) (member values : List (List ℕ)) (n : ℕ) (found sorted : List (Bor (List ℕ))) (done : List Change)
+pub deleted_answer : (name : List ℕ) (interface : Option Interface) (member values : List (List ℕ)) (n : ℕ) (found sorted : List (Bor (List ℕ)))
+    (done : List Change)
     → n ≢ 0 → (n == 0) ≡ not (list_any (is_element interface member) values)
-    → behind found ≡ filter (is_element interface member) values → behind sorted ≡ ascending (behind found) → done ≡ map (λ value. Remove name profile value.now) sorted
+    → behind found ≡ filter (is_element interface member) values → behind sorted ≡ ascending (behind found)
+    → done ≡ map (λ value. Remove name profile value.now) sorted
     → ok_unless (delete_fault interface member values) (deleted name interface member values) ≡ Ok done
 deleted_answer name interface member values n found sorted done some is f s d =
     let there : list_any (is_element interface member) values ≡ true = some_there _ n some is in
-    ap (λ (t : Bool). ok_unless (if t then None else Some NoSuchElement) (deleted name interface member values)) there ∙ ap Ok (sym (d ∙ deleted_are name interface member values found sorted f s))
+    ap (λ (t : Bool). ok_unless (if t then None else Some NoSuchElement) (deleted name interface member values)) there
+    ∙ ap Ok (sym (d ∙ deleted_are name interface member values found sorted f s))

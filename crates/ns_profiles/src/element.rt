@@ -5,7 +5,9 @@ ghost use Rattle.cds_stamps.specs.Outcomes.{ok_unless};
 ghost use Rattle.cds_stamps.specs.declared.alloc_or.AllocOr.TheVariants.{Fault, OutOfMemory};
 ghost use Rattle.std.specs.Int.{from_be_bytes, w16};
 ghost use Rattle.cell_names.specs.FullNames.{name_fault, components_of};
-ghost use Rattle.ns_profiles.specs.Elements.{default_priority, is_annotation_octet, first_fault, field_fault, priority_field, interface_field, length_field, member_field, annotation_field, is_default, name_length, interface_in, member_octets, annotation_octets, element_fault, said, element_of, IsElementOf};
+ghost use Rattle.ns_profiles.specs.Elements.{default_priority, is_annotation_octet, first_fault, field_fault, priority_field, interface_field};
+ghost use Rattle.ns_profiles.specs.Elements.{length_field, member_field, annotation_field, is_default, name_length, interface_in, member_octets};
+ghost use Rattle.ns_profiles.specs.Elements.{annotation_octets, element_fault, said, element_of, IsElementOf};
 ghost use Rattle.ns_profiles.specs.declared.fault.ProfileFault.TheVariants.{BadElement};
 
 use crate::fault::ProfileFault;
@@ -17,7 +19,7 @@ use std::marker::Model;
 use tower_codec::Interface;
 use uuid::Uuid;
 
-// The priority of a default element.
+// The priority of a default element; those of the others are below it.
 pub(crate) const DEFAULT: u8 = 8;
 
 // How many octets stand before each field of the octets of an element.
@@ -29,7 +31,7 @@ const MINOR: usize = 19;
 
 const NAME_LENGTH: usize = 21;
 
-const NAME: usize = 23;
+pub(crate) const NAME: usize = 23;
 
 /// What an element says beside its interface and its member: octets 0x20 to 0x7E.
 #[derive(Debug, PartialEq, Eq, Drop)]
@@ -244,7 +246,8 @@ fn are_zeros(octets: &[u8]) -> bool
 
 // Whether the length of the member's name, the name and the annotation are there.
 fn check_texts(octets: &[u8]) -> Result<(), ProfileFault>
-    ensures { result ≡ ok_unless (first_fault octets.now (length_field ∷ member_field (name_length octets.now) ∷ annotation_field (name_length octets.now) (length octets.now) ∷ [])) tt }
+    ensures { result ≡ ok_unless (first_fault octets.now (length_field ∷ member_field (name_length octets.now)
+        ∷ annotation_field (name_length octets.now) (length octets.now) ∷ [])) tt }
 {
     let own_length = field(octets, NAME_LENGTH, NAME)?;
     let end = NAME + usize::from(number_of(own_length));

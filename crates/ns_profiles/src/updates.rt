@@ -1,5 +1,7 @@
 // The updates that change the elements of a profile.
-ghost use Rattle.std.specs.Prelude.{◌≡◌, ◌≢◌, ◌+◌, ◌≤◌, ◌++◌, ◌∷◌, [], Some, None, map, length, option_copied, IsTrue, MatchResult, IfOk, OnOk, IfSome, true, if◌then◌else◌};
+ghost use Rattle.std.specs.Prelude.{◌≡◌, ◌≢◌, ◌+◌, ◌≤◌, ◌++◌, ◌∷◌, [], Some, None, map, length, option_copied, IsTrue, MatchResult, IfOk, OnOk};
+ghost use Rattle.std.specs.Prelude.{IfSome, true, if◌then◌else◌};
+ghost use Rattle.std.specs.Int.{to_be_bytes, w16};
 ghost use Rattle.std.specs.List.{list_all};
 ghost use Rattle.std.specs.Result.{result_map_both};
 ghost use Rattle.cds_stamps.specs.Outcomes.{Answers, ok_unless};
@@ -10,12 +12,13 @@ ghost use Rattle.tower_codec.specs.Rpc.{IsInterface};
 ghost use Rattle.directory.specs.Updates.{Add, Remove, change_of};
 ghost use Rattle.directory.specs.EntryChanges.{changes, creation};
 ghost use Rattle.ns_profiles.specs.Elements.{is_annotation_octet, element_octets, element_of};
-ghost use Rattle.ns_profiles.specs.Profiles.{profile, is_priority, written, new_element, add_fault, added, is_element, delete_fault, deleted};
+ghost use Rattle.ns_profiles.specs.Profiles.{profile, most_text, is_priority, written, new_element, add_fault, added, is_element, delete_fault, deleted};
 
-use crate::element::DEFAULT;
+use crate::element::{DEFAULT, NAME};
 use crate::fault::ProfileFault;
 use crate::search::elements_of;
 use attr_sets::{Value, in_order};
+use byteorder::{BigEndian, ByteOrder};
 use cds_stamps::{AllocOr, AttrName, SimpleName};
 use cell_names::FullName;
 use directory::{Update, creation};
@@ -26,7 +29,7 @@ use uuid::Uuid;
 /// The attribute with the elements of a profile.
 pub const PROFILE: &[u8] = b"RPC_Profile";
 
-// The most octets of a member's name and an annotation together: with the 23 in front of them they make a value.
+// The most octets of a member's name and an annotation together: with the octets in front of them they make a value.
 const MOST_TEXT: usize = 1001;
 
 /// The updates that add an element to an entry: one that creates the entry, where it is absent, and one that adds the
@@ -136,21 +139,36 @@ fn element(
     priority: u8,
     annotation: &[u8],
 ) -> Result<Vec<u8>, AllocError>
-    requires { length (spelling member.now) + length annotation.now ≤ 1001 }
-    ensures spelled { IfOk result (λ v. v.items ≡ element_octets (record { priority = priority; interface = interface.now; member = member.now; annotation = annotation.now })) }
+    requires { length (spelling member.now) + length annotation.now ≤ most_text }
+    ensures spelled { IfOk result (λ v. v.items ≡ element_octets (record {
+      priority = priority;
+      interface = interface.now;
+      member = member.now;
+      annotation = annotation.now;
+    })) }
     ensures lawful { IfOk result (λ v. value_fault v.items ≡ None) }
     ensures fits { OnOk result (IsInterface interface.now) }
 {
     let name_len = member.spelled_len();
-    let mut octets = Vec::with_capacity(alloc, 23 + name_len + annotation.len())?;
+    let mut octets = Vec::with_capacity(alloc, NAME + name_len + annotation.len())?;
     octets.push(priority)?;
     octets.extend_from_slice(interface.uuid.as_bytes())?;
-    octets.extend_from_slice(&interface.major.to_be_bytes())?;
-    octets.extend_from_slice(&interface.minor.to_be_bytes())?;
-    octets.extend_from_slice(&(name_len as u16).to_be_bytes())?;
+    push_number(&mut octets, interface.major)?;
+    push_number(&mut octets, interface.minor)?;
+    push_number(&mut octets, name_len as u16)?;
     member.append_spelling(&mut octets)?;
     octets.extend_from_slice(annotation)?;
     Ok(octets)
+}
+
+// Puts a number behind octets, the higher octet first.
+fn push_number(octets: &mut Vec<u8>, number: u16) -> Result<(), AllocError>
+    ensures { OnOk result (octets.new.items ≡ octets.old.items ++ to_be_bytes w16 number) }
+{
+    let mut written = [0; 2];
+    BigEndian::write_u16(&mut written, number);
+    octets.extend_from_slice(&written)?;
+    Ok(())
 }
 
 // The updates that add a value of these octets.

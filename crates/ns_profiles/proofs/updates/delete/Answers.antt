@@ -12,6 +12,7 @@ returns-clause-answer c =
     let sorted = c.in_order-sorted.result.items in
     let name = c.args.name.now in
     let some : found.len ≢ 0 = λ e. grind (arith, e, c.is_empty.ensures, c.if-is_empty.false) in
-    deleted_answer name (option_copied c.args.interface) c.args.member.now c.args.values.now found.len found.items sorted (changes c.in_ok-removals.field-0.items)
+    deleted_answer name (option_copied c.args.interface) c.args.member.now c.args.values.now found.len found.items sorted
+    (changes c.in_ok-removals.field-0.items)
     some c.in_ok-found.ensures.some c.in_ok-found.ensures.found c.in_order-sorted.ensures
     (c.in_ok-removals.ensures ∙ ap (map (λ (value : Bor (List ℕ)). Remove name profile value.now)) c.deref.ensures.value)

@@ -14,7 +14,8 @@ returns-clause-exports c = λ h n interface bindings objects known.
     let all : List Change = map (object_added n) objects in
     subst (AreAccepted h) (sym (append_assoc (creation n (is_none (shown h n))) towers all))
     (creation_accepted h n (towers ++ all) known
-    (all_change n towers all (each_changes n (tower_added n interface) (λ b. (refl, refl)) bindings) (each_changes n (object_added n) (λ o. (refl, refl)) objects)))
+    (all_change n towers all (each_changes n (tower_added n interface) (λ b. (refl, refl)) bindings)
+    (each_changes n (object_added n) (λ o. (refl, refl)) objects)))
 
 pub returns-clause-unexports : goal.returns-clause-unexports
 returns-clause-unexports c = λ h n e towers held interface objects is.
