@@ -14,7 +14,8 @@ pub use Rattle.cds_stamps.proofs.ListMembers.{Contains-head, Contains-tail, Cont
 -- ---- joins of members
 
 -- the join has taken in what each member has
-pub join_of-member : {A X : Type 0} {f : X → X → X} → IsSemilattice f → (g : A → Option X) (h : List A) (e : A) → Contains h e → maybe f (g e) (join_of f g h) ≡ join_of f g h
+pub join_of-member : {A X : Type 0} {f : X → X → X} → IsSemilattice f → (g : A → Option X) (h : List A) (e : A) → Contains h e
+    → maybe f (g e) (join_of f g h) ≡ join_of f g h
 join_of-member s g [] e c = absurd (Contains-none e c)
 join_of-member {A} {X} {f} s g (d ∷ h) e c = ⊎_elim here (λ in_rest. there (join_of-member s g h e in_rest)) (Contains-cases d h e c)
   where
@@ -22,10 +23,12 @@ join_of-member {A} {X} {f} s g (d ∷ h) e c = ⊎_elim here (λ in_rest. there 
     m = maybe_semilattice s
 
     here : d ≡ e → maybe f (g e) (maybe f (g d) (join_of f g h)) ≡ maybe f (g d) (join_of f g h)
-    here is = ap (λ x. maybe f x (maybe f (g d) (join_of f g h))) (ap g (sym is)) ∙ sym (m.assoc (g d) (g d) (join_of f g h)) ∙ ap (λ x. maybe f x (join_of f g h)) (m.idem (g d))
+    here is = ap (λ x. maybe f x (maybe f (g d) (join_of f g h))) (ap g (sym is)) ∙ sym (m.assoc (g d) (g d) (join_of f g h))
+        ∙ ap (λ x. maybe f x (join_of f g h)) (m.idem (g d))
 
     there : maybe f (g e) (join_of f g h) ≡ join_of f g h → maybe f (g e) (maybe f (g d) (join_of f g h)) ≡ maybe f (g d) (join_of f g h)
-    there rest = sym (m.assoc (g e) (g d) (join_of f g h)) ∙ ap (λ x. maybe f x (join_of f g h)) (m.comm (g e) (g d)) ∙ m.assoc (g d) (g e) (join_of f g h) ∙ ap (maybe f (g d)) rest
+    there rest = sym (m.assoc (g e) (g d) (join_of f g h)) ∙ ap (λ x. maybe f x (join_of f g h)) (m.comm (g e) (g d))
+        ∙ m.assoc (g d) (g e) (join_of f g h) ∙ ap (maybe f (g d)) rest
 
 pub same_inside : {X : Type 0} (x y : X) → Some x ≡ Some y → x ≡ y
 same_inside x y e = cc (e)
@@ -72,10 +75,12 @@ module _ {A K : Type 0} (R : K → K → Ordering) (g : A → Option K) where
     -- no member has a greater one
     pub join_of-greatest : (h : List A) (x : K) → join_of (greater R) g h ≡ Some x → (e : A) (y : K) → Contains h e → g e ≡ Some y → is_lt (R x y) ≡ false
     join_of-greatest h x is e y c has =
-        not_below x y (same_inside (greater R y x) x (ap (maybe (greater R) (Some y)) (sym is) ∙ ap (λ a. maybe (greater R) a (join_of (greater R) g h)) (sym has) ∙ join_of-member (greater_semilattice o same) g h e c ∙ is))
+        not_below x y (same_inside (greater R y x) x (ap (maybe (greater R) (Some y)) (sym is) ∙ ap (λ a. maybe (greater R) a (join_of
+        (greater R) g h)) (sym has) ∙ join_of-member (greater_semilattice o same) g h e c ∙ is))
 
     -- what a member has, where none has a greater one
-    pub join_of-is : (h : List A) (x : K) → HasMember g h x → ((e : A) (y : K) → Contains h e → g e ≡ Some y → is_lt (R x y) ≡ false) → join_of (greater R) g h ≡ Some x
+    pub join_of-is : (h : List A) (x : K) → HasMember g h x → ((e : A) (y : K) → Contains h e → g e ≡ Some y → is_lt (R x y) ≡ false)
+        → join_of (greater R) g h ≡ Some x
     join_of-is h x m most = by_case (join_of (greater R) g h) refl
       where
         holds : maybe (greater R) (Some x) (join_of (greater R) g h) ≡ join_of (greater R) g h

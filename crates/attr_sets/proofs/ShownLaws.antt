@@ -22,9 +22,10 @@ use Rattle.attr_sets.specs.declared.mark.ValueMark.{ValueMark}
 use Rattle.attr_sets.specs.Marks.{kept, mark_cmp, mark_total, mark_exact}
 use Rattle.attr_sets.specs.declared.cell.AttrCell.{AttrCell}
 use Rattle.attr_sets.specs.Cells.{AttrMark, Cleared, Marked, clear_in, mark_in, greatest_clear, greatest_mark, marks_kept, present_in, shown_values, cell_values}
-use Rattle.attr_sets.specs.CellLaws.{get-cell_of}
+use Rattle.attr_sets.specs.CellLawProofs.{get-cell_of}
 use Rattle.attr_sets.specs.ShownValues.{IsGreatestMark, IsUncleared, IsShown}
-use Rattle.attr_sets.proofs.Greatest.{not_lt-through, Contains-head, Contains-tail, Contains-none, Contains-cases, HasMember, join_of-among, join_of-greatest, join_of-is, join_of-member, same_inside}
+use Rattle.attr_sets.proofs.Greatest.{not_lt-through, Contains-head, Contains-tail, Contains-none, Contains-cases}
+use Rattle.attr_sets.proofs.Greatest.{HasMember, join_of-among, join_of-greatest, join_of-is, join_of-member, same_inside}
 
 -- ---- marks of a value, and clears
 
@@ -52,7 +53,9 @@ module _ (h : List AttrMark) (v : List ℕ) where
   }
 
   greatest_to : (m : ValueMark) → IsGreatestMark h v m → greatest_mark h v ≡ Some m
-  greatest_to m g = join_of-is mark_cmp (mark_in v) mark_total mark_exact h m (Marked v m, g.among, mark_in-itself v m) (λ e n c has. g.greatest n (subst (Contains h) (mark_in-only v e n has) c))
+  greatest_to m g =
+      join_of-is mark_cmp (mark_in v) mark_total mark_exact h m (Marked v m, g.among, mark_in-itself v m) (λ e n c has. g.greatest n (subst
+      (Contains h) (mark_in-only v e n has) c))
 
 -- ---- what the clears keep
 
@@ -77,8 +80,11 @@ module _ (h : List AttrMark) (m : ValueMark) where
   uncleared_from keeps d among = by_case (greatest_clear h) refl keeps
     where
       by_case : (c : Option Stamp) → greatest_clear h ≡ c → kept c (Some m) ≡ Some m → is_earlier m.stamp d ≡ false
-      by_case None is k = absurd (nothing_later d (ap (maybe later_stamp (Some d)) (sym is) ∙ join_of-member later_stamp_laws clear_in h (Cleared d) among ∙ is))
-      by_case (Some c) is k = not_lt-through stamp_total stamp_exact m.stamp c d (if_kept (is_earlier m.stamp c) m k) (join_of-greatest stamp_cmp clear_in stamp_total stamp_exact h c is (Cleared d) d among refl)
+      by_case None is k =
+          absurd (nothing_later d (ap (maybe later_stamp (Some d)) (sym is) ∙ join_of-member later_stamp_laws clear_in h (Cleared d) among ∙ is))
+      by_case (Some c) is k =
+          not_lt-through stamp_total stamp_exact m.stamp c d (if_kept
+          (is_earlier m.stamp c) m k) (join_of-greatest stamp_cmp clear_in stamp_total stamp_exact h c is (Cleared d) d among refl)
 
 -- what is kept was there
 kept_of : (c : Option Stamp) (x : Option ValueMark) (m : ValueMark) → kept c x ≡ Some m → x ≡ Some m
@@ -103,9 +109,15 @@ present_from : (es : List (List ℕ × ValueMark)) (v : List ℕ) → Contains (
 present_from [] v c = absurd (Contains-none v c)
 present_from (e ∷ es) v c = by_case (present_from es v) e.1.present refl c
   where
-    by_case : (Contains (present_in es) v → HasPresent es v) → (b : Bool) → e.1.present ≡ b → Contains (if b then e.0 ∷ present_in es else present_in es) v → HasPresent (e ∷ es) v
+    by_case : (Contains (present_in es) v → HasPresent es v) → (b : Bool) → e.1.present ≡ b
+        → Contains (if b then e.0 ∷ present_in es else present_in es) v → HasPresent (e ∷ es) v
     by_case rest true p has =
-        ⊎_elim (λ is. (e.1, subst (λ w. Contains (e ∷ es) (w, e.1)) is (Contains-head e es), p)) (λ in_rest. further e es v (rest in_rest)) (Contains-cases e.0 (present_in es) v has)
+        ⊎_elim (λ is. (
+          e.1,
+          subst (λ w. Contains
+              (e ∷ es) (w, e.1)) is (Contains-head e es),
+          p,
+        )) (λ in_rest. further e es v (rest in_rest)) (Contains-cases e.0 (present_in es) v has)
     by_case rest false p has = further e es v (rest has)
 
 present_to : (es : List (List ℕ × ValueMark)) (v : List ℕ) (m : ValueMark) → m.present ≡ true → Contains es (v, m) → Contains (present_in es) v
@@ -158,7 +170,8 @@ unfolding IsStrictlySortedBy
 present_rise [] h = tt
 present_rise (e ∷ es) h = by_case e.1.present (present_below (λ y. octets_cmp e.0 y ≡ Less) es h.0) (present_rise es h.1)
   where
-    by_case : (b : Bool) → AllByRecursion (λ y. octets_cmp e.0 y ≡ Less) (present_in es) → IsStrictlySortedBy octets_cmp (present_in es) → IsStrictlySortedBy octets_cmp (if b then e.0 ∷ present_in es else present_in es)
+    by_case : (b : Bool) → AllByRecursion (λ y. octets_cmp e.0 y ≡ Less) (present_in es) → IsStrictlySortedBy octets_cmp (present_in es)
+        → IsStrictlySortedBy octets_cmp (if b then e.0 ∷ present_in es else present_in es)
     by_case true below rest = (below, rest)
     by_case false below rest = rest
 

@@ -78,4 +78,6 @@ abbrev pub IsValidCell : AttrCell → Type 0
 IsValidCell a = (v : List ℕ) → kept a.cleared (get a.values v) ≡ get a.values v
 
 abbrev pub cell_code : Coded AttrCell
-cell_code = code_by (Option Stamp × FinMap octets_cmp ValueMark) (coded× (coded_option stamp_code) (code octets_code mark_code)) (λ c. (c.cleared, c.values)) (λ p. record { cleared = p.0; values = p.1 }) (λ _. refl)
+cell_code =
+    code_by (Option Stamp × FinMap octets_cmp ValueMark) (coded×
+    (coded_option stamp_code) (code octets_code mark_code)) (λ c. (c.cleared, c.values)) (λ p. record { cleared = p.0; values = p.1 }) (λ _. refl)

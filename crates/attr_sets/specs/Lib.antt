@@ -1,8 +1,8 @@
 pub mod Values
 pub mod Marks
 pub mod Cells
-pub mod CellLaws
-pub mod CellUndos
+pub mod CellLawProofs
+pub mod CellUndoWords
 pub mod CellChanges
 pub mod CellPurges
 pub mod ShownValues

@@ -35,7 +35,10 @@ pub mark_total : IsTotalOrder mark_cmp
 mark_total = then_total (on_total (λ m. m.stamp) stamp_total) (back_total (on_total (λ m. m.present) bool_cmp_total))
 
 pub mark_exact : IsAntisymmetric mark_cmp
-mark_exact a b h = ap (λ (p : Stamp × Bool). record { present = p.1; stamp = p.0 }) (exact_pairs stamp_cmp (flip_args bool_cmp) stamp_exact exact_flags (a.stamp, a.present) (b.stamp, b.present) h)
+mark_exact a b h =
+    ap (λ
+    (p : Stamp × Bool). record { present = p.1; stamp = p.0 }) (exact_pairs stamp_cmp
+    (flip_args bool_cmp) stamp_exact exact_flags (a.stamp, a.present) (b.stamp, b.present) h)
 
 -- of two marks of one value, the one that counts (own, after C705, later timestamps win)
 abbrev pub later : ValueMark → ValueMark → ValueMark

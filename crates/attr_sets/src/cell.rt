@@ -5,9 +5,9 @@ ghost use Rattle.cds_stamps.specs.Semilattice.{maybe};
 ghost use Rattle.cds_stamps.specs.Stamps.{later_stamp};
 ghost use Rattle.attr_sets.specs.Marks.{kept, present_at, absent_at, RaisesKept, AgreesOnKept};
 ghost use Rattle.attr_sets.specs.Cells.{Cleared, Marked, cell_of, cell_values, join_cells, IsValidCell};
-ghost use Rattle.attr_sets.specs.CellUndos.{undo_cell};
+ghost use Rattle.attr_sets.specs.CellUndoWords.{undo_cell};
 ghost use Rattle.attr_sets.specs.CellChanges.{change_marks};
-ghost use Rattle.attr_sets.specs.CellLaws.{join_cells-comm, join_cells-assoc, join_cells-idem, join_cells-valid};
+ghost use Rattle.attr_sets.specs.CellLawProofs.{join_cells-comm, join_cells-assoc, join_cells-idem, join_cells-valid};
 
 use crate::change::CellChange;
 use crate::mark::ValueMark;

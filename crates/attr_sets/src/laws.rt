@@ -6,6 +6,7 @@ ghost use Rattle.cds_stamps.specs.Octets.{octets_cmp};
 ghost use Rattle.cds_stamps.specs.declared.stamp.Stamp.{Stamp};
 ghost use Rattle.attr_sets.specs.declared.cell.AttrCell.{AttrCell};
 ghost use Rattle.attr_sets.specs.CellPurges.{is_empty_cell};
+ghost use Rattle.attr_sets.specs.Marks.{present_at, absent_at};
 ghost use Rattle.attr_sets.specs.Cells.{AttrMark, Cleared, Marked, cell_of, empty_cell, join_cells, shown_values, IsValidCell};
 ghost use Rattle.attr_sets.specs.ShownValues.{IsBefore, IsShown};
 
@@ -38,8 +39,11 @@ pub fn shown_values_ascend()
 /// An update that is later than all before shows at once: an added value shows, a removed one doesn't, a put one shows
 /// alone, and after a clear none does. The other values show as before an addition and a removal.
 pub fn later_updates_show()
-    ensures added { (h : List AttrMark) (v : List ℕ) (s : Stamp) → IsBefore h s → (w : List ℕ) → Contains (shown_values (h ++ Marked v (record { present = true; stamp = s }) ∷ [])) w ↔ ((w ≡ v) ⊎ Contains (shown_values h) w) }
-    ensures removed { (h : List AttrMark) (v : List ℕ) (s : Stamp) → IsBefore h s → (w : List ℕ) → Contains (shown_values (h ++ Marked v (record { present = false; stamp = s }) ∷ [])) w ↔ ((¬ (w ≡ v)) × Contains (shown_values h) w) }
-    ensures put { (h : List AttrMark) (v : List ℕ) (s : Stamp) → IsBefore h s → (w : List ℕ) → Contains (shown_values (h ++ Cleared s ∷ Marked v (record { present = true; stamp = s }) ∷ [])) w ↔ (w ≡ v) }
+    ensures added { (h : List AttrMark) (v : List ℕ) (s : Stamp) → IsBefore h s →
+        (w : List ℕ) → Contains (shown_values (h ++ Marked v (present_at s) ∷ [])) w ↔ ((w ≡ v) ⊎ Contains (shown_values h) w) }
+    ensures removed { (h : List AttrMark) (v : List ℕ) (s : Stamp) → IsBefore h s →
+        (w : List ℕ) → Contains (shown_values (h ++ Marked v (absent_at s) ∷ [])) w ↔ ((¬ (w ≡ v)) × Contains (shown_values h) w) }
+    ensures put { (h : List AttrMark) (v : List ℕ) (s : Stamp) → IsBefore h s →
+        (w : List ℕ) → Contains (shown_values (h ++ Cleared s ∷ Marked v (present_at s) ∷ [])) w ↔ (w ≡ v) }
     ensures cleared { (h : List AttrMark) (s : Stamp) → IsBefore h s → (w : List ℕ) → ¬ Contains (shown_values (h ++ Cleared s ∷ [])) w }
 {}

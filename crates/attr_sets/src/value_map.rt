@@ -4,6 +4,7 @@ ghost use Rattle.std.specs.FinMap as map;
 ghost use Rattle.std.specs.BTreeMap as tree;
 ghost use Rattle.std.specs.Ordering.{eq_by_cmp};
 ghost use Rattle.cds_stamps.specs.Octets.{octets_cmp};
+ghost use Rattle.cds_stamps.specs.Semilattice.{maybe};
 ghost use Rattle.cds_stamps.specs.Undos.{RaisesAt, TakesBack, LogsChange, MendsAt, back_at, put_back};
 ghost use Rattle.attr_sets.specs.Marks.{kept, later, RaisesKept, JoinsKept};
 
@@ -144,7 +145,8 @@ impl ValueMap {
 
     /// Joins a mark in where the value has one. That one.
     fn raise_here(&mut self, value: &Value, mark: ValueMark) -> Option<ValueMark>
-        ensures { MatchOption result ((map.get self.old value.now ≡ None) × (self.new ≡ self.old)) (λ before. RaisesAt later self.old self.new value.now mark × TakesBack put_back self.old self.new ((value.now, Some before) ∷ [])) }
+        ensures { MatchOption result ((map.get self.old value.now ≡ None) × (self.new ≡ self.old)) (λ before.
+            RaisesAt later self.old self.new value.now mark × TakesBack put_back self.old self.new ((value.now, Some before) ∷ [])) }
     {
         match self.marks.get_mut(value) {
             Some(own) => {
@@ -192,7 +194,17 @@ impl ValueMap {
         Ok(())
     }
 
-    /// Joins one mark in, and logs the change. Room in the log comes first.
+    /// Whether the value has a mark that this one does not change.
+    fn outdates(&self, value: &Value, mark: &ValueMark) -> bool
+        ensures { IsTrue result → maybe later (map.get self.now value.now) (Some mark.now) ≡ map.get self.now value.now }
+    {
+        match self.get(value) {
+            Some(own) => own.later(*mark) == *own,
+            None => false,
+        }
+    }
+
+    /// Joins one mark in, and logs the change, if it is one. Room in the log comes first.
     fn raise_logged(
         &mut self,
         alloc: Global,
@@ -203,9 +215,13 @@ impl ValueMap {
         ensures ok { OnOk result (RaisesAt later self.old self.new value.now mark) }
         ensures back { LogsChange put_back self.old self.new log.old.items log.new.items }
     {
+        let mark = &mark;
+        if self.outdates(value, mark) {
+            return Ok(());
+        }
         log.reserve(1)?;
         let key = value.copy(alloc)?;
-        let before = self.raise(alloc, value, mark)?;
+        let before = self.raise(alloc, value, *mark)?;
         log.push((key, before)).unwrap();
         Ok(())
     }

@@ -22,7 +22,7 @@ use Rattle.attr_sets.specs.Cells.{AttrMark, cell_of, join_cells}
 use Rattle.directory.specs.declared.entry.EntryCell.{EntryCell}
 use Rattle.directory.specs.declared.entry.Fragment.{Fragment}
 use Rattle.directory.specs.Entries.{Entries, join_tied, join_entries, IsValidEntry}
-use Rattle.directory.specs.EntryLaws.{kinds}
+use Rattle.directory.specs.EntryLawProofs.{kinds}
 use Rattle.directory.specs.Histories.{Mark, Birth, entry_of}
 use Rattle.directory.specs.Shown.{Shown, shown_in, shown_entry, face_of, leads, with_birth}
 use Rattle.directory.specs.Applied.{changed_entry, deleted_entry, TakesOwn, TakesIn}
@@ -36,8 +36,10 @@ module _ {K X : Type 0} {R : K → K → Ordering} (o : IsTotalOrder R) (same : 
   had_at m es k own view had = ap (λ m. get m k) (sym view) ∙ get-view o es k ∙ sym had
 
   -- a value joined in in place, where the one that was there is valid
-  pub changed_here : (m : FinMap R X) (es fs : List (K × X)) (k : K) (own x next : X) → from_entries es ≡ m → Some own ≡ lookup (is_at (R k)) es → (V own → next ≡ f own x)
-      → ((q : K) → lookup (is_at (R q)) fs ≡ cond (is_at (R k) q) (Some next) (lookup (is_at (R q)) es)) → IfSome (get m k) V → RaisesAt f m (from_entries fs) k x
+  pub changed_here : (m : FinMap R X) (es fs : List (K × X)) (k : K) (own x next : X) → from_entries es ≡ m → Some own ≡ lookup (is_at (R k)) es
+      → (V own → next ≡ f own x)
+      → ((q : K) → lookup (is_at (R q)) fs ≡ cond (is_at (R k) q) (Some next) (lookup (is_at (R q)) es)) → IfSome (get m k) V
+      → RaisesAt f m (from_entries fs) k x
   changed_here m es fs k own x next view had joins puts valid =
       joined_here o same f m es fs k own x next view had (sym (joins (subst (λ y. IfSome y V) (had_at m es k own view had) valid))) puts
 
@@ -49,14 +51,18 @@ tied_joins a b e =
     ap pick (ap (stamp_cmp a.birth) (sym e) ∙ tied_itself stamp_total a.birth)
 
 -- an entry with a change of an attribute joined in
-pub changed_joins : (own : EntryCell) (a : List ℕ) (ms : List AttrMark) (attrs : FinMap octets_cmp AttrCell) → RaisesAt join_cells own.attrs attrs a (cell_of ms) → record own { attrs = attrs } ≡ join_entries own (changed_entry own a ms)
+pub changed_joins : (own : EntryCell) (a : List ℕ) (ms : List AttrMark) (attrs : FinMap octets_cmp AttrCell)
+    → RaisesAt join_cells own.attrs attrs a (cell_of ms) → record own { attrs = attrs } ≡ join_entries own (changed_entry own a ms)
 changed_joins own a ms attrs raises =
     let cell : FinMap octets_cmp AttrCell = insert empty a (cell_of ms) in
     let joined : attrs ≡ join_maps join_cells own.attrs cell = same_map nat_list_cmp_total octets_exact attrs (join_maps join_cells own.attrs cell) (λ q.
     raises q
-    ∙ ap (maybe join_cells (get own.attrs q)) (as_cond (is_octets q a) ∙ sym (get-insert nat_list_cmp_total empty a (cell_of ms) q ∙ ap (cond (is_octets q a) (Some (cell_of ms))) (get-empty octets_cmp q)))
+    ∙ ap (maybe join_cells (get own.attrs q)) (as_cond (is_octets q a) ∙ sym (get-insert nat_list_cmp_total empty a (cell_of ms) q ∙ ap (cond
+    (is_octets q a) (Some (cell_of ms))) (get-empty octets_cmp q)))
     ∙ sym (get-join_maps nat_list_cmp_total octets_exact join_cells own.attrs cell q)) in
-    let tied : record own { attrs = attrs } ≡ join_tied own (changed_entry own a ms) = λ i. record { birth = own.birth; kind = sym (kinds.idem own.kind) i; death = no_death own.death i; attrs = joined i } in
+    let tied : record own { attrs = attrs }
+    ≡ join_tied own (changed_entry own a ms) =
+    λ i. record { birth = own.birth; kind = sym (kinds.idem own.kind) i; death = no_death own.death i; attrs = joined i } in
     tied ∙ sym (tied_joins own (changed_entry own a ms) refl)
   where
     as_cond : (b : Bool) → (if b then Some (cell_of ms) else None) ≡ cond b (Some (cell_of ms)) None
@@ -68,11 +74,15 @@ changed_joins own a ms attrs raises =
     no_death (Some s) = refl
 
 -- an entry with a death joined in
-pub deleted_joins : (own : EntryCell) (s : Stamp) (death : Option Stamp) → death ≡ maybe earlier_stamp own.death (Some s) → record own { death = death } ≡ join_entries own (deleted_entry own s)
+pub deleted_joins : (own : EntryCell) (s : Stamp) (death : Option Stamp) → death ≡ maybe earlier_stamp own.death (Some s)
+    → record own { death = death } ≡ join_entries own (deleted_entry own s)
 deleted_joins own s death is =
-    let stays : own.attrs ≡ join_maps join_cells own.attrs empty = same_map nat_list_cmp_total octets_exact own.attrs (join_maps join_cells own.attrs empty) (λ q.
-    sym (get-join_maps nat_list_cmp_total octets_exact join_cells own.attrs empty q ∙ ap (maybe join_cells (get own.attrs q)) (get-empty octets_cmp q) ∙ alone (get own.attrs q))) in
-    let tied : record own { death = death } ≡ join_tied own (deleted_entry own s) = λ i. record { birth = own.birth; kind = sym (kinds.idem own.kind) i; death = is i; attrs = stays i } in
+    let stays : own.attrs
+    ≡ join_maps join_cells own.attrs empty = same_map nat_list_cmp_total octets_exact own.attrs (join_maps join_cells own.attrs empty) (λ q.
+    sym (get-join_maps nat_list_cmp_total octets_exact join_cells own.attrs empty q ∙ ap (maybe join_cells
+    (get own.attrs q)) (get-empty octets_cmp q) ∙ alone (get own.attrs q))) in
+    let tied : record own { death = death }
+    ≡ join_tied own (deleted_entry own s) = λ i. record { birth = own.birth; kind = sym (kinds.idem own.kind) i; death = is i; attrs = stays i } in
     tied ∙ sym (tied_joins own (deleted_entry own s) refl)
   where
     alone : (c : Option AttrCell) → maybe join_cells c None ≡ c
@@ -82,14 +92,16 @@ deleted_joins own s death is =
 -- ---- tables
 
 -- the entry that a name has, with what is joined in
-pub takes_own : (old new : Entries) (n : List ℕ) (f : EntryCell → EntryCell) (own : EntryCell) → get old n ≡ Some own → (IfSome (get old n) IsValidEntry → RaisesAt join_entries old new n (f own)) → TakesOwn old new n f
+pub takes_own : (old new : Entries) (n : List ℕ) (f : EntryCell → EntryCell) (own : EntryCell) → get old n ≡ Some own
+    → (IfSome (get old n) IsValidEntry → RaisesAt join_entries old new n (f own)) → TakesOwn old new n f
 takes_own old new n f own at joins valid = subst (λ x. IfSome x (λ e. RaisesAt join_entries old new n (f e))) (sym at) (joins valid)
 
 pub takes_none : (old new : Entries) (n : List ℕ) (f : EntryCell → EntryCell) → get old n ≡ None → TakesOwn old new n f
 takes_none old new n f at valid = subst (λ x. IfSome x (λ e. RaisesAt join_entries old new n (f e))) (sym at) tt
 
 -- a change of an entry that shows adds the entry of its marks
-pub takes_shown : (old new : Entries) (n : List ℕ) (f : EntryCell → EntryCell) (marks : Shown → List Mark) → ((e : EntryCell) → entry_of (Birth n e.kind e.birth ∷ marks (face_of e)) n ≡ Some (f e))
+pub takes_shown : (old new : Entries) (n : List ℕ) (f : EntryCell → EntryCell) (marks : Shown → List Mark)
+    → ((e : EntryCell) → entry_of (Birth n e.kind e.birth ∷ marks (face_of e)) n ≡ Some (f e))
     → IsSome (shown_in old n) → TakesOwn old new n f → TakesIn old new n (with_birth n (shown_in old n) marks)
 takes_shown old new n f marks is live takes = by_entry (get old n) live takes
   where
@@ -111,4 +123,5 @@ pub takes_fragment : (old new : Entries) (n : List ℕ) (marks : List Mark) (g :
     → (IfSome (get old g.name) IsValidEntry → IsValidEntry g.entry → RaisesAt join_entries old new g.name g.entry) → TakesIn old new n marks
 takes_fragment old new n marks g named made joins =
     let valid : IsValidEntry g.entry = subst (λ x. IfSome x IsValidEntry) made (entry_of-valid marks g.name) in
-    subst (λ n. TakesIn old new n marks) named (subst (λ x. IsSomeAnd x (λ e. IfSome (get old g.name) IsValidEntry → RaisesAt join_entries old new g.name e)) (sym made) (λ own. joins own valid))
+    subst (λ n. TakesIn old new n marks) named (subst (λ x. IsSomeAnd x (λ e. IfSome
+    (get old g.name) IsValidEntry → RaisesAt join_entries old new g.name e)) (sym made) (λ own. joins own valid))

@@ -1,5 +1,6 @@
 -- What shows after an accepted update.
-use Rattle.std.proofs.Common.{◌≡◌, ◌≢◌, ℕ, Bool, true, false, List, [], ◌∷◌, ◌++◌, Option, Some, None, IsSome, refl, sym, ap, subst, ◌∙◌, ◌⊎◌, inl, inr, ⊎_elim, ◌↔◌, arith, append-nil}
+use Rattle.std.proofs.Common.{◌≡◌, ◌≢◌, ℕ, Bool, true, false, List, [], ◌∷◌, ◌++◌, Option, Some, None}
+use Rattle.std.proofs.Common.{IsSome, refl, sym, ap, subst, ◌∙◌, ◌⊎◌, inl, inr, ⊎_elim, ◌↔◌, arith, append-nil}
 use Rattle.std.specs.Prelude.{◌&&◌, ◌||◌, ◌==◌, IsSomeAnd, is_none, not, length, if◌then◌else◌}
 use Rattle.std.specs.declared.cmp.Ordering.{Ordering}
 use Rattle.std.specs.declared.cmp.Ordering.TheVariants.{Less, Equal}
@@ -28,8 +29,10 @@ use Rattle.directory.specs.declared.entry.Kind.{Kind}
 use Rattle.directory.specs.declared.entry.Kind.TheVariants.{Object, Link, Child}
 use Rattle.directory.specs.Kinds.{is_child, link_target, replicas}
 use Rattle.directory.specs.Updates.{Change, Create, MakeLink, MakeChild, Delete, Add, Remove, Put, Clear, Repoint, changed_name}
-use Rattle.directory.specs.Histories.{Mark, Birth, Death, Attr, Born, name_in, birth_in, birth_cmp, attr_mark_in, birth_of, death_of, attr_history, IsHistory, IsBefore}
-use Rattle.directory.specs.Shown.{Shown, leads, targets, pointers, only_one, lead_of, value_mark, shown_dir, shown_if_live, shown_born, shown, is_reserved, live_refusal, refusal_of, marks_of, ChangesValues}
+use Rattle.directory.specs.Histories.{Mark, Birth, Death, Attr, Born, name_in, birth_in}
+use Rattle.directory.specs.Histories.{birth_cmp, attr_mark_in, birth_of, death_of, attr_history, IsHistory, IsBefore}
+use Rattle.directory.specs.Shown.{Shown, leads, targets, pointers, only_one, lead_of, value_mark, shown_dir}
+use Rattle.directory.specs.Shown.{shown_if_live, shown_born, shown, is_reserved, live_refusal, refusal_of, marks_of, ChangesValues}
 use Rattle.directory.proofs.HistoryLaws.{births, death_joined, before, no_birth, no_death, no_attrs}
 use Rattle.directory.proofs.FragmentLaws.{same_octets, one_birth, one_death, changes, birth_of-changes, death_of-changes, attr_history-changes}
 use Rattle.directory.proofs.ShownLaws.{shown_values-nil}
@@ -48,15 +51,18 @@ death_of-other : (ms : List Mark) (n q : List ℕ) (c : Stamp) → AllByRecursio
 death_of-other [] n q c named apart = refl
 death_of-other (Birth m k d ∷ ms) n q c named apart = death_of-other ms n q c named.1 apart
 death_of-other (Death m d s ∷ ms) n q c named apart =
-    ap (λ t. maybe earlier_stamp (if t && is_stamp c d then Some s else None) (death_of ms q c)) (ap (is_octets q) named.0 ∙ apart) ∙ death_of-other ms n q c named.1 apart
+    ap (λ t. maybe earlier_stamp (if t && is_stamp c d then Some s else None) (death_of ms q c)) (ap (is_octets q) named.0 ∙ apart)
+    ∙ death_of-other ms n q c named.1 apart
 death_of-other (Attr m d a x ∷ ms) n q c named apart = death_of-other ms n q c named.1 apart
 
-attr_history-other : (ms : List Mark) (n q : List ℕ) (c : Stamp) (a : List ℕ) → AllByRecursion (λ m. name_in m ≡ n) ms → is_octets q n ≡ false → attr_history ms q c a ≡ []
+attr_history-other : (ms : List Mark) (n q : List ℕ) (c : Stamp) (a : List ℕ) → AllByRecursion (λ m. name_in m ≡ n) ms → is_octets q n ≡ false
+    → attr_history ms q c a ≡ []
 attr_history-other [] n q c a named apart = refl
 attr_history-other (Birth m k d ∷ ms) n q c a named apart = attr_history-other ms n q c a named.1 apart
 attr_history-other (Death m d s ∷ ms) n q c a named apart = attr_history-other ms n q c a named.1 apart
 attr_history-other (Attr m d b x ∷ ms) n q c a named apart =
-    ap (λ t. cons_option (if t && is_stamp c d && is_octets a b then Some x else None) (attr_history ms q c a)) (ap (is_octets q) named.0 ∙ apart) ∙ attr_history-other ms n q c a named.1 apart
+    ap (λ t. cons_option (if t && is_stamp c d && is_octets a b then Some x else None) (attr_history ms q c a)) (ap (is_octets q) named.0 ∙ apart)
+    ∙ attr_history-other ms n q c a named.1 apart
 
 octets_apart : (q n : List ℕ) → q ≢ n → is_octets q n ≡ false
 octets_apart q n differs = at (is_octets q n) refl
@@ -73,13 +79,16 @@ shown-other h ms n q named differs = ap (option_and_then (shown_born (h ++ ms) q
     apart = octets_apart q n differs
 
     birth : birth_of (h ++ ms) q ≡ birth_of h q
-    birth = join_of-append births (birth_in q) h ms ∙ ap (maybe (greater birth_cmp) (birth_of h q)) (birth_of-other ms n q named apart) ∙ alone (greater birth_cmp) (birth_of h q)
+    birth = join_of-append births (birth_in q) h ms ∙ ap (maybe (greater birth_cmp) (birth_of h q)) (birth_of-other ms n q named apart)
+        ∙ alone (greater birth_cmp) (birth_of h q)
 
     death : (c : Stamp) → death_of (h ++ ms) q c ≡ death_of h q c
-    death c = sym (death_joined h ms q c) ∙ ap (maybe earlier_stamp (death_of h q c)) (death_of-other ms n q c named apart) ∙ alone earlier_stamp (death_of h q c)
+    death c = sym (death_joined h ms q c) ∙ ap (maybe earlier_stamp (death_of h q c)) (death_of-other ms n q c named apart)
+        ∙ alone earlier_stamp (death_of h q c)
 
     history : (c : Stamp) (a : List ℕ) → attr_history (h ++ ms) q c a ≡ attr_history h q c a
-    history c a = filter_map-append (attr_mark_in q c a) h ms ∙ ap (λ l. attr_history h q c a ++ l) (attr_history-other ms n q c a named apart) ∙ append-nil (attr_history h q c a)
+    history c a = filter_map-append (attr_mark_in q c a) h ms ∙ ap (λ l. attr_history h q c a ++ l) (attr_history-other ms n q c a named apart)
+        ∙ append-nil (attr_history h q c a)
 
     by_birth : (b : Option Born) → option_and_then (shown_born (h ++ ms) q) b ≡ option_and_then (shown_born h q) b
     by_birth None = refl
@@ -116,11 +125,13 @@ module _ (h : List Mark) (n : List ℕ) (s : Stamp) (known : IsHistory h) (earli
   birth_new : birth_of (h ++ new_marks) n ≡ Some new_born
   birth_new =
       join_of-append births (birth_in n) h new_marks
-      ∙ ap (maybe (greater birth_cmp) (birth_of h n)) (ap (maybe (greater birth_cmp) (if is_octets n n then Some new_born else None)) (birth_of-changes n s a xs) ∙ one_birth n new_born)
+      ∙ ap (maybe (greater birth_cmp) (birth_of h n)) (ap (maybe
+      (greater birth_cmp) (if is_octets n n then Some new_born else None)) (birth_of-changes n s a xs) ∙ one_birth n new_born)
       ∙ newest (birth_of h n) new_born unborn
 
   death_new : death_of (h ++ new_marks) n s ≡ None
-  death_new = sym (death_joined h new_marks n s) ∙ ap (λ d. maybe earlier_stamp d (death_of new_marks n s)) (no_death h h n s known.births (no_birth h n s unborn)) ∙ death_of-changes n s a xs
+  death_new = sym (death_joined h new_marks n s)
+      ∙ ap (λ d. maybe earlier_stamp d (death_of new_marks n s)) (no_death h h n s known.births (no_birth h n s unborn)) ∙ death_of-changes n s a xs
 
   history_new : (d : List ℕ) → attr_history (h ++ new_marks) n s d ≡ (if is_octets d a then xs else [])
   history_new d =
@@ -130,12 +141,15 @@ module _ (h : List Mark) (n : List ℕ) (s : Stamp) (known : IsHistory h) (earli
   -- a new entry shows, where it leads on
   pub shown-born : leads k new_values ≡ true → shown (h ++ new_marks) n ≡ Some (record { birth = s; kind = k; values = new_values })
   shown-born leading =
-      ap (option_and_then (shown_born (h ++ new_marks) n)) birth_new ∙ (λ i. shown_if_live (death_new i) (record { birth = s; kind = k; values = λ d. shown_values (history_new d i) }))
+      ap (option_and_then (shown_born (h ++ new_marks) n)) birth_new
+      ∙ (λ i. shown_if_live (death_new i) (record { birth = s; kind = k; values = λ d. shown_values (history_new d i) }))
       ∙ ap (λ t. if t then Some (record { birth = s; kind = k; values = new_values }) else None) leading
 
 -- a created object shows, with no values
-pub shown-created : (h : List Mark) (n : List ℕ) (s : Stamp) → IsHistory h → IsBefore h s → shown (h ++ Birth n Object s ∷ []) n ≡ Some (record { birth = s; kind = Object; values = λ _. [] })
-shown-created h n s known earlier = shown-born h n s known earlier Object [] [] refl ∙ (λ i. Some (record { birth = s; kind = Object; values = λ d. nothing (is_octets d []) i }))
+pub shown-created : (h : List Mark) (n : List ℕ) (s : Stamp) → IsHistory h → IsBefore h s
+    → shown (h ++ Birth n Object s ∷ []) n ≡ Some (record { birth = s; kind = Object; values = λ _. [] })
+shown-created h n s known earlier = shown-born h n s known earlier Object [] [] refl
+    ∙ (λ i. Some (record { birth = s; kind = Object; values = λ d. nothing (is_octets d []) i }))
   where
     nothing : (t : Bool) → shown_values (if t then [] else []) ≡ []
     nothing true = shown_values-nil
@@ -178,10 +192,12 @@ module _ (h : List Mark) (n : List ℕ) (s : Stamp) (known : IsHistory h) (earli
       at true = one_shows v s
       at false = shown_values-nil
 
-  pub shown-led : leads k only_value ≡ true → shown (h ++ Birth n k s ∷ value_mark n s a v true s ∷ []) n ≡ Some (record { birth = s; kind = k; values = only_value })
+  pub shown-led : leads k only_value ≡ true
+      → shown (h ++ Birth n k s ∷ value_mark n s a v true s ∷ []) n ≡ Some (record { birth = s; kind = k; values = only_value })
   shown-led leading =
       let values : new_values h n s known earlier k a (Marked v (record { present = true; stamp = s }) ∷ []) ≡ only_value = λ i d. first_values d i in
-      shown-born h n s known earlier k a (Marked v (record { present = true; stamp = s }) ∷ []) (ap (leads k) values ∙ leading) ∙ ap (λ (f : List ℕ → List (List ℕ)). Some (record { birth = s; kind = k; values = f })) values
+      shown-born h n s known earlier k a (Marked v (record { present = true; stamp = s }) ∷ []) (ap (leads k) values ∙ leading)
+      ∙ ap (λ (f : List ℕ → List (List ℕ)). Some (record { birth = s; kind = k; values = f })) values
 
 -- the octets of a pointer to lawful houses read as one, whatever the directory
 pointer_reads : (p : Pointer) → IsHouses (record { master = p.master; others = p.others }) → is_child_pointer (pointer_octets p) ≡ true
@@ -198,24 +214,30 @@ alone_at : (a v : List ℕ) → (if is_octets a a then v ∷ [] else []) ≡ v �
 alone_at a v = ap (λ t. if t then v ∷ [] else []) (same_octets a)
 
 -- the one value by which a new link and a new child lead
-one_target : (target : List (List ℕ)) → IsComponentList target → targets (if is_octets link_target link_target then spelling target ∷ [] else []) ≡ spelling target ∷ []
+one_target : (target : List (List ℕ)) → IsComponentList target
+    → targets (if is_octets link_target link_target then spelling target ∷ [] else []) ≡ spelling target ∷ []
 one_target target lawful = one_reads is_full_name (spelling target) _ (alone_at link_target (spelling target)) (ap is_none (name_fault-spelling target lawful))
 
-one_pointer : (p : Pointer) → IsHouses (record { master = p.master; others = p.others }) → pointers (if is_octets replicas replicas then pointer_octets p ∷ [] else []) ≡ pointer_octets p ∷ []
+one_pointer : (p : Pointer) → IsHouses (record { master = p.master; others = p.others })
+    → pointers (if is_octets replicas replicas then pointer_octets p ∷ [] else []) ≡ pointer_octets p ∷ []
 one_pointer p lawful = one_reads is_child_pointer (pointer_octets p) _ (alone_at replicas (pointer_octets p)) (pointer_reads p lawful)
 
 counts_one : (vs : List (List ℕ)) (v : List ℕ) → vs ≡ v ∷ [] → (length vs == 1) ≡ true
 counts_one vs v is = ap (λ (ws : List (List ℕ)). length ws == 1) is
 
-module _ (h : List Mark) (n : List ℕ) (target : List (List ℕ)) (s : Stamp) (known : IsHistory h) (earlier : IsBefore h s) (lawful : IsComponentList target) where
-  pub shown-linked : shown (h ++ marks_of (shown h n) (MakeLink n target) s) n ≡ Some (record { birth = s; kind = Link; values = λ a. if is_octets a link_target then spelling target ∷ [] else [] })
+module _ (h : List Mark) (n : List ℕ) (target : List
+    (List ℕ)) (s : Stamp) (known : IsHistory h) (earlier : IsBefore h s) (lawful : IsComponentList target) where
+  pub shown-linked : shown (h ++ marks_of (shown h n) (MakeLink n target) s) n
+      ≡ Some (record { birth = s; kind = Link; values = λ a. if is_octets a link_target then spelling target ∷ [] else [] })
   shown-linked = shown-led h n s known earlier Link link_target (spelling target) (counts_one _ (spelling target) (one_target target lawful))
 
   pub lead-linked : IsSomeAnd (shown (h ++ marks_of (shown h n) (MakeLink n target) s) n) (λ e. lead_of e ≡ Some (spelling target))
   lead-linked = subst (λ x. IsSomeAnd x (λ e. lead_of e ≡ Some (spelling target))) (sym shown-linked) (ap only_one (one_target target lawful))
 
-module _ (h : List Mark) (n : List ℕ) (p : Pointer) (s : Stamp) (known : IsHistory h) (earlier : IsBefore h s) (lawful : IsHouses (record { master = p.master; others = p.others })) where
-  pub shown-child : shown (h ++ marks_of (shown h n) (MakeChild n p) s) n ≡ Some (record { birth = s; kind = Child; values = λ a. if is_octets a replicas then pointer_octets p ∷ [] else [] })
+module _ (h : List Mark) (n : List ℕ) (p : Pointer) (s : Stamp) (known : IsHistory h) (earlier : IsBefore h s) (lawful : IsHouses
+    (record { master = p.master; others = p.others })) where
+  pub shown-child : shown (h ++ marks_of (shown h n) (MakeChild n p) s) n
+      ≡ Some (record { birth = s; kind = Child; values = λ a. if is_octets a replicas then pointer_octets p ∷ [] else [] })
   shown-child = shown-led h n s known earlier Child replicas (pointer_octets p) (counts_one _ (pointer_octets p) (one_pointer p lawful))
 
   pub lead-child : IsSomeAnd (shown (h ++ marks_of (shown h n) (MakeChild n p) s) n) (λ e. lead_of e ≡ Some (pointer_octets p))
@@ -230,7 +252,8 @@ not_reserved a e = by_tests (is_octets a link_target) (is_octets a replicas) ref
     turned : (q : List ℕ) → is_octets a q ≡ false → is_octets q a ≡ false
     turned q e = (eq_by_cmp_equiv nat_list_cmp_total).symm q a ∙ e
 
-    by_tests : (t r : Bool) → is_octets a link_target ≡ t → is_octets a replicas ≡ r → (t || r) ≡ false → (is_octets link_target a ≡ false) × (is_octets replicas a ≡ false)
+    by_tests : (t r : Bool) → is_octets a link_target ≡ t → is_octets a replicas ≡ r → (t || r) ≡ false
+        → (is_octets link_target a ≡ false) × (is_octets replicas a ≡ false)
     by_tests true r p q e = cc (e)
     by_tests false true p q e = cc (e)
     by_tests false false p q e = (turned link_target p, turned replicas q)
@@ -254,17 +277,20 @@ module _ (h : List Mark) (n : List ℕ) (e : Shown) (s : IsSeen h n e) (a : List
   birth_stays : birth_of (h ++ marks) n ≡ Some born_here
   birth_stays =
       join_of-append births (birth_in n) h marks ∙ ap (λ x. maybe (greater birth_cmp) x (birth_of marks n)) s.born
-      ∙ ap (maybe (greater birth_cmp) (Some born_here)) (ap (maybe (greater birth_cmp) (if is_octets n n then Some born_here else None)) (birth_of-changes n e.birth a xs) ∙ one_birth n born_here)
+      ∙ ap (maybe (greater birth_cmp) (Some born_here)) (ap (maybe
+      (greater birth_cmp) (if is_octets n n then Some born_here else None)) (birth_of-changes n e.birth a xs) ∙ one_birth n born_here)
       ∙ ap Some (births.idem born_here)
 
   death_stays : death_of (h ++ marks) n e.birth ≡ None
   death_stays = sym (death_joined h marks n e.birth) ∙ ap (λ d. maybe earlier_stamp d (death_of marks n e.birth)) s.alive ∙ death_of-changes n e.birth a xs
 
   history_after : (d : List ℕ) → attr_history (h ++ marks) n e.birth d ≡ attr_history h n e.birth d ++ (if is_octets d a then xs else [])
-  history_after d = filter_map-append (attr_mark_in n e.birth d) h marks ∙ ap (λ l. attr_history h n e.birth d ++ l) (attr_history-changes n e.birth a d (is_octets d a) refl xs)
+  history_after d = filter_map-append (attr_mark_in n e.birth d) h marks
+      ∙ ap (λ l. attr_history h n e.birth d ++ l) (attr_history-changes n e.birth a d (is_octets d a) refl xs)
 
   pub values_stay : (d : List ℕ) → is_octets d a ≡ false → values_after d ≡ e.values d
-  values_stay d apart = ap (λ t. shown_values (attr_history h n e.birth d ++ (if t then xs else []))) apart ∙ ap shown_values (append-nil (attr_history h n e.birth d)) ∙ sym (s.values d)
+  values_stay d apart = ap (λ t. shown_values (attr_history h n e.birth d ++ (if t then xs else []))) apart
+      ∙ ap shown_values (append-nil (attr_history h n e.birth d)) ∙ sym (s.values d)
 
   -- it still shows, where it still leads on
   pub shown-if_led : leads e.kind values_after ≡ true → shown (h ++ marks) n ≡ Some (record { birth = e.birth; kind = e.kind; values = values_after })
@@ -275,10 +301,12 @@ module _ (h : List Mark) (n : List ℕ) (e : Shown) (s : IsSeen h n e) (a : List
 
   pub shown-changed : is_reserved a ≡ false → shown (h ++ marks) n ≡ Some (record { birth = e.birth; kind = e.kind; values = values_after })
   shown-changed free =
-      shown-if_led (leads-same e.kind values_after e.values (values_stay link_target (not_reserved a free).0) (values_stay replicas (not_reserved a free).1) ∙ s.leading)
+      shown-if_led (leads-same e.kind values_after e.values (values_stay link_target
+      (not_reserved a free).0) (values_stay replicas (not_reserved a free).1) ∙ s.leading)
 
   -- and so the change is of that attribute alone
-  pub changes-values : (P : List ℕ → Type 0) → ((w : List ℕ) → Contains (shown_values (attr_history h n e.birth a ++ xs)) w ↔ P w) → ChangesValues e a P (record { birth = e.birth; kind = e.kind; values = values_after })
+  pub changes-values : (P : List ℕ → Type 0) → ((w : List ℕ) → Contains (shown_values (attr_history h n e.birth a ++ xs)) w ↔ P w)
+      → ChangesValues e a P (record { birth = e.birth; kind = e.kind; values = values_after })
   changes-values P here = record {
     birth = refl;
     kind = refl;
@@ -291,12 +319,15 @@ attrs_before : (h : List Mark) (n : List ℕ) (c : Stamp) (a : List ℕ) (s : St
 attrs_before [] n c a s earlier x found = absurd (Contains-none x found)
 attrs_before (Birth m k d ∷ h) n c a s earlier x found = attrs_before h n c a s (λ m' r. earlier m' (Contains-tail (Birth m k d) h m' r)) x found
 attrs_before (Death m d t ∷ h) n c a s earlier x found = attrs_before h n c a s (λ m' r. earlier m' (Contains-tail (Death m d t) h m' r)) x found
-attrs_before (Attr m d b y ∷ h) n c a s earlier x found = at (is_octets n m && is_stamp c d && is_octets a b) found (attrs_before h n c a s (λ m' r. earlier m' (Contains-tail (Attr m d b y) h m' r)) x)
+attrs_before (Attr m d b y ∷ h) n c a s earlier x found =
+    at (is_octets n m && is_stamp c d && is_octets a b) found (attrs_before h n c a s (λ m' r. earlier m' (Contains-tail (Attr m d b y) h m' r)) x)
   where
-    at : (t : Bool) → Contains (cons_option (if t then Some y else None) (attr_history h n c a)) x → (Contains (attr_history h n c a) x → is_earlier (attr_stamp x) s ≡ true) → is_earlier (attr_stamp x) s ≡ true
+    at : (t : Bool) → Contains (cons_option (if t then Some y else None) (attr_history h n c a)) x
+        → (Contains (attr_history h n c a) x → is_earlier (attr_stamp x) s ≡ true) → is_earlier (attr_stamp x) s ≡ true
     at false found rec = rec found
     at true found rec =
-        ⊎_elim (λ same. ap (λ z. is_earlier (attr_stamp z) s) (sym same) ∙ earlier (Attr m d b y) (Contains-head (Attr m d b y) h)) rec (Contains-cases y (attr_history h n c a) x found)
+        ⊎_elim (λ same. ap (λ z. is_earlier
+        (attr_stamp z) s) (sym same) ∙ earlier (Attr m d b y) (Contains-head (Attr m d b y) h)) rec (Contains-cases y (attr_history h n c a) x found)
 
 -- the four changes
 module _ (h : List Mark) (n : List ℕ) (e : Shown) (s : IsSeen h n e) (a v : List ℕ) (t : Stamp) (earlier : IsBefore h t) where
@@ -309,12 +340,22 @@ module _ (h : List Mark) (n : List ℕ) (e : Shown) (s : IsSeen h n e) (a v : Li
   abbrev mark : Bool → AttrMark
   mark present = Marked v (record { present = present; stamp = t })
 
-  pub added : ChangesValues e a (λ w. (w ≡ v) ⊎ Contains (e.values a) w) (record { birth = e.birth; kind = e.kind; values = values_after h n e s a (mark true ∷ []) })
+  pub added : ChangesValues e a (λ w. (w ≡ v) ⊎ Contains (e.values a) w) (record {
+    birth = e.birth;
+    kind = e.kind;
+    values = values_after h n e s a
+        (mark true ∷ []);
+  })
   added = changes-values h n e s a (mark true ∷ []) (λ w. (w ≡ v) ⊎ Contains (e.values a) w) (λ w.
       let law = shown_values-added known_marks v t (attrs_before h n e.birth a t earlier) w in
       (λ c. ⊎_elim inl (λ old. inr ((values_before w).0 old)) (law.0 c), λ c. law.1 (⊎_elim inl (λ old. inr ((values_before w).1 old)) c)))
 
-  pub removed : ChangesValues e a (λ w. (w ≢ v) × Contains (e.values a) w) (record { birth = e.birth; kind = e.kind; values = values_after h n e s a (mark false ∷ []) })
+  pub removed : ChangesValues e a (λ w. (w ≢ v) × Contains (e.values a) w) (record {
+    birth = e.birth;
+    kind = e.kind;
+    values = values_after h n e s a
+        (mark false ∷ []);
+  })
   removed = changes-values h n e s a (mark false ∷ []) (λ w. (w ≢ v) × Contains (e.values a) w) (λ w.
       let law = shown_values-removed known_marks v t (attrs_before h n e.birth a t earlier) w in
       (λ c. ((law.0 c).0, (values_before w).0 (law.0 c).1), λ c. law.1 (c.0, (values_before w).1 c.1)))
@@ -323,7 +364,8 @@ module _ (h : List Mark) (n : List ℕ) (e : Shown) (s : IsSeen h n e) (a v : Li
   replaced = changes-values h n e s a (Cleared t ∷ mark true ∷ []) (λ w. w ≡ v) (λ w. shown_values-put known_marks v t (attrs_before h n e.birth a t earlier) w)
 
   pub cleared : ChangesValues e a (λ _. ⊥) (record { birth = e.birth; kind = e.kind; values = values_after h n e s a (Cleared t ∷ []) })
-  cleared = changes-values h n e s a (Cleared t ∷ []) (λ _. ⊥) (λ w. (shown_values-cleared known_marks v t (attrs_before h n e.birth a t earlier) w, λ c. absurd c))
+  cleared =
+      changes-values h n e s a (Cleared t ∷ []) (λ _. ⊥) (λ w. (shown_values-cleared known_marks v t (attrs_before h n e.birth a t earlier) w, λ c. absurd c))
 
   -- the only value of the attribute
   pub replaced_value : values_after h n e s a (Cleared t ∷ mark true ∷ []) a ≡ v ∷ []
@@ -337,10 +379,13 @@ shown-deleted h n e t s =
     let ms : List Mark = Birth n e.kind e.birth ∷ Death n e.birth t ∷ [] in
     let b : Born = record { at = e.birth; kind = e.kind } in
     let birth : birth_of (h ++ ms) n ≡ Some b =
-    join_of-append births (birth_in n) h ms ∙ ap (λ x. maybe (greater birth_cmp) x (birth_of ms n)) s.born ∙ ap (maybe (greater birth_cmp) (Some b)) (one_birth n b) ∙ ap Some (births.idem b) in
+    join_of-append births (birth_in n) h ms ∙ ap (λ x. maybe (greater birth_cmp) x (birth_of ms n)) s.born
+    ∙ ap (maybe (greater birth_cmp) (Some b)) (one_birth n b) ∙ ap Some (births.idem b) in
     let this : death_of ms n e.birth ≡ Some t = one_death n e.birth t in
-    let death : death_of (h ++ ms) n e.birth ≡ Some t = sym (death_joined h ms n e.birth) ∙ ap (λ d. maybe earlier_stamp d (death_of ms n e.birth)) s.alive ∙ this in
-    ap (option_and_then (shown_born (h ++ ms) n)) birth ∙ ap (λ d. shown_if_live d (record { birth = e.birth; kind = e.kind; values = λ a. shown_values (attr_history (h ++ ms) n e.birth a) })) death
+    let death : death_of (h ++ ms) n e.birth ≡ Some t = sym (death_joined h ms n e.birth)
+    ∙ ap (λ d. maybe earlier_stamp d (death_of ms n e.birth)) s.alive ∙ this in
+    ap (option_and_then (shown_born (h ++ ms) n)) birth
+    ∙ ap (λ d. shown_if_live d (record { birth = e.birth; kind = e.kind; values = λ a. shown_values (attr_history (h ++ ms) n e.birth a) })) death
 
 -- ---- accepted updates of an entry that shows
 
@@ -353,7 +398,8 @@ accepted_free a = at (is_reserved a)
 
 module _ (h : List Mark) (n : List ℕ) (e : Shown) (is : shown h n ≡ Some e) (t : Stamp) where
   -- what shows after the marks of an update, if they are what it makes of e
-  after : (u : Change) (P : Shown → Type 0) (f : Shown) → shown (h ++ marks_of (Some e) u t) n ≡ Some f → P f → IsSomeAnd (shown (h ++ marks_of (shown h n) u t) n) P
+  after : (u : Change) (P : Shown → Type 0) (f : Shown) → shown (h ++ marks_of (Some e) u t) n ≡ Some f → P f
+      → IsSomeAnd (shown (h ++ marks_of (shown h n) u t) n) P
   after u P f now holds = subst (λ x. IsSomeAnd (shown (h ++ marks_of x u t) n) P) (sym is) (subst (λ x. IsSomeAnd x P) (sym now) holds)
 
   module _ (a v : List ℕ) (earlier : IsBefore h t) (accepted : live_refusal (is_reserved a) ≡ None) where
@@ -361,16 +407,22 @@ module _ (h : List Mark) (n : List ℕ) (e : Shown) (is : shown h n ≡ Some e) 
     mark_is present = Marked v (record { present = present; stamp = t })
 
     pub shown-add : IsSomeAnd (shown (h ++ marks_of (shown h n) (Add n a v) t) n) (ChangesValues e a (λ w. (w ≡ v) ⊎ Contains (e.values a) w))
-    shown-add = after (Add n a v) _ _ (shown-changed h n e (seen h n e is) a (mark_is true ∷ []) (accepted_free a accepted)) (added h n e (seen h n e is) a v t earlier)
+    shown-add =
+        after (Add n a v) _ _ (shown-changed h n e (seen h n e is) a (mark_is true ∷ []) (accepted_free a accepted)) (added h n e (seen h n e is) a v t earlier)
 
     pub shown-remove : IsSomeAnd (shown (h ++ marks_of (shown h n) (Remove n a v) t) n) (ChangesValues e a (λ w. (w ≢ v) × Contains (e.values a) w))
-    shown-remove = after (Remove n a v) _ _ (shown-changed h n e (seen h n e is) a (mark_is false ∷ []) (accepted_free a accepted)) (removed h n e (seen h n e is) a v t earlier)
+    shown-remove =
+        after (Remove n a v) _ _ (shown-changed h n e
+        (seen h n e is) a (mark_is false ∷ []) (accepted_free a accepted)) (removed h n e (seen h n e is) a v t earlier)
 
     pub shown-put : IsSomeAnd (shown (h ++ marks_of (shown h n) (Put n a v) t) n) (ChangesValues e a (λ w. w ≡ v))
-    shown-put = after (Put n a v) _ _ (shown-changed h n e (seen h n e is) a (Cleared t ∷ mark_is true ∷ []) (accepted_free a accepted)) (replaced h n e (seen h n e is) a v t earlier)
+    shown-put =
+        after (Put n a v) _ _ (shown-changed h n e
+        (seen h n e is) a (Cleared t ∷ mark_is true ∷ []) (accepted_free a accepted)) (replaced h n e (seen h n e is) a v t earlier)
 
     pub shown-clear : IsSomeAnd (shown (h ++ marks_of (shown h n) (Clear n a) t) n) (ChangesValues e a (λ _. ⊥))
-    shown-clear = after (Clear n a) _ _ (shown-changed h n e (seen h n e is) a (Cleared t ∷ []) (accepted_free a accepted)) (cleared h n e (seen h n e is) a v t earlier)
+    shown-clear =
+        after (Clear n a) _ _ (shown-changed h n e (seen h n e is) a (Cleared t ∷ []) (accepted_free a accepted)) (cleared h n e (seen h n e is) a v t earlier)
 
   pub shown-delete : shown (h ++ marks_of (shown h n) (Delete n) t) n ≡ None
   shown-delete = ap (λ x. shown (h ++ marks_of x (Delete n) t) n) is ∙ shown-deleted h n e t (seen h n e is)
@@ -384,7 +436,10 @@ repointed_kind Child e = refl
 lead-by_kind : (e : Shown) → e.kind ≡ Child → lead_of e ≡ only_one (pointers (e.values replicas))
 lead-by_kind e is = ap (λ k. lead_of (record { birth = e.birth; kind = k; values = e.values })) is
 
-module _ (h : List Mark) (n : List ℕ) (e : Shown) (is : shown h n ≡ Some e) (s : Stamp) (master : ℕ) (others : List ℕ) (earlier : IsBefore h s) (accepted : live_refusal (not (is_child e.kind)) ≡ None)
+module _
+    (h : List Mark)
+    (n : List ℕ) (e : Shown) (is : shown h n ≡ Some e) (s : Stamp) (master : ℕ) (others : List ℕ) (earlier : IsBefore h s) (accepted : live_refusal
+    (not (is_child e.kind)) ≡ None)
     (lawful : IsHouses (record { master = master; others = others })) where
   abbrev new_pointer : List ℕ
   new_pointer = pointer_octets (record { dir = shown_dir e; master = master; others = others })
@@ -417,9 +472,12 @@ module _ (h : List Mark) (n : List ℕ) (e : Shown) (is : shown h n ≡ Some e) 
 pub shown-leads : (h : List Mark) (n : List ℕ) (e : Shown) → shown h n ≡ Some e → e.kind ≢ Object → IsSome (lead_of e)
 shown-leads h n e is = leads_somewhere e (seen h n e is).leading
 
-pub shown-create : (h : List Mark) (n : List ℕ) (s : Stamp) → IsHistory h → IsBefore h s → shown (h ++ marks_of (shown h n) (Create n) s) n ≡ Some (record { birth = s; kind = Object; values = λ _. [] })
+pub shown-create : (h : List Mark) (n : List ℕ) (s : Stamp) → IsHistory h → IsBefore h s
+    → shown (h ++ marks_of (shown h n) (Create n) s) n ≡ Some (record { birth = s; kind = Object; values = λ _. [] })
 shown-create = shown-created
 
-pub shown-others : (h : List Mark) (u : Change) (s : Stamp) → IsHistory h → IsBefore h s → refusal_of (shown h (changed_name u)) u ≡ None → (q : List ℕ) → q ≢ changed_name u
+pub shown-others : (h : List Mark) (u : Change) (s : Stamp) → IsHistory h → IsBefore h s → refusal_of (shown h (changed_name u)) u ≡ None
+    → (q : List ℕ) → q ≢ changed_name u
     → shown (h ++ marks_of (shown h (changed_name u)) u s) q ≡ shown h q
-shown-others h u s known earlier accepted q differs = shown-other h (marks_of (shown h (changed_name u)) u s) (changed_name u) q (marks_of-names h u s known earlier accepted) differs
+shown-others h u s known earlier accepted q differs =
+    shown-other h (marks_of (shown h (changed_name u)) u s) (changed_name u) q (marks_of-names h u s known earlier accepted) differs

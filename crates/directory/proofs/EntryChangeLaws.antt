@@ -55,8 +55,11 @@ pub creation_accepted : (h : List Mark) (n : List ℕ) (us : List Change) → Is
 creation_accepted h n us known all = by_shown (shown h n) refl
   where
     by_shown : (o : Option Shown) → shown h n ≡ o → AreAccepted h (creation n (is_none o) ++ us)
-    by_shown None is =
-        (ap (λ o. refusal_of o (Create n)) is, λ s before. changes_accepted us (h ++ marks_of (shown h n) (Create n) s) n _ (shown-create h n s known before) all)
+    by_shown None is = (
+      ap (λ o. refusal_of o
+          (Create n)) is,
+      λ s before. changes_accepted us (h ++ marks_of (shown h n) (Create n) s) n _ (shown-create h n s known before) all,
+    )
     by_shown (Some e) is = changes_accepted us h n e is all
 
 -- ---- lists of changes of values

@@ -59,7 +59,8 @@ object_repointed = refl
 marks_of_an_addition : marks_of (Some (live Object)) (Add e a (1 ∷ [])) (at 2) ≡ Birth e Object (at 1) ∷ value_mark e (at 1) a (1 ∷ []) true (at 2) ∷ []
 marks_of_an_addition = refl
 
-marks_of_a_put : marks_of (Some (live Object)) (Put e a (1 ∷ [])) (at 2) ≡ Birth e Object (at 1) ∷ Attr e (at 1) a (Cleared (at 2)) ∷ value_mark e (at 1) a (1 ∷ []) true (at 2) ∷ []
+marks_of_a_put : marks_of (Some (live Object)) (Put e a (1 ∷ [])) (at 2)
+    ≡ Birth e Object (at 1) ∷ Attr e (at 1) a (Cleared (at 2)) ∷ value_mark e (at 1) a (1 ∷ []) true (at 2) ∷ []
 marks_of_a_put = refl
 
 -- ---- histories

@@ -36,18 +36,22 @@ one_birth n b = ap (λ t. maybe (greater birth_cmp) (if t then Some b else None)
 pub entry_of-born : (n : List ℕ) (k : Kind) (s : Stamp) → entry_of (Birth n k s ∷ []) n ≡ Some (record { birth = s; kind = k; death = None; attrs = empty })
 entry_of-born n k s =
     let h : List Mark = Birth n k s ∷ [] in
-    let attrs : attrs_of h n s ≡ empty = same_map nat_list_cmp_total octets_exact (attrs_of h n s) empty (λ a. get-attrs_of h n s a ∙ sym (get-empty octets_cmp a)) in
+    let attrs : attrs_of h n s
+    ≡ empty = same_map nat_list_cmp_total octets_exact (attrs_of h n s) empty (λ a. get-attrs_of h n s a ∙ sym (get-empty octets_cmp a)) in
     ap (option_map (entry_at h n)) (one_birth n (record { at = s; kind = k })) ∙ (λ i. Some (record { birth = s; kind = k; death = None; attrs = attrs i }))
 
 -- a birth and a death
 pub one_death : (n : List ℕ) (c s : Stamp) → maybe earlier_stamp (if is_octets n n && is_stamp c c then Some s else None) None ≡ Some s
 one_death n c s = ap (λ t. maybe earlier_stamp (if t then Some s else None) None) (ap (λ t. t && is_stamp c c) (same_octets n) ∙ same_stamp c)
 
-pub entry_of-deleted : (n : List ℕ) (k : Kind) (c s : Stamp) → entry_of (Birth n k c ∷ Death n c s ∷ []) n ≡ Some (record { birth = c; kind = k; death = Some s; attrs = empty })
+pub entry_of-deleted : (n : List ℕ) (k : Kind) (c s : Stamp)
+    → entry_of (Birth n k c ∷ Death n c s ∷ []) n ≡ Some (record { birth = c; kind = k; death = Some s; attrs = empty })
 entry_of-deleted n k c s =
     let h : List Mark = Birth n k c ∷ Death n c s ∷ [] in
-    let attrs : attrs_of h n c ≡ empty = same_map nat_list_cmp_total octets_exact (attrs_of h n c) empty (λ a. get-attrs_of h n c a ∙ sym (get-empty octets_cmp a)) in
-    ap (option_map (entry_at h n)) (one_birth n (record { at = c; kind = k })) ∙ (λ i. Some (record { birth = c; kind = k; death = one_death n c s i; attrs = attrs i }))
+    let attrs : attrs_of h n c
+    ≡ empty = same_map nat_list_cmp_total octets_exact (attrs_of h n c) empty (λ a. get-attrs_of h n c a ∙ sym (get-empty octets_cmp a)) in
+    ap (option_map (entry_at h n)) (one_birth n (record { at = c; kind = k }))
+    ∙ (λ i. Some (record { birth = c; kind = k; death = one_death n c s i; attrs = attrs i }))
 
 -- ---- marks of one attribute
 
@@ -65,13 +69,16 @@ death_of-changes n c a (x ∷ xs) = death_of-changes n c a xs
 about_both : (n : List ℕ) (c : Stamp) (r : Bool) → (is_octets n n && is_stamp c c && r) ≡ r
 about_both n c r = ap (λ t. t && is_stamp c c && r) (same_octets n) ∙ ap (λ t. t && r) (same_stamp c)
 
-pub attr_history-changes : (n : List ℕ) (c : Stamp) (a d : List ℕ) (t : Bool) → is_octets d a ≡ t → (xs : List AttrMark) → attr_history (changes n c a xs) n c d ≡ (if t then xs else [])
+pub attr_history-changes : (n : List ℕ) (c : Stamp) (a d : List ℕ) (t : Bool) → is_octets d a ≡ t → (xs : List AttrMark)
+    → attr_history (changes n c a xs) n c d ≡ (if t then xs else [])
 attr_history-changes n c a d true e [] = refl
 attr_history-changes n c a d false e [] = refl
 attr_history-changes n c a d true e (x ∷ xs) =
-    ap (λ r. cons_option (if r then Some x else None) (attr_history (changes n c a xs) n c d)) (about_both n c (is_octets d a) ∙ e) ∙ ap (λ l. x ∷ l) (attr_history-changes n c a d true e xs)
+    ap (λ r. cons_option (if r then Some x else None) (attr_history (changes n c a xs) n c d)) (about_both n c (is_octets d a) ∙ e)
+    ∙ ap (λ l. x ∷ l) (attr_history-changes n c a d true e xs)
 attr_history-changes n c a d false e (x ∷ xs) =
-    ap (λ r. cons_option (if r then Some x else None) (attr_history (changes n c a xs) n c d)) (about_both n c (is_octets d a) ∙ e) ∙ attr_history-changes n c a d false e xs
+    ap (λ r. cons_option (if r then Some x else None) (attr_history (changes n c a xs) n c d)) (about_both n c (is_octets d a) ∙ e)
+    ∙ attr_history-changes n c a d false e xs
 
 module _ (n : List ℕ) (k : Kind) (c : Stamp) (a : List ℕ) (x : AttrMark) (xs : List AttrMark) where
   -- a birth, and marks of one attribute
@@ -80,7 +87,8 @@ module _ (n : List ℕ) (k : Kind) (c : Stamp) (a : List ℕ) (x : AttrMark) (xs
 
   changed_birth : birth_of one_changed n ≡ Some (record { at = c; kind = k })
   changed_birth =
-      ap (maybe (greater birth_cmp) (if is_octets n n then Some (record { at = c; kind = k }) else None)) (birth_of-changes n c a (x ∷ xs)) ∙ one_birth n (record { at = c; kind = k })
+      ap (maybe (greater birth_cmp) (if is_octets n n then Some (record { at = c; kind = k }) else None)) (birth_of-changes n c a (x ∷ xs))
+      ∙ one_birth n (record { at = c; kind = k })
 
   changed_attrs : attrs_of one_changed n c ≡ insert empty a (cell_of (x ∷ xs))
   changed_attrs = same_map nat_list_cmp_total octets_exact (attrs_of one_changed n c) (insert empty a (cell_of (x ∷ xs))) (λ b.
@@ -93,24 +101,34 @@ module _ (n : List ℕ) (k : Kind) (c : Stamp) (a : List ℕ) (x : AttrMark) (xs
 
   pub entry_of-changed : entry_of one_changed n ≡ Some (record { birth = c; kind = k; death = None; attrs = insert empty a (cell_of (x ∷ xs)) })
   entry_of-changed =
-      ap (option_map (entry_at one_changed n)) changed_birth ∙ (λ i. Some (record { birth = c; kind = k; death = death_of-changes n c a (x ∷ xs) i; attrs = changed_attrs i }))
+      ap (option_map (entry_at one_changed n)) changed_birth
+      ∙ (λ i. Some (record { birth = c; kind = k; death = death_of-changes n c a (x ∷ xs) i; attrs = changed_attrs i }))
 
 -- ---- what the makers of fragments promise is the entry of the marks
 
 module _ (r : Result Fragment AllocError) (n : List ℕ) (k : Kind) (s : Stamp) (named : IfOk r (λ f. f.name ≡ n)) where
-  new_fragment : (made : EntryCell) (marks : List Mark) → entry_of marks n ≡ Some made → IfOk r (λ f. f.entry ≡ made) → IfOk r (λ f. entry_of marks f.name ≡ Some f.entry)
+  new_fragment : (made : EntryCell) (marks : List Mark) → entry_of marks n ≡ Some made → IfOk r (λ f. f.entry ≡ made)
+      → IfOk r (λ f. entry_of marks f.name ≡ Some f.entry)
   new_fragment made marks is = at r named
     where
       at : (r : Result Fragment AllocError) → IfOk r (λ f. f.name ≡ n) → IfOk r (λ f. f.entry ≡ made) → IfOk r (λ f. entry_of marks f.name ≡ Some f.entry)
       at (Ok f) named entry = ap (entry_of marks) named ∙ is ∙ ap Some (sym entry)
       at (Err e) named entry = tt
 
-  pub born_fragment : (none : FinMap octets_cmp AttrCell) → none ≡ empty → IfOk r (λ f. f.entry ≡ record { birth = s; kind = k; death = None; attrs = none }) → IfOk r (λ f. entry_of (Birth n k s ∷ []) f.name ≡ Some f.entry)
+  pub born_fragment : (none : FinMap octets_cmp AttrCell) → none ≡ empty
+      → IfOk r (λ f. f.entry ≡ record { birth = s; kind = k; death = None; attrs = none })
+      → IfOk r (λ f. entry_of (Birth n k s ∷ []) f.name ≡ Some f.entry)
   born_fragment none is =
-      new_fragment (record { birth = s; kind = k; death = None; attrs = none }) (Birth n k s ∷ []) (entry_of-born n k s ∙ (λ i. Some (record { birth = s; kind = k; death = None; attrs = sym is i })))
+      new_fragment (record { birth = s; kind = k; death = None; attrs = none }) (Birth n k s ∷ []) (entry_of-born n k s ∙ (λ i. Some
+      (record { birth = s; kind = k; death = None; attrs = sym is i })))
 
-  pub led_fragment : (a : List ℕ) (x : AttrMark) → IfOk r (λ f. f.entry ≡ record { birth = s; kind = k; death = None; attrs = insert empty a (cell_of (x ∷ [])) }) → IfOk r (λ f. entry_of (Birth n k s ∷ Attr n s a x ∷ []) f.name ≡ Some f.entry)
-  led_fragment a x = new_fragment (record { birth = s; kind = k; death = None; attrs = insert empty a (cell_of (x ∷ [])) }) (Birth n k s ∷ Attr n s a x ∷ []) (entry_of-changed n k s a x [])
+  pub led_fragment : (a : List ℕ) (x : AttrMark)
+      → IfOk r (λ f. f.entry ≡ record { birth = s; kind = k; death = None; attrs = insert empty a (cell_of (x ∷ [])) })
+      → IfOk r (λ f. entry_of (Birth n k s ∷ Attr n s a x ∷ []) f.name ≡ Some f.entry)
+  led_fragment a x =
+      new_fragment
+      (record { birth = s; kind = k; death = None; attrs = insert empty a (cell_of (x ∷ [])) })
+      (Birth n k s ∷ Attr n s a x ∷ []) (entry_of-changed n k s a x [])
 
 -- what is accepted of what shows alone, where it is accepted
 pub shows : (e : Option Shown) (refused : Option Shown → Option UpdateRefusal) → refused None ≡ Some NoSuchEntry → refused e ≡ None → IsSome e
@@ -123,27 +141,45 @@ module _ (r : Result Fragment AllocError) (e : Option Shown) (n : List ℕ) (liv
       → IfOk r (λ f. IfSome e (λ x. f.entry ≡ made x)) → IfOk r (λ f. entry_of (with_birth n e marks) f.name ≡ Some f.entry)
   live_fragment made marks is = at r e live named
     where
-      at : (r : Result Fragment AllocError) (e : Option Shown) → IsSome e → IfOk r (λ f. f.name ≡ n) → IfOk r (λ f. IfSome e (λ x. f.entry ≡ made x)) → IfOk r (λ f. entry_of (with_birth n e marks) f.name ≡ Some f.entry)
+      at : (r : Result Fragment AllocError) (e : Option Shown) → IsSome e → IfOk r (λ f. f.name ≡ n) → IfOk r (λ f. IfSome e (λ x. f.entry ≡ made x))
+          → IfOk r (λ f. entry_of (with_birth n e marks) f.name ≡ Some f.entry)
       at (Ok f) None live named entry = cc (live)
       at (Ok f) (Some x) live named entry = ap (entry_of (Birth n x.kind x.birth ∷ marks x)) named ∙ is x ∙ ap Some (sym entry)
       at (Err y) e live named entry = tt
 
-  pub deleted_fragment : (s : Stamp) (none : FinMap octets_cmp AttrCell) → none ≡ empty → IfOk r (λ f. IfSome e (λ e. f.entry ≡ record { birth = e.birth; kind = e.kind; death = Some s; attrs = none }))
+  pub deleted_fragment : (s : Stamp) (none : FinMap octets_cmp AttrCell) → none ≡ empty
+      → IfOk r (λ f. IfSome e (λ e. f.entry ≡ record { birth = e.birth; kind = e.kind; death = Some s; attrs = none }))
       → IfOk r (λ f. entry_of (with_birth n e (λ x. Death n x.birth s ∷ [])) f.name ≡ Some f.entry)
   deleted_fragment s none is =
       live_fragment (λ x. record { birth = x.birth; kind = x.kind; death = Some s; attrs = none }) (λ x. Death n x.birth s ∷ [])
       (λ x. entry_of-deleted n x.kind x.birth s ∙ (λ i. Some (record { birth = x.birth; kind = x.kind; death = Some s; attrs = sym is i })))
 
   pub changed_fragment : (a : List ℕ) (x : AttrMark) (xs : List AttrMark) (cell : AttrCell) → cell ≡ cell_of (x ∷ xs)
-      → IfOk r (λ f. IfSome e (λ e. f.entry ≡ record { birth = e.birth; kind = e.kind; death = None; attrs = insert empty a cell })) → IfOk r (λ f. entry_of (with_birth n e (λ y. changes n y.birth a (x ∷ xs))) f.name ≡ Some f.entry)
+      → IfOk r (λ f. IfSome e (λ e. f.entry ≡ record { birth = e.birth; kind = e.kind; death = None; attrs = insert empty a cell }))
+      → IfOk r (λ f. entry_of (with_birth n e (λ y. changes n y.birth a (x ∷ xs))) f.name ≡ Some f.entry)
   changed_fragment a x xs cell is =
       live_fragment (λ y. record { birth = y.birth; kind = y.kind; death = None; attrs = insert empty a cell }) (λ y. changes n y.birth a (x ∷ xs))
       (λ y. entry_of-changed n y.kind y.birth a x xs ∙ (λ i. Some (record { birth = y.birth; kind = y.kind; death = None; attrs = insert empty a (sym is i) })))
 
   -- where the value is one of what shows
   pub replaced_fragment : (a : List ℕ) (v : Shown → List ℕ) (s : Stamp)
-      → IfOk r (λ f. IfSome e (λ e. f.entry ≡ record { birth = e.birth; kind = e.kind; death = None; attrs = insert empty a (cell_of (Cleared s ∷ Marked (v e) (record { present = true; stamp = s }) ∷ [])) }))
+      → IfOk r (λ f. IfSome e
+      (λ e. f.entry
+      ≡ record {
+        birth = e.birth;
+        kind = e.kind;
+        death = None;
+        attrs = insert empty a (cell_of (Cleared s ∷ Marked
+            (v e) (record { present = true; stamp = s }) ∷ []));
+      }))
       → IfOk r (λ f. entry_of (with_birth n e (λ x. put_marks n x.birth a (v x) s)) f.name ≡ Some f.entry)
   replaced_fragment a v s =
-      live_fragment (λ y. record { birth = y.birth; kind = y.kind; death = None; attrs = insert empty a (cell_of (Cleared s ∷ Marked (v y) (record { present = true; stamp = s }) ∷ [])) })
+      live_fragment
+      (λ y. record {
+        birth = y.birth;
+        kind = y.kind;
+        death = None;
+        attrs = insert empty a
+            (cell_of (Cleared s ∷ Marked (v y) (record { present = true; stamp = s }) ∷ []));
+      })
       (λ y. put_marks n y.birth a (v y) s) (λ y. entry_of-changed n y.kind y.birth a (Cleared s) (Marked (v y) (record { present = true; stamp = s }) ∷ []))

@@ -19,12 +19,13 @@ use Rattle.cds_stamps.specs.Stamps.{stamp_cmp, stamp_total, stamp_exact, is_earl
 use Rattle.cds_stamps.specs.Octets.{octets_exact, is_octets}
 use Rattle.cds_stamps.specs.Joins.{join_maps, get-join_maps}
 use Rattle.attr_sets.specs.Cells.{AttrMark, join_cells}
-use Rattle.attr_sets.specs.CellLaws.{join_cells-cell_of}
+use Rattle.attr_sets.specs.CellLawProofs.{join_cells-cell_of}
 use Rattle.directory.specs.declared.entry.Kind.{Kind}
 use Rattle.directory.specs.Kinds.{rank, kind_cmp}
 use Rattle.directory.specs.Entries.{join_tied, join_entries, join_tables}
-use Rattle.directory.specs.EntryLaws.{kind_exact}
-use Rattle.directory.specs.Histories.{Mark, Birth, Death, Attr, Born, name_in, born_in, birth_in, death_in, attr_mark_in, attr_in, birth_cmp, birth_of, death_of, attr_history, cell_of_some, attrs_of, entry_at, entry_of, table_of, is_birth, HasBirths}
+use Rattle.directory.specs.EntryLawProofs.{kind_exact}
+use Rattle.directory.specs.Histories.{Mark, Birth, Death, Attr, Born, name_in, born_in, birth_in, death_in, attr_mark_in, attr_in}
+use Rattle.directory.specs.Histories.{birth_cmp, birth_of, death_of, attr_history, cell_of_some, attrs_of, entry_at, entry_of, table_of, is_birth, HasBirths}
 
 -- ---- what a history says nothing of
 
@@ -44,7 +45,9 @@ pub get-table_of : (h : List Mark) (n : List ℕ) → get (table_of h) n ≡ ent
 get-table_of h = get-of_all_keys nat_list_cmp_total octets_exact (map name_in h) (entry_of h) (λ n e. ap (option_map (entry_at h n)) (no_name h n e))
 
 pub get-attrs_of : (h : List Mark) (n : List ℕ) (c : Stamp) (a : List ℕ) → get (attrs_of h n c) a ≡ cell_of_some (attr_history h n c a)
-get-attrs_of h n c = get-of_all_keys nat_list_cmp_total octets_exact (filter_map attr_in h) (λ a. cell_of_some (attr_history h n c a)) (λ a e. ap cell_of_some (no_attr h n c a e))
+get-attrs_of h n c =
+    get-of_all_keys nat_list_cmp_total octets_exact (filter_map attr_in h) (λ a. cell_of_some
+    (attr_history h n c a)) (λ a e. ap cell_of_some (no_attr h n c a e))
 
 -- ---- two histories, at one birth
 
@@ -98,14 +101,16 @@ no_birth (Birth m k d ∷ h) n c e =
     let both = before-maybe (birth_in n (Birth m k d)) (birth_of h n) c e in
     at (is_octets n m) both.0 (no_birth h n c both.1)
   where
-    at : (b : Bool) → before (if b then Some (record { at = d; kind = k }) else None) c ≡ true → list_any (is_birth n c) h ≡ false → ((b && is_stamp c d) || list_any (is_birth n c) h) ≡ false
+    at : (b : Bool) → before (if b then Some (record { at = d; kind = k }) else None) c ≡ true → list_any (is_birth n c) h ≡ false
+        → ((b && is_stamp c d) || list_any (is_birth n c) h) ≡ false
     at true p q = rw (not_tied c d p) q
     at false p q = q
 no_birth (Death m d s ∷ h) n c e = no_birth h n c e
 no_birth (Attr m d a x ∷ h) n c e = no_birth h n c e
 
 -- nothing is known of an entry whose birth is not known
-pub no_death : (h all : List Mark) (n : List ℕ) (c : Stamp) → AllByRecursion (λ x. list_any (is_birth (name_in x) (born_in x)) all ≡ true) h → list_any (is_birth n c) all ≡ false → death_of h n c ≡ None
+pub no_death : (h all : List Mark) (n : List ℕ) (c : Stamp) → AllByRecursion (λ x. list_any (is_birth (name_in x) (born_in x)) all ≡ true) h
+    → list_any (is_birth n c) all ≡ false → death_of h n c ≡ None
 no_death [] all n c b e = refl
 no_death (Birth m k d ∷ h) all n c b e = no_death h all n c b.1 e
 no_death (Death m d s ∷ h) all n c b e = at (is_octets n m && is_stamp c d) refl (no_death h all n c b.1 e)
@@ -115,7 +120,8 @@ no_death (Death m d s ∷ h) all n c b e = at (is_octets n m && is_stamp c d) re
     at false p q = q
 no_death (Attr m d a x ∷ h) all n c b e = no_death h all n c b.1 e
 
-pub no_attrs : (h all : List Mark) (n : List ℕ) (c : Stamp) (a : List ℕ) → AllByRecursion (λ x. list_any (is_birth (name_in x) (born_in x)) all ≡ true) h → list_any (is_birth n c) all ≡ false → attr_history h n c a ≡ []
+pub no_attrs : (h all : List Mark) (n : List ℕ) (c : Stamp) (a : List ℕ)
+    → AllByRecursion (λ x. list_any (is_birth (name_in x) (born_in x)) all ≡ true) h → list_any (is_birth n c) all ≡ false → attr_history h n c a ≡ []
 no_attrs [] all n c a b e = refl
 no_attrs (Birth m k d ∷ h) all n c a b e = no_attrs h all n c a b.1 e
 no_attrs (Death m d s ∷ h) all n c a b e = no_attrs h all n c a b.1 e
@@ -128,7 +134,8 @@ no_attrs (Attr m d y x ∷ h) all n c a b e = at (is_octets n m && is_stamp c d)
 -- ---- entries
 
 pub birth_exact : IsAntisymmetric birth_cmp
-birth_exact a b e = ap (λ (p : Stamp × Kind). record { at = p.0; kind = p.1 }) (exact_pairs stamp_cmp kind_cmp stamp_exact kind_exact (a.at, a.kind) (b.at, b.kind) e)
+birth_exact a b e =
+    ap (λ (p : Stamp × Kind). record { at = p.0; kind = p.1 }) (exact_pairs stamp_cmp kind_cmp stamp_exact kind_exact (a.at, a.kind) (b.at, b.kind) e)
 
 pub births : IsSemilattice (greater birth_cmp)
 births = greater_semilattice (then_total (on_total (λ b. b.at) stamp_total) (on_total (λ b. b.kind) (on_total rank nat_cmp_total))) birth_exact
@@ -152,13 +159,22 @@ entry_right g h n b born e =
 entry_left : (g h : List Mark) (n : List ℕ) (b : Born) → HasBirths h → before (birth_of h n) b.at ≡ true → entry_at g n b ≡ entry_at (g ++ h) n b
 entry_left g h n b born e =
     let none = no_birth h n b.at e in
-    let death : death_of g n b.at ≡ death_of (g ++ h) n b.at = cc (death_joined g h n b.at, no_death h h n b.at born none, no_death_right (death_of g n b.at)) in
+    let death : death_of g n b.at
+    ≡ death_of (g ++ h) n b.at = cc (death_joined g h n b.at, no_death h h n b.at born none, no_death_right (death_of g n b.at)) in
     let attrs : attrs_of g n b.at ≡ attrs_of (g ++ h) n b.at = same_map nat_list_cmp_total octets_exact _ _ (λ a.
-    cc (get-attrs_of g n b.at a, get-attrs_of (g ++ h) n b.at a, filter_map-append (attr_mark_in n b.at a) g h, no_attrs h h n b.at a born none, append-nil (attr_history g n b.at a))) in
+    cc (
+      get-attrs_of g n b.at a,
+      get-attrs_of
+          (g ++ h) n b.at a,
+      filter_map-append (attr_mark_in n b.at a) g h,
+      no_attrs h h n b.at a born none,
+      append-nil (attr_history g n b.at a),
+    )) in
     λ i. record { birth = b.at; kind = b.kind; death = death i; attrs = attrs i }
 
 -- entries of one birth
-entries_tied : (g h : List Mark) (n : List ℕ) (b d : Born) → b.at ≡ d.at → join_tied (entry_at g n b) (entry_at h n d) ≡ entry_at (g ++ h) n (if is_lt (kind_cmp b.kind d.kind) then d else b)
+entries_tied : (g h : List Mark) (n : List ℕ) (b d : Born) → b.at ≡ d.at
+    → join_tied (entry_at g n b) (entry_at h n d) ≡ entry_at (g ++ h) n (if is_lt (kind_cmp b.kind d.kind) then d else b)
 entries_tied g h n b d same = at (is_lt (kind_cmp b.kind d.kind))
   where
     death : (c e : Stamp) → c ≡ e → maybe earlier_stamp (death_of g n c) (death_of h n e) ≡ death_of (g ++ h) n c
@@ -167,7 +183,14 @@ entries_tied g h n b d same = at (is_lt (kind_cmp b.kind d.kind))
     attrs : (c e : Stamp) → c ≡ e → join_maps join_cells (attrs_of g n c) (attrs_of h n e) ≡ attrs_of (g ++ h) n c
     attrs c e is = ap (λ e. join_maps join_cells (attrs_of g n c) (attrs_of h n e)) (sym is) ∙ attrs_joined g h n c
 
-    at : (t : Bool) → record { birth = b.at; kind = if t then d.kind else b.kind; death = maybe earlier_stamp (death_of g n b.at) (death_of h n d.at); attrs = join_maps join_cells (attrs_of g n b.at) (attrs_of h n d.at) } ≡ entry_at (g ++ h) n (if t then d else b)
+    at : (t : Bool)
+        → record {
+          birth = b.at;
+          kind = if t then d.kind else b.kind;
+          death = maybe earlier_stamp (death_of g n b.at) (death_of h n d.at);
+          attrs = join_maps join_cells (attrs_of g n b.at) (attrs_of h n d.at);
+        }
+        ≡ entry_at (g ++ h) n (if t then d else b)
     at false i = record { birth = b.at; kind = b.kind; death = death b.at d.at same i; attrs = attrs b.at d.at same i }
     at true i =
         let deaths = death b.at d.at same ∙ ap (death_of (g ++ h) n) same in
@@ -175,7 +198,8 @@ entries_tied g h n b d same = at (is_lt (kind_cmp b.kind d.kind))
         record { birth = same i; kind = d.kind; death = deaths i; attrs = cells i }
 
 entries_joined : (g h : List Mark) (n : List ℕ) → HasBirths g → HasBirths h → maybe join_entries (entry_of g n) (entry_of h n) ≡ entry_of (g ++ h) n
-entries_joined g h n p q = by_births (birth_of g n) (birth_of h n) refl refl ∙ ap (option_map (entry_at (g ++ h) n)) (sym (join_of-append births (birth_in n) g h))
+entries_joined g h n p q = by_births (birth_of g n) (birth_of h n) refl refl
+    ∙ ap (option_map (entry_at (g ++ h) n)) (sym (join_of-append births (birth_in n) g h))
   where
     picked : (b d : Born) → birth_of g n ≡ Some b → birth_of h n ≡ Some d → (r : Ordering) → stamp_cmp b.at d.at ≡ r
         → (elim r [ Less ↦ entry_at h n d | Equal ↦ join_tied (entry_at g n b) (entry_at h n d) | Greater ↦ entry_at g n b ])
@@ -184,7 +208,8 @@ entries_joined g h n p q = by_births (birth_of g n) (birth_of h n) refl refl ∙
     picked b d x y Equal e = entries_tied g h n b d (stamp_exact b.at d.at e)
     picked b d x y Greater e = entry_left g h n b q (ap (λ o. before o b.at) y ∙ ap is_lt (stamp_total.antisymm d.at b.at ∙ ap ordering_reverse e))
 
-    by_births : (x y : Option Born) → birth_of g n ≡ x → birth_of h n ≡ y → maybe join_entries (option_map (entry_at g n) x) (option_map (entry_at h n) y) ≡ option_map (entry_at (g ++ h) n) (maybe (greater birth_cmp) x y)
+    by_births : (x y : Option Born) → birth_of g n ≡ x → birth_of h n ≡ y
+        → maybe join_entries (option_map (entry_at g n) x) (option_map (entry_at h n) y) ≡ option_map (entry_at (g ++ h) n) (maybe (greater birth_cmp) x y)
     by_births None None x y = refl
     by_births None (Some d) x y = ap Some (entry_right g h n d p (ap (λ o. before o d.at) x))
     by_births (Some b) None x y = ap Some (entry_left g h n b q (ap (λ o. before o b.at) y))

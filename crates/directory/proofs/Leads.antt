@@ -35,7 +35,8 @@ none_if (Some x) e = cc (e)
 pub leads_somewhere : (e : Shown) → leads e.kind e.values ≡ true → e.kind ≢ Object → IsSome (lead_of e)
 leads_somewhere e = at e.birth e.kind e.values
   where
-    at : (b : Stamp) (k : Kind) (values : List ℕ → List (List ℕ)) → leads k values ≡ true → k ≢ Object → IsSome (lead_of (record { birth = b; kind = k; values = values }))
+    at : (b : Stamp) (k : Kind) (values : List ℕ → List (List ℕ)) → leads k values ≡ true → k ≢ Object
+        → IsSome (lead_of (record { birth = b; kind = k; values = values }))
     at b Object values leading other = absurd (other refl)
     at b Link values leading other = one_there (targets (values link_target)) leading
     at b Child values leading other = one_there (pointers (values replicas)) leading
@@ -44,7 +45,8 @@ leads_somewhere e = at e.birth e.kind e.values
 pub lead_reads : (e : Shown) (v : List ℕ) → lead_of e ≡ Some v → is_readable e.kind v ≡ true
 lead_reads e = at e.birth e.kind e.values
   where
-    at : (b : Stamp) (k : Kind) (values : List ℕ → List (List ℕ)) (v : List ℕ) → lead_of (record { birth = b; kind = k; values = values }) ≡ Some v → is_readable k v ≡ true
+    at : (b : Stamp) (k : Kind) (values : List ℕ → List (List ℕ)) (v : List ℕ) → lead_of (record { birth = b; kind = k; values = values }) ≡ Some v
+        → is_readable k v ≡ true
     at b Object values v e = cc (e)
     at b Link values v e = one_holds (λ w. is_full_name w ≡ true) (targets (values link_target)) v (filter_passes is_full_name (values link_target)) e
     at b Child values v e = one_holds (λ w. is_child_pointer w ≡ true) (pointers (values replicas)) v (filter_passes is_child_pointer (values replicas)) e
@@ -60,7 +62,8 @@ child_is Child e = refl
 
 -- a child that shows leads somewhere
 pub child_leads : (e : EntryCell) → is_child e.kind ≡ true → IsSome (shown_entry e) → IsSome (lead_of (face_of e))
-child_leads e child shows = leads_somewhere (face_of e) (at e.death (leads e.kind (face_of e).values) shows) (λ is. not_object (sym (child_is e.kind child) ∙ is))
+child_leads e child shows =
+    leads_somewhere (face_of e) (at e.death (leads e.kind (face_of e).values) shows) (λ is. not_object (sym (child_is e.kind child) ∙ is))
   where
     at : (d : Option Stamp) (t : Bool) → IsSome (if is_none d && t then Some (face_of e) else None) → t ≡ true
     at (Some s) t shows = cc (shows)

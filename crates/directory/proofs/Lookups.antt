@@ -15,7 +15,8 @@ tested_octets name octets q b t same test is =
     (eq_by_cmp_equiv nat_list_cmp_total).symm q name ∙ sym (texts_ties name q) ∙ ap (λ n. pointwise nat_eq n q) same ∙ sym test ∙ is
 
 -- what tests against the two names say, of which the first failed
-pub reserved_by_second : (a o p : List ℕ) (s t : Bool) → o ≡ a → p ≡ a → s ≡ pointwise nat_eq o link_target → s ≡ false → t ≡ pointwise nat_eq p replicas → t ≡ is_reserved a
+pub reserved_by_second : (a o p : List ℕ) (s t : Bool) → o ≡ a → p ≡ a → s ≡ pointwise nat_eq o link_target → s ≡ false
+    → t ≡ pointwise nat_eq p replicas → t ≡ is_reserved a
 reserved_by_second a o p s t same also first failed second =
     let apart : is_octets a link_target ≡ false = sym (texts_ties a link_target) ∙ ap (λ o. pointwise nat_eq o link_target) (sym same) ∙ sym first ∙ failed in
     second ∙ ap (λ p. pointwise nat_eq p replicas) also ∙ texts_ties a replicas ∙ sym (ap (λ b. b || is_octets a replicas) apart)

@@ -10,9 +10,10 @@ use Rattle.cds_stamps.specs.Stamps.{later_stamp_laws, earlier_stamp_laws}
 use Rattle.cds_stamps.specs.Octets.{octets_exact}
 use Rattle.attr_sets.specs.Marks.{later_laws, kept}
 use Rattle.attr_sets.specs.Cells.{AttrMark, clear_in, mark_in, cell_of, greatest_clear, greatest_mark}
-use Rattle.attr_sets.specs.CellLaws.{same_cell, get-cell_of}
+use Rattle.attr_sets.specs.CellLawProofs.{same_cell, get-cell_of}
 use Rattle.attr_sets.proofs.Greatest.{Contains-head, Contains-tail, Contains-none, Contains-cases, join_of-member}
-use Rattle.directory.specs.Histories.{Mark, Born, birth_in, death_in, attr_mark_in, birth_of, death_of, attr_history, cell_of_some, attrs_of, entry_at, entry_of, table_of, SameMarks}
+use Rattle.directory.specs.Histories.{Mark, Born, birth_in, death_in, attr_mark_in, birth_of, death_of}
+use Rattle.directory.specs.Histories.{attr_history, cell_of_some, attrs_of, entry_at, entry_of, table_of, SameMarks}
 use Rattle.directory.proofs.HistoryLaws.{births, get-table_of, get-attrs_of}
 
 -- each member of the first is one of the second
@@ -20,13 +21,15 @@ abbrev IsIncluded : {A : Type 0} → List A → List A → Type 0
 IsIncluded {A} g h = (m : A) → Contains g m → Contains h m
 
 -- a join has taken in what a part of its list has
-join_of-included : {A X : Type 0} {f : X → X → X} → IsSemilattice f → (k : A → Option X) (g h : List A) → IsIncluded g h → maybe f (join_of f k g) (join_of f k h) ≡ join_of f k h
+join_of-included : {A X : Type 0} {f : X → X → X} → IsSemilattice f → (k : A → Option X) (g h : List A) → IsIncluded g h
+    → maybe f (join_of f k g) (join_of f k h) ≡ join_of f k h
 join_of-included s k [] h inc = refl
 join_of-included {f = f} s k (x ∷ g) h inc =
     (maybe_semilattice s).assoc (k x) (join_of f k g) (join_of f k h)
     ∙ ap (maybe f (k x)) (join_of-included s k g h (λ m c. inc m (Contains-tail x g m c))) ∙ join_of-member s k h x (inc x (Contains-head x g))
 
-pub join_of-same : {A X : Type 0} {f : X → X → X} → IsSemilattice f → (k : A → Option X) (g h : List A) → IsIncluded g h → IsIncluded h g → join_of f k g ≡ join_of f k h
+pub join_of-same : {A X : Type 0} {f : X → X → X} → IsSemilattice f → (k : A → Option X) (g h : List A) → IsIncluded g h → IsIncluded h g
+    → join_of f k g ≡ join_of f k h
 join_of-same {f = f} s k g h there back =
     sym (join_of-included s k h g back) ∙ (maybe_semilattice s).comm (join_of f k h) (join_of f k g) ∙ join_of-included s k g h there
 
@@ -38,7 +41,8 @@ found_in {A} {X} k (m ∷ g) x c = at (k m) refl c (found_in k g x)
     later : (n : A) × Contains g n × (k n ≡ Some x) → (n : A) × Contains (m ∷ g) n × (k n ≡ Some x)
     later r = (r.0, Contains-tail m g r.0 r.1, r.2)
 
-    at : (y : Option X) → k m ≡ y → Contains (cons_option y (filter_map k g)) x → (Contains (filter_map k g) x → (n : A) × Contains g n × (k n ≡ Some x)) → (n : A) × Contains (m ∷ g) n × (k n ≡ Some x)
+    at : (y : Option X) → k m ≡ y → Contains (cons_option y (filter_map k g)) x
+        → (Contains (filter_map k g) x → (n : A) × Contains g n × (k n ≡ Some x)) → (n : A) × Contains (m ∷ g) n × (k n ≡ Some x)
     at None e c rec = later (rec c)
     at (Some y) e c rec = ⊎_elim (λ same. (m, Contains-head m g, e ∙ ap Some same)) (λ r. later (rec r)) (Contains-cases y (filter_map k g) x c)
 
@@ -74,7 +78,9 @@ cell_of_some-same (x ∷ g) (y ∷ h) there back = ap Some (cell_of-same (x ∷ 
 module _ (g h : List Mark) (there : IsIncluded g h) (back : IsIncluded h g) where
   attrs_of-same : (n : List ℕ) (c : Stamp) → attrs_of g n c ≡ attrs_of h n c
   attrs_of-same n c = same_map nat_list_cmp_total octets_exact (attrs_of g n c) (attrs_of h n c) (λ a.
-      get-attrs_of g n c a ∙ cell_of_some-same (attr_history g n c a) (attr_history h n c a) (filter_map-included (attr_mark_in n c a) g h there) (filter_map-included (attr_mark_in n c a) h g back)
+      get-attrs_of g n c a
+      ∙ cell_of_some-same (attr_history g n c a) (attr_history h n c a) (filter_map-included
+      (attr_mark_in n c a) g h there) (filter_map-included (attr_mark_in n c a) h g back)
       ∙ sym (get-attrs_of h n c a))
 
   entry_at-same : (n : List ℕ) (b : Born) → entry_at g n b ≡ entry_at h n b

@@ -33,13 +33,15 @@ birth_among (Birth m k c ∷ h) n b e = at (is_octets n m) refl (birth_of h n) r
     later : Contains h (Birth n b.kind b.at) → Contains (Birth m k c ∷ h) (Birth n b.kind b.at)
     later = Contains-tail (Birth m k c) h (Birth n b.kind b.at)
 
-    at : (t : Bool) → is_octets n m ≡ t → (y : Option Born) → birth_of h n ≡ y → maybe (greater birth_cmp) (if t then Some (record { at = c; kind = k }) else None) y ≡ Some b
+    at : (t : Bool) → is_octets n m ≡ t → (y : Option Born) → birth_of h n ≡ y
+        → maybe (greater birth_cmp) (if t then Some (record { at = c; kind = k }) else None) y ≡ Some b
         → (birth_of h n ≡ Some b → Contains h (Birth n b.kind b.at)) → Contains (Birth m k c ∷ h) (Birth n b.kind b.at)
     at false p y q e rec = later (rec (q ∙ e))
     at true p None q e rec = here (tied octets_exact n m p) (same_inside (record { at = c; kind = k }) b e)
     at true p (Some y) q e rec =
         let is : greater birth_cmp (record { at = c; kind = k }) y ≡ b = same_inside (greater birth_cmp (record { at = c; kind = k }) y) b e in
-        ⊎_elim (λ first. here (tied octets_exact n m p) (sym first ∙ is)) (λ second. later (rec (q ∙ ap Some (sym second ∙ is)))) (one_of birth_cmp (record { at = c; kind = k }) y)
+        ⊎_elim (λ first. here (tied octets_exact n m p) (sym first ∙ is)) (λ second. later (rec (q ∙ ap Some
+        (sym second ∙ is)))) (one_of birth_cmp (record { at = c; kind = k }) y)
 birth_among (Death m c s ∷ h) n b e = Contains-tail (Death m c s) h (Birth n b.kind b.at) (birth_among h n b e)
 birth_among (Attr m c a x ∷ h) n b e = Contains-tail (Attr m c a x) h (Birth n b.kind b.at) (birth_among h n b e)
 
@@ -53,8 +55,10 @@ pub record IsSeen (h : List Mark) (n : List ℕ) (e : Shown) : Type 0 where
 pub seen : (h : List Mark) (n : List ℕ) (e : Shown) → shown h n ≡ Some e → IsSeen h n e
 seen h n e is = by_birth (birth_of h n) refl is
   where
-    live : (b : Born) → birth_of h n ≡ Some b → (d : Option Stamp) → death_of h n b.at ≡ d → (t : Bool) → leads b.kind (λ a. shown_values (attr_history h n b.at a)) ≡ t
-        → (if is_none d && t then Some (record { birth = b.at; kind = b.kind; values = λ a. shown_values (attr_history h n b.at a) }) else None) ≡ Some e → IsSeen h n e
+    live : (b : Born) → birth_of h n ≡ Some b → (d : Option Stamp) → death_of h n b.at ≡ d → (t : Bool)
+        → leads b.kind (λ a. shown_values (attr_history h n b.at a)) ≡ t
+        → (if is_none d && t then Some (record { birth = b.at; kind = b.kind; values = λ a. shown_values (attr_history h n b.at a) }) else None) ≡ Some e
+        → IsSeen h n e
     live b born (Some s) p t q is = cc (is)
     live b born None p false q is = cc (is)
     live b born None p true q is =

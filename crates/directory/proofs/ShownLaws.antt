@@ -14,7 +14,9 @@ use Rattle.directory.specs.Shown.{shown_if_live, shown_born, shown, entry_values
 use Rattle.directory.proofs.HistoryLaws.{get-table_of, get-attrs_of}
 
 no_marks : marks_kept [] ≡ empty
-no_marks = same_map nat_list_cmp_total octets_exact (marks_kept []) empty (λ v. get-of_keys nat_list_cmp_total octets_exact [] (λ v. None) v ∙ sym (get-empty octets_cmp v))
+no_marks =
+    same_map nat_list_cmp_total octets_exact (marks_kept []) empty (λ v. get-of_keys nat_list_cmp_total octets_exact []
+    (λ v. None) v ∙ sym (get-empty octets_cmp v))
 
 no_entries : entries (empty {K = List ℕ} {X = ValueMark} {R = octets_cmp}) ≡ []
 unfolding IsStrictlySortedBy
@@ -32,7 +34,8 @@ cell_values-some (x ∷ xs) = refl
 pub entry_values-entry_at : (h : List Mark) (n : List ℕ) (b : Born) (a : List ℕ) → entry_values (entry_at h n b) a ≡ shown_values (attr_history h n b.at a)
 entry_values-entry_at h n b a = ap (λ c. option_map_or cell_values c []) (get-attrs_of h n b.at a) ∙ cell_values-some (attr_history h n b.at a)
 
-face_of-entry_at : (h : List Mark) (n : List ℕ) (b : Born) → face_of (entry_at h n b) ≡ record { birth = b.at; kind = b.kind; values = λ a. shown_values (attr_history h n b.at a) }
+face_of-entry_at : (h : List Mark) (n : List ℕ) (b : Born)
+    → face_of (entry_at h n b) ≡ record { birth = b.at; kind = b.kind; values = λ a. shown_values (attr_history h n b.at a) }
 face_of-entry_at h n b = λ i. record { birth = b.at; kind = b.kind; values = λ a. entry_values-entry_at h n b a i }
 
 -- a table shows what its history shows

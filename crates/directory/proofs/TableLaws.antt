@@ -16,10 +16,11 @@ use Rattle.attr_sets.specs.declared.mark.ValueMark.{ValueMark}
 use Rattle.attr_sets.specs.declared.cell.AttrCell.{AttrCell}
 use Rattle.attr_sets.specs.Marks.{later, kept}
 use Rattle.attr_sets.specs.Cells.{AttrMark, Cleared, Marked, cell_of, empty_cell, greatest_clear, greatest_mark}
-use Rattle.attr_sets.specs.CellLaws.{cell_of-valid, get-cell_of}
+use Rattle.attr_sets.specs.CellLawProofs.{cell_of-valid, get-cell_of}
 use Rattle.directory.specs.declared.entry.EntryCell.{EntryCell}
 use Rattle.directory.specs.Entries.{Entries, join_entries, IsHeldCell, IsValidEntry, IsValidTable}
-use Rattle.directory.specs.Histories.{Mark, Birth, Death, Attr, Born, name_in, birth_of, attr_history, birth_cmp, cell_of_some, entry_at, entry_of, table_of, HasBirths}
+use Rattle.directory.specs.Histories.{Mark, Birth, Death, Attr, Born, name_in, birth_of}
+use Rattle.directory.specs.Histories.{attr_history, birth_cmp, cell_of_some, entry_at, entry_of, table_of, HasBirths}
 use Rattle.directory.proofs.HistoryLaws.{get-table_of, get-attrs_of, join_tables-table_of}
 
 some_stays : {X : Type 0} (f : X → X → X) (x : X) (y : Option X) → maybe f (Some x) y ≡ None → ⊥
@@ -31,7 +32,8 @@ has_some : (x : AttrMark) (xs : List AttrMark) → cell_of (x ∷ xs) ≡ empty_
 has_some (Cleared s) xs e = some_stays later_stamp s (greatest_clear xs) (ap (λ (c : AttrCell). c.cleared) e)
 has_some (Marked v m) xs e =
     let clear : greatest_clear xs ≡ None = ap (λ (c : AttrCell). c.cleared) e in
-    let gone : kept (greatest_clear xs) (greatest_mark (Marked v m ∷ xs) v) ≡ None = sym (get-cell_of (Marked v m ∷ xs) v) ∙ ap (λ (c : AttrCell). get c.values v) e ∙ get-empty octets_cmp v in
+    let gone : kept (greatest_clear xs) (greatest_mark (Marked v m ∷ xs) v) ≡ None = sym (get-cell_of (Marked v m ∷ xs) v)
+    ∙ ap (λ (c : AttrCell). get c.values v) e ∙ get-empty octets_cmp v in
     at (is_octets v v) (ap is_eq (tied_itself nat_list_cmp_total v)) (ap (λ c. kept c (greatest_mark (Marked v m ∷ xs) v)) (sym clear) ∙ gone)
   where
     kept_all : (y : Option ValueMark) → kept None y ≡ y
@@ -39,7 +41,10 @@ has_some (Marked v m) xs e =
     kept_all (Some y) = refl
 
     at : (t : Bool) → t ≡ true → kept None (maybe later (if t then Some m else None) (greatest_mark xs v)) ≡ None → ⊥
-    at t is gone = some_stays later m (greatest_mark xs v) (ap (λ t. maybe later (if t then Some m else None) (greatest_mark xs v)) (sym is) ∙ sym (kept_all (maybe later (if t then Some m else None) (greatest_mark xs v))) ∙ gone)
+    at t is gone =
+        some_stays later m (greatest_mark xs v) (ap (λ t. maybe later
+        (if t then Some m else None) (greatest_mark xs v)) (sym is) ∙ sym (kept_all (maybe later
+        (if t then Some m else None) (greatest_mark xs v))) ∙ gone)
 
 cell_of_some-held : (x : List AttrMark) → IfSome (cell_of_some x) IsHeldCell
 cell_of_some-held [] = tt
@@ -66,12 +71,14 @@ table_of-valid h n = subst (λ e. IfSome e IsValidEntry) (sym (get-table_of h n)
 pub birth_of-other : (ms : List Mark) (n q : List ℕ) → AllByRecursion (λ m. name_in m ≡ n) ms → is_octets q n ≡ false → birth_of ms q ≡ None
 birth_of-other [] n q about apart = refl
 birth_of-other (Birth m k c ∷ ms) n q about apart =
-    ap (λ t. maybe (greater birth_cmp) (if t then Some (record { at = c; kind = k }) else None) (birth_of ms q)) (ap (is_octets q) about.0 ∙ apart) ∙ birth_of-other ms n q about.1 apart
+    ap (λ t. maybe (greater birth_cmp) (if t then Some (record { at = c; kind = k }) else None) (birth_of ms q)) (ap (is_octets q) about.0 ∙ apart)
+    ∙ birth_of-other ms n q about.1 apart
 birth_of-other (Death m c s ∷ ms) n q about apart = birth_of-other ms n q about.1 apart
 birth_of-other (Attr m c a x ∷ ms) n q about apart = birth_of-other ms n q about.1 apart
 
 -- what is joined by the marks of one name: their entry, at that name alone
-pub table_of-marks : (h ms : List Mark) (n : List ℕ) (e : EntryCell) → HasBirths h → HasBirths ms → AllByRecursion (λ m. name_in m ≡ n) ms → entry_of ms n ≡ Some e
+pub table_of-marks : (h ms : List Mark) (n : List ℕ) (e : EntryCell) → HasBirths h → HasBirths ms → AllByRecursion (λ m. name_in m ≡ n) ms
+    → entry_of ms n ≡ Some e
     → RaisesAt join_entries (table_of h) (table_of (h ++ ms)) n e
 table_of-marks h ms n e p q about made k =
     ap (λ t. get t k) (sym (join_tables-table_of h ms p q)) ∙ get-join_maps nat_list_cmp_total octets_exact join_entries (table_of h) (table_of ms) k
@@ -86,8 +93,10 @@ pub table_of-nil : table_of [] ≡ empty
 table_of-nil = same_map nat_list_cmp_total octets_exact (table_of []) empty (λ n. get-table_of [] n ∙ sym (get-empty octets_cmp n))
 
 -- a table into which the entry of the marks of one name was joined is the table of the history with these marks
-pub joined-table_of : (h ms : List Mark) (n : List ℕ) (e : EntryCell) (old new : Entries) → HasBirths h → HasBirths ms → AllByRecursion (λ m. name_in m ≡ n) ms → entry_of ms n ≡ Some e → old ≡ table_of h
+pub joined-table_of : (h ms : List Mark) (n : List ℕ) (e : EntryCell) (old new : Entries) → HasBirths h → HasBirths ms
+    → AllByRecursion (λ m. name_in m ≡ n) ms → entry_of ms n ≡ Some e → old ≡ table_of h
     → (IfSome (get old n) IsValidEntry → IsValidEntry e → RaisesAt join_entries old new n e) → new ≡ table_of (h ++ ms)
 joined-table_of h ms n e old new p q named made stands joins = same_map nat_list_cmp_total octets_exact new (table_of (h ++ ms)) (λ k.
-    let raised : RaisesAt join_entries old new n e = joins (subst (λ t. IfSome (get t n) IsValidEntry) (sym stands) (table_of-valid h n)) (subst (λ x. IfSome x IsValidEntry) made (entry_of-valid ms n)) in
+    let raised : RaisesAt join_entries old new n e =
+    joins (subst (λ t. IfSome (get t n) IsValidEntry) (sym stands) (table_of-valid h n)) (subst (λ x. IfSome x IsValidEntry) made (entry_of-valid ms n)) in
     raised k ∙ ap (λ t. maybe join_entries (get t k) (if is_octets k n then Some e else None)) stands ∙ sym (table_of-marks h ms n e p q named made k))

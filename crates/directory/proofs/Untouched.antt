@@ -19,5 +19,6 @@ module _ {K X : Type 0} {R : K → K → Ordering} (o : IsTotalOrder R) (same : 
       by_case false e = refl
 
   pub untouched : (m : FinMap R X) (es fs : List (K × X)) (k : K) (next : X) → from_entries es ≡ m
-      → ((q : K) → lookup (is_at (R q)) fs ≡ cond (is_at (R k) q) (Some next) (lookup (is_at (R q)) es)) → (q : K) → q ≢ k → get (from_entries {R = R} fs) q ≡ get m q
+      → ((q : K) → lookup (is_at (R q)) fs ≡ cond (is_at (R k) q) (Some next) (lookup (is_at (R q)) es)) → (q : K) → q ≢ k
+      → get (from_entries {R = R} fs) q ≡ get m q
   untouched m es fs k next view puts = inserted_apart m (from_entries fs) k next (view-insert o same es fs k next puts ∙ ap (λ m. insert m k next) view)

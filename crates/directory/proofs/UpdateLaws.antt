@@ -23,7 +23,8 @@ use Rattle.directory.specs.Applied.{TakesIn}
 use Rattle.directory.specs.Kinds.{link_target, replicas}
 use Rattle.directory.specs.Entries.{Entries, join_entries, IsValidEntry}
 use Rattle.directory.specs.Updates.{Change, Create, MakeLink, MakeChild, Delete, Add, Remove, Put, Clear, Repoint, changed_name}
-use Rattle.directory.specs.Histories.{Mark, Birth, Death, Attr, Born, name_in, born_in, stamp_in, birth_in, is_birth, entry_of, table_of, HasBirths, IsAfterBirth, HasOneKind, IsHistory, IsBefore}
+use Rattle.directory.specs.Histories.{Mark, Birth, Death, Attr, Born, name_in, born_in, stamp_in}
+use Rattle.directory.specs.Histories.{birth_in, is_birth, entry_of, table_of, HasBirths, IsAfterBirth, HasOneKind, IsHistory, IsBefore}
 use Rattle.directory.specs.Shown.{Shown, shown, shown_in, refusal_of, value_mark, put_marks, shown_dir, marks_of}
 use Rattle.directory.proofs.FragmentLaws.{same_octets, same_stamp}
 use Rattle.directory.proofs.ShownLaws.{shown_in-table_of}
@@ -68,8 +69,14 @@ not_both false p q = cc (p)
 pub births-append : (g h : List Mark) → HasBirths g → HasBirths h → HasBirths (g ++ h)
 births-append g h p q =
     all_append (λ m. list_any (is_birth (name_in m) (born_in m)) (g ++ h) ≡ true) g h
-    (all_map (λ m. list_any (is_birth (name_in m) (born_in m)) g ≡ true) (λ m. list_any (is_birth (name_in m) (born_in m)) (g ++ h) ≡ true) (λ m e. list_any-append (is_birth (name_in m) (born_in m)) g h ∙ or_left _ _ e) g p)
-    (all_map (λ m. list_any (is_birth (name_in m) (born_in m)) h ≡ true) (λ m. list_any (is_birth (name_in m) (born_in m)) (g ++ h) ≡ true) (λ m e. list_any-append (is_birth (name_in m) (born_in m)) g h ∙ or_right _ _ e) h q)
+    (all_map (λ m. list_any (is_birth
+    (name_in m)
+    (born_in m)) g ≡ true) (λ m. list_any (is_birth
+    (name_in m) (born_in m)) (g ++ h) ≡ true) (λ m e. list_any-append (is_birth (name_in m) (born_in m)) g h ∙ or_left _ _ e) g p)
+    (all_map (λ m. list_any (is_birth
+    (name_in m)
+    (born_in m)) h ≡ true) (λ m. list_any (is_birth
+    (name_in m) (born_in m)) (g ++ h) ≡ true) (λ m e. list_any-append (is_birth (name_in m) (born_in m)) g h ∙ or_right _ _ e) h q)
 
 -- ---- the form of the marks of an update
 
@@ -170,10 +177,15 @@ module _ (h : List Mark) (n : List ℕ) (s : Stamp) (ms : List Mark) (known : Is
   -- the birth of an entry that shows is a mark of the history
   old_birth : (x : Shown) → shown h n ≡ Some x → x.birth ≡ u.birth → x.kind ≡ u.kind → Contains h (Birth n u.kind u.birth)
   old_birth x is birth kind =
-      subst (λ (b : Born). Contains h (Birth n b.kind b.at)) (λ i. record { at = birth i; kind = kind i }) (birth_among h n (record { at = x.birth; kind = x.kind }) (seen h n x is).born)
+      subst (λ
+      (b : Born). Contains h
+      (Birth n b.kind b.at)) (λ i. record { at = birth i; kind = kind i }) (birth_among h n
+      (record { at = x.birth; kind = x.kind }) (seen h n x is).born)
 
   not_after : is_earlier s u.birth ≡ false
-  not_after = ⊎_elim (λ new. ap (is_earlier s) new ∙ not_itself s) (λ old. not_later u.birth s (before (Birth n u.kind u.birth) (old_birth old.0 old.1 old.2 old.3))) u.source
+  not_after =
+      ⊎_elim (λ new. ap (is_earlier s) new ∙ not_itself s) (λ old. not_later u.birth s (before
+      (Birth n u.kind u.birth) (old_birth old.0 old.1 old.2 old.3))) u.source
 
   abbrev all : List Mark
   all = Birth n u.kind u.birth ∷ u.rest
@@ -191,12 +203,15 @@ module _ (h : List Mark) (n : List ℕ) (s : Stamp) (ms : List Mark) (known : Is
   ordered_all : IsAfterBirth all
   ordered_all = (
     ap not (not_itself u.birth),
-    all_map (IsAbout n u.birth s) (λ m. is_up_to (stamp_in m) (born_in m) ≡ true) (λ m a. ap (λ t. is_up_to t (born_in m)) a.2 ∙ ap (is_up_to s) a.1 ∙ ap not not_after) u.rest u.about,
+    all_map (IsAbout n u.birth s) (λ m. is_up_to (stamp_in m) (born_in m) ≡ true) (λ m a. ap (λ t. is_up_to t
+        (born_in m)) a.2 ∙ ap (is_up_to s) a.1 ∙ ap not not_after) u.rest u.about,
   )
 
   -- each birth of the marks is their first mark
   one_birth_of : (q : List ℕ) (j : Kind) (d : Stamp) → Contains all (Birth q j d) → (n ≡ q) × (u.kind ≡ j) × (u.birth ≡ d)
-  one_birth_of q j d c = ⊎_elim (λ same. (ap name_in same, kind_same same, ap born_in same)) (λ r. absurd (no_birth (all_at (IsAbout n u.birth s) u.rest (Birth q j d) u.about r).3)) (Contains-cases (Birth n u.kind u.birth) u.rest (Birth q j d) c)
+  one_birth_of q j d c =
+      ⊎_elim (λ same. (ap name_in same, kind_same same, ap born_in same)) (λ r. absurd (no_birth (all_at
+      (IsAbout n u.birth s) u.rest (Birth q j d) u.about r).3)) (Contains-cases (Birth n u.kind u.birth) u.rest (Birth q j d) c)
     where
       kind_same : Birth n u.kind u.birth ≡ Birth q j d → u.kind ≡ j
       kind_same e = cc (e)
@@ -223,7 +238,8 @@ module _ (h : List Mark) (n : List ℕ) (s : Stamp) (ms : List Mark) (known : Is
   kinds_of_both : HasOneKind (h ++ all)
   kinds_of_both q d j k a b =
       ⊎_elim (λ x. ⊎_elim (λ y. known.kinds q d j k x y) (λ y. agree q j k d x y) (Contains-append_cases h all (Birth q k d) b))
-      (λ x. ⊎_elim (λ y. sym (agree q k j d y x)) (λ y. kinds_of_all q d j k x y) (Contains-append_cases h all (Birth q k d) b)) (Contains-append_cases h all (Birth q j d) a)
+      (λ x. ⊎_elim (λ y. sym (agree q k j d y x)) (λ y. kinds_of_all q d j k x y) (Contains-append_cases h all (Birth q k d) b))
+      (Contains-append_cases h all (Birth q j d) a)
 
   pub both_history : IsHistory (h ++ all)
   both_history = record {
@@ -236,7 +252,8 @@ module _ (h : List Mark) (n : List ℕ) (s : Stamp) (ms : List Mark) (known : Is
   names_of_all = (refl, all_map (IsAbout n u.birth s) (λ m. name_in m ≡ n) (λ m a. a.0) u.rest u.about)
 
 -- the marks of an accepted update that is later than the history
-module _ (h : List Mark) (u : Change) (s : Stamp) (known : IsHistory h) (before : IsBefore h s) (accepted : refusal_of (shown h (changed_name u)) u ≡ None) where
+module _ (h : List Mark) (u : Change) (s : Stamp) (known : IsHistory h) (before : IsBefore h s) (accepted : refusal_of (shown h
+    (changed_name u)) u ≡ None) where
   abbrev update : IsUpdate (shown h (changed_name u)) (changed_name u) s (marks_of (shown h (changed_name u)) u s)
   update = marks_are (shown h (changed_name u)) u s accepted
 
@@ -250,23 +267,31 @@ module _ (h : List Mark) (u : Change) (s : Stamp) (known : IsHistory h) (before 
   marks_of-names = subst (AllByRecursion (λ m. name_in m ≡ changed_name u)) (sym update.marks) (names_of_all h (changed_name u) s _ known before update)
 
   -- the table of a house that accepts it: its fragment is joined in, and the table is that of the history with the marks
-  pub accepted-table_of : (old new : Entries) (f : Fragment) → old ≡ table_of h → f.name ≡ changed_name u → entry_of (marks_of (shown_in old (changed_name u)) u s) f.name ≡ Some f.entry
-      → (IfSome (get old f.name) IsValidEntry → IsValidEntry f.entry → RaisesAt join_entries old new f.name f.entry) → new ≡ table_of (h ++ marks_of (shown h (changed_name u)) u s)
+  pub accepted-table_of : (old new : Entries) (f : Fragment) → old ≡ table_of h → f.name ≡ changed_name u
+      → entry_of (marks_of (shown_in old (changed_name u)) u s) f.name ≡ Some f.entry
+      → (IfSome (get old f.name) IsValidEntry → IsValidEntry f.entry → RaisesAt join_entries old new f.name f.entry)
+      → new ≡ table_of (h ++ marks_of (shown h (changed_name u)) u s)
   accepted-table_of old new f stands named made joins =
-      let seen_there : shown_in old (changed_name u) ≡ shown h (changed_name u) = ap (λ t. shown_in t (changed_name u)) stands ∙ shown_in-table_of h (changed_name u) in
+      let seen_there : shown_in old (changed_name u) ≡ shown h (changed_name u) = ap (λ t. shown_in t (changed_name u)) stands
+      ∙ shown_in-table_of h (changed_name u) in
       let now : entry_of (marks_of (shown h (changed_name u)) u s) f.name ≡ Some f.entry = ap (λ x. entry_of (marks_of x u s) f.name) (sym seen_there) ∙ made in
       joined-table_of h (marks_of (shown h (changed_name u)) u s) f.name f.entry old new known.births marks_of-history.births
       (subst (λ n. AllByRecursion (λ m. name_in m ≡ n) (marks_of (shown h (changed_name u)) u s)) (sym named) marks_of-names) now stands joins
 
   -- or the update is applied in place
-  pub applied-table_of : (old new : Entries) → old ≡ table_of h → TakesIn old new (changed_name u) (marks_of (shown_in old (changed_name u)) u s) → new ≡ table_of (h ++ marks_of (shown h (changed_name u)) u s)
+  pub applied-table_of : (old new : Entries) → old ≡ table_of h → TakesIn old new (changed_name u) (marks_of (shown_in old (changed_name u)) u s)
+      → new ≡ table_of (h ++ marks_of (shown h (changed_name u)) u s)
   applied-table_of old new stands takes =
-      let seen_there : shown_in old (changed_name u) ≡ shown h (changed_name u) = ap (λ t. shown_in t (changed_name u)) stands ∙ shown_in-table_of h (changed_name u) in
+      let seen_there : shown_in old (changed_name u) ≡ shown h (changed_name u) = ap (λ t. shown_in t (changed_name u)) stands
+      ∙ shown_in-table_of h (changed_name u) in
       by_entry (entry_of marks (changed_name u)) refl (subst (λ x. TakesIn old new (changed_name u) (marks_of x u s)) seen_there takes)
     where
       marks : List Mark
       marks = marks_of (shown h (changed_name u)) u s
 
-      by_entry : (x : Option EntryCell) → entry_of marks (changed_name u) ≡ x → IsSomeAnd x (λ e. IfSome (get old (changed_name u)) IsValidEntry → RaisesAt join_entries old new (changed_name u) e) → new ≡ table_of (h ++ marks)
+      by_entry : (x : Option EntryCell) → entry_of marks (changed_name u) ≡ x
+          → IsSomeAnd x (λ e. IfSome (get old (changed_name u)) IsValidEntry → RaisesAt join_entries old new (changed_name u) e)
+          → new ≡ table_of (h ++ marks)
       by_entry None is joins = absurd joins
-      by_entry (Some e) is joins = joined-table_of h marks (changed_name u) e old new known.births marks_of-history.births marks_of-names is stands (λ own _. joins own)
+      by_entry (Some e) is joins =
+          joined-table_of h marks (changed_name u) e old new known.births marks_of-history.births marks_of-names is stands (λ own _. joins own)

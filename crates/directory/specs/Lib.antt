@@ -1,8 +1,8 @@
 pub mod Kinds
 pub mod Entries
-pub mod EntryLaws
-pub mod CellLogs
-pub mod EntryUndos
+pub mod EntryLawProofs
+pub mod CellLogWords
+pub mod EntryUndoWords
 pub mod Updates
 pub mod Histories
 pub mod Shown

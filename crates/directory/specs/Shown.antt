@@ -1,5 +1,6 @@
 -- What a reader sees of a history or of a table, and what an update means there (own, after C705, reading and updating a replica).
-use Rattle.std.specs.Prelude.{◌≡◌, ◌≢◌, ◌↔◌, ℕ, Bool, true, false, ◌&&◌, ◌||◌, not, ◌==◌, List, [], ◌∷◌, length, filter, count_by, Option, Some, None, is_none, is_some, if◌then◌else◌}
+use Rattle.std.specs.Prelude.{◌≡◌, ◌≢◌, ◌↔◌, ℕ, Bool, true, false, ◌&&◌, ◌||◌, not, ◌==◌}
+use Rattle.std.specs.Prelude.{List, [], ◌∷◌, length, filter, count_by, Option, Some, None, is_none, is_some, if◌then◌else◌}
 use Rattle.std.specs.FinMap.{get, entries}
 use Rattle.std.specs.List.{Contains}
 use Rattle.std.specs.Option.{option_and_then, option_map_or}

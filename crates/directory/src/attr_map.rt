@@ -7,8 +7,9 @@ ghost use Rattle.cds_stamps.specs.Joins.{join_maps, EachValue};
 ghost use Rattle.cds_stamps.specs.Undos.{RaisesAt, TakesBack, LogsChange, MendsAt, back_at};
 ghost use Rattle.attr_sets.specs.Cells.{cell_of, join_cells};
 ghost use Rattle.attr_sets.specs.CellChanges.{change_marks};
-ghost use Rattle.attr_sets.specs.CellUndos.{undo_cell};
+ghost use Rattle.attr_sets.specs.CellUndoWords.{undo_cell};
 ghost use Rattle.directory.specs.Entries.{IsHeldCell};
+ghost use Rattle.directory.specs.Applied.{JoinsCell, TakesMarks};
 
 use attr_sets::{AttrCell, CellChange, CellUndo};
 use cds_stamps::{AttrName, Lattice, Stamp};
@@ -48,7 +49,7 @@ impl Model for CellLog {
     ghost use Rattle.std.specs.Coded.{coded_list, coded×, coded_option};
     ghost use Rattle.cds_stamps.specs.Octets.{octets_code};
     ghost use Rattle.attr_sets.specs.declared.undo.CellUndo.{CellUndo};
-    ghost use Rattle.directory.specs.CellLogs.{cell_undo_code};
+    ghost use Rattle.directory.specs.CellLogWords.{cell_undo_code};
 
     ghost Value = { List (List ℕ × Option CellUndo) };
 
@@ -154,7 +155,7 @@ impl AttrMap {
         change: &CellChange,
         stamp: Stamp,
     ) -> Result<(), AllocError>
-        ensures ok { OnOk result (IfSome (map.get self.old name.now) IsHeldCell → RaisesAt join_cells self.old self.new name.now (cell_of (change_marks change.now stamp))) }
+        ensures ok { OnOk result (TakesMarks self.old self.new name.now (change_marks change.now stamp)) }
         ensures err { OnErr result (self.new ≡ self.old) }
     {
         let stamp = &stamp;
@@ -177,7 +178,7 @@ impl AttrMap {
         stamp: Stamp,
     ) -> Result<bool, AllocError>
         ensures ok { IfOk result (λ here. MatchBool here
-            (IfSome (map.get self.old name.now) IsHeldCell → RaisesAt join_cells self.old self.new name.now (cell_of (change_marks change.now stamp)))
+            (TakesMarks self.old self.new name.now (change_marks change.now stamp))
             ((map.get self.old name.now ≡ None) × (self.new ≡ self.old))) }
         ensures err { OnErr result (self.new ≡ self.old) }
     {
@@ -197,7 +198,7 @@ impl AttrMap {
         name: &AttrName,
         cell: &AttrCell,
     ) -> Result<(), AllocError>
-        ensures ok { OnOk result (IfSome (map.get self.old name.now) IsHeldCell → IsHeldCell cell.now → RaisesAt join_cells self.old self.new name.now cell.now) }
+        ensures ok { OnOk result (JoinsCell self.old self.new name.now cell.now) }
         ensures err { OnErr result (self.new ≡ self.old) }
     {
         let here = self.join_here(alloc, name, cell)?;
@@ -216,7 +217,8 @@ impl AttrMap {
         name: &AttrName,
         cell: &AttrCell,
     ) -> Result<bool, AllocError>
-        ensures ok { IfOk result (λ here. MatchBool here (IfSome (map.get self.old name.now) IsHeldCell → IsHeldCell cell.now → RaisesAt join_cells self.old self.new name.now cell.now) ((map.get self.old name.now ≡ None) × (self.new ≡ self.old))) }
+        ensures ok { IfOk result (λ here. MatchBool here
+            (JoinsCell self.old self.new name.now cell.now) ((map.get self.old name.now ≡ None) × (self.new ≡ self.old))) }
         ensures err { OnErr result (self.new ≡ self.old) }
     {
         match self.cells.get_mut(name) {
@@ -248,7 +250,7 @@ impl AttrMap {
         name: &AttrName,
         cell: &AttrCell,
     ) -> Result<Option<CellUndo>, AllocError>
-        ensures ok { OnOk result (IfSome (map.get self.old name.now) IsHeldCell → IsHeldCell cell.now → RaisesAt join_cells self.old self.new name.now cell.now) }
+        ensures ok { OnOk result (JoinsCell self.old self.new name.now cell.now) }
         ensures back { IfOk result (λ undo. TakesBack undo_cell self.old self.new ((name.now, undo) ∷ [])) }
         ensures err { OnErr result (self.new ≡ self.old) }
     {
@@ -268,7 +270,8 @@ impl AttrMap {
         name: &AttrName,
         cell: &AttrCell,
     ) -> Result<Option<CellUndo>, AllocError>
-        ensures ok { IfOk result (λ undo. MatchOption undo ((map.get self.old name.now ≡ None) × (self.new ≡ self.old)) (λ undo. (IfSome (map.get self.old name.now) IsHeldCell → IsHeldCell cell.now → RaisesAt join_cells self.old self.new name.now cell.now) × TakesBack undo_cell self.old self.new ((name.now, Some undo) ∷ []))) }
+        ensures ok { IfOk result (λ undo. MatchOption undo ((map.get self.old name.now ≡ None) × (self.new ≡ self.old)) (λ undo.
+            JoinsCell self.old self.new name.now cell.now × TakesBack undo_cell self.old self.new ((name.now, Some undo) ∷ []))) }
         ensures err { OnErr result (self.new ≡ self.old) }
     {
         match self.cells.get_mut(name) {
@@ -304,7 +307,7 @@ impl AttrMap {
         cell: &AttrCell,
         log: &mut Vec<(AttrName, Option<CellUndo>)>,
     ) -> Result<(), AllocError>
-        ensures ok { OnOk result (IfSome (map.get self.old name.now) IsHeldCell → IsHeldCell cell.now → RaisesAt join_cells self.old self.new name.now cell.now) }
+        ensures ok { OnOk result (JoinsCell self.old self.new name.now cell.now) }
         ensures back { LogsChange undo_cell self.old self.new log.old.items log.new.items }
     {
         log.reserve(1)?;

@@ -42,29 +42,40 @@ pub fn same_marks_make_one_table()
 
 /// The marks of one name change that name alone: their entry is joined in.
 pub fn marks_of_one_name_join_in()
-    ensures { (h marks : List Mark) (n : List ℕ) (e : EntryCell) → HasBirths h → HasBirths marks → AllByRecursion (λ m. name_in m ≡ n) marks → entry_of marks n ≡ Some e → RaisesAt join_entries (table_of h) (table_of (h ++ marks)) n e }
+    ensures { (h marks : List Mark) (n : List ℕ) (e : EntryCell) → HasBirths h → HasBirths marks → AllByRecursion (λ m. name_in m ≡ n) marks →
+        entry_of marks n ≡ Some e → RaisesAt join_entries (table_of h) (table_of (h ++ marks)) n e }
 {}
 
 /// The marks of an accepted update, stamped later than the history, belong together, with the history and to one name.
 pub fn accepted_marks_belong()
-    ensures together { (h : List Mark) (u : Change) (s : Stamp) → IsHistory h → IsBefore h s → refusal_of (shown h (changed_name u)) u ≡ None → IsHistory (marks_of (shown h (changed_name u)) u s) }
-    ensures with_history { (h : List Mark) (u : Change) (s : Stamp) → IsHistory h → IsBefore h s → refusal_of (shown h (changed_name u)) u ≡ None → IsHistory (h ++ marks_of (shown h (changed_name u)) u s) }
-    ensures one_name { (h : List Mark) (u : Change) (s : Stamp) → IsHistory h → IsBefore h s → refusal_of (shown h (changed_name u)) u ≡ None → AllByRecursion (λ m. name_in m ≡ changed_name u) (marks_of (shown h (changed_name u)) u s) }
+    ensures together { (h : List Mark) (u : Change) (s : Stamp) → IsHistory h → IsBefore h s → refusal_of (shown h (changed_name u)) u ≡ None →
+        IsHistory (marks_of (shown h (changed_name u)) u s) }
+    ensures with_history { (h : List Mark) (u : Change) (s : Stamp) → IsHistory h → IsBefore h s → refusal_of (shown h (changed_name u)) u ≡ None →
+        IsHistory (h ++ marks_of (shown h (changed_name u)) u s) }
+    ensures one_name { (h : List Mark) (u : Change) (s : Stamp) → IsHistory h → IsBefore h s → refusal_of (shown h (changed_name u)) u ≡ None →
+        AllByRecursion (λ m. name_in m ≡ changed_name u) (marks_of (shown h (changed_name u)) u s) }
 {}
 
 /// A table that stands for a history stands for it with the marks of one name, once their entry is joined in.
 pub fn joined_tables_stand()
-    ensures { (h marks : List Mark) (n : List ℕ) (e : EntryCell) (old new : Entries) → HasBirths h → HasBirths marks → AllByRecursion (λ m. name_in m ≡ n) marks → entry_of marks n ≡ Some e → old ≡ table_of h → (IfSome (map.get old n) IsValidEntry → IsValidEntry e → RaisesAt join_entries old new n e) → new ≡ table_of (h ++ marks) }
+    ensures { (h marks : List Mark) (n : List ℕ) (e : EntryCell) (old new : Entries) → HasBirths h → HasBirths marks →
+        AllByRecursion (λ m. name_in m ≡ n) marks → entry_of marks n ≡ Some e → old ≡ table_of h →
+        (IfSome (map.get old n) IsValidEntry → IsValidEntry e → RaisesAt join_entries old new n e) → new ≡ table_of (h ++ marks) }
 {}
 
 /// So does the table of the house that accepts an update, once the fragment is joined in.
 pub fn accepted_tables_stand()
-    ensures { (h : List Mark) (u : Change) (s : Stamp) → IsHistory h → IsBefore h s → refusal_of (shown h (changed_name u)) u ≡ None → (old new : Entries) (f : Fragment) → old ≡ table_of h → f.name ≡ changed_name u → entry_of (marks_of (shown_in old (changed_name u)) u s) f.name ≡ Some f.entry → (IfSome (map.get old f.name) IsValidEntry → IsValidEntry f.entry → RaisesAt join_entries old new f.name f.entry) → new ≡ table_of (h ++ marks_of (shown h (changed_name u)) u s) }
+    ensures { (h : List Mark) (u : Change) (s : Stamp) → IsHistory h → IsBefore h s → refusal_of (shown h (changed_name u)) u ≡ None →
+        (old new : Entries) (f : Fragment) → old ≡ table_of h → f.name ≡ changed_name u →
+        entry_of (marks_of (shown_in old (changed_name u)) u s) f.name ≡ Some f.entry →
+        (IfSome (map.get old f.name) IsValidEntry → IsValidEntry f.entry → RaisesAt join_entries old new f.name f.entry) →
+        new ≡ table_of (h ++ marks_of (shown h (changed_name u)) u s) }
 {}
 
 /// So it does once the update is applied in place.
 pub fn applied_tables_stand()
-    ensures { (h : List Mark) (u : Change) (s : Stamp) → IsHistory h → IsBefore h s → refusal_of (shown h (changed_name u)) u ≡ None → (old new : Entries) → old ≡ table_of h →
+    ensures { (h : List Mark) (u : Change) (s : Stamp) → IsHistory h → IsBefore h s → refusal_of (shown h (changed_name u)) u ≡ None →
+        (old new : Entries) → old ≡ table_of h →
         TakesIn old new (changed_name u) (marks_of (shown_in old (changed_name u)) u s) → new ≡ table_of (h ++ marks_of (shown h (changed_name u)) u s) }
 {}
 
@@ -73,19 +84,32 @@ pub fn applied_tables_stand()
 /// of a live entry one attribute is changed alone. A repointed child is still a child of the same birth, and its pointer
 /// is the new one alone, to the same directory.
 pub fn accepted_updates_show()
-    ensures others { (h : List Mark) (u : Change) (s : Stamp) → IsHistory h → IsBefore h s → refusal_of (shown h (changed_name u)) u ≡ None → (q : List ℕ) → q ≢ changed_name u → shown (h ++ marks_of (shown h (changed_name u)) u s) q ≡ shown h q }
-    ensures created { (h : List Mark) (n : List ℕ) (s : Stamp) → IsHistory h → IsBefore h s → shown (h ++ marks_of (shown h n) (Create n) s) n ≡ Some (record { birth = s; kind = Object; values = λ _. [] }) }
+    ensures others { (h : List Mark) (u : Change) (s : Stamp) → IsHistory h → IsBefore h s → refusal_of (shown h (changed_name u)) u ≡ None →
+        (q : List ℕ) → q ≢ changed_name u → shown (h ++ marks_of (shown h (changed_name u)) u s) q ≡ shown h q }
+    ensures created { (h : List Mark) (n : List ℕ) (s : Stamp) → IsHistory h → IsBefore h s →
+        shown (h ++ marks_of (shown h n) (Create n) s) n ≡ Some (record { birth = s; kind = Object; values = λ _. [] }) }
     ensures linked { (h : List Mark) (n : List ℕ) (target : List (List ℕ)) (s : Stamp) → IsHistory h → IsBefore h s → IsComponentList target →
-        shown (h ++ marks_of (shown h n) (MakeLink n target) s) n ≡ Some (record { birth = s; kind = Link; values = λ a. if is_octets a link_target then spelling target ∷ [] else [] }) }
-    ensures child_made { (h : List Mark) (n : List ℕ) (p : Pointer) (s : Stamp) → IsHistory h → IsBefore h s → IsHouses (record { master = p.master; others = p.others }) →
-        shown (h ++ marks_of (shown h n) (MakeChild n p) s) n ≡ Some (record { birth = s; kind = Child; values = λ a. if is_octets a replicas then pointer_octets p ∷ [] else [] }) }
-    ensures added { (h : List Mark) (n : List ℕ) (e : Shown) → shown h n ≡ Some e → (s : Stamp) (a v : List ℕ) → IsBefore h s → refusal_of (Some e) (Add n a v) ≡ None → IsSomeAnd (shown (h ++ marks_of (shown h n) (Add n a v) s) n) (ChangesValues e a (λ w. (w ≡ v) ⊎ Contains (e.values a) w)) }
-    ensures removed { (h : List Mark) (n : List ℕ) (e : Shown) → shown h n ≡ Some e → (s : Stamp) (a v : List ℕ) → IsBefore h s → refusal_of (Some e) (Remove n a v) ≡ None → IsSomeAnd (shown (h ++ marks_of (shown h n) (Remove n a v) s) n) (ChangesValues e a (λ w. (w ≢ v) × Contains (e.values a) w)) }
-    ensures put { (h : List Mark) (n : List ℕ) (e : Shown) → shown h n ≡ Some e → (s : Stamp) (a v : List ℕ) → IsBefore h s → refusal_of (Some e) (Put n a v) ≡ None → IsSomeAnd (shown (h ++ marks_of (shown h n) (Put n a v) s) n) (ChangesValues e a (λ w. w ≡ v)) }
-    ensures cleared { (h : List Mark) (n : List ℕ) (e : Shown) → shown h n ≡ Some e → (s : Stamp) (a : List ℕ) → IsBefore h s → refusal_of (Some e) (Clear n a) ≡ None → IsSomeAnd (shown (h ++ marks_of (shown h n) (Clear n a) s) n) (ChangesValues e a (λ _. ⊥)) }
-    ensures repointed { (h : List Mark) (n : List ℕ) (e : Shown) → shown h n ≡ Some e → (s : Stamp) (master : ℕ) (others : List ℕ) → IsBefore h s → refusal_of (Some e) (Repoint n master others) ≡ None →
+        shown (h ++ marks_of (shown h n) (MakeLink n target) s) n ≡
+        Some (record { birth = s; kind = Link; values = λ a. if is_octets a link_target then spelling target ∷ [] else [] }) }
+    ensures child_made { (h : List Mark) (n : List ℕ) (p : Pointer) (s : Stamp) → IsHistory h → IsBefore h s →
+        IsHouses (record { master = p.master; others = p.others }) →
+        shown (h ++ marks_of (shown h n) (MakeChild n p) s) n ≡
+        Some (record { birth = s; kind = Child; values = λ a. if is_octets a replicas then pointer_octets p ∷ [] else [] }) }
+    ensures added { (h : List Mark) (n : List ℕ) (e : Shown) → shown h n ≡ Some e → (s : Stamp) (a v : List ℕ) → IsBefore h s →
+        refusal_of (Some e) (Add n a v) ≡ None → IsSomeAnd (shown (h ++ marks_of (shown h n) (Add n a v) s) n)
+        (ChangesValues e a (λ w. (w ≡ v) ⊎ Contains (e.values a) w)) }
+    ensures removed { (h : List Mark) (n : List ℕ) (e : Shown) → shown h n ≡ Some e → (s : Stamp) (a v : List ℕ) → IsBefore h s →
+        refusal_of (Some e) (Remove n a v) ≡ None → IsSomeAnd (shown (h ++ marks_of (shown h n) (Remove n a v) s) n)
+        (ChangesValues e a (λ w. (w ≢ v) × Contains (e.values a) w)) }
+    ensures put { (h : List Mark) (n : List ℕ) (e : Shown) → shown h n ≡ Some e → (s : Stamp) (a v : List ℕ) → IsBefore h s →
+        refusal_of (Some e) (Put n a v) ≡ None → IsSomeAnd (shown (h ++ marks_of (shown h n) (Put n a v) s) n) (ChangesValues e a (λ w. w ≡ v)) }
+    ensures cleared { (h : List Mark) (n : List ℕ) (e : Shown) → shown h n ≡ Some e → (s : Stamp) (a : List ℕ) → IsBefore h s →
+        refusal_of (Some e) (Clear n a) ≡ None → IsSomeAnd (shown (h ++ marks_of (shown h n) (Clear n a) s) n) (ChangesValues e a (λ _. ⊥)) }
+    ensures repointed { (h : List Mark) (n : List ℕ) (e : Shown) → shown h n ≡ Some e → (s : Stamp) (master : ℕ) (others : List ℕ) → IsBefore h s →
+        refusal_of (Some e) (Repoint n master others) ≡ None →
         let p : Pointer = record { dir = shown_dir e; master = master; others = others } in
-        IsHouses (record { master = master; others = others }) → IsSomeAnd (shown (h ++ marks_of (shown h n) (Repoint n master others) s) n) (ChangesValues e replicas (λ w. w ≡ pointer_octets p)) }
+        IsHouses (record { master = master; others = others }) →
+        IsSomeAnd (shown (h ++ marks_of (shown h n) (Repoint n master others) s) n) (ChangesValues e replicas (λ w. w ≡ pointer_octets p)) }
     ensures deleted { (h : List Mark) (n : List ℕ) (e : Shown) → shown h n ≡ Some e → (s : Stamp) → shown (h ++ marks_of (shown h n) (Delete n) s) n ≡ None }
 {}
 
@@ -94,11 +118,14 @@ pub fn accepted_updates_show()
 pub fn accepted_updates_lead()
     ensures linked { (h : List Mark) (n : List ℕ) (target : List (List ℕ)) (s : Stamp) → IsHistory h → IsBefore h s → IsComponentList target →
         IsSomeAnd (shown (h ++ marks_of (shown h n) (MakeLink n target) s) n) (λ e. lead_of e ≡ Some (spelling target)) }
-    ensures child_made { (h : List Mark) (n : List ℕ) (p : Pointer) (s : Stamp) → IsHistory h → IsBefore h s → IsHouses (record { master = p.master; others = p.others }) →
+    ensures child_made { (h : List Mark) (n : List ℕ) (p : Pointer) (s : Stamp) → IsHistory h → IsBefore h s →
+        IsHouses (record { master = p.master; others = p.others }) →
         IsSomeAnd (shown (h ++ marks_of (shown h n) (MakeChild n p) s) n) (λ e. lead_of e ≡ Some (pointer_octets p)) }
-    ensures repointed { (h : List Mark) (n : List ℕ) (e : Shown) → shown h n ≡ Some e → (s : Stamp) (master : ℕ) (others : List ℕ) → IsBefore h s → refusal_of (Some e) (Repoint n master others) ≡ None →
+    ensures repointed { (h : List Mark) (n : List ℕ) (e : Shown) → shown h n ≡ Some e → (s : Stamp) (master : ℕ) (others : List ℕ) → IsBefore h s →
+        refusal_of (Some e) (Repoint n master others) ≡ None →
         let p : Pointer = record { dir = shown_dir e; master = master; others = others } in
-        IsHouses (record { master = master; others = others }) → IsSomeAnd (shown (h ++ marks_of (shown h n) (Repoint n master others) s) n) (λ f. lead_of f ≡ Some (pointer_octets p)) }
+        IsHouses (record { master = master; others = others }) →
+        IsSomeAnd (shown (h ++ marks_of (shown h n) (Repoint n master others) s) n) (λ f. lead_of f ≡ Some (pointer_octets p)) }
     ensures led { (h : List Mark) (n : List ℕ) (e : Shown) → shown h n ≡ Some e → e.kind ≢ Object → IsSome (lead_of e) }
     ensures read { (e : Shown) (v : List ℕ) → lead_of e ≡ Some v → is_readable e.kind v ≡ true }
 {}

@@ -1,5 +1,6 @@
 // The table of a directory.
-ghost use Rattle.std.specs.Prelude.{◌≡◌, List, ℕ, [], ◌∷◌, Some, None, MatchOption, MatchBool, true, false, IsSome, IfOk, IfSome, OnOk, OnErr, if◌then◌else◌, option_copied};
+ghost use Rattle.std.specs.Prelude.{◌≡◌, List, ℕ, [], ◌∷◌, Some, None, true, if◌then◌else◌, option_copied};
+ghost use Rattle.std.specs.Prelude.{MatchOption, MatchBool, IsSome, IfOk, IfSome, OnOk, OnErr};
 ghost use Rattle.std.specs.FinMap as map;
 ghost use Rattle.std.specs.Option.{option_map};
 ghost use Rattle.cds_stamps.specs.Octets.{octets_cmp, is_octets};
@@ -11,9 +12,9 @@ ghost use Rattle.cell_names.specs.ChildPointers.{pointer_in, pointer_octets};
 ghost use Rattle.attr_sets.specs.Cells.{Cleared, Marked, cell_of};
 ghost use Rattle.directory.specs.Kinds.{replicas};
 ghost use Rattle.directory.specs.Entries.{join_entries, join_tables, IsValidEntry, IsValidTable};
-ghost use Rattle.directory.specs.EntryLaws.{table_join};
-ghost use Rattle.directory.specs.EntryUndos.{undo_entry};
-ghost use Rattle.directory.specs.Applied.{changed_entry, deleted_entry, TakesOwn, TakesIn, LeavesOthers};
+ghost use Rattle.directory.specs.EntryLawProofs.{table_join};
+ghost use Rattle.directory.specs.EntryUndoWords.{undo_entry};
+ghost use Rattle.directory.specs.Applied.{changed_entry, deleted_entry, TakesOwn, TakesIn, JoinsEntry, LeavesOthers};
 ghost use Rattle.attr_sets.specs.CellChanges.{change_marks};
 ghost use Rattle.directory.specs.Updates.{Delete, Clear, Repoint, changed_name, change_of};
 ghost use Rattle.directory.specs.Histories.{entry_of};
@@ -213,7 +214,8 @@ impl Table {
     ) -> Result<Fragment, AllocError>
         requires { refusal_of (shown_in self.now (changed_name (change_of update.now))) (change_of update.now) ≡ None }
         ensures name { IfOk result (λ f. f.name ≡ changed_name (change_of update.now)) }
-        ensures entry { IfOk result (λ f. entry_of (marks_of (shown_in self.now (changed_name (change_of update.now))) (change_of update.now) stamp) f.name ≡ Some f.entry) }
+        ensures entry { IfOk result (λ f. let u = change_of update.now in
+            entry_of (marks_of (shown_in self.now (changed_name u)) u stamp) f.name ≡ Some f.entry) }
     {
         match update {
             Update::Create(name) => { born(alloc, name, Kind::Object, AttrMap::new(alloc), stamp) }
@@ -284,7 +286,8 @@ impl Table {
     ) -> Result<Fragment, AllocError>
         requires { IsSome (shown_in self.now name.now) }
         ensures name { IfOk result (λ f. f.name ≡ name.now) }
-        ensures entry { IfOk result (λ f. IfSome (shown_in self.now name.now) (λ e. f.entry ≡ record { birth = e.birth; kind = e.kind; death = None; attrs = map.insert map.empty attr.now cell })) }
+        ensures entry { IfOk result (λ f. IfSome (shown_in self.now name.now) (λ e.
+            f.entry ≡ record { birth = e.birth; kind = e.kind; death = None; attrs = map.insert map.empty attr.now cell })) }
     {
         let attrs = one_attr(alloc, attr.copy(alloc)?, cell)?;
         self.live_fragment(alloc, name, None, attrs)
@@ -300,7 +303,8 @@ impl Table {
     ) -> Result<Fragment, AllocError>
         requires { IsSome (shown_in self.now name.now) }
         ensures name { IfOk result (λ f. f.name ≡ name.now) }
-        ensures entry { IfOk result (λ f. IfSome (shown_in self.now name.now) (λ e. f.entry ≡ record { birth = e.birth; kind = e.kind; death = death; attrs = attrs })) }
+        ensures entry { IfOk result (λ f. IfSome (shown_in self.now name.now) (λ e.
+            f.entry ≡ record { birth = e.birth; kind = e.kind; death = death; attrs = attrs })) }
     {
         let own = self.live(name).unwrap();
         Ok(Fragment {
@@ -379,7 +383,7 @@ impl Table {
 
     /// Joins what an update adds in, as join_entry does; a new entry is moved in, and not copied.
     fn take_in(&mut self, alloc: Global, fragment: Fragment) -> Result<(), AllocError>
-        ensures ok { OnOk result (IfSome (map.get self.old fragment.name) IsValidEntry → IsValidEntry fragment.entry → RaisesAt join_entries self.old self.new fragment.name fragment.entry) }
+        ensures ok { OnOk result (JoinsEntry self.old self.new fragment.name fragment.entry) }
         ensures others { LeavesOthers self.old self.new fragment.name }
         ensures err { OnErr result (self.new ≡ self.old) }
     {
@@ -394,7 +398,7 @@ impl Table {
     /// Joins what an update adds in, in place, with at most one insertion at each level of the entry: of one mark the cost
     /// grows with the logarithm of the number of entries, attributes and values.
     pub fn join_entry(&mut self, alloc: Global, fragment: &Fragment) -> Result<(), AllocError>
-        ensures ok { OnOk result (IfSome (map.get self.old fragment.now.name) IsValidEntry → IsValidEntry fragment.now.entry → RaisesAt join_entries self.old self.new fragment.now.name fragment.now.entry) }
+        ensures ok { OnOk result (JoinsEntry self.old self.new fragment.now.name fragment.now.entry) }
         ensures others { OnOk result (LeavesOthers self.old self.new fragment.now.name) }
         ensures err { OnErr result (self.new ≡ self.old) }
     {
@@ -412,7 +416,7 @@ impl Table {
         name: &SimpleName,
         entry: &EntryCell,
     ) -> Result<(), AllocError>
-        ensures ok { OnOk result (IfSome (map.get self.old name.now) IsValidEntry → IsValidEntry entry.now → RaisesAt join_entries self.old self.new name.now entry.now) }
+        ensures ok { OnOk result (JoinsEntry self.old self.new name.now entry.now) }
         ensures others { OnOk result (LeavesOthers self.old self.new name.now) }
         ensures err { OnErr result (self.new ≡ self.old) }
     {
@@ -432,7 +436,8 @@ impl Table {
         name: &SimpleName,
         entry: &EntryCell,
     ) -> Result<bool, AllocError>
-        ensures ok { IfOk result (λ here. MatchBool here (IfSome (map.get self.old name.now) IsValidEntry → IsValidEntry entry.now → RaisesAt join_entries self.old self.new name.now entry.now) ((map.get self.old name.now ≡ None) × (self.new ≡ self.old))) }
+        ensures ok { IfOk result (λ here. MatchBool here
+            (JoinsEntry self.old self.new name.now entry.now) ((map.get self.old name.now ≡ None) × (self.new ≡ self.old))) }
         ensures others { OnOk result (LeavesOthers self.old self.new name.now) }
         ensures err { OnErr result (self.new ≡ self.old) }
     {
@@ -452,7 +457,7 @@ impl Table {
         name: &SimpleName,
         entry: &EntryCell,
     ) -> Result<Option<EntryUndo>, AllocError>
-        ensures ok { OnOk result (IfSome (map.get self.old name.now) IsValidEntry → IsValidEntry entry.now → RaisesAt join_entries self.old self.new name.now entry.now) }
+        ensures ok { OnOk result (JoinsEntry self.old self.new name.now entry.now) }
         ensures back { IfOk result (λ undo. TakesBack undo_entry self.old self.new ((name.now, undo) ∷ [])) }
         ensures err { OnErr result (self.new ≡ self.old) }
     {
@@ -472,7 +477,8 @@ impl Table {
         name: &SimpleName,
         entry: &EntryCell,
     ) -> Result<Option<EntryUndo>, AllocError>
-        ensures ok { IfOk result (λ undo. MatchOption undo ((map.get self.old name.now ≡ None) × (self.new ≡ self.old)) (λ undo. (IfSome (map.get self.old name.now) IsValidEntry → IsValidEntry entry.now → RaisesAt join_entries self.old self.new name.now entry.now) × TakesBack undo_entry self.old self.new ((name.now, Some undo) ∷ []))) }
+        ensures ok { IfOk result (λ undo. MatchOption undo ((map.get self.old name.now ≡ None) × (self.new ≡ self.old)) (λ undo.
+            JoinsEntry self.old self.new name.now entry.now × TakesBack undo_entry self.old self.new ((name.now, Some undo) ∷ []))) }
         ensures err { OnErr result (self.new ≡ self.old) }
     {
         match self.entries.get_mut(name) {
@@ -508,7 +514,7 @@ impl Table {
         entry: &EntryCell,
         log: &mut Vec<(SimpleName, Option<EntryUndo>)>,
     ) -> Result<(), AllocError>
-        ensures ok { OnOk result (IfSome (map.get self.old name.now) IsValidEntry → IsValidEntry entry.now → RaisesAt join_entries self.old self.new name.now entry.now) }
+        ensures ok { OnOk result (JoinsEntry self.old self.new name.now entry.now) }
         ensures back { LogsChange undo_entry self.old self.new log.old.items log.new.items }
     {
         log.reserve(1)?;

@@ -36,7 +36,8 @@ impl Replica {
         ensures merged { OnOk result ((h g : List Mark) →
             let t = together self.old.all_up_to other.now.all_up_to in
             CanMerge h g t → self.old ≡ replica_of h self.old.all_up_to → other.now ≡ replica_of g other.now.all_up_to → self.new ≡ replica_of (h ++ g) t) }
-        ensures joined { OnOk result (IsValidTable self.old.table → IsValidTable other.now.table → self.new.table ≡ join_tables self.old.table other.now.table) }
+        ensures joined { OnOk result (
+            IsValidTable self.old.table → IsValidTable other.now.table → self.new.table ≡ join_tables self.old.table other.now.table) }
         ensures all_up_to { OnOk result (self.new.all_up_to ≡ together self.old.all_up_to other.now.all_up_to) }
         ensures valid { OnOk result (IsValidTable self.old.table → IsValidTable other.now.table → IsValidTable self.new.table) }
         ensures err { OnErr result (self.new ≡ self.old) }
@@ -50,7 +51,8 @@ impl Replica {
     /// they can be merged with it becomes the replica of both together, up to the same stamp.
     pub fn take_marks(&mut self, alloc: Global, fragment: &Fragment) -> Result<(), AllocError>
         ensures merged { OnOk result ((h marks : List Mark) →
-            CanMerge h marks self.old.all_up_to → IsFragmentOf marks fragment.now → self.old ≡ replica_of h self.old.all_up_to → self.new ≡ replica_of (h ++ marks) self.old.all_up_to) }
+            CanMerge h marks self.old.all_up_to → IsFragmentOf marks fragment.now →
+            self.old ≡ replica_of h self.old.all_up_to → self.new ≡ replica_of (h ++ marks) self.old.all_up_to) }
         ensures joined { OnOk result (let f = fragment.now in
             IfSome (map.get self.old.table f.name) IsValidEntry → IsValidEntry f.entry → RaisesAt join_entries self.old.table self.new.table f.name f.entry) }
         ensures others { OnOk result ((q : List ℕ) → q ≢ fragment.now.name → map.get self.new.table q ≡ map.get self.old.table q) }

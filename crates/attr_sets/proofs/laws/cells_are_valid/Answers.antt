@@ -1,4 +1,4 @@
-use Rattle.attr_sets.specs.CellLaws.{cell_of-valid}
+use Rattle.attr_sets.specs.CellLawProofs.{cell_of-valid}
 use Rattle.attr_sets.proofs.laws.cells_are_valid.Goals as goal
 
 pub returns : goal.returns

@@ -10,7 +10,7 @@ use Rattle.std.proofs.lemmas.Map.Entries.{lookup-filter-values}
 use Rattle.attr_sets.specs.declared.mark.ValueMark.{ValueMark}
 use Rattle.cds_stamps.specs.Stamps.{is_earlier}
 use Rattle.cds_stamps.specs.Octets.{octets_cmp}
-use Rattle.attr_sets.specs.CellLaws.{option_filter-kept}
+use Rattle.attr_sets.specs.CellLawProofs.{option_filter-kept}
 use Rattle.attr_sets.proofs.value_map.keep_marks_from.Goals as goal
 
 pub returns : goal.returns

@@ -1,5 +1,6 @@
 use Rattle.std.proofs.Common.{[]}
-use Rattle.directory.proofs.ChangeLaws.{shown-others, shown-create, shown-linked, shown-child, shown-repoint, shown-add, shown-remove, shown-put, shown-clear, shown-delete}
+use Rattle.directory.proofs.ChangeLaws.{shown-others, shown-create, shown-linked, shown-child, shown-repoint}
+use Rattle.directory.proofs.ChangeLaws.{shown-add, shown-remove, shown-put, shown-clear, shown-delete}
 use Rattle.directory.proofs.laws.accepted_updates_show.Goals as goal
 
 pub returns-clause-others : goal.returns-clause-others

@@ -1,4 +1,4 @@
-use Rattle.attr_sets.specs.CellLaws.{clear_joined}
+use Rattle.attr_sets.specs.CellLawProofs.{clear_joined}
 use Rattle.attr_sets.proofs.cell.AttrCell.clear.Goals as goal
 
 pub returns : goal.returns

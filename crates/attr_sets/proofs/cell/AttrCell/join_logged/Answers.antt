@@ -14,14 +14,17 @@ returns-then-covers_clear-clause-ok c =
 
 pub returns-then-covers_clear-clause-back : goal.returns-then-covers_clear-clause-back
 returns-then-covers_clear-clause-back c =
-    let values : taken_back put_back c.in_ok-log.log c.join_logged.new.self ≡ c.args.self.now.values = taken_back-is nat_list_cmp_total octets_exact put_back c.args.self.now.values c.join_logged.new.self c.in_ok-log.log c.in_ok-log.ensures.back in
+    let values : taken_back put_back c.in_ok-log.log c.join_logged.new.self
+    ≡ c.args.self.now.values =
+    taken_back-is nat_list_cmp_total octets_exact put_back c.args.self.now.values c.join_logged.new.self c.in_ok-log.log c.in_ok-log.ensures.back in
     λ i. record { cleared = c.args.self.now.cleared; values = values i }
 
 pub returns-then-covers_clear-clause-cleared : goal.returns-then-covers_clear-clause-cleared
 returns-then-covers_clear-clause-cleared c = sym (rw c.if-covers_clear.true at c.covers_clear.ensures)
 
 pub returns-then-covers_clear-clause-values : goal.returns-then-covers_clear-clause-values
-returns-then-covers_clear-clause-values c = kept_agrees c.args.self.now.cleared c.args.self.now.values c.join_logged.new.self c.args.other.now.values c.in_ok-log.ensures.ok
+returns-then-covers_clear-clause-values c =
+    kept_agrees c.args.self.now.cleared c.args.self.now.values c.join_logged.new.self c.args.other.now.values c.in_ok-log.ensures.ok
 
 pub returns-clause-values : goal.returns-clause-values
 returns-clause-values c = joined_agrees c.args.self.now c.args.other.now c.replace.new.dest (c.replace.ensures.after ∙ c.in_ok-next.ensures)

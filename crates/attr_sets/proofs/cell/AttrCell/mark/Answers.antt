@@ -1,6 +1,6 @@
 use Rattle.std.proofs.Common.{refl}
 use Rattle.attr_sets.specs.declared.cell.AttrCell.{AttrCell}
-use Rattle.attr_sets.specs.CellLaws.{mark_given}
+use Rattle.attr_sets.specs.CellLawProofs.{mark_given}
 use Rattle.attr_sets.proofs.cell.AttrCell.mark.Goals as goal
 
 pub returns-clause-ok : goal.returns-clause-ok

@@ -7,5 +7,6 @@ use Rattle.attr_sets.proofs.cell.AttrCell.take_back.Goals as goal
 
 pub returns-in-Marks : goal.returns-in-Marks
 returns-in-Marks c = rw c.in-Marks.is
-    (let values : c.take_back.new.self ≡ taken_back put_back c.in-Marks.log c.args.self.now.values = is_taken_back nat_list_cmp_total octets_exact put_back c.args.self.now.values c.take_back.new.self c.in-Marks.log c.take_back.ensures in
+    (let values : c.take_back.new.self ≡ taken_back put_back c.in-Marks.log c.args.self.now.values = is_taken_back nat_list_cmp_total octets_exact
+    put_back c.args.self.now.values c.take_back.new.self c.in-Marks.log c.take_back.ensures in
     λ i. record { cleared = c.args.self.now.cleared; values = values i })

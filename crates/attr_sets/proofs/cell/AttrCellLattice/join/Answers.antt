@@ -6,12 +6,14 @@ use Rattle.attr_sets.proofs.cell.AttrCellLattice.join.Goals as goal
 
 pub returns-clause-ok : goal.returns-clause-ok
 returns-clause-ok c = λ _ _.
-    later_joined c.args.self.now c.args.other.now c.join_clear.new.self c.join-2.new.self c.join_clear.ensures.cleared c.in_ok-join-2.ensures.ok c.join_clear.ensures.values
+    later_joined c.args.self.now c.args.other.now c.join_clear.new.self c.join-2.new.self c.join_clear.ensures.cleared c.in_ok-join-2.ensures.ok
+    c.join_clear.ensures.values
 
 pub returns-clause-values : goal.returns-clause-values
 returns-clause-values c =
     let is : c.join_clear.new.self ≡ join_cells c.args.self.now c.args.other.now =
-    later_joined c.args.self.now c.args.other.now c.join_clear.new.self c.join-2.new.self c.join_clear.ensures.cleared c.in_ok-join-2.ensures.ok c.join_clear.ensures.values in
+    later_joined c.args.self.now c.args.other.now c.join_clear.new.self c.join-2.new.self c.join_clear.ensures.cleared c.in_ok-join-2.ensures.ok
+    c.join_clear.ensures.values in
     joined_agrees c.args.self.now c.args.other.now c.join_clear.new.self is
 
 pub returns-then-covers_clear-clause-ok : goal.returns-then-covers_clear-clause-ok
@@ -20,4 +22,5 @@ returns-then-covers_clear-clause-ok c = λ own _.
     kept_joined c.args.self.now c.args.other.now new refl (rw c.if-covers_clear.true at c.covers_clear.ensures) c.in_ok-join.ensures.ok own
 
 pub returns-then-covers_clear-clause-values : goal.returns-then-covers_clear-clause-values
-returns-then-covers_clear-clause-values c = kept_agrees c.args.self.now.cleared c.args.self.now.values c.join.new.self c.args.other.now.values c.in_ok-join.ensures.ok
+returns-then-covers_clear-clause-values c =
+    kept_agrees c.args.self.now.cleared c.args.self.now.values c.join.new.self c.args.other.now.values c.in_ok-join.ensures.ok

@@ -7,4 +7,5 @@ use Rattle.attr_sets.proofs.value_map.ValueMap.join_logged.Goals as goal
 
 pub returns-in-Err-clause-err : goal.returns-in-Err-clause-err
 returns-in-Err-clause-err c = map.same_map nat_list_cmp_total octets_exact c.take_changes_back.new.self c.args.self.now (λ q.
-    c.take_changes_back.ensures q ∙ c.in-Err.ensures.back q ∙ ap (λ log. back_at octets_cmp put_back log q (map.get c.args.self.now q)) c.new-changes.ensures.items)
+    c.take_changes_back.ensures q ∙ c.in-Err.ensures.back q
+    ∙ ap (λ log. back_at octets_cmp put_back log q (map.get c.args.self.now q)) c.new-changes.ensures.items)

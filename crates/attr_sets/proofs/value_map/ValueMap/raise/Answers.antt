@@ -10,9 +10,11 @@ use Rattle.attr_sets.proofs.value_map.ValueMap.raise.Goals as goal
 pub returns-clause-ok : goal.returns-clause-ok
 returns-clause-ok c =
     (raised_new nat_list_cmp_total octets_exact later put_back c.args.self.now c.insert.new.self c.args.value.now c.args.mark c.in_default.ensures.0
-    (c.in_ok-insert.ensures.ok ∙ ap (λ k. map.insert c.raise_here.new.self k c.args.mark) c.in_ok-key.ensures ∙ ap (λ m. map.insert m c.args.value.now c.args.mark) c.in_default.ensures.1)).0
+    (c.in_ok-insert.ensures.ok ∙ ap (λ k. map.insert c.raise_here.new.self k c.args.mark) c.in_ok-key.ensures
+    ∙ ap (λ m. map.insert m c.args.value.now c.args.mark) c.in_default.ensures.1)).0
 
 pub returns-clause-back : goal.returns-clause-back
 returns-clause-back c =
     (raised_new nat_list_cmp_total octets_exact later put_back c.args.self.now c.insert.new.self c.args.value.now c.args.mark c.in_default.ensures.0
-    (c.in_ok-insert.ensures.ok ∙ ap (λ k. map.insert c.raise_here.new.self k c.args.mark) c.in_ok-key.ensures ∙ ap (λ m. map.insert m c.args.value.now c.args.mark) c.in_default.ensures.1)).1
+    (c.in_ok-insert.ensures.ok ∙ ap (λ k. map.insert c.raise_here.new.self k c.args.mark) c.in_ok-key.ensures
+    ∙ ap (λ m. map.insert m c.args.value.now c.args.mark) c.in_default.ensures.1)).1

@@ -1,7 +1,7 @@
 use Rattle.std.proofs.Common.{ap}
 use Rattle.std.specs.FinMap as map
 use Rattle.attr_sets.specs.Marks.{later, kept}
-use Rattle.attr_sets.specs.CellLaws.{marks}
+use Rattle.attr_sets.specs.CellLawProofs.{marks}
 use Rattle.cds_stamps.specs.Octets.{octets_cmp}
 use Rattle.cds_stamps.specs.Semilattice.{maybe}
 use Rattle.cds_stamps.proofs.TreeViews.{entry_at, item_joined}
@@ -11,9 +11,12 @@ use Rattle.attr_sets.proofs.value_map.ValueMap.raise_all.Goals as goal
 pub loop-value-init : goal.loop-value-init
 loop-value-init c = λ q.
     ap (maybe later (map.get c.args.self.now q))
-    (all_kept c.args.clear.now c.args.other.now c.other.inside.marks.entries _ c.other.view_is c.iter-value-items.ensures.ordered c.iter-value-items.ensures.rest c.into_iter-value-iterator.ensures.into_iter_gives q)
+    (all_kept c.args.clear.now c.args.other.now c.other.inside.marks.entries _ c.other.view_is c.iter-value-items.ensures.ordered
+    c.iter-value-items.ensures.rest c.into_iter-value-iterator.ensures.into_iter_gives q)
 
 pub loop-value-preserved : goal.loop-value-preserved
 loop-value-preserved c = λ q.
-    item_joined later marks.assoc (λ e. kept c.args.clear.now (entry_at octets_cmp q e)) (map.get c.loop-value.self q) (map.get c.raise_uncovered.new.self q) _ (c.in-Some.value.now, c.in-Some.mark.now) c.loop-value.value-iterator c.next.new.self
+    item_joined later marks.assoc (λ e. kept c.args.clear.now
+    (entry_at octets_cmp q e)) (map.get c.loop-value.self q) (map.get c.raise_uncovered.new.self q) _ (c.in-Some.value.now, c.in-Some.mark.now)
+    c.loop-value.value-iterator c.next.new.self
     c.in-Some.ensures.steps (c.in_ok-raise_uncovered.ensures.ok q) (c.loop-value.invariant q)

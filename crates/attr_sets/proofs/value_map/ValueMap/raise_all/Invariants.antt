@@ -8,4 +8,6 @@ use Rattle.attr_sets.proofs.value_map.ValueMap.raise_all.Given as goal
 
 abbrev pub invariant-loop-value : goal.invariant-loop-value
 invariant-loop-value l =
-    (q : List ℕ) → maybe later (map.get l.self q) (join_of later (λ e. kept l.fn.clear (entry_at octets_cmp q e)) l.value-iterator) ≡ maybe later (map.get l.fn.self q) (kept l.fn.clear (map.get l.fn.other q))
+    (q : List ℕ)
+    → maybe later (map.get l.self q) (join_of later (λ e. kept l.fn.clear (entry_at octets_cmp q e)) l.value-iterator)
+    ≡ maybe later (map.get l.fn.self q) (kept l.fn.clear (map.get l.fn.other q))

@@ -8,5 +8,7 @@ use Rattle.attr_sets.proofs.value_map.ValueMap.take_changes_back.Goals as goal
 pub loop-value-preserved : goal.loop-value-preserved
 loop-value-preserved c = λ q.
     ap (back_at octets_cmp put_back c.pop.new.self.items q) (c.mend.ensures q)
-    ∙ sym (ap (λ log. back_at octets_cmp put_back log q (map.get c.loop-value.self q)) c.in-Some.ensures.items ∙ back_at-push octets_cmp put_back c.pop.new.self.items (c.in-Some.value, c.in-Some.before) q (map.get c.loop-value.self q))
+    ∙ sym (ap (λ log. back_at octets_cmp put_back log q
+    (map.get c.loop-value.self q)) c.in-Some.ensures.items ∙ back_at-push octets_cmp put_back c.pop.new.self.items
+    (c.in-Some.value, c.in-Some.before) q (map.get c.loop-value.self q))
     ∙ c.loop-value.invariant q

@@ -15,10 +15,14 @@ loop-name-init c =
 
 pub loop-name-preserved : goal.loop-name-preserved
 loop-name-preserved c =
-    passed_by c.args.octets.now c.in-Some.name.now c.in-Some.cell.now c.loop-name.name-iterator c.next.new.self (map.get c.args.self.now c.args.octets.now) c.in-Some.ensures.steps
-    (tested_octets c.in-Some.name.now c.octets.result.now c.args.octets.now c.eq.result _ (sym c.octets.ensures.value) c.eq.ensures c.if-eq.false) c.loop-name.invariant
+    passed_by c.args.octets.now c.in-Some.name.now c.in-Some.cell.now c.loop-name.name-iterator c.next.new.self
+    (map.get c.args.self.now c.args.octets.now) c.in-Some.ensures.steps
+    (tested_octets c.in-Some.name.now c.octets.result.now c.args.octets.now c.eq.result _
+    (sym c.octets.ensures.value) c.eq.ensures c.if-eq.false) c.loop-name.invariant
 
 pub returns-then-eq : goal.returns-then-eq
 returns-then-eq c =
-    found_first c.args.octets.now c.in-Some.name.now c.in-Some.cell.now c.loop-name.name-iterator c.next.new.self (map.get c.args.self.now c.args.octets.now) c.in-Some.ensures.steps
-    (tested_octets c.in-Some.name.now c.octets.result.now c.args.octets.now c.eq.result _ (sym c.octets.ensures.value) c.eq.ensures c.if-eq.true) c.loop-name.invariant
+    found_first c.args.octets.now c.in-Some.name.now c.in-Some.cell.now c.loop-name.name-iterator c.next.new.self
+    (map.get c.args.self.now c.args.octets.now) c.in-Some.ensures.steps
+    (tested_octets c.in-Some.name.now c.octets.result.now c.args.octets.now c.eq.result _
+    (sym c.octets.ensures.value) c.eq.ensures c.if-eq.true) c.loop-name.invariant

@@ -3,9 +3,10 @@ use Rattle.std.specs.FinMap as map
 use Rattle.std.specs.Cmp.Lexicographic.{nat_list_cmp_total}
 use Rattle.cds_stamps.specs.Octets.{octets_cmp, octets_exact}
 use Rattle.cds_stamps.specs.Undos.{back_at}
-use Rattle.attr_sets.specs.CellUndos.{undo_cell}
+use Rattle.attr_sets.specs.CellUndoWords.{undo_cell}
 use Rattle.directory.proofs.attr_map.AttrMap.join_logged.Goals as goal
 
 pub returns-in-Err-clause-err : goal.returns-in-Err-clause-err
 returns-in-Err-clause-err c = map.same_map nat_list_cmp_total octets_exact c.take_changes_back.new.self c.args.self.now (λ q.
-    c.take_changes_back.ensures q ∙ c.in-Err.ensures.back q ∙ ap (λ log. back_at octets_cmp undo_cell log q (map.get c.args.self.now q)) c.new-changes.ensures.items)
+    c.take_changes_back.ensures q ∙ c.in-Err.ensures.back q
+    ∙ ap (λ log. back_at octets_cmp undo_cell log q (map.get c.args.self.now q)) c.new-changes.ensures.items)

@@ -3,14 +3,16 @@ use Rattle.std.specs.FinMap as map
 use Rattle.std.specs.Cmp.Lexicographic.{nat_list_cmp_total}
 use Rattle.cds_stamps.specs.Octets.{octets_exact}
 use Rattle.attr_sets.specs.Cells.{join_cells}
-use Rattle.attr_sets.specs.CellUndos.{undo_cell}
+use Rattle.attr_sets.specs.CellUndoWords.{undo_cell}
 use Rattle.cds_stamps.specs.Undos.{RaisesAt, TakesBack}
 use Rattle.cds_stamps.proofs.Undoing.{raised_new}
 use Rattle.cds_stamps.specs.Undos.{RaisesAt, TakesBack}
 use Rattle.std.specs.Prelude.{◌∷◌, []}
 use Rattle.directory.proofs.attr_map.AttrMap.raise.Goals as goal
 
-both : (c : goal.Joined-branch-5) → RaisesAt join_cells c.args.self.now c.insert.new.self c.args.name.now c.args.cell.now × TakesBack undo_cell c.args.self.now c.insert.new.self ((c.args.name.now, None) ∷ [])
+both : (c : goal.Joined-branch-5)
+    → RaisesAt join_cells c.args.self.now c.insert.new.self c.args.name.now c.args.cell.now
+    × TakesBack undo_cell c.args.self.now c.insert.new.self ((c.args.name.now, None) ∷ [])
 both c =
     let absent = rw c.in_default.is at c.in_ok-here.ensures.ok in
     raised_new nat_list_cmp_total octets_exact join_cells undo_cell c.args.self.now c.insert.new.self c.args.name.now c.args.cell.now absent.0

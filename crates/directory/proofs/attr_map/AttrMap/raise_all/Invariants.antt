@@ -4,7 +4,7 @@ use Rattle.cds_stamps.specs.Octets.{octets_cmp}
 use Rattle.attr_sets.specs.Cells.{join_cells}
 use Rattle.cds_stamps.specs.Semilattice.{maybe, join_of}
 use Rattle.cds_stamps.specs.Undos.{LogsChange}
-use Rattle.attr_sets.specs.CellUndos.{undo_cell}
+use Rattle.attr_sets.specs.CellUndoWords.{undo_cell}
 use Rattle.std.specs.List.{AllByRecursion}
 use Rattle.directory.specs.Entries.{IsHeldCell}
 use Rattle.cds_stamps.specs.Joins.{EachValue}
@@ -15,5 +15,6 @@ abbrev pub invariant-loop-name : goal.invariant-loop-name
 invariant-loop-name l =
     (EachValue IsHeldCell l.fn.self → EachValue IsHeldCell l.fn.other
     → EachValue IsHeldCell l.self × AllByRecursion (λ e. IsHeldCell e.1) l.name-iterator
-    × ((q : List ℕ) → maybe join_cells (map.get l.self q) (join_of join_cells (entry_at octets_cmp q) l.name-iterator) ≡ maybe join_cells (map.get l.fn.self q) (map.get l.fn.other q)))
+    × ((q : List ℕ) → maybe join_cells (map.get l.self q) (join_of join_cells
+    (entry_at octets_cmp q) l.name-iterator) ≡ maybe join_cells (map.get l.fn.self q) (map.get l.fn.other q)))
     × LogsChange undo_cell l.fn.self l.self l.fn.log.items l.log.items

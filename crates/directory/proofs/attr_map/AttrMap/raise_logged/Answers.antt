@@ -1,5 +1,5 @@
 use Rattle.std.proofs.Common.{refl}
-use Rattle.attr_sets.specs.CellUndos.{undo_cell}
+use Rattle.attr_sets.specs.CellUndoWords.{undo_cell}
 use Rattle.cds_stamps.proofs.Undoing.{logged}
 use Rattle.directory.proofs.attr_map.AttrMap.raise_logged.Goals as goal
 

@@ -2,11 +2,12 @@ use Rattle.std.proofs.Common.{◌≡◌, List, ℕ}
 use Rattle.std.specs.FinMap as map
 use Rattle.cds_stamps.specs.Octets.{octets_cmp}
 use Rattle.cds_stamps.specs.Undos.{back_at}
-use Rattle.attr_sets.specs.CellUndos.{undo_cell}
+use Rattle.attr_sets.specs.CellUndoWords.{undo_cell}
 use Rattle.directory.proofs.attr_map.AttrMap.take_changes_back.Given as goal
 
 abbrev pub invariant-loop-name : goal.invariant-loop-name
-invariant-loop-name l = (q : List ℕ) → back_at octets_cmp undo_cell l.changes.items q (map.get l.self q) ≡ back_at octets_cmp undo_cell l.fn.changes.items q (map.get l.fn.self q)
+invariant-loop-name l = (q : List ℕ)
+    → back_at octets_cmp undo_cell l.changes.items q (map.get l.self q) ≡ back_at octets_cmp undo_cell l.fn.changes.items q (map.get l.fn.self q)
 
 abbrev pub decreases-loop-name : goal.decreases-loop-name
 decreases-loop-name l = goal.left-loop-name l

@@ -5,4 +5,9 @@ use Rattle.cds_stamps.specs.Octets.{octets_cmp}
 use Rattle.directory.proofs.attr_map.AttrMapClone.clone.Goals as goal
 
 pub returns : goal.returns
-returns c = record { cases = ap (from_entries {R = octets_cmp}) (entries_from_clone _ _ (λ x y h. search rules) (λ v w h. search rules) c.self.inside.cells.entries c.in_ok-clone.field-0.entries c.in_ok-clone.ensures.cases) ∙ c.self.view_is }
+returns c =
+    record {
+      cases = ap (from_entries {R = octets_cmp}) (entries_from_clone _ _
+          (λ x y h. search rules)
+          (λ v w h. search rules) c.self.inside.cells.entries c.in_ok-clone.field-0.entries c.in_ok-clone.ensures.cases) ∙ c.self.view_is;
+    }

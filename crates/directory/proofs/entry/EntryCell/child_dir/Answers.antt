@@ -6,6 +6,7 @@ use Rattle.directory.proofs.entry.EntryCell.child_dir.Goals as goal
 
 pub unreachable-requires : goal.unreachable-requires
 unreachable-requires c =
-    let leading : lead_of (face_of c.args.self.now) ≡ Some c.octets.result.now = sym c.lead.ensures ∙ ap option_copied c.unwrap-value.ensures ∙ ap Some (sym c.octets.ensures) in
+    let leading : lead_of (face_of c.args.self.now) ≡ Some c.octets.result.now = sym c.lead.ensures ∙ ap option_copied c.unwrap-value.ensures
+    ∙ ap Some (sym c.octets.ensures) in
     no_fault_left c.read.result c.in-Err-Fault.field-0 c.in-Err-Fault.field-0-0 c.in-Err-Fault.is c.in-Err-Fault.field-0-is
     (c.read.ensures.lacking (child_reads c.args.self.now c.octets.result.now c.requires.child leading))

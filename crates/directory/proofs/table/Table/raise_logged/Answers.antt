@@ -1,5 +1,5 @@
 use Rattle.std.proofs.Common.{refl}
-use Rattle.directory.specs.EntryUndos.{undo_entry}
+use Rattle.directory.specs.EntryUndoWords.{undo_entry}
 use Rattle.cds_stamps.proofs.Undoing.{logged}
 use Rattle.directory.proofs.table.Table.raise_logged.Goals as goal
 

@@ -3,7 +3,7 @@ use Rattle.std.specs.FinMap as map
 use Rattle.std.specs.Cmp.Lexicographic.{nat_list_cmp_total}
 use Rattle.cds_stamps.specs.Octets.{octets_cmp, octets_exact}
 use Rattle.cds_stamps.specs.Undos.{back_at}
-use Rattle.directory.specs.EntryUndos.{undo_entry}
+use Rattle.directory.specs.EntryUndoWords.{undo_entry}
 use Rattle.directory.proofs.table.TableLattice.join.Goals as goal
 
 pub returns-in-Err-clause-err : goal.returns-in-Err-clause-err

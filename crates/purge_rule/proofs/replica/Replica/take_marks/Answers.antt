@@ -4,7 +4,11 @@ use Rattle.purge_rule.proofs.replica.Replica.take_marks.Goals as goal
 
 pub returns-clause-merged : goal.returns-clause-merged
 returns-clause-merged c = λ h marks can fragment mine.
-    same_replica _ _ _ _ (merged_marks h marks c.args.self.now.all_up_to c.args.self.now c.args.self.now.all_up_to c.args.fragment.now c.join_entry.new.self can fragment mine c.in_ok-join_entry.ensures.ok) refl
+    same_replica _ _ _ _
+    (merged_marks h marks c.args.self.now.all_up_to c.args.self.now c.args.self.now.all_up_to c.args.fragment.now c.join_entry.new.self can
+    fragment mine c.in_ok-join_entry.ensures.ok) refl
 
 pub returns-clause-valid : goal.returns-clause-valid
-returns-clause-valid c = λ valid entry. raised_table-valid c.args.self.now.table c.join_entry.new.self c.args.fragment.now valid entry (c.in_ok-join_entry.ensures.ok (valid c.args.fragment.now.name) entry)
+returns-clause-valid c =
+    λ valid entry. raised_table-valid c.args.self.now.table c.join_entry.new.self c.args.fragment.now valid entry (c.in_ok-join_entry.ensures.ok
+    (valid c.args.fragment.now.name) entry)

@@ -1,4 +1,4 @@
--- The laws of cells.
+-- Proofs only: the laws of cells, which the join of cells cites.
 use Rattle.std.proofs.Common.{◌≡◌, ℕ, Bool, true, false, cond, not, List, [], ◌∷◌, ◌++◌, ◌||◌, Option, Some, None, refl, sym, ap, ◌∙◌, arith}
 use Rattle.std.specs.declared.cmp.Ordering.{Ordering}
 use Rattle.std.specs.FinMap.{get, same_map, IsAntisymmetric}
@@ -26,10 +26,34 @@ module _ {M K : Type 0} (f : M → K) {R : K → K → Ordering} (o : IsTotalOrd
   by_both a b = ordering_then (R (f a) (f b)) (S a b)
 
   before-before : (c d : K) (m : M) → (if is_lt (R (f m) d) then None else not_before c m) ≡ not_before (greater R c d) m
-  before-before c d m = grind (arith, o.trans (f m) c d, o.trans (f m) d c, o.antisymm c d, o.antisymm (f m) c, o.antisymm (f m) d, same c d, same d c, same (f m) c, same (f m) d)
+  before-before c d m =
+      grind (
+        arith,
+        o.trans
+            (f m) c d,
+        o.trans (f m) d c,
+        o.antisymm c d,
+        o.antisymm (f m) c,
+        o.antisymm (f m) d,
+        same c d,
+        same d c,
+        same (f m) c,
+        same (f m) d,
+      )
 
   before-later : (c : K) (m n : M) → not_before c (greater by_both m n) ≡ maybe (greater by_both) (not_before c m) (not_before c n)
-  before-later c m n = grind (arith, o.trans (f m) (f n) c, o.trans (f n) (f m) c, o.antisymm (f m) (f n), o.antisymm (f n) (f m), o.congr (f m) (f n) c, o.antisymm (f m) c, o.antisymm (f n) c)
+  before-later c m n =
+      grind (
+        arith,
+        o.trans
+            (f m) (f n) c,
+        o.trans (f n) (f m) c,
+        o.antisymm (f m) (f n),
+        o.antisymm (f n) (f m),
+        o.congr (f m) (f n) c,
+        o.antisymm (f m) c,
+        o.antisymm (f n) c,
+      )
 
 -- the clear takes away from each of two marks what it takes from the later
 pub kept-later : (c : Option Stamp) (m n : Option ValueMark) → kept c (maybe later m n) ≡ maybe later (kept c m) (kept c n)
@@ -51,7 +75,8 @@ kept-kept None (Some d) (Some m) = keep_all _
     keep_all (Some x) = refl
 kept-kept (Some c) d None = refl
 kept-kept (Some c) None (Some m) = refl
-kept-kept (Some c) (Some d) (Some m) = kept-if (is_earlier m.stamp d) ∙ before-before (λ (x : ValueMark). x.stamp) stamp_total stamp_exact (λ a b. bool_cmp b.present a.present) c d m
+kept-kept (Some c) (Some d) (Some m) = kept-if (is_earlier m.stamp d)
+    ∙ before-before (λ (x : ValueMark). x.stamp) stamp_total stamp_exact (λ a b. bool_cmp b.present a.present) c d m
   where
     kept-if : (b : Bool) → kept (Some c) (if b then None else Some m) ≡ (if b then None else kept (Some c) (Some m))
     kept-if true = refl
@@ -62,8 +87,10 @@ same_cell a b e f =
     let g : a.values ≡ b.values = same_map nat_list_cmp_total octets_exact a.values b.values f in
     λ i. record { cleared = e i; values = g i }
 
-pub get-join_cells : (a b : AttrCell) (v : List ℕ) → get (join_cells a b).values v ≡ kept (join_cells a b).cleared (maybe later (get a.values v) (get b.values v))
-get-join_cells a b v = get-merge nat_list_cmp_total octets_exact (λ m n. kept (maybe later_stamp a.cleared b.cleared) (maybe later m n)) refl a.values b.values v
+pub get-join_cells : (a b : AttrCell) (v : List ℕ)
+    → get (join_cells a b).values v ≡ kept (join_cells a b).cleared (maybe later (get a.values v) (get b.values v))
+get-join_cells a b v =
+    get-merge nat_list_cmp_total octets_exact (λ m n. kept (maybe later_stamp a.cleared b.cleared) (maybe later m n)) refl a.values b.values v
 
 -- the laws of what may be missing
 pub clears : IsSemilattice (maybe later_stamp)
@@ -81,13 +108,22 @@ join_cells-idem a valid = same_cell _ _ (clears.idem a.cleared) (λ v.
     cc (get-join_cells a a v, clears.idem a.cleared, marks.idem (get a.values v), valid v))
 
 -- a clear that was kept to before counts no more
-pub kept-nested : (c d : Option Stamp) (m n : Option ValueMark) → kept (maybe later_stamp c d) (maybe later (kept c m) n) ≡ kept (maybe later_stamp c d) (maybe later m n)
+pub kept-nested : (c d : Option Stamp) (m n : Option ValueMark)
+    → kept (maybe later_stamp c d) (maybe later (kept c m) n) ≡ kept (maybe later_stamp c d) (maybe later m n)
 kept-nested c d m n =
     let e = maybe later_stamp c d in
     cc (kept-later e (kept c m) n, kept-later e m n, kept-kept e c m, clears.comm e c, clears.assoc c c d, clears.idem c)
 
-get-join_three : (a b c : AttrCell) (v : List ℕ) → get (join_cells (join_cells a b) c).values v ≡ kept (join_cells (join_cells a b) c).cleared (maybe later (maybe later (get a.values v) (get b.values v)) (get c.values v))
-get-join_three a b c v = cc (get-join_cells (join_cells a b) c v, get-join_cells a b v, kept-nested (join_cells a b).cleared c.cleared (maybe later (get a.values v) (get b.values v)) (get c.values v))
+get-join_three : (a b c : AttrCell) (v : List ℕ)
+    → get (join_cells (join_cells a b) c).values v
+    ≡ kept (join_cells (join_cells a b) c).cleared (maybe later (maybe later (get a.values v) (get b.values v)) (get c.values v))
+get-join_three a b c v =
+    cc (
+      get-join_cells (join_cells a b) c v,
+      get-join_cells a b v,
+      kept-nested (join_cells a b).cleared c.cleared (maybe later
+          (get a.values v) (get b.values v)) (get c.values v),
+    )
 
 turned : {X : Type 0} {f : X → X → X} → IsSemilattice f → (x y z : X) → f (f x y) z ≡ f (f y z) x
 turned s x y z = s.assoc x y z ∙ s.comm x _
@@ -95,7 +131,13 @@ turned s x y z = s.assoc x y z ∙ s.comm x _
 pub join_cells-assoc : (a b c : AttrCell) → join_cells (join_cells a b) c ≡ join_cells a (join_cells b c)
 join_cells-assoc a b c =
     same_cell (join_cells (join_cells a b) c) (join_cells (join_cells b c) a) (turned clears a.cleared b.cleared c.cleared) (λ v.
-    cc (get-join_three a b c v, get-join_three b c a v, turned clears a.cleared b.cleared c.cleared, turned marks (get a.values v) (get b.values v) (get c.values v)))
+    cc (
+      get-join_three a b c v,
+      get-join_three b c a v,
+      turned clears a.cleared b.cleared c.cleared,
+      turned marks
+          (get a.values v) (get b.values v) (get c.values v),
+    ))
     ∙ join_cells-comm (join_cells b c) a
 
 pub join_cells-valid : (a b : AttrCell) → IsValidCell (join_cells a b)
@@ -109,25 +151,43 @@ join_cells-valid a b v =
 greatest_mark-beyond : (h : List AttrMark) (v : List ℕ) → list_any (eq_by_cmp octets_cmp v) (filter_map value_in h) ≡ false → greatest_mark h v ≡ None
 greatest_mark-beyond [] v e = refl
 greatest_mark-beyond (Cleared s ∷ h) v e = greatest_mark-beyond h v e
-greatest_mark-beyond (Marked w m ∷ h) v e = found_not (eq_by_cmp octets_cmp v w) (list_any (eq_by_cmp octets_cmp v) (filter_map value_in h)) e (greatest_mark-beyond h v)
+greatest_mark-beyond (Marked w m ∷ h) v e =
+    found_not (eq_by_cmp octets_cmp v w) (list_any (eq_by_cmp octets_cmp v) (filter_map value_in h)) e (greatest_mark-beyond h v)
   where
     found_not : (b r : Bool) → (b || r) ≡ false → (r ≡ false → greatest_mark h v ≡ None) → maybe later (if b then Some m else None) (greatest_mark h v) ≡ None
     found_not true r p ih = cc
     found_not false r p ih = ih p
 
 pub get-cell_of : (h : List AttrMark) (v : List ℕ) → get (cell_of h).values v ≡ kept (greatest_clear h) (greatest_mark h v)
-get-cell_of h = get-of_all_keys nat_list_cmp_total octets_exact (filter_map value_in h) (λ v. kept (greatest_clear h) (greatest_mark h v)) (λ v e. ap (kept (greatest_clear h)) (greatest_mark-beyond h v e))
+get-cell_of h =
+    get-of_all_keys nat_list_cmp_total octets_exact (filter_map value_in h) (λ v. kept (greatest_clear h) (greatest_mark h v)) (λ v e. ap (kept
+    (greatest_clear h)) (greatest_mark-beyond h v e))
 
 pub cell_of-valid : (h : List AttrMark) → IsValidCell (cell_of h)
 cell_of-valid h v = cc (get-cell_of h v, kept-kept (greatest_clear h) (greatest_clear h) (greatest_mark h v), clears.idem (greatest_clear h))
 
-kept-both : (c d : Option Stamp) (m n : Option ValueMark) → kept (maybe later_stamp c d) (maybe later (kept c m) (kept d n)) ≡ kept (maybe later_stamp c d) (maybe later m n)
+kept-both : (c d : Option Stamp) (m n : Option ValueMark)
+    → kept (maybe later_stamp c d) (maybe later (kept c m) (kept d n)) ≡ kept (maybe later_stamp c d) (maybe later m n)
 kept-both c d m n = cc (kept-nested c d m (kept d n), kept-nested d c n m, marks.comm m (kept d n), clears.comm c d, marks.comm n m)
 
 -- two histories together
 pub join_cells-cell_of : (g h : List AttrMark) → join_cells (cell_of g) (cell_of h) ≡ cell_of (g ++ h)
 join_cells-cell_of g h = same_cell (join_cells (cell_of g) (cell_of h)) (cell_of (g ++ h)) (sym (join_of-append later_stamp_laws clear_in g h)) (λ v.
-    cc (get-join_cells (cell_of g) (cell_of h) v, get-cell_of g v, get-cell_of h v, get-cell_of (g ++ h) v, kept-both (greatest_clear g) (greatest_clear h) (greatest_mark g v) (greatest_mark h v), join_of-append later_stamp_laws clear_in g h, join_of-append later_laws (mark_in v) g h))
+    cc (
+      get-join_cells
+          (cell_of g)
+          (cell_of h) v,
+      get-cell_of g v,
+      get-cell_of h v,
+      get-cell_of
+          (g ++ h) v,
+      kept-both
+          (greatest_clear g)
+          (greatest_clear h)
+          (greatest_mark g v) (greatest_mark h v),
+      join_of-append later_stamp_laws clear_in g h,
+      join_of-append later_laws (mark_in v) g h,
+    ))
 
 -- ---- what the methods of maps do
 
@@ -166,7 +226,8 @@ alone_mark None = refl
 alone_mark (Some x) = refl
 
 -- a mark that either clear was kept to before, beside another
-kept-beside : (c d : Option Stamp) (m n : Option ValueMark) → kept (maybe later_stamp c d) (maybe later m (kept c n)) ≡ kept (maybe later_stamp c d) (maybe later m n)
+kept-beside : (c d : Option Stamp) (m n : Option ValueMark)
+    → kept (maybe later_stamp c d) (maybe later m (kept c n)) ≡ kept (maybe later_stamp c d) (maybe later m n)
 kept-beside c d m n =
     let e = maybe later_stamp c d in
     ap (kept e) (marks.comm m (kept c n)) ∙ kept-nested c d n m ∙ ap (kept e) (marks.comm n m)
@@ -186,13 +247,16 @@ put_joined a b v m s same raised =
     ∙ ap (λ y. kept e (maybe later (get b.values q) y)) (get-cell_of (Cleared s ∷ []) q)
     ∙ ap (kept e) (alone_mark (get b.values q) ∙ raised q)
     ∙ kept-beside a.cleared (Some s) own x
-    ∙ sym (ap (λ c. kept c (maybe later own (kept (Some s) x))) (clears.comm a.cleared (Some s)) ∙ kept-beside (Some s) a.cleared own x ∙ ap (λ c. kept c (maybe later own x)) (clears.comm (Some s) a.cleared))
+    ∙ sym (ap (λ c. kept c (maybe later own (kept
+    (Some s) x))) (clears.comm a.cleared (Some s)) ∙ kept-beside (Some s) a.cleared own x ∙ ap (λ c. kept c (maybe later own x))
+    (clears.comm (Some s) a.cleared))
     ∙ ap (λ y. kept e (maybe later own (kept (Some s) y))) (sym (alone_mark x))
     ∙ ap (λ y. kept e (maybe later own y)) (sym (get-cell_of (Cleared s ∷ Marked v m ∷ []) q))
     ∙ sym (get-join_cells a both q))
 
 -- a clear
-pub clear_joined : (a b : AttrCell) (s : Stamp) → b.cleared ≡ maybe later_stamp a.cleared (Some s) → ((q : List ℕ) → get b.values q ≡ kept b.cleared (get a.values q)) → b ≡ join_cells a (cell_of (Cleared s ∷ []))
+pub clear_joined : (a b : AttrCell) (s : Stamp) → b.cleared ≡ maybe later_stamp a.cleared (Some s)
+    → ((q : List ℕ) → get b.values q ≡ kept b.cleared (get a.values q)) → b ≡ join_cells a (cell_of (Cleared s ∷ []))
 clear_joined a b s same keeps = same_cell b (join_cells a (cell_of (Cleared s ∷ []))) same (λ q.
     cc (keeps q, same, get-join_cells a (cell_of (Cleared s ∷ [])) q, get-cell_of (Cleared s ∷ []) q, alone_value (get a.values q)))
   where

@@ -1,4 +1,4 @@
--- The laws of entries and tables.
+-- Proofs only: the laws of entries and tables, which their joins cite.
 use Rattle.std.specs.Prelude.{◌≡◌, Option, Some, None, refl}
 use Rattle.std.proofs.Common.{sym, ◌∙◌, ap}
 use Rattle.std.specs.FinMap.{IsAntisymmetric, get, get-empty}
@@ -15,7 +15,7 @@ use Rattle.cds_stamps.specs.Stamps.{stamp_total, stamp_exact, later_stamp, earli
 use Rattle.cds_stamps.specs.Octets.{octets_cmp, octets_exact}
 use Rattle.attr_sets.specs.Marks.{later, kept}
 use Rattle.attr_sets.specs.Cells.{empty_cell, join_cells}
-use Rattle.attr_sets.specs.CellLaws.{same_cell, get-join_cells, join_cells-comm, join_cells-assoc, join_cells-idem, join_cells-valid}
+use Rattle.attr_sets.specs.CellLawProofs.{same_cell, get-join_cells, join_cells-comm, join_cells-assoc, join_cells-idem, join_cells-valid}
 use Rattle.cds_stamps.specs.Joins.{JoinsTied, join_maps, map_join, key_join, EachValue}
 use Rattle.directory.specs.Kinds.{rank, kind_of_rank, rank_back, kind_cmp}
 use Rattle.directory.specs.Entries.{join_tied, join_entries, IsHeldCell, IsValidEntry, join_tables, IsValidTable}
@@ -45,7 +45,8 @@ join_held a b e =
     let none : (join_cells a b).cleared ≡ None = ap (λ (c : AttrCell). c.cleared) e in
     same_cell a empty_cell (nothing_left a.cleared b.cleared none) (λ v.
     no_mark_left (get a.values v) (get b.values v)
-    (ap (λ c. kept c (maybe later (get a.values v) (get b.values v))) (sym none) ∙ sym (get-join_cells a b v) ∙ ap (λ (c : AttrCell). get c.values v) e ∙ get-empty octets_cmp v)
+    (ap (λ c. kept c (maybe later (get a.values v) (get b.values v))) (sym none) ∙ sym (get-join_cells a b v)
+    ∙ ap (λ (c : AttrCell). get c.values v) e ∙ get-empty octets_cmp v)
     ∙ sym (get-empty octets_cmp v))
 
 pub cell_join : IsJoin IsHeldCell join_cells
@@ -64,7 +65,13 @@ tied_join = record {
   keyed = λ x y e. refl;
   keeps = λ x y p q. attrs.keeps x.attrs y.attrs p q;
   comm = λ x y e i. record { birth = e i; kind = kinds.comm x.kind y.kind i; death = deaths.comm x.death y.death i; attrs = attrs.comm x.attrs y.attrs i };
-  assoc = λ x y z e f i. record { birth = x.birth; kind = kinds.assoc x.kind y.kind z.kind i; death = deaths.assoc x.death y.death z.death i; attrs = attrs.assoc x.attrs y.attrs z.attrs i };
+  assoc =
+      λ x y z e f i. record {
+        birth = x.birth;
+        kind = kinds.assoc x.kind y.kind z.kind i;
+        death = deaths.assoc x.death y.death z.death i;
+        attrs = attrs.assoc x.attrs y.attrs z.attrs i;
+      };
   idem = λ x p i. record { birth = x.birth; kind = kinds.idem x.kind i; death = deaths.idem x.death i; attrs = attrs.idem x.attrs p i };
 }
 

@@ -1,4 +1,4 @@
--- What takes a join of cells back (own).
+-- Words of contracts about logs alone: what takes a join of cells back (own).
 use Rattle.cds_stamps.specs.Undos.{taken_back, put_back}
 use Rattle.attr_sets.specs.declared.cell.AttrCell.{AttrCell}
 use Rattle.attr_sets.specs.declared.undo.CellUndo.{CellUndo}

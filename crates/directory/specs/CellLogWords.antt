@@ -1,4 +1,4 @@
--- Values that tell two ways back apart, which a log of changed cells is told apart by (own).
+-- Words of a private model: values that tell two ways back apart, which a log of changed cells is told apart by (own).
 use Rattle.std.specs.Prelude.{◌≡◌, ℕ, ◌⊎◌, List, Option, refl}
 use Rattle.std.proofs.Common.{inl, inr}
 use Rattle.std.specs.Coded.{Coded, code_by, coded×, coded⊎, coded_list, coded_option}
@@ -25,4 +25,5 @@ parts_back (Marks log) = refl
 
 abbrev pub cell_undo_code : Coded CellUndo
 cell_undo_code =
-    code_by (AttrCell ⊎ List (List ℕ × Option ValueMark)) (coded⊎ cell_code (coded_list (coded× octets_code (coded_option mark_code)))) parts of_parts parts_back
+    code_by (AttrCell ⊎ List (List ℕ × Option ValueMark)) (coded⊎ cell_code (coded_list (coded× octets_code
+    (coded_option mark_code)))) parts of_parts parts_back

@@ -1,6 +1,6 @@
--- What takes a join of entries back (own).
+-- Words of private contracts: what takes a join of entries back (own).
 use Rattle.cds_stamps.specs.Undos.{taken_back}
-use Rattle.attr_sets.specs.CellUndos.{undo_cell}
+use Rattle.attr_sets.specs.CellUndoWords.{undo_cell}
 use Rattle.directory.specs.declared.entry.EntryCell.{EntryCell}
 use Rattle.directory.specs.declared.undo.EntryUndo.{EntryUndo}
 use Rattle.directory.specs.declared.undo.EntryUndo.TheVariants.{Whole, Tied}
