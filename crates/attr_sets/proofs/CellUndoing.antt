@@ -131,5 +131,6 @@ is_empty_cell-is a e =
     nothing None e = refl
     nothing (Some c) e = cc
 
+-- and the empty cell has neither
 pub empty_cell-is_empty : (a : AttrCell) → a ≡ empty_cell → is_empty_cell a ≡ true
 empty_cell-is_empty a e = ap is_empty_cell e ∙ ap (λ n. n == 0) (len-empty octets_cmp ValueMark)

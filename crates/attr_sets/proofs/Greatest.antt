@@ -30,6 +30,7 @@ join_of-member {A} {X} {f} s g (d ∷ h) e c = ⊎_elim here (λ in_rest. there 
     there rest = sym (m.assoc (g e) (g d) (join_of f g h)) ∙ ap (λ x. maybe f x (join_of f g h)) (m.comm (g e) (g d))
         ∙ m.assoc (g d) (g e) (join_of f g h) ∙ ap (maybe f (g d)) rest
 
+-- what two equal options hold
 pub same_inside : {X : Type 0} (x y : X) → Some x ≡ Some y → x ≡ y
 same_inside x y e = cc (e)
 
@@ -47,6 +48,7 @@ module _ {K : Type 0} {R : K → K → Ordering} (o : IsTotalOrder R) (same : Is
   above_all x y true e is = ap (λ z. is_lt (R x z)) (ap (λ b. if b then y else x) (sym e) ∙ is) ∙ ap is_lt (tied_itself o x)
   above_all x y false e is = e
 
+  -- of three, the first is not below the third, where neither is below the next
   pub not_lt-through : (x y z : K) → is_lt (R x y) ≡ false → is_lt (R y z) ≡ false → is_lt (R x z) ≡ false
   not_lt-through x y z p q =
       let first : greater R x y ≡ x = ap (λ b. if b then y else x) p in

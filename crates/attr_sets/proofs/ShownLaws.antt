@@ -21,7 +21,8 @@ use Rattle.cds_stamps.specs.Stamps.{is_earlier, stamp_cmp, stamp_total, stamp_ex
 use Rattle.attr_sets.specs.declared.mark.ValueMark.{ValueMark}
 use Rattle.attr_sets.specs.Marks.{kept, mark_cmp, mark_total, mark_exact}
 use Rattle.attr_sets.specs.declared.cell.AttrCell.{AttrCell}
-use Rattle.attr_sets.specs.Cells.{AttrMark, Cleared, Marked, clear_in, mark_in, greatest_clear, greatest_mark, marks_kept, present_in, shown_values, cell_values}
+use Rattle.attr_sets.specs.Cells.{AttrMark, Cleared, Marked, clear_in, mark_in}
+use Rattle.attr_sets.specs.Cells.{greatest_clear, greatest_mark, marks_kept, present_in, shown_values, cell_values}
 use Rattle.attr_sets.specs.CellLawProofs.{get-cell_of}
 use Rattle.attr_sets.specs.ShownValues.{IsGreatestMark, IsUncleared, IsShown}
 use Rattle.attr_sets.proofs.Greatest.{not_lt-through, Contains-head, Contains-tail, Contains-none, Contains-cases}
@@ -209,5 +210,6 @@ shown_to h v s =
     present_to (entries (marks_kept h)) v s.mark s.present
     (entry_of (marks_kept h) v s.mark (get-cell_of h v ∙ ap (kept (greatest_clear h)) (greatest_to h v s.mark s.greatest) ∙ uncleared_to h s.mark s.uncleared))
 
+-- a value shows exactly where its greatest mark says so
 pub shown_values-are : (h : List AttrMark) (v : List ℕ) → Contains (shown_values h) v ↔ IsShown h v
 shown_values-are h v = (shown_from h v, shown_to h v)

@@ -82,11 +82,13 @@ kept-kept (Some c) (Some d) (Some m) = kept-if (is_earlier m.stamp d)
     kept-if true = refl
     kept-if false = refl
 
+-- cells are the same where their clears and their marks are
 pub same_cell : (a b : AttrCell) → a.cleared ≡ b.cleared → ((v : List ℕ) → get a.values v ≡ get b.values v) → a ≡ b
 same_cell a b e f =
     let g : a.values ≡ b.values = same_map nat_list_cmp_total octets_exact a.values b.values f in
     λ i. record { cleared = e i; values = g i }
 
+-- the mark that a join has of a value
 pub get-join_cells : (a b : AttrCell) (v : List ℕ)
     → get (join_cells a b).values v ≡ kept (join_cells a b).cleared (maybe later (get a.values v) (get b.values v))
 get-join_cells a b v =
@@ -96,13 +98,16 @@ get-join_cells a b v =
 pub clears : IsSemilattice (maybe later_stamp)
 clears = maybe_semilattice later_stamp_laws
 
+-- marks that may be missing are a semilattice
 pub marks : IsSemilattice (maybe later)
 marks = maybe_semilattice later_laws
 
+-- cells join in either order
 pub join_cells-comm : (a b : AttrCell) → join_cells a b ≡ join_cells b a
 join_cells-comm a b = same_cell _ _ (clears.comm a.cleared b.cleared) (λ v.
     cc (get-join_cells a b v, get-join_cells b a v, clears.comm a.cleared b.cleared, marks.comm (get a.values v) (get b.values v)))
 
+-- a valid cell joined with itself
 pub join_cells-idem : (a : AttrCell) → IsValidCell a → join_cells a a ≡ a
 join_cells-idem a valid = same_cell _ _ (clears.idem a.cleared) (λ v.
     cc (get-join_cells a a v, clears.idem a.cleared, marks.idem (get a.values v), valid v))
@@ -128,6 +133,7 @@ get-join_three a b c v =
 turned : {X : Type 0} {f : X → X → X} → IsSemilattice f → (x y z : X) → f (f x y) z ≡ f (f y z) x
 turned s x y z = s.assoc x y z ∙ s.comm x _
 
+-- three cells join in either way
 pub join_cells-assoc : (a b c : AttrCell) → join_cells (join_cells a b) c ≡ join_cells a (join_cells b c)
 join_cells-assoc a b c =
     same_cell (join_cells (join_cells a b) c) (join_cells (join_cells b c) a) (turned clears a.cleared b.cleared c.cleared) (λ v.
@@ -140,6 +146,7 @@ join_cells-assoc a b c =
     ))
     ∙ join_cells-comm (join_cells b c) a
 
+-- a join is valid
 pub join_cells-valid : (a b : AttrCell) → IsValidCell (join_cells a b)
 join_cells-valid a b v =
     let c = maybe later_stamp a.cleared b.cleared in
@@ -158,11 +165,13 @@ greatest_mark-beyond (Marked w m ∷ h) v e =
     found_not true r p ih = cc
     found_not false r p ih = ih p
 
+-- the mark that the cell of a history has of a value
 pub get-cell_of : (h : List AttrMark) (v : List ℕ) → get (cell_of h).values v ≡ kept (greatest_clear h) (greatest_mark h v)
 get-cell_of h =
     get-of_all_keys nat_list_cmp_total octets_exact (filter_map value_in h) (λ v. kept (greatest_clear h) (greatest_mark h v)) (λ v e. ap (kept
     (greatest_clear h)) (greatest_mark-beyond h v e))
 
+-- the cell of a history is valid
 pub cell_of-valid : (h : List AttrMark) → IsValidCell (cell_of h)
 cell_of-valid h v = cc (get-cell_of h v, kept-kept (greatest_clear h) (greatest_clear h) (greatest_mark h v), clears.idem (greatest_clear h))
 
@@ -191,6 +200,7 @@ join_cells-cell_of g h = same_cell (join_cells (cell_of g) (cell_of h)) (cell_of
 
 -- ---- what the methods of maps do
 
+-- what dropping the earlier marks leaves is what the clear keeps
 pub option_filter-kept : (c : Stamp) (m : Option ValueMark) → option_filter (λ m. not (is_earlier m.stamp c)) m ≡ kept (Some c) m
 option_filter-kept c None = refl
 option_filter-kept c (Some m) = turned_if (is_earlier m.stamp c)

@@ -22,10 +22,12 @@ abbrev pub clear_in : AttrMark → Option Stamp
 clear_in (Cleared s) = Some s
 clear_in (Marked v m) = None
 
+-- what a mark says of the value v (own)
 abbrev pub mark_in : List ℕ → AttrMark → Option ValueMark
 mark_in v (Cleared s) = None
 mark_in v (Marked w m) = if is_octets v w then Some m else None
 
+-- the value that a mark is about (own)
 abbrev pub value_in : AttrMark → Option (List ℕ)
 value_in (Cleared s) = None
 value_in (Marked v m) = Some v
@@ -39,6 +41,7 @@ attr_stamp (Marked v m) = m.stamp
 abbrev pub greatest_clear : List AttrMark → Option Stamp
 greatest_clear = join_of later_stamp clear_in
 
+-- the greatest mark of the value v in a history (own)
 abbrev pub greatest_mark : List AttrMark → List ℕ → Option ValueMark
 greatest_mark h v = join_of later (mark_in v) h
 
@@ -77,6 +80,7 @@ join_cells a b =
 abbrev pub IsValidCell : AttrCell → Type 0
 IsValidCell a = (v : List ℕ) → kept a.cleared (get a.values v) ≡ get a.values v
 
+-- cells are told apart by their two parts (own)
 abbrev pub cell_code : Coded AttrCell
 cell_code =
     code_by (Option Stamp × FinMap octets_cmp ValueMark) (coded×

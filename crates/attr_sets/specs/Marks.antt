@@ -18,6 +18,7 @@ use Rattle.attr_sets.specs.declared.mark.ValueMark.{ValueMark}
 abbrev pub present_at : Stamp → ValueMark
 present_at s = record { present = true; stamp = s }
 
+-- the mark of a value that is absent by an update with this stamp (own)
 abbrev pub absent_at : Stamp → ValueMark
 absent_at s = record { present = false; stamp = s }
 
@@ -31,9 +32,11 @@ exact_flags true false e = cc
 exact_flags false true e = cc
 exact_flags false false e = refl
 
+-- marks are in a total order
 pub mark_total : IsTotalOrder mark_cmp
 mark_total = then_total (on_total (λ m. m.stamp) stamp_total) (back_total (on_total (λ m. m.present) bool_cmp_total))
 
+-- only equal marks tie
 pub mark_exact : IsAntisymmetric mark_cmp
 mark_exact a b h =
     ap (λ
@@ -44,9 +47,11 @@ mark_exact a b h =
 abbrev pub later : ValueMark → ValueMark → ValueMark
 later = greater mark_cmp
 
+-- later marks are a semilattice
 pub later_laws : IsSemilattice later
 later_laws = greater_semilattice mark_total mark_exact
 
+-- marks are told apart by their two parts (own)
 abbrev pub mark_code : Coded ValueMark
 mark_code = code_by (Bool × Stamp) (coded× coded_bool stamp_code) (λ m. (m.present, m.stamp)) (λ p. record { present = p.0; stamp = p.1 }) (λ _. refl)
 

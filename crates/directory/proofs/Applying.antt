@@ -96,6 +96,7 @@ pub takes_own : (old new : Entries) (n : List ℕ) (f : EntryCell → EntryCell)
     → (IfSome (get old n) IsValidEntry → RaisesAt join_entries old new n (f own)) → TakesOwn old new n f
 takes_own old new n f own at joins valid = subst (λ x. IfSome x (λ e. RaisesAt join_entries old new n (f e))) (sym at) (joins valid)
 
+-- a name with no entry takes nothing
 pub takes_none : (old new : Entries) (n : List ℕ) (f : EntryCell → EntryCell) → get old n ≡ None → TakesOwn old new n f
 takes_none old new n f at valid = subst (λ x. IfSome x (λ e. RaisesAt join_entries old new n (f e))) (sym at) tt
 

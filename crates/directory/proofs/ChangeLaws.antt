@@ -112,6 +112,7 @@ module _ (h : List Mark) (n : List ℕ) (s : Stamp) (known : IsHistory h) (earli
   abbrev new_born : Born
   new_born = record { at = s; kind = k }
 
+  -- the marks of a new entry
   abbrev pub new_marks : List Mark
   new_marks = Birth n k s ∷ changes n s a xs
 
@@ -227,19 +228,23 @@ counts_one vs v is = ap (λ (ws : List (List ℕ)). length ws == 1) is
 
 module _ (h : List Mark) (n : List ℕ) (target : List
     (List ℕ)) (s : Stamp) (known : IsHistory h) (earlier : IsBefore h s) (lawful : IsComponentList target) where
+  -- a new link shows
   pub shown-linked : shown (h ++ marks_of (shown h n) (MakeLink n target) s) n
       ≡ Some (record { birth = s; kind = Link; values = λ a. if is_octets a link_target then spelling target ∷ [] else [] })
   shown-linked = shown-led h n s known earlier Link link_target (spelling target) (counts_one _ (spelling target) (one_target target lawful))
 
+  -- and leads to its target
   pub lead-linked : IsSomeAnd (shown (h ++ marks_of (shown h n) (MakeLink n target) s) n) (λ e. lead_of e ≡ Some (spelling target))
   lead-linked = subst (λ x. IsSomeAnd x (λ e. lead_of e ≡ Some (spelling target))) (sym shown-linked) (ap only_one (one_target target lawful))
 
 module _ (h : List Mark) (n : List ℕ) (p : Pointer) (s : Stamp) (known : IsHistory h) (earlier : IsBefore h s) (lawful : IsHouses
     (record { master = p.master; others = p.others })) where
+  -- a new child shows
   pub shown-child : shown (h ++ marks_of (shown h n) (MakeChild n p) s) n
       ≡ Some (record { birth = s; kind = Child; values = λ a. if is_octets a replicas then pointer_octets p ∷ [] else [] })
   shown-child = shown-led h n s known earlier Child replicas (pointer_octets p) (counts_one _ (pointer_octets p) (one_pointer p lawful))
 
+  -- and leads by its pointer
   pub lead-child : IsSomeAnd (shown (h ++ marks_of (shown h n) (MakeChild n p) s) n) (λ e. lead_of e ≡ Some (pointer_octets p))
   lead-child = subst (λ x. IsSomeAnd x (λ e. lead_of e ≡ Some (pointer_octets p))) (sym shown-child) (ap only_one (one_pointer p lawful))
 
@@ -340,6 +345,7 @@ module _ (h : List Mark) (n : List ℕ) (e : Shown) (s : IsSeen h n e) (a v : Li
   abbrev mark : Bool → AttrMark
   mark present = Marked v (record { present = present; stamp = t })
 
+  -- behind an addition
   pub added : ChangesValues e a (λ w. (w ≡ v) ⊎ Contains (e.values a) w) (record {
     birth = e.birth;
     kind = e.kind;
@@ -350,6 +356,7 @@ module _ (h : List Mark) (n : List ℕ) (e : Shown) (s : IsSeen h n e) (a v : Li
       let law = shown_values-added known_marks v t (attrs_before h n e.birth a t earlier) w in
       (λ c. ⊎_elim inl (λ old. inr ((values_before w).0 old)) (law.0 c), λ c. law.1 (⊎_elim inl (λ old. inr ((values_before w).1 old)) c)))
 
+  -- behind a removal
   pub removed : ChangesValues e a (λ w. (w ≢ v) × Contains (e.values a) w) (record {
     birth = e.birth;
     kind = e.kind;
@@ -360,9 +367,11 @@ module _ (h : List Mark) (n : List ℕ) (e : Shown) (s : IsSeen h n e) (a v : Li
       let law = shown_values-removed known_marks v t (attrs_before h n e.birth a t earlier) w in
       (λ c. ((law.0 c).0, (values_before w).0 (law.0 c).1), λ c. law.1 (c.0, (values_before w).1 c.1)))
 
+  -- behind a put
   pub replaced : ChangesValues e a (λ w. w ≡ v) (record { birth = e.birth; kind = e.kind; values = values_after h n e s a (Cleared t ∷ mark true ∷ []) })
   replaced = changes-values h n e s a (Cleared t ∷ mark true ∷ []) (λ w. w ≡ v) (λ w. shown_values-put known_marks v t (attrs_before h n e.birth a t earlier) w)
 
+  -- behind a clear
   pub cleared : ChangesValues e a (λ _. ⊥) (record { birth = e.birth; kind = e.kind; values = values_after h n e s a (Cleared t ∷ []) })
   cleared =
       changes-values h n e s a (Cleared t ∷ []) (λ _. ⊥) (λ w. (shown_values-cleared known_marks v t (attrs_before h n e.birth a t earlier) w, λ c. absurd c))
@@ -406,24 +415,29 @@ module _ (h : List Mark) (n : List ℕ) (e : Shown) (is : shown h n ≡ Some e) 
     abbrev mark_is : Bool → AttrMark
     mark_is present = Marked v (record { present = present; stamp = t })
 
+    -- an addition shows
     pub shown-add : IsSomeAnd (shown (h ++ marks_of (shown h n) (Add n a v) t) n) (ChangesValues e a (λ w. (w ≡ v) ⊎ Contains (e.values a) w))
     shown-add =
         after (Add n a v) _ _ (shown-changed h n e (seen h n e is) a (mark_is true ∷ []) (accepted_free a accepted)) (added h n e (seen h n e is) a v t earlier)
 
+    -- a removal shows
     pub shown-remove : IsSomeAnd (shown (h ++ marks_of (shown h n) (Remove n a v) t) n) (ChangesValues e a (λ w. (w ≢ v) × Contains (e.values a) w))
     shown-remove =
         after (Remove n a v) _ _ (shown-changed h n e
         (seen h n e is) a (mark_is false ∷ []) (accepted_free a accepted)) (removed h n e (seen h n e is) a v t earlier)
 
+    -- a put shows
     pub shown-put : IsSomeAnd (shown (h ++ marks_of (shown h n) (Put n a v) t) n) (ChangesValues e a (λ w. w ≡ v))
     shown-put =
         after (Put n a v) _ _ (shown-changed h n e
         (seen h n e is) a (Cleared t ∷ mark_is true ∷ []) (accepted_free a accepted)) (replaced h n e (seen h n e is) a v t earlier)
 
+    -- a clear shows
     pub shown-clear : IsSomeAnd (shown (h ++ marks_of (shown h n) (Clear n a) t) n) (ChangesValues e a (λ _. ⊥))
     shown-clear =
         after (Clear n a) _ _ (shown-changed h n e (seen h n e is) a (Cleared t ∷ []) (accepted_free a accepted)) (cleared h n e (seen h n e is) a v t earlier)
 
+  -- a deleted entry does not show
   pub shown-delete : shown (h ++ marks_of (shown h n) (Delete n) t) n ≡ None
   shown-delete = ap (λ x. shown (h ++ marks_of x (Delete n) t) n) is ∙ shown-deleted h n e t (seen h n e is)
 
@@ -460,9 +474,11 @@ module _
       shown-if_led h n e is_seen replicas (Cleared s ∷ Marked new_pointer (record { present = true; stamp = s }) ∷ [])
       (ap (λ k. leads k repointed_values) (repointed_kind e.kind accepted) ∙ counts_one _ new_pointer repointed_alone)
 
+  -- a repointed child shows
   pub shown-repoint : IsSomeAnd (shown (h ++ marks_of (shown h n) (Repoint n master others) s) n) (ChangesValues e replicas (λ w. w ≡ new_pointer))
   shown-repoint = after h n e is s (Repoint n master others) _ _ repointed (replaced h n e is_seen replicas new_pointer s earlier)
 
+  -- and leads by its new pointer
   pub lead-repoint : IsSomeAnd (shown (h ++ marks_of (shown h n) (Repoint n master others) s) n) (λ f. lead_of f ≡ Some new_pointer)
   lead-repoint =
       after h n e is s (Repoint n master others) (λ f. lead_of f ≡ Some new_pointer) _ repointed
@@ -472,10 +488,12 @@ module _
 pub shown-leads : (h : List Mark) (n : List ℕ) (e : Shown) → shown h n ≡ Some e → e.kind ≢ Object → IsSome (lead_of e)
 shown-leads h n e is = leads_somewhere e (seen h n e is).leading
 
+-- a created object shows
 pub shown-create : (h : List Mark) (n : List ℕ) (s : Stamp) → IsHistory h → IsBefore h s
     → shown (h ++ marks_of (shown h n) (Create n) s) n ≡ Some (record { birth = s; kind = Object; values = λ _. [] })
 shown-create = shown-created
 
+-- other names show what they did
 pub shown-others : (h : List Mark) (u : Change) (s : Stamp) → IsHistory h → IsBefore h s → refusal_of (shown h (changed_name u)) u ≡ None
     → (q : List ℕ) → q ≢ changed_name u
     → shown (h ++ marks_of (shown h (changed_name u)) u s) q ≡ shown h q

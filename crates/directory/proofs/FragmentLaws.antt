@@ -22,9 +22,11 @@ use Rattle.directory.specs.Histories.{Mark, Birth, Death, Attr, Born, birth_cmp,
 use Rattle.directory.specs.Shown.{Shown, put_marks, with_birth}
 use Rattle.directory.proofs.HistoryLaws.{get-attrs_of}
 
+-- octets are themselves
 pub same_octets : (n : List ℕ) → is_octets n n ≡ true
 same_octets n = ap is_eq (tied_itself nat_list_cmp_total n)
 
+-- a stamp is itself
 pub same_stamp : (s : Stamp) → is_stamp s s ≡ true
 same_stamp s = ap is_eq (tied_itself stamp_total s)
 
@@ -44,6 +46,7 @@ entry_of-born n k s =
 pub one_death : (n : List ℕ) (c s : Stamp) → maybe earlier_stamp (if is_octets n n && is_stamp c c then Some s else None) None ≡ Some s
 one_death n c s = ap (λ t. maybe earlier_stamp (if t then Some s else None) None) (ap (λ t. t && is_stamp c c) (same_octets n) ∙ same_stamp c)
 
+-- the entry of a birth and a death
 pub entry_of-deleted : (n : List ℕ) (k : Kind) (c s : Stamp)
     → entry_of (Birth n k c ∷ Death n c s ∷ []) n ≡ Some (record { birth = c; kind = k; death = Some s; attrs = empty })
 entry_of-deleted n k c s =
@@ -55,13 +58,16 @@ entry_of-deleted n k c s =
 
 -- ---- marks of one attribute
 
+-- marks of one attribute
 abbrev pub changes : List ℕ → Stamp → List ℕ → List AttrMark → List Mark
 changes n c a xs = map (Attr n c a) xs
 
+-- which have no birth
 pub birth_of-changes : (n : List ℕ) (c : Stamp) (a : List ℕ) (xs : List AttrMark) → birth_of (changes n c a xs) n ≡ None
 birth_of-changes n c a [] = refl
 birth_of-changes n c a (x ∷ xs) = birth_of-changes n c a xs
 
+-- and no death
 pub death_of-changes : (n : List ℕ) (c : Stamp) (a : List ℕ) (xs : List AttrMark) → death_of (changes n c a xs) n c ≡ None
 death_of-changes n c a [] = refl
 death_of-changes n c a (x ∷ xs) = death_of-changes n c a xs
@@ -69,6 +75,7 @@ death_of-changes n c a (x ∷ xs) = death_of-changes n c a xs
 about_both : (n : List ℕ) (c : Stamp) (r : Bool) → (is_octets n n && is_stamp c c && r) ≡ r
 about_both n c r = ap (λ t. t && is_stamp c c && r) (same_octets n) ∙ ap (λ t. t && r) (same_stamp c)
 
+-- and are the history of that attribute alone
 pub attr_history-changes : (n : List ℕ) (c : Stamp) (a d : List ℕ) (t : Bool) → is_octets d a ≡ t → (xs : List AttrMark)
     → attr_history (changes n c a xs) n c d ≡ (if t then xs else [])
 attr_history-changes n c a d true e [] = refl
@@ -99,6 +106,7 @@ module _ (n : List ℕ) (k : Kind) (c : Stamp) (a : List ℕ) (x : AttrMark) (xs
       at true = refl
       at false = refl
 
+  -- the entry of a birth and marks of one attribute
   pub entry_of-changed : entry_of one_changed n ≡ Some (record { birth = c; kind = k; death = None; attrs = insert empty a (cell_of (x ∷ xs)) })
   entry_of-changed =
       ap (option_map (entry_at one_changed n)) changed_birth
@@ -115,6 +123,7 @@ module _ (r : Result Fragment AllocError) (n : List ℕ) (k : Kind) (s : Stamp) 
       at (Ok f) named entry = ap (entry_of marks) named ∙ is ∙ ap Some (sym entry)
       at (Err e) named entry = tt
 
+  -- the fragment of a new entry is the entry of its birth
   pub born_fragment : (none : FinMap octets_cmp AttrCell) → none ≡ empty
       → IfOk r (λ f. f.entry ≡ record { birth = s; kind = k; death = None; attrs = none })
       → IfOk r (λ f. entry_of (Birth n k s ∷ []) f.name ≡ Some f.entry)
@@ -122,6 +131,7 @@ module _ (r : Result Fragment AllocError) (n : List ℕ) (k : Kind) (s : Stamp) 
       new_fragment (record { birth = s; kind = k; death = None; attrs = none }) (Birth n k s ∷ []) (entry_of-born n k s ∙ (λ i. Some
       (record { birth = s; kind = k; death = None; attrs = sym is i })))
 
+  -- so is that of one with a value
   pub led_fragment : (a : List ℕ) (x : AttrMark)
       → IfOk r (λ f. f.entry ≡ record { birth = s; kind = k; death = None; attrs = insert empty a (cell_of (x ∷ [])) })
       → IfOk r (λ f. entry_of (Birth n k s ∷ Attr n s a x ∷ []) f.name ≡ Some f.entry)
@@ -147,6 +157,7 @@ module _ (r : Result Fragment AllocError) (e : Option Shown) (n : List ℕ) (liv
       at (Ok f) (Some x) live named entry = ap (entry_of (Birth n x.kind x.birth ∷ marks x)) named ∙ is x ∙ ap Some (sym entry)
       at (Err y) e live named entry = tt
 
+  -- that of a deletion
   pub deleted_fragment : (s : Stamp) (none : FinMap octets_cmp AttrCell) → none ≡ empty
       → IfOk r (λ f. IfSome e (λ e. f.entry ≡ record { birth = e.birth; kind = e.kind; death = Some s; attrs = none }))
       → IfOk r (λ f. entry_of (with_birth n e (λ x. Death n x.birth s ∷ [])) f.name ≡ Some f.entry)
@@ -154,6 +165,7 @@ module _ (r : Result Fragment AllocError) (e : Option Shown) (n : List ℕ) (liv
       live_fragment (λ x. record { birth = x.birth; kind = x.kind; death = Some s; attrs = none }) (λ x. Death n x.birth s ∷ [])
       (λ x. entry_of-deleted n x.kind x.birth s ∙ (λ i. Some (record { birth = x.birth; kind = x.kind; death = Some s; attrs = sym is i })))
 
+  -- and that of a change of an attribute
   pub changed_fragment : (a : List ℕ) (x : AttrMark) (xs : List AttrMark) (cell : AttrCell) → cell ≡ cell_of (x ∷ xs)
       → IfOk r (λ f. IfSome e (λ e. f.entry ≡ record { birth = e.birth; kind = e.kind; death = None; attrs = insert empty a cell }))
       → IfOk r (λ f. entry_of (with_birth n e (λ y. changes n y.birth a (x ∷ xs))) f.name ≡ Some f.entry)

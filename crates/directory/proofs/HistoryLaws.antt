@@ -41,9 +41,11 @@ no_attr (Birth m k d ∷ h) n c a e = no_attr h n c a e
 no_attr (Death m d s ∷ h) n c a e = no_attr h n c a e
 no_attr (Attr m d b x ∷ h) n c a e = grind (arith, no_attr h n c a, e)
 
+-- what the table of a history has of a name
 pub get-table_of : (h : List Mark) (n : List ℕ) → get (table_of h) n ≡ entry_of h n
 get-table_of h = get-of_all_keys nat_list_cmp_total octets_exact (map name_in h) (entry_of h) (λ n e. ap (option_map (entry_at h n)) (no_name h n e))
 
+-- what the entry of a history has of an attribute
 pub get-attrs_of : (h : List Mark) (n : List ℕ) (c : Stamp) (a : List ℕ) → get (attrs_of h n c) a ≡ cell_of_some (attr_history h n c a)
 get-attrs_of h n c =
     get-of_all_keys nat_list_cmp_total octets_exact (filter_map attr_in h) (λ a. cell_of_some
@@ -95,6 +97,7 @@ about n m c d e = parts (is_octets n m) (is_stamp c d) refl refl e
     parts true false p q e = cc
     parts false t p q e = cc
 
+-- a birth that is later than all of a history is not in it
 pub no_birth : (h : List Mark) (n : List ℕ) (c : Stamp) → before (birth_of h n) c ≡ true → list_any (is_birth n c) h ≡ false
 no_birth [] n c e = refl
 no_birth (Birth m k d ∷ h) n c e =
@@ -120,6 +123,7 @@ no_death (Death m d s ∷ h) all n c b e = at (is_octets n m && is_stamp c d) re
     at false p q = q
 no_death (Attr m d a x ∷ h) all n c b e = no_death h all n c b.1 e
 
+-- so no mark of an attribute is about it
 pub no_attrs : (h all : List Mark) (n : List ℕ) (c : Stamp) (a : List ℕ)
     → AllByRecursion (λ x. list_any (is_birth (name_in x) (born_in x)) all ≡ true) h → list_any (is_birth n c) all ≡ false → attr_history h n c a ≡ []
 no_attrs [] all n c a b e = refl
@@ -137,9 +141,11 @@ pub birth_exact : IsAntisymmetric birth_cmp
 birth_exact a b e =
     ap (λ (p : Stamp × Kind). record { at = p.0; kind = p.1 }) (exact_pairs stamp_cmp kind_cmp stamp_exact kind_exact (a.at, a.kind) (b.at, b.kind) e)
 
+-- births that may be missing are a semilattice
 pub births : IsSemilattice (greater birth_cmp)
 births = greater_semilattice (then_total (on_total (λ b. b.at) stamp_total) (on_total (λ b. b.kind) (on_total rank nat_cmp_total))) birth_exact
 
+-- the least death of two histories
 pub death_joined : (g h : List Mark) (n : List ℕ) (c : Stamp) → maybe earlier_stamp (death_of g n c) (death_of h n c) ≡ death_of (g ++ h) n c
 death_joined g h n c = sym (join_of-append earlier_stamp_laws (death_in n c) g h)
 

@@ -1,11 +1,9 @@
 -- Where an entry leads.
 use Rattle.std.proofs.Common.{◌≡◌, ◌≢◌, filter, ap, ℕ, Bool, true, false, List, [], ◌∷◌, Option, Some, None, IsSome, refl, sym, subst, ◌∙◌, arith}
-use Rattle.std.specs.Prelude.{◌&&◌, ◌==◌, Result, Err, IfErr, is_none, length, if◌then◌else◌}
+use Rattle.std.specs.Prelude.{◌&&◌, ◌==◌, is_none, length, if◌then◌else◌}
 use Rattle.std.specs.List.{All}
 use Rattle.std.proofs.lemmas.List.Elements.{filter_passes, recursion_from_All}
 use Rattle.cds_stamps.specs.declared.stamp.Stamp.{Stamp}
-use Rattle.cds_stamps.specs.declared.alloc_or.AllocOr.{AllocOr}
-use Rattle.cds_stamps.specs.declared.alloc_or.AllocOr.TheVariants.{Fault, OutOfMemory}
 use Rattle.cell_names.specs.FullNames.{is_full_name}
 use Rattle.cell_names.specs.ChildPointers.{pointer_fault, is_child_pointer}
 use Rattle.directory.specs.declared.entry.Kind.{Kind}
@@ -76,10 +74,3 @@ child_leads e child shows =
 -- and where it leads reads as a child pointer
 pub child_reads : (e : EntryCell) (v : List ℕ) → is_child e.kind ≡ true → lead_of (face_of e) ≡ Some v → pointer_fault v ≡ None
 child_reads e v child leading = none_if (pointer_fault v) (ap (λ k. is_readable k v) (sym (child_is e.kind child)) ∙ lead_reads (face_of e) v leading)
-
--- a call that lacks nothing but memory finds no fault
-pub no_fault_left : {T E : Type 0} (r : Result T (AllocOr E)) (x : AllocOr E) (f : E) → r ≡ Err x → x ≡ Fault f → IfErr r (λ e. e ≡ OutOfMemory) → ⊥
-no_fault_left {T} {E} r x f is fault lacking = other (sym fault ∙ subst (λ (r : Result T (AllocOr E)). IfErr r (λ e. e ≡ OutOfMemory)) is lacking)
-  where
-    other : Fault f ≡ OutOfMemory → ⊥
-    other e = cc (e)

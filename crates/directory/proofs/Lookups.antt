@@ -22,8 +22,10 @@ reserved_by_second a o p s t same also first failed second =
     second ∙ ap (λ p. pointwise nat_eq p replicas) also ∙ texts_ties a replicas ∙ sym (ap (λ b. b || is_octets a replicas) apart)
 
 module _ {X : Type 0} (q : List ℕ) (k : List ℕ) (x : X) (es rest : List (List ℕ × X)) (goal : Option X) where
+  -- a key that is another is passed by
   pub passed_by : es ≡ (k, x) ∷ rest → is_octets q k ≡ false → lookup (is_at (octets_cmp q)) es ≡ goal → lookup (is_at (octets_cmp q)) rest ≡ goal
   passed_by first apart is = sym (ap (λ b. cond b (Some x) (lookup (is_at (octets_cmp q)) rest)) apart) ∙ sym (ap (lookup (is_at (octets_cmp q))) first) ∙ is
 
+  -- the key itself is found
   pub found_first : es ≡ (k, x) ∷ rest → is_octets q k ≡ true → lookup (is_at (octets_cmp q)) es ≡ goal → Some x ≡ goal
   found_first first same is = sym (ap (λ b. cond b (Some x) (lookup (is_at (octets_cmp q)) rest)) same) ∙ sym (ap (lookup (is_at (octets_cmp q))) first) ∙ is

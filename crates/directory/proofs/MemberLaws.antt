@@ -46,6 +46,7 @@ found_in {A} {X} k (m ∷ g) x c = at (k m) refl c (found_in k g x)
     at None e c rec = later (rec c)
     at (Some y) e c rec = ⊎_elim (λ same. (m, Contains-head m g, e ∙ ap Some same)) (λ r. later (rec r)) (Contains-cases y (filter_map k g) x c)
 
+-- what a member gives is among what the members give
 pub finds : {A X : Type 0} (k : A → Option X) (g : List A) (x : X) (m : A) → Contains g m → k m ≡ Some x → Contains (filter_map k g) x
 finds k [] x m c e = absurd (Contains-none m c)
 finds {A} {X} k (n ∷ g) x m c e = ⊎_elim (λ same. here (k n) (ap k same ∙ e)) (λ r. there (k n) (finds k g x m r e)) (Contains-cases n g m c)

@@ -52,6 +52,7 @@ pub record IsSeen (h : List Mark) (n : List ℕ) (e : Shown) : Type 0 where
   pub leading : leads e.kind e.values ≡ true
   pub values : (a : List ℕ) → e.values a ≡ shown_values (attr_history h n e.birth a)
 
+-- an entry that shows has its birth in the history
 pub seen : (h : List Mark) (n : List ℕ) (e : Shown) → shown h n ≡ Some e → IsSeen h n e
 seen h n e is = by_birth (birth_of h n) refl is
   where

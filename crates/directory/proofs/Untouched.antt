@@ -11,6 +11,7 @@ use Rattle.cds_stamps.specs.Keyed.{tied}
 use Rattle.cds_stamps.proofs.TreeViews.{view-insert}
 
 module _ {K X : Type 0} {R : K → K → Ordering} (o : IsTotalOrder R) (same : IsAntisymmetric R) where
+  -- an insertion leaves the other keys
   pub inserted_apart : (m n : FinMap R X) (k : K) (x : X) → n ≡ insert m k x → (q : K) → q ≢ k → get n q ≡ get m q
   inserted_apart m n k x inserted q apart = ap (λ n. get n q) inserted ∙ get-insert o m k x q ∙ by_case (eq_by_cmp R q k) refl
     where
@@ -18,6 +19,7 @@ module _ {K X : Type 0} {R : K → K → Ordering} (o : IsTotalOrder R) (same : 
       by_case true e = absurd (apart (tied same q k e))
       by_case false e = refl
 
+  -- a value set in place leaves the other keys
   pub untouched : (m : FinMap R X) (es fs : List (K × X)) (k : K) (next : X) → from_entries es ≡ m
       → ((q : K) → lookup (is_at (R q)) fs ≡ cond (is_at (R k) q) (Some next) (lookup (is_at (R q)) es)) → (q : K) → q ≢ k
       → get (from_entries {R = R} fs) q ≡ get m q

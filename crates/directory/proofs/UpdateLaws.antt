@@ -54,12 +54,15 @@ or_right false b e = e
 
 -- ---- stamps
 
+-- no stamp is earlier than itself
 pub not_itself : (s : Stamp) → is_earlier s s ≡ false
 not_itself s = ap is_lt (tied_itself stamp_total s)
 
+-- of two stamps one alone is earlier
 pub not_later : (a b : Stamp) → is_earlier a b ≡ true → is_earlier b a ≡ false
 not_later a b e = grind (arith, stamp_total.antisymm a b, stamp_total.antisymm b a)
 
+-- nothing is both true and false
 pub not_both : (b : Bool) → b ≡ true → b ≡ false → ⊥
 not_both true p q = cc (q)
 not_both false p q = cc (p)
@@ -96,6 +99,7 @@ pub record IsUpdate (e : Option Shown) (n : List ℕ) (s : Stamp) (ms : List Mar
 value_about : (n : List ℕ) (c : Stamp) (a v : List ℕ) (present : Bool) (s : Stamp) → IsAbout n c s (value_mark n c a v present s)
 value_about n c a v present s = (refl, refl, refl, λ q. refl)
 
+-- the marks of an accepted update are a birth and what belongs to it
 pub marks_are : (e : Option Shown) (u : Change) (s : Stamp) → refusal_of e u ≡ None → IsUpdate e (changed_name u) s (marks_of e u s)
 marks_are e (Create n) s ok = record { kind = Object; birth = s; rest = []; marks = refl; about = tt; source = inl refl }
 marks_are e (MakeLink n target) s ok = record {
@@ -257,12 +261,15 @@ module _ (h : List Mark) (u : Change) (s : Stamp) (known : IsHistory h) (before 
   abbrev update : IsUpdate (shown h (changed_name u)) (changed_name u) s (marks_of (shown h (changed_name u)) u s)
   update = marks_are (shown h (changed_name u)) u s accepted
 
+  -- the marks of an accepted update are a history
   pub marks_of-history : IsHistory (marks_of (shown h (changed_name u)) u s)
   marks_of-history = subst IsHistory (sym update.marks) (all_history h (changed_name u) s _ known before update)
 
+  -- also together with the history that it is accepted in
   pub marks_of-together : IsHistory (h ++ marks_of (shown h (changed_name u)) u s)
   marks_of-together = subst (λ ms. IsHistory (h ++ ms)) (sym update.marks) (both_history h (changed_name u) s _ known before update)
 
+  -- and are about its name
   pub marks_of-names : AllByRecursion (λ m. name_in m ≡ changed_name u) (marks_of (shown h (changed_name u)) u s)
   marks_of-names = subst (AllByRecursion (λ m. name_in m ≡ changed_name u)) (sym update.marks) (names_of_all h (changed_name u) s _ known before update)
 

@@ -15,14 +15,17 @@ abbrev pub parts : CellUndo → AttrCell ⊎ List (List ℕ × Option ValueMark)
 parts (Whole cell) = inl cell
 parts (Marks log) = inr log
 
+-- the way back of its parts
 abbrev pub of_parts : AttrCell ⊎ List (List ℕ × Option ValueMark) → CellUndo
 of_parts (inl cell) = Whole cell
 of_parts (inr log) = Marks log
 
+-- parts that are put together again
 pub parts_back : (u : CellUndo) → of_parts (parts u) ≡ u
 parts_back (Whole cell) = refl
 parts_back (Marks log) = refl
 
+-- ways back are told apart by their parts
 abbrev pub cell_undo_code : Coded CellUndo
 cell_undo_code =
     code_by (AttrCell ⊎ List (List ℕ × Option ValueMark)) (coded⊎ cell_code (coded_list (coded× octets_code

@@ -49,5 +49,6 @@ IsHeldCell a = IsValidCell a × (a ≢ empty_cell)
 abbrev pub IsValidEntry : EntryCell → Type 0
 IsValidEntry e = EachValue IsHeldCell e.attrs
 
+-- each entry of a table is valid (own)
 abbrev pub IsValidTable : Entries → Type 0
 IsValidTable = EachValue IsValidEntry

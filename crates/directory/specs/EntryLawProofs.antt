@@ -20,9 +20,11 @@ use Rattle.cds_stamps.specs.Joins.{JoinsTied, join_maps, map_join, key_join, Eac
 use Rattle.directory.specs.Kinds.{rank, kind_of_rank, rank_back, kind_cmp}
 use Rattle.directory.specs.Entries.{join_tied, join_entries, IsHeldCell, IsValidEntry, join_tables, IsValidTable}
 
+-- only equal kinds tie
 pub kind_exact : IsAntisymmetric kind_cmp
 kind_exact a b e = sym (rank_back a) ∙ ap kind_of_rank (exact_unsigned (rank a) (rank b) e) ∙ rank_back b
 
+-- kinds are a semilattice
 pub kinds : IsSemilattice (greater kind_cmp)
 kinds = greater_semilattice (on_total rank nat_cmp_total) kind_exact
 
@@ -49,6 +51,7 @@ join_held a b e =
     ∙ ap (λ (c : AttrCell). get c.values v) e ∙ get-empty octets_cmp v)
     ∙ sym (get-empty octets_cmp v))
 
+-- the join of cells that hold something
 pub cell_join : IsJoin IsHeldCell join_cells
 cell_join = record {
   keeps = λ x y p q. (join_cells-valid x y, λ e. p.1 (join_held x y e));
@@ -75,8 +78,10 @@ tied_join = record {
   idem = λ x p i. record { birth = x.birth; kind = kinds.idem x.kind i; death = deaths.idem x.death i; attrs = attrs.idem x.attrs p i };
 }
 
+-- the join of valid entries
 pub entry_join : IsJoin IsValidEntry join_entries
 entry_join = key_join (λ (e : EntryCell). e.birth) stamp_total stamp_exact tied_join
 
+-- the join of valid tables
 pub table_join : IsJoin IsValidTable join_tables
 table_join = map_join nat_list_cmp_total octets_exact entry_join

@@ -31,11 +31,13 @@ name_in (Birth n kind c) = n
 name_in (Death n c s) = n
 name_in (Attr n c a x) = n
 
+-- the birth of the entry that a mark is about (own)
 abbrev pub born_in : Mark → Stamp
 born_in (Birth n kind c) = c
 born_in (Death n c s) = c
 born_in (Attr n c a x) = c
 
+-- the stamp of a mark (own)
 abbrev pub stamp_in : Mark → Stamp
 stamp_in (Birth n kind c) = c
 stamp_in (Death n c s) = s
@@ -52,16 +54,19 @@ birth_in n (Birth m kind c) = if is_octets n m then Some (record { at = c; kind 
 birth_in n (Death m c s) = None
 birth_in n (Attr m c a x) = None
 
+-- what a mark says of the deaths of (n, c) (own)
 abbrev pub death_in : List ℕ → Stamp → Mark → Option Stamp
 death_in n c (Birth m kind d) = None
 death_in n c (Death m d s) = if is_octets n m && is_stamp c d then Some s else None
 death_in n c (Attr m d a x) = None
 
+-- what a mark says of the attribute a of (n, c) (own)
 abbrev pub attr_mark_in : List ℕ → Stamp → List ℕ → Mark → Option AttrMark
 attr_mark_in n c a (Birth m kind d) = None
 attr_mark_in n c a (Death m d s) = None
 attr_mark_in n c a (Attr m d b x) = if is_octets n m && is_stamp c d && is_octets a b then Some x else None
 
+-- the attribute that a mark is about (own)
 abbrev pub attr_in : Mark → Option (List ℕ)
 attr_in (Birth n kind c) = None
 attr_in (Death n c s) = None
@@ -75,9 +80,11 @@ birth_cmp a b = ordering_then (stamp_cmp a.at b.at) (kind_cmp a.kind b.kind)
 abbrev pub birth_of : List Mark → List ℕ → Option Born
 birth_of h n = join_of (greater birth_cmp) (birth_in n) h
 
+-- the least death of (n, c) in a history (own)
 abbrev pub death_of : List Mark → List ℕ → Stamp → Option Stamp
 death_of h n c = join_of earlier_stamp (death_in n c) h
 
+-- the marks of the attribute a of (n, c) in a history (own)
 abbrev pub attr_history : List Mark → List ℕ → Stamp → List ℕ → List AttrMark
 attr_history h n c a = filter_map (attr_mark_in n c a) h
 
@@ -86,6 +93,7 @@ abbrev pub cell_of_some : List AttrMark → Option AttrCell
 cell_of_some [] = None
 cell_of_some (x ∷ h) = Some (cell_of (x ∷ h))
 
+-- the cells of the attributes of (n, c) in a history (own)
 abbrev pub attrs_of : List Mark → List ℕ → Stamp → FinMap octets_cmp AttrCell
 attrs_of h n c = of_keys (filter_map attr_in h) (λ a. cell_of_some (attr_history h n c a))
 
@@ -93,6 +101,7 @@ attrs_of h n c = of_keys (filter_map attr_in h) (λ a. cell_of_some (attr_histor
 abbrev pub entry_at : List Mark → List ℕ → Born → EntryCell
 entry_at h n b = record { birth = b.at; kind = b.kind; death = death_of h n b.at; attrs = attrs_of h n b.at }
 
+-- the entry of a name in a history (own)
 abbrev pub entry_of : List Mark → List ℕ → Option EntryCell
 entry_of h n = option_map (entry_at h n) (birth_of h n)
 
@@ -106,6 +115,7 @@ abbrev pub up_to : List Mark → Option Stamp → List Mark
 up_to h None = []
 up_to h (Some t) = filter (λ m. is_up_to t (stamp_in m)) h
 
+-- the mark is the birth of (n, c) (own)
 abbrev pub is_birth : List ℕ → Stamp → Mark → Bool
 is_birth n c (Birth m kind d) = is_octets n m && is_stamp c d
 is_birth n c (Death m d s) = false

@@ -12,22 +12,27 @@ rank Object = 0
 rank Link = 1
 rank Child = 2
 
+-- kinds in their order (own)
 abbrev pub kind_cmp : Kind → Kind → Ordering
 kind_cmp = on rank nat_cmp
 
+-- the kind is that of a child (own)
 abbrev pub is_child : Kind → Bool
 is_child k = rank k == 2
 
+-- the kind of a place in the order (own)
 abbrev pub kind_of_rank : ℕ → Kind
 kind_of_rank zero = Object
 kind_of_rank (suc zero) = Link
 kind_of_rank (suc (suc n)) = Child
 
+-- each kind is that of its place
 pub rank_back : (k : Kind) → kind_of_rank (rank k) ≡ k
 rank_back Object = refl
 rank_back Link = refl
 rank_back Child = refl
 
+-- kinds are told apart by their places (own)
 abbrev pub kind_code : Coded Kind
 kind_code = code_by ℕ coded_ℕ rank kind_of_rank rank_back
 
@@ -35,5 +40,6 @@ kind_code = code_by ℕ coded_ℕ rank kind_of_rank rank_back
 abbrev pub link_target : List ℕ
 link_target = codes "CDS_LinkTarget"
 
+-- the attribute with the pointer of a child (C705, CDS_Replicas)
 abbrev pub replicas : List ℕ
 replicas = codes "CDS_Replicas"

@@ -29,6 +29,7 @@ pub record Shown : Type 0 where
 abbrev pub targets : List (List ℕ) → List (List ℕ)
 targets = filter is_full_name
 
+-- those of the values that read as child pointers (own)
 abbrev pub pointers : List (List ℕ) → List (List ℕ)
 pointers = filter is_child_pointer
 
@@ -67,6 +68,7 @@ shown_if_live death e = if is_none death && leads e.kind e.values then Some e el
 abbrev pub shown_born : List Mark → List ℕ → Born → Option Shown
 shown_born h n b = shown_if_live (death_of h n b.at) (record { birth = b.at; kind = b.kind; values = λ a. shown_values (attr_history h n b.at a) })
 
+-- what a history shows of a name (own)
 abbrev pub shown : List Mark → List ℕ → Option Shown
 shown h n = option_and_then (shown_born h n) (birth_of h n)
 
@@ -82,6 +84,7 @@ face_of e = record { birth = e.birth; kind = e.kind; values = entry_values e }
 abbrev pub shown_entry : EntryCell → Option Shown
 shown_entry e = shown_if_live e.death (face_of e)
 
+-- what a table shows of a name (own)
 abbrev pub shown_in : Entries → List ℕ → Option Shown
 shown_in t n = option_and_then shown_entry (get t n)
 
@@ -105,9 +108,11 @@ abbrev pub new_refusal : Option Shown → Option UpdateRefusal
 new_refusal None = None
 new_refusal (Some e) = Some EntryExists
 
+-- why an update of an entry that shows is refused, where a kind is wrong (own)
 abbrev pub live_refusal : Bool → Option UpdateRefusal
 live_refusal wrong = if wrong then Some WrongKind else None
 
+-- why an update is refused by what shows of its name; None where it is accepted (own)
 abbrev pub refusal_of : Option Shown → Change → Option UpdateRefusal
 refusal_of e (Create n) = new_refusal e
 refusal_of e (MakeLink n target) = new_refusal e

@@ -14,7 +14,7 @@ ghost use Rattle.directory.specs.Shown.{is_readable, leads, only_one, lead_of, e
 use crate::attr_map::{AttrMap, CellLog};
 use crate::undo::EntryUndo;
 use attr_sets::{AttrCell, CellChange, Value};
-use cds_stamps::{AllocOr, AttrName, DirId, Lattice, SimpleName, Stamp};
+use cds_stamps::{AttrName, DirId, Lattice, SimpleName, Stamp};
 use cell_names::{ChildPointer, FullName};
 use std::alloc::{AllocError, Global};
 use std::cmp::Ordering;
@@ -124,11 +124,8 @@ impl EntryCell {
         ensures { IfOk result (λ dir. dir.0 ≡ shown_dir (face_of self.now)) }
     {
         let value = self.lead().unwrap();
-        match ChildPointer::read(alloc, value.octets()) {
-            Ok(pointer) => Ok(pointer.dir),
-            Err(AllocOr::OutOfMemory) => Err(AllocError),
-            Err(AllocOr::Fault(_)) => unreachable!(),
-        }
+        let pointer = ChildPointer::known(alloc, value.octets())?;
+        Ok(pointer.dir)
     }
 
     /// Whether there is what an entry of its kind leads to.

@@ -1,4 +1,4 @@
-use Rattle.std.proofs.Common.{refl, sym, ◌≡◌}
+use Rattle.std.proofs.Common.{refl, ◌≡◌}
 use Rattle.attr_sets.specs.declared.cell.AttrCell.{AttrCell}
 use Rattle.attr_sets.specs.Cells.{join_cells}
 use Rattle.attr_sets.proofs.CellUndoing.{kept_joined, later_joined, kept_agrees, joined_agrees}
