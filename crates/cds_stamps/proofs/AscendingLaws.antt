@@ -163,6 +163,9 @@ pub ascending-push : (os : List (List ℕ)) (o : List ℕ) → ascending (os ++ 
 ascending-push os o =
     sym
     (ascending-only (os ++ o ∷ []) (put_in_order o (ascending os)) (put-rises o (ascending os) (ascending-rises os))
-    (λ q c. ⊎_elim (λ is. subst (Contains
-    (os ++ o ∷ [])) is (Contains-push os o)) (λ old. Contains-append_left os (o ∷ []) q (ascending-had os q old)) (put-had o (ascending os) q c))
+    (λ q c.
+    ⊎_elim
+    (λ is. subst (Contains (os ++ o ∷ [])) is (Contains-push os o))
+    (λ old. Contains-append_left os (o ∷ []) q (ascending-had os q old))
+    (put-had o (ascending os) q c))
     (λ q c. put-has o (ascending os) q (⊎_elim (λ old. inr (ascending-has os q old)) (λ is. inl is) (Contains-push_cases os o q c))))

@@ -15,6 +15,7 @@ other_bool : (p q : ℕ) (b : Bool) → (p == q) ≡ b → (p ≡ q → ⊥) →
 other_bool p q true e ne = absurd (ne (grind arith))
 other_bool p q false e ne = refl
 
+-- two places that are not one
 pub other_place : (p q : ℕ) → (p ≡ q → ⊥) → (p == q) ≡ false
 other_place p q ne = other_bool p q (p == q) refl ne
 
@@ -52,12 +53,14 @@ one_bit place p within = ap (λ x. x == 1) (sym of_zero) ∙ with_bit 0 place p 
 
 -- ---- tests at each place
 
+-- a test that holds at each of the first places holds at every one
 pub at_each_place : (n : ℕ) (test : ℕ → Bool) → each_place n test ≡ true → (p : ℕ) → p < n → test p ≡ true
 at_each_place zero test e p below = absurd (omega arith)
 at_each_place (suc n) test e p below =
     let parts : (each_place n test ≡ true) × (test n ≡ true) = and_parts (each_place n test) (test n) e in
     elim (cases_eq p n) [ inl same ↦ ap test same ∙ parts.1 | inr other ↦ at_each_place n test parts.0 p (omega arith) ]
 
+-- and the other way round
 pub each_place-from : (n : ℕ) (test : ℕ → Bool) → ((p : ℕ) → p < n → test p ≡ true) → each_place n test ≡ true
 each_place-from zero test each = refl
 each_place-from (suc n) test each =

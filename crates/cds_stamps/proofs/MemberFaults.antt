@@ -82,6 +82,7 @@ pub record IsMemberFault (ms : List Member) (fault : MembersFault) : Type 0 wher
   pub order : (place : ℕ) → fault ≡ NotAscending place → (0 < length ms) × (length ms ≤ most_members) × IsFirstBad IsAscending ms place
   pub master : fault ≡ BadMaster → (0 < length ms) × (length ms ≤ most_members) × IsAscending ms × (masters_in ms ≢ 1)
 
+-- the fault that is found says so
 pub members_fault-first : (ms : List Member) (fault : MembersFault) → members_fault ms ≡ Some fault → IsMemberFault ms fault
 members_fault-first ms fault e = by_test (tested ((length ms == 0) || nat_lt most_members (length ms)) BadCount _ fault e)
   where
@@ -89,8 +90,8 @@ members_fault-first ms fault e = by_test (tested ((length ms == 0) || nat_lt mos
     counted t = (grind (arith, t), grind (arith, t))
 
     by_test : ((((length ms == 0) || nat_lt most_members (length ms)) ≡ true) × (BadCount ≡ fault))
-        ⊎ ((((length ms == 0) || nat_lt most_members (length ms)) ≡ false) × (unordered_or (master_fault
-        (masters_in ms)) (first_unordered 1 0 ms) ≡ Some fault))
+        ⊎ ((((length ms == 0) || nat_lt most_members (length ms)) ≡ false)
+        × (unordered_or (master_fault (masters_in ms)) (first_unordered 1 0 ms) ≡ Some fault))
         → IsMemberFault ms fault
     by_test (inl t) = record {
       count = λ is count. absurd (grind (arith, t.0, count.0, count.1));
@@ -105,13 +106,7 @@ members_fault-first ms fault e = by_test (tested ((length ms == 0) || nat_lt mos
             → IsMemberFault ms fault
         of_order few (inl o) = record {
           count = λ is. absurd (let no : NotAscending o.0 ≡ BadCount = sym o.2 ∙ is in cc (no));
-          order =
-              λ place is. (
-                few.0,
-                few.1,
-                unordered_first ms place (o.1 ∙ ap Some
-                    (let same : NotAscending o.0 ≡ NotAscending place = sym o.2 ∙ is in same_place o.0 place same)),
-              );
+          order = λ place is. (few.0, few.1, unordered_first ms place (o.1 ∙ ap Some (same_place o.0 place (sym o.2 ∙ is))));
           master = λ is. absurd (let no : NotAscending o.0 ≡ BadMaster = sym o.2 ∙ is in cc (no));
         }
           where

@@ -77,6 +77,7 @@ no_members_fault ms e =
     let both = none_of_both (masters_in ms) (first_unordered 1 0 ms) count.1 in
     (grind (arith, count.0), grind (arith, count.0), both.0, both.1)
 
+-- no fault is found exactly in member lists
 pub members_fault-none : (ms : List Member) → (members_fault ms ≡ None) ↔ IsMembers ms
 members_fault-none ms = (
   λ e. let facts = no_members_fault ms e in record { filled = facts.0; few = facts.1; ascending = (first_unordered-none ms).0 facts.2; one_master = facts.3 },

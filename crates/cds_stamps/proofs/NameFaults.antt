@@ -30,8 +30,8 @@ component_walk =
   where
     steps : (place : ℕ) (octet full : Bool) (bs : List ℕ)
         → (if not octet then Some (BadOctet place) else (if full then Some (ComponentTooLong place) else component_from (place + 1) bs))
-        ≡ after component_from component_step (λ place. place) (if not octet then inl (BadOctet place) else (if full then inl
-        (ComponentTooLong place) else inr (place + 1))) bs
+        ≡ after component_from component_step (λ place. place)
+        (if not octet then inl (BadOctet place) else (if full then inl (ComponentTooLong place) else inr (place + 1))) bs
     steps place false full bs = refl
     steps place true true bs = refl
     steps place true false bs = refl
@@ -115,9 +115,9 @@ component_first octets fault e lawful = by_kind c.kind
           place = suc c.k;
           first = first_bad IsSimpleName octets c.k (suc c.k) refl b.inside before here;
           kind =
-              subst (λ (n : ℕ). IsComponentFault fault (suc c.k) (get_or octets n 0)) (sym last) (subst (λ
-              (x : ℕ). IsComponentFault fault (suc c.k) x) (sym (b.there 0)) (subst (λ
-              (s : ℕ). IsComponentFault fault s b.item) at (component_kind c.state b.item fault b.bad)));
+              subst (λ (n : ℕ). IsComponentFault fault (suc c.k) (get_or octets n 0)) (sym last)
+              (subst (λ (x : ℕ). IsComponentFault fault (suc c.k) x) (sym (b.there 0))
+              (subst (λ (s : ℕ). IsComponentFault fault s b.item) at (component_kind c.state b.item fault b.bad)));
         }
     by_kind (inr m) = cc (m.missing)
 
@@ -131,15 +131,12 @@ simple_name_empty [] place e =
     let one : 1 ≡ place = cc (e) in
     record {
       end = sym one;
-      before = record {
-        rest = 97 ∷ [];
-        lawful = (simple_name_laws
-            (97 ∷ [])).0 refl;
-      };
+      before = record { rest = 97 ∷ []; lawful = (simple_name_laws (97 ∷ [])).0 refl };
       short = λ name. absurd (omega (arith, name.filled));
     }
 simple_name_empty (b ∷ bs) place e =
-    let found = component_first (b ∷ bs) (Empty place) e simple_none in absurd (no_empty found.place (get_or (b ∷ bs) (found.place - 1) 0) found.kind)
+    let found = component_first (b ∷ bs) (Empty place) e simple_none in
+    absurd (no_empty found.place (get_or (b ∷ bs) (found.place - 1) 0) found.kind)
   where
     no_empty : (p x : ℕ) → IsComponentFault (Empty place) p x → ⊥
     no_empty p x (inl h) = absurd (cc (h.0))
@@ -149,25 +146,31 @@ simple_name_empty (b ∷ bs) place e =
 pub simple_name_octet : (octets : List ℕ) (place : ℕ) → simple_name_fault octets ≡ Some (BadOctet place)
     → IsFirstBad IsSimpleName octets place × (is_name_octet (get_or octets (place - 1) 0) ≡ false)
 simple_name_octet [] place e = cc
-simple_name_octet (b ∷ bs) place e = let found = component_first (b ∷ bs) (BadOctet place) e simple_none in of_kind found.place found.first found.kind
+simple_name_octet (b ∷ bs) place e =
+    let found = component_first (b ∷ bs) (BadOctet place) e simple_none in
+    of_kind found.place found.first found.kind
   where
     of_kind : (p : ℕ) → IsFirstBad IsSimpleName (b ∷ bs) p → IsComponentFault (BadOctet place) p (get_or (b ∷ bs) (p - 1) 0)
         → IsFirstBad IsSimpleName (b ∷ bs) place × (is_name_octet (get_or (b ∷ bs) (place - 1) 0) ≡ false)
-    of_kind p first (inl h) = let at : p
-        ≡ place = cc (h.0) in subst (λ (p : ℕ). IsFirstBad IsSimpleName (b ∷ bs) p × (is_name_octet (get_or (b ∷ bs) (p - 1) 0) ≡ false)) at (first, h.1)
+    of_kind p first (inl h) =
+        let at : p ≡ place = cc (h.0) in
+        subst (λ (p : ℕ). IsFirstBad IsSimpleName (b ∷ bs) p × (is_name_octet (get_or (b ∷ bs) (p - 1) 0) ≡ false)) at (first, h.1)
     of_kind p first (inr h) = absurd (cc (h.0))
 
 -- an octet of names that is one too many
 pub simple_name_long : (octets : List ℕ) (place : ℕ) → simple_name_fault octets ≡ Some (ComponentTooLong place)
     → IsFirstBad IsSimpleName octets place × (is_name_octet (get_or octets (place - 1) 0) ≡ true)
 simple_name_long [] place e = cc
-simple_name_long (b ∷ bs) place e = let found = component_first (b ∷ bs) (ComponentTooLong place) e simple_none in of_kind found.place found.first found.kind
+simple_name_long (b ∷ bs) place e =
+    let found = component_first (b ∷ bs) (ComponentTooLong place) e simple_none in
+    of_kind found.place found.first found.kind
   where
     of_kind : (p : ℕ) → IsFirstBad IsSimpleName (b ∷ bs) p → IsComponentFault (ComponentTooLong place) p (get_or (b ∷ bs) (p - 1) 0)
         → IsFirstBad IsSimpleName (b ∷ bs) place × (is_name_octet (get_or (b ∷ bs) (place - 1) 0) ≡ true)
     of_kind p first (inl h) = absurd (cc (h.0))
-    of_kind p first (inr h) = let at : p
-        ≡ place = cc (h.0) in subst (λ (p : ℕ). IsFirstBad IsSimpleName (b ∷ bs) p × (is_name_octet (get_or (b ∷ bs) (p - 1) 0) ≡ true)) at (first, h.1)
+    of_kind p first (inr h) =
+        let at : p ≡ place = cc (h.0) in
+        subst (λ (p : ℕ). IsFirstBad IsSimpleName (b ∷ bs) p × (is_name_octet (get_or (b ∷ bs) (p - 1) 0) ≡ true)) at (first, h.1)
 
 -- ---- attribute names: the state is the place of the next octet
 
@@ -177,8 +180,7 @@ attr_step place b = if not (is_attr_octet b) || (place == longest_attr + 1) then
 attr_walk : IsWalk attr_fault_from attr_step (λ place. place)
 attr_walk =
     record {
-      steps = λ place b bs. steps place (not
-          (is_attr_octet b) || (place == longest_attr + 1)) bs;
+      steps = λ place b bs. steps place (not (is_attr_octet b) || (place == longest_attr + 1)) bs;
       counts = λ s t b. counts s t (not (is_attr_octet b) || (s == longest_attr + 1));
     }
   where

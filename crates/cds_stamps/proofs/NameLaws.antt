@@ -25,22 +25,20 @@ component_lawful place n (b ∷ bs) h e =
     let rest = component_lawful (place + 1) (n + 1) bs more early.1 in
     ((holds (is_name_octet b) octet.0, rest.0), omega (arith, rest.1))
 
+-- octets of names that are not too many have no fault
 pub component_none : (place n : ℕ) (bs : List ℕ) → AllByRecursion (λ b. IsTrue (is_name_octet b)) bs → n + length bs ≤ 255 → component_fault place n bs ≡ None
 component_none place n [] each short = refl
 component_none place n (b ∷ bs) each short =
     let before : (n == 255) ≡ false = grind arith in
     rw (each.0, before) (component_none (place + 1) (n + 1) bs each.1 (omega arith))
 
+-- no fault is found exactly in simple names
 pub simple_name_laws : (octets : List ℕ) → (simple_name_fault octets ≡ None) ↔ IsSimpleName octets
 simple_name_laws [] = (λ e. cc, λ name. absurd (omega (arith, name.filled)))
 simple_name_laws (b ∷ bs) = (
-  λ e. let lawful =
-      component_lawful 1 1 (b ∷ bs) (omega arith) e in record {
-        filled = omega arith;
-        short = omega
-            (arith, lawful.1);
-        each = All-from_recursion _ (b ∷ bs) lawful.0;
-      },
+  λ e.
+      let lawful = component_lawful 1 1 (b ∷ bs) (omega arith) e in
+      record { filled = omega arith; short = omega (arith, lawful.1); each = All-from_recursion _ (b ∷ bs) lawful.0 },
   λ name. component_none 1 1 (b ∷ bs) (recursion_from_All _ (b ∷ bs) name.each) (omega (arith, name.short)),
 )
 
@@ -60,10 +58,12 @@ attr_none place (b ∷ bs) each short =
     let before : (place == 32) ≡ false = grind arith in
     rw (each.0, before) (attr_none (place + 1) bs each.1 (omega arith))
 
+-- no fault is found exactly in attribute names
 pub attr_name_laws : (octets : List ℕ) → (attr_fault octets ≡ None) ↔ IsAttrName octets
 attr_name_laws [] = (λ e. cc, λ name. absurd (omega (arith, name.filled)))
 attr_name_laws (b ∷ bs) = (
-  λ e. let lawful =
-      attr_lawful 1 (b ∷ bs) (omega arith) e in record { filled = omega arith; short = omega (arith, lawful.1); each = All-from_recursion _ (b ∷ bs) lawful.0 },
+  λ e.
+      let lawful = attr_lawful 1 (b ∷ bs) (omega arith) e in
+      record { filled = omega arith; short = omega (arith, lawful.1); each = All-from_recursion _ (b ∷ bs) lawful.0 },
   λ name. attr_none 1 (b ∷ bs) (recursion_from_All _ (b ∷ bs) name.each) (omega (arith, name.short)),
 )

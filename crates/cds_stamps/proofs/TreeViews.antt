@@ -40,8 +40,8 @@ join_of-entries {R = R} o f q (e ∷ es) sorted = by_case (is_at (R q) e.0) refl
     by_case : (b : Bool) → is_at (R q) e.0 ≡ b → join_of f (entry_at R q) es ≡ lookup (is_at (R q)) es
         → maybe f (if b then Some e.1 else None) (join_of f (entry_at R q) es) ≡ cond b (Some e.1) (lookup (is_at (R q)) es)
     by_case true at rest =
-        ap (maybe f (Some e.1)) (rest ∙ lookup-none (is_at (R q)) es (none_past_head (eq_by_cmp_equiv o) q e es (IsDistinct-from_sorted R (keys_of
-        (e ∷ es)) sorted) at))
+        let distinct = IsDistinct-from_sorted R (keys_of (e ∷ es)) sorted in
+        ap (maybe f (Some e.1)) (rest ∙ lookup-none (is_at (R q)) es (none_past_head (eq_by_cmp_equiv o) q e es distinct at))
     by_case false at rest = rest
 
 module _ {K X : Type 0} {R : K → K → Ordering} (o : IsTotalOrder R) where
@@ -107,10 +107,9 @@ retain_left {X = X} T {R} o g p u f gives call (e ∷ es) kept sorted h q =
     at : (t b : Bool) → is_at (R q) e.0 ≡ t → (if b then Some h.1 else None) ≡ g e.1 → lookup (is_at (R q)) h.3 ≡ option_and_then g (lookup (is_at (R q)) es)
         → lookup (is_at (R q)) (cond b ((e.0, h.1) ∷ h.3) h.3) ≡ option_and_then g (cond t (Some e.1) (lookup (is_at (R q)) es))
     at true true p is ih = ap (λ t. cond t (Some h.1) (lookup (is_at (R q)) h.3)) p ∙ is
-    at true false p is ih = ih
-        ∙ ap (option_and_then g) (lookup-none (is_at (R q)) es (none_past_head (eq_by_cmp_equiv o) q e es (IsDistinct-from_sorted R (keys_of
-        (e ∷ es)) sorted) p))
-        ∙ is
+    at true false p is ih =
+        let distinct = IsDistinct-from_sorted R (keys_of (e ∷ es)) sorted in
+        ih ∙ ap (option_and_then g) (lookup-none (is_at (R q)) es (none_past_head (eq_by_cmp_equiv o) q e es distinct p)) ∙ is
     at false true p is ih = ap (λ t. cond t (Some h.1) (lookup (is_at (R q)) h.3)) p ∙ ih
     at false false p is ih = ih
 
@@ -125,9 +124,9 @@ pub len-view : {K X : Type 0} {R : K → K → Ordering} → IsTotalOrder R → 
     → len (from_entries {R = R} es) ≡ length es
 len-view {X = X} {R = R} o [] sorted = len-empty R X
 len-view {R = R} o (e ∷ es) sorted =
-    let none : get (from_entries {R = R} es) e.0 ≡ None = get-view o es e.0
-    ∙ lookup-none (is_at (R e.0)) es (not_at R e.0 es (IsDistinct-head (eq_by_cmp R) e.0 (keys_of es) (IsDistinct-from_sorted R (keys_of
-    (e ∷ es)) sorted))) in
+    let distinct = IsDistinct-from_sorted R (keys_of (e ∷ es)) sorted in
+    let other = not_at R e.0 es (IsDistinct-head (eq_by_cmp R) e.0 (keys_of es) distinct) in
+    let none : get (from_entries {R = R} es) e.0 ≡ None = get-view o es e.0 ∙ lookup-none (is_at (R e.0)) es other in
     len-insert o (from_entries es) e.0 e.1 ∙ ap (λ x. cond (is_some x) (len (from_entries {R = R} es)) (len (from_entries {R = R} es) + 1)) none
     ∙ ap (λ n. n + 1) (len-view o es (sorted_tail R e.0 (keys_of es) sorted)) ∙ add-one (length es)
 

@@ -28,15 +28,14 @@ module _ {K X : Type 0} {R : K → K → Ordering} (o : IsTotalOrder R) (V : X �
   each_entry : (es : List (K × X)) → IsStrictlySortedBy R (keys_of es) → ((q : K) → IfSome (lookup (is_at (R q)) es) V) → AllByRecursion (λ e. V e.1) es
   each_entry [] sorted h = tt
   each_entry (e ∷ es) sorted h = (
-    subst (λ r. IfSome (cond (is_eq r) (Some e.1) (lookup (is_at
-        (R e.0)) es)) V) (tied_itself o e.0) (h e.0),
+    subst (λ r. IfSome (cond (is_eq r) (Some e.1) (lookup (is_at (R e.0)) es)) V) (tied_itself o e.0) (h e.0),
     each_entry es (sorted_tail R e.0 (keys_of es) sorted) (λ q. by_case q (is_at (R q) e.0) refl),
   )
     where
       by_case : (q : K) (b : Bool) → is_at (R q) e.0 ≡ b → IfSome (lookup (is_at (R q)) es) V
       by_case q true at =
-          subst (λ x. IfSome x V) (sym (lookup-none (is_at (R q)) es (none_past_head (eq_by_cmp_equiv o) q e es (IsDistinct-from_sorted R (keys_of
-          (e ∷ es)) sorted) at))) tt
+          let distinct = IsDistinct-from_sorted R (keys_of (e ∷ es)) sorted in
+          subst (λ x. IfSome x V) (sym (lookup-none (is_at (R q)) es (none_past_head (eq_by_cmp_equiv o) q e es distinct at))) tt
       by_case q false at = subst (λ b. IfSome (cond b (Some e.1) (lookup (is_at (R q)) es)) V) at (h q)
 
   -- the same, of a map and the tree that has its entries

@@ -17,9 +17,11 @@ abbrev pub join_maps : {K X : Type 0} {R : K → K → Ordering} → (X → X �
 join_maps f = merge (maybe f)
 
 module _ {K X : Type 0} {R : K → K → Ordering} (o : IsTotalOrder R) (same : IsAntisymmetric R) where
+  -- what a join of maps has at a key
   pub get-join_maps : (f : X → X → X) (m n : FinMap R X) (q : K) → get (join_maps f m n) q ≡ maybe f (get m q) (get n q)
   get-join_maps f = get-merge o same (maybe f) refl
 
+  -- maps of valid values join by the joins of their values
   pub map_join : {V : X → Type 0} {f : X → X → X} → IsJoin V f → IsJoin (EachValue {R = R} V) (join_maps f)
   map_join {V} {f} s =
       let p : IsJoin (λ x. IfSome x V) (maybe f) = maybe_join s in
@@ -64,6 +66,7 @@ module _ {E K : Type 0} (key : E → K) {R : K → K → Ordering} (o : IsTotalO
         s.assoc x y z,
       )
 
+  -- entries with a key join by the joins of those that have the same
   pub key_join : {V : E → Type 0} {f : E → E → E} → JoinsTied V f → IsJoin V (by_key key R f)
   key_join {V} {f} s = record {
     keeps = λ x y p q. kept_by (R (key x) (key y)) x y p q;

@@ -27,6 +27,7 @@ module _ {K X : Type 0} {R : K → K → Ordering} where
 pub map_some : {K X Y : Type 0} {R : K → K → Ordering} → (X → Option Y) → FinMap R X → FinMap R Y
 map_some f m = of_keys (keys m) (λ k. option_and_then f (get m k))
 
+-- a key that is not there has no value
 pub no_value : {X : Type 0} (x : Option X) → is_some x ≡ false → x ≡ None
 no_value None e = refl
 no_value (Some x) e = cc
@@ -55,6 +56,7 @@ module _ {K X : Type 0} {R : K → K → Ordering} (o : IsTotalOrder R) (same : 
   get-put_some m k None q false e h = refl
   get-put_some m k (Some x) q b e h = get-insert o m k x q ∙ ap (λ b. cond b (Some x) (get m q)) e
 
+  -- what the map of a list of keys has at one of them
   pub get-of_keys : (ks : List K) (f : K → Option X) (q : K) → get (of_keys {R = R} ks f) q ≡ cond (list_any (eq_by_cmp R q) ks) (f q) None
   unfolding of_keys
   get-of_keys [] f q = get-empty R q
@@ -82,6 +84,7 @@ missing : {K X : Type 0} {R : K → K → Ordering} (m : FinMap R X) (q : K) →
 missing m q e = no_value (get m q) (contains_key-keys m q ∙ e)
 
 module _ {K X : Type 0} {R : K → K → Ordering} (o : IsTotalOrder R) (same : IsAntisymmetric R) where
+  -- what two maps merged have at a key
   pub get-merge : (f : Option X → Option X → Option X) → f None None ≡ None → (m n : FinMap R X) (q : K) → get (merge f m n) q ≡ f (get m q) (get n q)
   unfolding merge
   get-merge f none m n = get-of_all_keys o same (keys m ++ keys n) (λ k. f (get m k) (get n k)) beyond

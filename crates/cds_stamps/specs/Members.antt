@@ -14,6 +14,7 @@ pub record Member : Type 0 where
   pub since : ℕ
   pub kind : MemberKind
 
+-- a member of this kind is the master (own)
 abbrev pub is_master : MemberKind → Bool
 is_master Master = true
 is_master ReadOnly = false
@@ -51,6 +52,7 @@ since_in (y ∷ ys) x default = if y.house == x then y.since else since_in ys x 
 abbrev pub member_of : declared.Member → Member
 member_of m = record { house = m.house.0; since = m.since.0; kind = m.kind }
 
+-- the members of the program, by their numbers (own)
 abbrev pub members_of : List declared.Member → List Member
 members_of = map member_of
 

@@ -10,9 +10,11 @@ use Rattle.std.specs.FinMap.{IsAntisymmetric, slice_cmp-IsAntisymmetric, nat_cmp
 abbrev pub octets_cmp : List ℕ → List ℕ → Ordering
 octets_cmp = slice_cmp nat_cmp
 
+-- octets that tie are one
 pub octets_exact : IsAntisymmetric octets_cmp
 octets_exact = slice_cmp-IsAntisymmetric nat_cmp-IsAntisymmetric
 
+-- octets as a code, by which maps of them are one where they look alike
 abbrev pub octets_code : Coded (List ℕ)
 octets_code = coded_list coded_ℕ
 

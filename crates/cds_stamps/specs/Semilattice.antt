@@ -35,6 +35,7 @@ abbrev pub join_of : {A X : Type 0} → (X → X → X) → (A → Option X) →
 join_of f g [] = None
 join_of f g (x ∷ xs) = maybe f (g x) (join_of f g xs)
 
+-- the join of two of which either may be missing is a join
 pub maybe_join : {X : Type 0} {V : X → Type 0} {f : X → X → X} → IsJoin V f → IsJoin (λ x. IfSome x V) (maybe f)
 maybe_join {X} {V} {f} s = record { keeps = keeps; comm = comm; assoc = assoc; idem = idem }
   where
@@ -63,6 +64,7 @@ maybe_join {X} {V} {f} s = record { keeps = keeps; comm = comm; assoc = assoc; i
 pub any_join : {X : Type 0} {f : X → X → X} → IsSemilattice f → IsJoin (λ _. Unit {0}) f
 any_join s = record { keeps = λ _ _ _ _. tt; comm = s.comm; assoc = s.assoc; idem = λ x _. s.idem x }
 
+-- and a semilattice, where the join of two is one
 pub maybe_semilattice : {X : Type 0} {f : X → X → X} → IsSemilattice f → IsSemilattice (maybe f)
 maybe_semilattice {X} s =
     let j = maybe_join (any_join s) in
@@ -87,6 +89,7 @@ module _ {K : Type 0} {R : K → K → Ordering} (o : IsTotalOrder R) (same : Is
   greater-assoc : (x y z : K) (r s t : Ordering) → R x y ≡ r → R y z ≡ s → R x z ≡ t → greater R (greater R x y) z ≡ greater R x (greater R y z)
   greater-assoc x y z r s t a b c = grind (arith, o.trans x y z, o.antisymm x y, o.antisymm y z, o.antisymm x z, same x y, same y z, o.trans z y x)
 
+  -- the greater of two by an exact total order is a semilattice
   pub greater_semilattice : IsSemilattice (greater R)
   greater_semilattice = record {
     comm = λ x y. greater-comm x y _ refl;

@@ -15,9 +15,11 @@ use Rattle.cds_stamps.specs.Semilattice.{IsSemilattice, greater, greater_semilat
 abbrev pub stamp_cmp : Stamp → Stamp → Ordering
 stamp_cmp a b = ordering_then (nat_cmp a.time b.time) (nat_cmp a.node b.node)
 
+-- the order of stamps is total
 pub stamp_total : IsTotalOrder stamp_cmp
 stamp_total = then_total (on_total (λ s. s.time) nat_cmp_total) (on_total (λ s. s.node) nat_cmp_total)
 
+-- stamps that tie are one
 pub stamp_exact : IsAntisymmetric stamp_cmp
 stamp_exact a b h =
     ap (λ (p : ℕ × ℕ). record { time = p.0; node = p.1 }) (exact_pairs nat_cmp nat_cmp exact_unsigned exact_unsigned (a.time, a.node) (b.time, b.node) h)
@@ -34,19 +36,23 @@ is_up_to t s = not (is_earlier t s)
 abbrev pub is_stamp : Stamp → Stamp → Bool
 is_stamp = eq_by_cmp stamp_cmp
 
--- the later and the earlier of two stamps (own)
+-- the later of two stamps (own)
 abbrev pub later_stamp : Stamp → Stamp → Stamp
 later_stamp = greater stamp_cmp
 
+-- the earlier of two stamps (own)
 abbrev pub earlier_stamp : Stamp → Stamp → Stamp
 earlier_stamp = greater (flip_args stamp_cmp)
 
+-- later stamps join: neither the order nor repeats count
 pub later_stamp_laws : IsSemilattice later_stamp
 later_stamp_laws = greater_semilattice stamp_total stamp_exact
 
+-- earlier stamps join likewise
 pub earlier_stamp_laws : IsSemilattice earlier_stamp
 earlier_stamp_laws = greater_semilattice (back_total stamp_total) (λ a b e. sym (stamp_exact b a e))
 
+-- a stamp as a code of two numbers
 abbrev pub stamp_code : Coded Stamp
 stamp_code = code_by (ℕ × ℕ) (coded× coded_ℕ coded_ℕ) (λ s. (s.time, s.node)) (λ p. record { time = p.0; node = p.1 }) (λ _. refl)
 

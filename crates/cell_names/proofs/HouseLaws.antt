@@ -103,17 +103,16 @@ pub list_fault-first : (master : ℕ) (others : List ℕ) (place : ℕ) → list
     × ¬ IsHouses (record { master = master; others = take place others })
 list_fault-first master others place e =
     let n = place - 1 in
-    let found =
-    faulty (min (count_in_order master 0 others) 63 == length others) (BadHouses (min (count_in_order master 0 others) 63 + 1)) (BadHouses place) e in
-    let at : min (count_in_order master 0 others) 63 + 1 ≡ place = cc (found.1) in
-    let less : min (count_in_order master 0 others) 63 ≢ length others = grind (arith, found.0) in
+    let ordered = min (count_in_order master 0 others) 63 in
+    let found = faulty (ordered == length others) (BadHouses (ordered + 1)) (BadHouses place) e in
+    let at : ordered + 1 ≡ place = cc (found.1) in
+    let less : ordered ≢ length others = grind (arith, found.0) in
     let bad = first_bad master n others (omega (arith, at)) (omega (arith, at, less, count-short master 0 others)) in
     let same : n + 1 ≡ place = omega (arith, at) in (
       omega (arith, at),
       omega (arith, at, less, count-short master 0 others),
       bad.0,
-      subst (λ
-          (place : ℕ). ¬ IsHouses (record { master = master; others = take place others })) same bad.1,
+      subst (λ (place : ℕ). ¬ IsHouses (record { master = master; others = take place others })) same bad.1,
     )
 
 both : (x y : Bool) → (x && y) ≡ true → (x ≡ true) × (y ≡ true)

@@ -42,5 +42,6 @@ walk_list-behind master place room least (h ∷ hs) =
     by_tests false e true rest = at_misplaced place room (length (h ∷ hs)) (omega arith)
     by_tests false e false rest = rest ∙ at_next place room _ (length hs) e
 
+-- house by house the fault of the list is found
 pub walk_list-list_fault : (master : ℕ) (others : List ℕ) → walk_list master 1 (most_houses - 1) 0 others ≡ list_fault master others
 walk_list-list_fault master others = walk_list-behind master 1 63 0 others

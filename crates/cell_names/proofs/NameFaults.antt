@@ -162,12 +162,11 @@ walked_first bs fault place e placed = by_kind c.kind
     by_kind (inr m) =
         let end : fault ≡ Empty c.state.0 = missing c.state fault m.missing in
         let is : place ≡ c.state.0 = same_place fault place c.state.0 placed (inl end) in
+        let all : length bs ≤ c.k = omega (arith, m.all) in
         inr (
           record {
             end = omega (arith, is, c.place, m.all);
-            before =
-                subst (λ (xs : List ℕ). IsFront IsNameOfAnyLength (cell_root ++ slash ∷ xs)) (take_all c.k bs (let le : length bs ≤ c.k = omega
-                (arith, m.all) in le)) front;
+            before = subst (λ (xs : List ℕ). IsFront IsNameOfAnyLength (cell_root ++ slash ∷ xs)) (take_all c.k bs all) front;
             short = λ name. no_both _ fault (name_walked bs name) e;
           },
           end ∙ ap Empty (sym is),

@@ -43,6 +43,7 @@ written_read p dir lawful =
     let found : is_child_pointer (pointer_octets p) ≡ true = ap is_none (written_none p lawful) in
     rw found (ap (λ (dir : ℕ). Some (record { dir = dir; master = p.master; others = p.others })) (from_be_bytes-to_be_bytes_4 p.dir dir))
 
+-- what is written of a lawful pointer is read as that pointer
 pub pointer_of-pointer_octets : (p : Pointer) → IsPointer p → pointer_of (pointer_octets p) ≡ Some p
 pointer_of-pointer_octets p lawful = written_read p lawful.dir lawful.houses
 
@@ -75,6 +76,7 @@ houses_said a b c d count master others e =
     let range : count ≢ 0 × (count ≤ 64) = grind (arith, counted.0) in
     (rises-houses master others found.1 (omega (arith, found.0, range.1)), omega (arith, found.0, range.0))
 
+-- the houses that octets without a fault say
 pub houses_read : (octets : List ℕ) → 6 ≤ length octets → pointer_fault octets ≡ None → IsHouses (record { master = get_or octets 5 0; others = drop 6 octets })
 houses_read (a ∷ b ∷ c ∷ d ∷ count ∷ master ∷ others) h e = (houses_said a b c d count master others e).0
 houses_read _ h e = absurd (omega arith)
@@ -82,8 +84,8 @@ houses_read _ h e = absurd (omega arith)
 -- what octets without a fault say, and how that is written
 said : (a b c d count master : ℕ) (others : List ℕ) → All (λ b. b < 2 ^ 8) (a ∷ b ∷ c ∷ d ∷ count ∷ master ∷ others)
     → pointer_fault (a ∷ b ∷ c ∷ d ∷ count ∷ master ∷ others) ≡ None
-    → let p : Pointer = record { dir = from_be_bytes w32 (a ∷ b ∷ c ∷ d ∷ []); master = master; others = others } in IsPointer p
-    × (a ∷ b ∷ c ∷ d ∷ count ∷ master ∷ others ≡ pointer_octets p)
+    → let p : Pointer = record { dir = from_be_bytes w32 (a ∷ b ∷ c ∷ d ∷ []); master = master; others = others } in
+    IsPointer p × (a ∷ b ∷ c ∷ d ∷ count ∷ master ∷ others ≡ pointer_octets p)
 said a b c d count master others all e =
     let houses = houses_said a b c d count master others e in
     let dir = directory a b c d (all 0 0 (omega arith)) (all 1 0 (omega arith)) (all 2 0 (omega arith)) (all 3 0 (omega arith)) in (
@@ -101,9 +103,8 @@ pub pointer_octets-pointer_of : (octets : List ℕ) (p : Pointer) → All (λ b.
     → IsPointer p × (octets ≡ pointer_octets p)
 pointer_octets-pointer_of (a ∷ b ∷ c ∷ d ∷ count ∷ master ∷ others) p all e =
     let read = answered _ _ p e in
-    subst (λ
-    (p : Pointer). IsPointer p
-    × (a ∷ b ∷ c ∷ d ∷ count ∷ master ∷ others ≡ pointer_octets p)) read.1 (said a b c d count master others all (none_found _ read.0))
+    subst (λ (p : Pointer). IsPointer p × (a ∷ b ∷ c ∷ d ∷ count ∷ master ∷ others ≡ pointer_octets p)) read.1
+    (said a b c d count master others all (none_found _ read.0))
 pointer_octets-pointer_of _ p all e = cc
 
 -- no fault is found exactly in the octets of a pointer

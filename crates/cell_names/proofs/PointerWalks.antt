@@ -48,5 +48,6 @@ walk_others-behind master place count least (h ∷ hs) =
     by_tests false e true rest = behind-misplaced place count (length (h ∷ hs)) e
     by_tests false e false rest = rest ∙ behind-next place count _ (length hs) e
 
+-- house by house the fault of the other houses is found
 pub walk_others-others_fault : (master place count : ℕ) (others : List ℕ) → walk_others master place count 0 others ≡ others_fault master place count others
 walk_others-others_fault master place count others = walk_others-behind master place count 0 others

@@ -1,5 +1,6 @@
 // Full names.
-ghost use Rattle.std.specs.Prelude.{◌≡◌, ◌==◌, ◌↔◌, ◌+◌, ◌-◌, ◌≤◌, ◌<◌, ◌++◌, None, length, slice_get, option_copied, IsSome, SomeIff, OnSome, IfOk, OnOk, IfSome};
+ghost use Rattle.std.specs.Prelude.{◌≡◌, ◌==◌, ◌↔◌, ◌+◌, ◌-◌, ◌≤◌, ◌<◌, ◌++◌};
+ghost use Rattle.std.specs.Prelude.{None, length, slice_get, option_copied, IsSome, SomeIff, OnSome, IfOk, OnOk, IfSome};
 ghost use Rattle.std.specs.List.{All, slice_split};
 ghost use Rattle.std.specs.Cmp.Rules.{comparing, hashing};
 ghost use Rattle.std.specs.Hash as fed;
@@ -9,7 +10,8 @@ ghost use Rattle.cds_stamps.specs.Names.{simple_name_fault, IsSimpleName};
 ghost use Rattle.cds_stamps.specs.Octets.{is_octets};
 ghost use Rattle.cds_stamps.specs.Outcomes.{Answers, ok_unless};
 ghost use Rattle.cds_stamps.specs.declared.alloc_or.AllocOr.TheVariants.{Fault};
-ghost use Rattle.cell_names.specs.FullNames.{slash, behind_slashes, spelling, components_of, components_fault, name_fault, splice_fault, first_component, longest_name, is_name, IsComponentList};
+ghost use Rattle.cell_names.specs.FullNames.{slash, behind_slashes, spelling, components_of, components_fault, name_fault, splice_fault};
+ghost use Rattle.cell_names.specs.FullNames.{first_component, longest_name, is_name, IsComponentList};
 
 use crate::spelled::spell;
 use cds_stamps::{AllocOr, LONGEST_COMPONENT, NameFault, SimpleName, is_name_octet};

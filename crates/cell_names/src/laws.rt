@@ -7,7 +7,8 @@ ghost use Rattle.cds_stamps.specs.declared.names.NameFault.TheVariants.{Empty, B
 ghost use Rattle.cell_names.specs.declared.houses.HousesFault.TheVariants.{BadHouses};
 ghost use Rattle.cell_names.specs.declared.full_name.TheConstants.{LONGEST_NAME, ROOT};
 ghost use Rattle.cell_names.specs.declared.houses.TheConstants.{MOST_HOUSES};
-ghost use Rattle.cell_names.specs.FullNames.{cell_root, longest_name, name_fault, spelling, components_of, splice_fault, is_name, IsNameOfAnyLength, IsComponentList, IsFullName};
+ghost use Rattle.cell_names.specs.FullNames.{cell_root, longest_name, name_fault, spelling, components_of, splice_fault};
+ghost use Rattle.cell_names.specs.FullNames.{is_name, IsNameOfAnyLength, IsComponentList, IsFullName};
 ghost use Rattle.cell_names.specs.Houses.{Houses, most_houses, IsHouses, list_fault, is_houses};
 ghost use Rattle.cell_names.specs.ChildPointers.{Pointer, IsPointer, IsChildPointer, pointer_octets, pointer_fault, pointer_of};
 

@@ -38,6 +38,7 @@ module _ (own t : Stamp) (answered now : MemberMask) (from members : ℕ) (old :
   counted : (b : Bool) → each_place members (has_place now) ≡ b → each_place members (also answered from) ≡ b
   counted b e = sym (each_place-same members (has_place now) (also answered from) joined) ∙ e
 
+  -- the last answer of the first round
   pub last_gathered : (me : ℕ) (alone : MemberMask) → old ≡ Gathering own answered → each_place members (has_place now) ≡ true
       → ((p : ℕ) → has_place alone p ≡ (p == me)) → TakesGathered t from members me old (Spreading t alone) SendSpread
   last_gathered me alone was full mine =
@@ -53,6 +54,7 @@ module _ (own t : Stamp) (answered now : MemberMask) (from members : ℕ) (old :
         refl,
       )))
 
+  -- an answer of the first round behind which a member is missing
   pub one_gathered : (me : ℕ) → old ≡ Gathering own answered → each_place members (has_place now) ≡ false
       → TakesGathered t from members me old (Gathering t now) Nothing
   one_gathered me was missing =
@@ -68,12 +70,14 @@ module _ (own t : Stamp) (answered now : MemberMask) (from members : ℕ) (old :
         refl,
       )))
 
+  -- the last answer of the second round
   pub last_spread : old ≡ Spreading own answered → each_place members (has_place now) ≡ true → TakesSpread t from members old Idle (Complete t)
   last_spread was full =
       subst (λ o. TakesSpread t from members o Idle (Complete t)) (sym was)
       (at_true (is_stamp t own) _ _ (is_own own t (same_stamps own t same))
       (at_true (each_place members (also answered from)) _ _ (counted true full) (refl, ap Complete (same_stamps own t same))))
 
+  -- an answer of the second round behind which a member is missing
   pub one_spread : old ≡ Spreading own answered → each_place members (has_place now) ≡ false → TakesSpread t from members old (Spreading t now) Nothing
   one_spread was missing =
       subst (λ o. TakesSpread t from members o (Spreading t now) Nothing) (sym was)
@@ -98,6 +102,7 @@ another members zero alone below many mine =
 another members (suc me) alone below many mine =
     each_place-false members (has_place alone) 0 (omega arith) (mine 0 ∙ other_place 0 (suc me) (λ e. absurd cc))
 
+-- a round that begins: the master alone has answered, and is not the only member
 pub first_round : (members me : ℕ) (alone : MemberMask) → me < members → (members == 1) ≡ false → ((p : ℕ) → has_place alone p ≡ (p == me))
     → IsRound members me alone
 first_round members me alone below many mine = record {
@@ -117,6 +122,7 @@ not_alone members me answered below round true e = absurd (two round.missing)
     two x = let all : each_place members (has_place answered) ≡ true = each_place-from members (has_place answered) only_place in absurd cc
 not_alone members me answered below round false e = refl
 
+-- the second round begins like the first
 pub next_round : (own : Stamp) (answered alone : MemberMask) (members me : ℕ) (old : Skulk) → old ≡ Gathering own answered → me < members
     → ((p : ℕ) → has_place alone p ≡ (p == me)) → IsPhaseOf members me old → IsRound members me alone
 next_round own answered alone members me old was below mine phase =

@@ -10,7 +10,8 @@ use Rattle.cell_names.proofs.full_name.components_in.Goals as goal
 pub known-requires : goal.known-requires
 known-requires c =
     let octets = c.args.octets.now in
-    let parts = YieldsList-from_slice_split _ (λ b. eqb b 47) (drop 3 octets) (c.split.ensures.rest ∙ take_rest octets 3) (cc) (cc) (λ x b q k. search (rules, tests)) in
+    let rest = c.split.ensures.rest ∙ take_rest octets 3 in
+    let parts = YieldsList-from_slice_split _ (λ b. eqb b 47) (drop 3 octets) rest (cc) (cc) (λ x b q k. search (rules, tests)) in
     let behind = YieldsList-from_skip 1 (YieldsList-at c.skip-component-items.ensures.source parts) c.skip-component-items.ensures.count in
     let items = YieldsList-at c.into_iter-component-iterator.ensures.into_iter_gives behind in
     let yielded = c.loop-component.yielded in
@@ -20,7 +21,8 @@ known-requires c =
 pub returns-clause-value : goal.returns-clause-value
 returns-clause-value c =
     let octets = c.args.octets.now in
-    let parts = YieldsList-from_slice_split _ (λ b. eqb b 47) (drop 3 octets) (c.split.ensures.rest ∙ take_rest octets 3) (cc) (cc) (λ x b q k. search (rules, tests)) in
+    let rest = c.split.ensures.rest ∙ take_rest octets 3 in
+    let parts = YieldsList-from_slice_split _ (λ b. eqb b 47) (drop 3 octets) rest (cc) (cc) (λ x b q k. search (rules, tests)) in
     let behind = YieldsList-from_skip 1 (YieldsList-at c.skip-component-items.ensures.source parts) c.skip-component-items.ensures.count in
     let items = YieldsList-at c.into_iter-component-iterator.ensures.into_iter_gives behind in
     let end = YieldsList-end items c.loop-component.yielded _ c.loop-component.yielded_by _ _ c.in-None.is c.next.ensures.steps in

@@ -11,5 +11,6 @@ returns-in-None c =
       λ e.
           let l = c.loop-component in
           let found = c.component-item in
-          absurd (not_followed c.args.octets.now rest c.args.components.now l.component-index found.result c.loop-component-test.true found.is l.invariant none e),
+          let inside = c.loop-component-test.true in
+          absurd (not_followed c.args.octets.now rest c.args.components.now l.component-index found.result inside found.is l.invariant none e),
     )
