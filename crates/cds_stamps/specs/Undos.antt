@@ -1,5 +1,6 @@
--- Logs that take changes of a finite map back (own). An entry of a log has the key that was changed, and what mends
--- the value that stood there; None, where the key was new. The last change stands last, and is taken back first.
+-- Words of private contracts, but for `RaisesAt`, which public ones cite too: logs that take changes of a finite map
+-- back (own). An entry of a log has the key that was changed, and what mends the value that stood there; None, where
+-- the key was new. The last change stands last, and is taken back first.
 use Rattle.std.specs.Prelude.{◌≡◌, Bool, true, false, List, [], ◌∷◌, Option, Some, None, if◌then◌else◌, refl}
 use Rattle.std.proofs.Common.{ap, ◌∙◌}
 use Rattle.std.specs.Option.{option_map}
@@ -50,10 +51,15 @@ mended-none undo None true x e = refl
 mended-none undo (Some u) true x e = ap (option_map (undo u)) e
 mended-none undo u false x e = e
 
-back_at-none : {K X U : Type 0} (R : K → K → Ordering) (undo : U → X → X) (log : List (K × Option U)) (q : K) (x : Option X) → x ≡ None → back_at R undo log q x ≡ None
+back_at-none : {K X U : Type 0} (R : K → K → Ordering) (undo : U → X → X) (log : List (K × Option U)) (q : K) (x : Option X) → x ≡ None
+    → back_at R undo log q x ≡ None
 back_at-none R undo [] q x e = e
 back_at-none R undo (d ∷ log) q x e = mended-none undo d.1 (eq_by_cmp R q d.0) (back_at R undo log q x) (back_at-none R undo log q x e)
 
-pub get-taken_back : {K X U : Type 0} {R : K → K → Ordering} → IsTotalOrder R → IsAntisymmetric R → (undo : U → X → X) (log : List (K × Option U)) (m : FinMap R X) (q : K) → get (taken_back undo log m) q ≡ back_at R undo log q (get m q)
+-- what stands at a key of the map that a log takes back
+pub get-taken_back : {K X U : Type 0} {R : K → K → Ordering} → IsTotalOrder R → IsAntisymmetric R
+    → (undo : U → X → X) (log : List (K × Option U)) (m : FinMap R X) (q : K) → get (taken_back undo log m) q ≡ back_at R undo log q (get m q)
 unfolding taken_back
-get-taken_back {R = R} o same undo log m = get-of_all_keys o same (keys m) (λ q. back_at R undo log q (get m q)) (λ q e. back_at-none R undo log q (get m q) (no_value (get m q) (contains_key-keys m q ∙ e)))
+get-taken_back {R = R} o same undo log m =
+    get-of_all_keys o same (keys m) (λ q. back_at R undo log q (get m q))
+    (λ q e. back_at-none R undo log q (get m q) (no_value (get m q) (contains_key-keys m q ∙ e)))
