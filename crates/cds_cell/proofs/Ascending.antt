@@ -20,6 +20,7 @@ abbrev pub one_if : Bool → ℕ
 one_if true = 1
 one_if false = 0
 
+-- how often a number stands in a list
 unfoldable pub times : ℕ → List ℕ → ℕ
 times z [] = 0
 times z (x ∷ xs) = one_if (x == z) + times z xs
@@ -42,6 +43,7 @@ stands_once : (x : ℕ) (xs : List ℕ) → 0 < times x (x ∷ xs)
 unfolding times
 stands_once x xs = let on : (x == x) ≡ true = grind (arith, nat_tests) in rw on (omega arith)
 
+-- ascending lists in which each number stands as often are equal
 pub one_order : (xs ys : List ℕ) → Rises xs → Rises ys → ((z : ℕ) → times z xs ≡ times z ys) → xs ≡ ys
 unfolding times
 one_order [] [] p q same = refl
@@ -79,6 +81,7 @@ rises_inserted x (y ∷ ys) rises = go (nat_lt y x) refl (rises_inserted x ys ri
     go true on rest = let less : y ≤ x = grind (arith, nat_tests, on) in (all_inserted (λ z. y ≤ z) x ys less rises.0, rest)
     go false off rest = let more : x ≤ y = grind (arith, nat_tests, off) in ((more, all_above x y ys more rises.0), rises)
 
+-- numbers in ascending order ascend
 pub ascending_rises : (xs : List ℕ) → Rises (ascending xs)
 ascending_rises [] = tt
 ascending_rises (x ∷ xs) = rises_inserted x (ascending xs) (ascending_rises xs)
@@ -88,10 +91,12 @@ unfolding times
 times_inserted z x [] = refl
 times_inserted z x (y ∷ ys) = go (nat_lt y x) (times_inserted z x ys)
   where
-    go : (b : Bool) → times z (insert_house x ys) ≡ one_if (x == z) + times z ys → times z (if b then y ∷ insert_house x ys else x ∷ y ∷ ys) ≡ one_if (x == z) + (one_if (y == z) + times z ys)
+    go : (b : Bool) → times z (insert_house x ys) ≡ one_if (x == z) + times z ys
+        → times z (if b then y ∷ insert_house x ys else x ∷ y ∷ ys) ≡ one_if (x == z) + (one_if (y == z) + times z ys)
     go true rest = omega (arith, rest)
     go false rest = refl
 
+-- and each stands as often as before
 pub ascending_times : (z : ℕ) (xs : List ℕ) → times z (ascending xs) ≡ times z xs
 unfolding times
 ascending_times z [] = refl
@@ -101,7 +106,8 @@ has_inserted : (z x : ℕ) (ys : List ℕ) → has z (insert_house x ys) ≡ ((z
 has_inserted z x [] = refl
 has_inserted z x (y ∷ ys) = go (nat_lt y x) (has_inserted z x ys)
   where
-    go : (b : Bool) → has z (insert_house x ys) ≡ ((z == x) || has z ys) → has z (if b then y ∷ insert_house x ys else x ∷ y ∷ ys) ≡ ((z == x) || ((z == y) || has z ys))
+    go : (b : Bool) → has z (insert_house x ys) ≡ ((z == x) || has z ys)
+        → has z (if b then y ∷ insert_house x ys else x ∷ y ∷ ys) ≡ ((z == x) || ((z == y) || has z ys))
     go true rest = rw rest (swap (z == y) (z == x) (has z ys))
       where
         swap : (a b c : Bool) → (a || (b || c)) ≡ (b || (a || c))
@@ -134,7 +140,8 @@ twice_inserted x (y ∷ ys) = go (nat_lt y x) (twice_inserted x ys) (has_inserte
 
 twice_ascending : (xs : List ℕ) → stands_twice (ascending xs) ≡ stands_twice xs
 twice_ascending [] = refl
-twice_ascending (x ∷ xs) = twice_inserted x (ascending xs) ∙ ap (λ (b : Bool). b || stands_twice (ascending xs)) (has_ascending x xs) ∙ ap (λ (b : Bool). has x xs || b) (twice_ascending xs)
+twice_ascending (x ∷ xs) = twice_inserted x (ascending xs) ∙ ap (λ (b : Bool). b || stands_twice (ascending xs)) (has_ascending x xs)
+    ∙ ap (λ (b : Bool). has x xs || b) (twice_ascending xs)
 
 length_inserted : (x : ℕ) (ys : List ℕ) → length (insert_house x ys) ≡ suc (length ys)
 length_inserted x [] = refl
@@ -231,7 +238,8 @@ few_in_order c n false less order false few = let same : (min c 63 == n) ≡ (c 
 pub pointer_exactly : (m : ℕ) (rs : List ℕ) → is_none (list_fault m (ascending rs)) ≡ not (is_bad_list (m ∷ rs))
 pointer_exactly m rs =
     none_if (min (count_in_order m 0 (ascending rs)) 63 == length (ascending rs)) (BadHouses (min (count_in_order m 0 (ascending rs)) 63 + 1))
-    ∙ few_in_order (count_in_order m 0 (ascending rs)) (length (ascending rs)) (has m (ascending rs) || stands_twice (ascending rs)) (at_most m 0 (ascending rs))
+    ∙ few_in_order (count_in_order m 0 (ascending rs)) (length (ascending rs)) (has m (ascending rs) || stands_twice (ascending rs))
+    (at_most m 0 (ascending rs))
     (in_order m 0 (ascending rs) (ascending_rises rs) (all_from_zero (ascending rs))) (nat_lt 64 (suc (length (ascending rs)))) refl
     ∙ cc (has_ascending m rs, twice_ascending rs, length_ascending rs)
 
@@ -243,6 +251,7 @@ bad_where_fault m rs f is = go (is_bad_list (m ∷ rs)) (sym (pointer_exactly m 
     go true off = refl
     go false off = absurd (cc)
 
+-- houses in which the code finds no fault are a good list
 pub good_where_none : (m : ℕ) (rs : List ℕ) → list_fault m (ascending rs) ≡ None → is_bad_list (m ∷ rs) ≡ false
 good_where_none m rs is = go (is_bad_list (m ∷ rs)) (sym (pointer_exactly m rs) ∙ ap is_none is)
   where
@@ -251,8 +260,11 @@ good_where_none m rs is = go (is_bad_list (m ∷ rs)) (sym (pointer_exactly m rs
     go false off = refl
 
 -- what a list of houses that was made, or was not, says
-pub made_houses : (m : ℕ) (ns : List ℕ) (h : Houses) → ok_unless (list_fault m ns) (record { master = m; others = ns }) ≡ Ok h → (list_fault m ns ≡ None) × (h ≡ record { master = m; others = ns })
+pub made_houses : (m : ℕ) (ns : List ℕ) (h : Houses) → ok_unless (list_fault m ns) (record { master = m; others = ns }) ≡ Ok h
+    → (list_fault m ns ≡ None) × (h ≡ record { master = m; others = ns })
 made_houses m ns h is = let said = ok_unless-Ok (list_fault m ns) (record { master = m; others = ns }) h is in (said.0, sym said.1)
 
-pub refused_houses : (m : ℕ) (ns : List ℕ) (f : HousesFault) → ok_unless {T = Houses} (list_fault m ns) (record { master = m; others = ns }) ≡ Err f → list_fault m ns ≡ Some f
+-- a fault of the code is one of the list
+pub refused_houses : (m : ℕ) (ns : List ℕ) (f : HousesFault) → ok_unless {T = Houses} (list_fault m ns) (record { master = m; others = ns }) ≡ Err f
+    → list_fault m ns ≡ Some f
 refused_houses m ns f is = ok_unless-Err {T = Houses} (list_fault m ns) (record { master = m; others = ns }) f is

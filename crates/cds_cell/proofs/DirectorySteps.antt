@@ -1,5 +1,6 @@
 -- What the model does with an update of a directory, where one house holds it alone.
-use Rattle.std.proofs.Common.{Global, ◌≡◌, ◌≢◌, ℕ, zero, suc, ◌+◌, ◌≤◌, ◌<◌, List, [], ◌∷◌, ◌++◌, Bool, true, false, slice_set, length, refl, sym, ◌∙◌, ap, subst, arith, append-nil}
+use Rattle.std.proofs.Common.{Global, ◌≡◌, ◌≢◌, ℕ, zero, suc, ◌+◌, ◌≤◌, ◌<◌, List, [], ◌∷◌, ◌++◌, Bool, true, false, slice_set, length, refl, sym}
+use Rattle.std.proofs.Common.{◌∙◌, ap, subst, arith, append-nil}
 use Rattle.std.proofs.Math.ListN.{get_or}
 use Rattle.std.specs.declared.vec.Vec.{Vec}
 use Rattle.std.specs.Prelude.{Option, Some, None, Result, IfOk, is_some, not, max, slice_get, if◌then◌else◌, ◌==◌}
@@ -28,7 +29,9 @@ use Rattle.directory.proofs.UpdateLaws.{marks_of-together}
 use Rattle.cell_model.specs.Cells as model
 use Rattle.cell_model.specs.Cells.{House, Replica, Held, Slot, put}
 use Rattle.cell_model.specs.Commands as command
-use Rattle.cell_model.specs.Steps.{Outcome, outcome, has, unless, accept, accept_at, update_refusal, stamp_at, serials_of, to_each, refused, grown, holding, moved, founded, first_replica, copy_of, with_directory, mkdir, root as make_root, is_missing, is_bad_list, ascending}
+use Rattle.cell_model.specs.Steps.{Outcome, outcome, has, unless, accept, accept_at, update_refusal, stamp_at, serials_of, to_each, refused, grown}
+use Rattle.cell_model.specs.Steps.{holding, moved, founded, first_replica, copy_of, with_directory, mkdir, root as make_root, is_missing}
+use Rattle.cell_model.specs.Steps.{is_bad_list, ascending}
 use Rattle.cds_cell.specs.declared.update.Accepted.{Accepted}
 use Rattle.cds_cell.specs.declared.update.Accepted.TheVariants as outcomes
 use Rattle.cell_script.specs.declared.answer.Answer.{Answer}
@@ -36,7 +39,8 @@ use Rattle.cds_cell.specs.Scripted.{answer_of}
 use Rattle.cds_cell.specs.declared.cell.Cell.{Cell}
 use Rattle.cds_cell.specs.declared.house.LocalHouse.{LocalHouse}
 use Rattle.cds_cell.specs.declared.house.LocalDirectory.{LocalDirectory}
-use Rattle.cds_cell.specs.Standing.{Stands, StandsHouse, MaybeStandsHouse, StandsDirectory, MaybeStandsDirectory, IsStep, IsAccepted, accepted_answer, IsElsewhere, IsPlaceOf, IsBelow, Updates, Took, numbers_of, house_of, directory_of, alone}
+use Rattle.cds_cell.specs.Standing.{Stands, StandsHouse, MaybeStandsHouse, StandsDirectory, MaybeStandsDirectory, IsStep, IsAccepted}
+use Rattle.cds_cell.specs.Standing.{accepted_answer, IsElsewhere, IsPlaceOf, IsBelow, Updates, Took, numbers_of, house_of, directory_of, alone}
 use Rattle.cds_cell.proofs.Accepting.{next_above, before_next, below_after}
 use Rattle.cds_cell.proofs.Houses.{has_number, numbers_kept, house_changed}
 use Rattle.cds_cell.proofs.Frames.{put_here, put_there, put_alike, directory_kept, alone_accepts, alone_others}
@@ -47,11 +51,13 @@ use Rattle.cds_cell.proofs.Frames.{put_here, put_there, put_alike, directory_kep
 one_more : (i : ℕ) → i + 1 ≡ suc i
 one_more i = omega arith
 
+-- the directory at a place of the list
 pub directory_at : (ls : List LocalDirectory) (i : ℕ) (l : LocalDirectory) → i < length ls → l ≡ get_or ls i l → directory_of ls (i + 1) ≡ Some l
 directory_at ls i l less is = ap (directory_of ls) (one_more i) ∙ slice_get-get_or ls i l less ∙ ap Some (sym is)
 
 -- one directory of the list changes
-place_changed : (ls : List LocalDirectory) (w : LocalDirectory) (i j : ℕ) → i < length ls → slice_get (slice_set ls i w) j ≡ (if j == i then Some w else slice_get ls j)
+place_changed : (ls : List LocalDirectory) (w : LocalDirectory) (i j : ℕ) → i < length ls
+    → slice_get (slice_set ls i w) j ≡ (if j == i then Some w else slice_get ls j)
 place_changed [] w i j less = absurd (omega (arith, less))
 place_changed (l ∷ ls) w zero zero less = refl
 place_changed (l ∷ ls) w zero (suc j) less = let off : (suc j == zero) ≡ false = grind (arith, nat_tests) in rw off refl
@@ -61,13 +67,15 @@ place_changed (l ∷ ls) w (suc i) (suc j) less =
     let fewer : i < length ls = omega (arith, less) in
     rw alike (place_changed ls w i j fewer)
 
-pub directory_changed : (ls : List LocalDirectory) (i : ℕ) (w : LocalDirectory) → i < length ls → (d : ℕ) → directory_of (slice_set ls i w) d ≡ (if d == i + 1 then Some w else directory_of ls d)
+pub directory_changed : (ls : List LocalDirectory) (i : ℕ) (w : LocalDirectory) → i < length ls → (d : ℕ)
+    → directory_of (slice_set ls i w) d ≡ (if d == i + 1 then Some w else directory_of ls d)
 directory_changed ls i w less zero = let off : (zero == i + 1) ≡ false = grind (arith, nat_tests) in rw off refl
 directory_changed ls i w less (suc j) = let alike : (suc j == i + 1) ≡ (j == i) = grind (arith, nat_tests) in rw alike (place_changed ls w i j less)
 
 -- ---- an update
 
-module _ (c : Cell) (g : model.Cell) (s : Stands c g) (h i k : ℕ) (house : LocalHouse) (place : IsPlaceOf c.houses.items h k) (there : house_of c.houses.items h ≡ Some house) (number : house.house.0 ≡ h)
+module _ (c : Cell) (g : model.Cell) (s : Stands c g) (h i k : ℕ) (house : LocalHouse) (place : IsPlaceOf c.houses.items h k)
+    (there : house_of c.houses.items h ≡ Some house) (number : house.house.0 ≡ h)
     (l : LocalDirectory) (within : i < length c.directories.items) (at : directory_of c.directories.items (i + 1) ≡ Some l) (u : Change) where
   abbrev d : ℕ
   d = i + 1
@@ -110,7 +118,8 @@ module _ (c : Cell) (g : model.Cell) (s : Stands c g) (h i k : ℕ) (house : Loc
     is_due : accept g h d u ((g.house h).slots d) ≡ due
     is_due = cc (accepts, tests, stamps)
       where
-        accepts : accept g h d u ((g.house h).slots d) ≡ unless g (option_map command.Update (update_refusal h u r)) (accept_at g h d u r (stamp_at (g.house h)))
+        accepts : accept g h d u ((g.house h).slots d)
+            ≡ unless g (option_map command.Update (update_refusal h u r)) (accept_at g h d u r (stamp_at (g.house h)))
         accepts = ap (accept g h d u) held
 
         tests : update_refusal h u r ≡ refusal
@@ -120,9 +129,11 @@ module _ (c : Cell) (g : model.Cell) (s : Stands c g) (h i k : ℕ) (house : Loc
         stamps = rw (known.clock, known.floor, known.node) refl
 
     below : IsBelow marks_so_far house.floor.time
-    below m there = let early = stands_at.below m there in let level = known.floor in let same = ap (λ m. (g.house m).floor) here in omega (arith, early, level, same)
+    below m there = let early = stands_at.below m there in let level = known.floor in let same = ap (λ m. (g.house m).floor) here in
+        omega (arith, early, level, same)
 
-    module _ (c' : Cell) (a : Accepted) (w : LocalHouse) (l' : LocalDirectory) (house_same : w.house ≡ house.house) (node_same : w.node ≡ house.node) (clock_same : w.clock ≡ house.clock) (master_same : l'.master ≡ l.master)
+    module _ (c' : Cell) (a : Accepted) (w : LocalHouse) (l' : LocalDirectory) (house_same : w.house ≡ house.house) (node_same : w.node ≡ house.node)
+        (clock_same : w.clock ≡ house.clock) (master_same : l'.master ≡ l.master)
         (houses : c'.houses.items ≡ slice_set c.houses.items k w) (directories : c'.directories.items ≡ slice_set c.directories.items i l') where
       w_number : w.house.0 ≡ h
       w_number = ap (λ (n : HouseNo). n.0) house_same ∙ number
@@ -155,13 +166,15 @@ module _ (c : Cell) (g : model.Cell) (s : Stands c g) (h i k : ℕ) (house : Loc
         kept : (e : ℕ) → e ≢ d → (o : Option LocalDirectory) → MaybeStandsDirectory o g e → MaybeStandsDirectory o g' e
         kept e apart None stands = ap (λ (t : ℕ → ℕ). t e) top ∙ stands
         kept e apart (Some m) stands =
-            directory_kept m g g' e stands (ap (has m.master.0) made ∙ stands.made) (slots_now m.master.0 e apart) (floor_now m.master.0) (ap (λ (t : ℕ → ℕ). t e) top) (ap (λ (p : ℕ → List Member). p e) present)
+            directory_kept m g g' e stands (ap (has m.master.0) made ∙ stands.made) (slots_now m.master.0 e apart) (floor_now m.master.0) (ap (λ (t : ℕ → ℕ). t e) top)
+            (ap (λ (p : ℕ → List Member). p e) present)
 
         directory_now : (e : ℕ) (b : Bool) → (e == d) ≡ b → MaybeStandsDirectory (if b then Some l' else directory_of c.directories.items e) g' e
         directory_now e true on = let is : d ≡ e = grind (arith, nat_tests, on) in subst (λ e. StandsDirectory l' g' e) is new_directory
         directory_now e false off = let apart : e ≢ d = grind (arith, nat_tests, off) in kept e apart (directory_of c.directories.items e) (s.directories e)
 
-        elsewhere_now : (z e : ℕ) (b : Bool) → (e == d) ≡ b → IsElsewhere z (if b then Some l' else directory_of c.directories.items e) → (g'.house z).slots e ≡ model.Absent
+        elsewhere_now : (z e : ℕ) (b : Bool) → (e == d) ≡ b → IsElsewhere z (if b then Some l' else directory_of c.directories.items e)
+            → (g'.house z).slots e ≡ model.Absent
         elsewhere_now z e true on other =
             let is : d ≡ e = grind (arith, nat_tests, on) in
             let apart : l.master.0 ≢ z = λ same. other (ap (λ (n : HouseNo). n.0) master_same ∙ same) in
@@ -195,13 +208,15 @@ module _ (c : Cell) (g : model.Cell) (s : Stands c g) (h i k : ℕ) (house : Loc
             members = stands_at.members ∙ ap (λ (n : HouseNo). alone n.0) (sym master_same);
             table = table ∙ ap table_of (append-nil marks_so_far);
             history = stands_at.history;
-            below = λ m there. let early = stands_at.below m there in let same = ap (λ (n : HouseNo). (g.house n.0).floor) master_same in omega (arith, early, same);
+            below = λ m there. let early = stands_at.below m there in let same = ap (λ (n : HouseNo). (g.house n.0).floor) master_same in
+                omega (arith, early, same);
             top = stands_at.top;
             present = stands_at.present ∙ ap (λ (n : HouseNo). alone n.0) (sym master_same);
           })
 
       -- the house issued a stamp, and its history grew
-      module _ (t : Stamp) (accepted : refusal ≡ None) (issued : stamp ≡ Some t) (took : Took marks_so_far t.time (outcomes.Stamped t) (marks_of (shown marks_so_far (changed_name u)) u t) a l'.table w.floor.time) where
+      module _ (t : Stamp) (accepted : refusal ≡ None) (issued : stamp ≡ Some t)
+          (took : Took marks_so_far t.time (outcomes.Stamped t) (marks_of (shown marks_so_far (changed_name u)) u t) a l'.table w.floor.time) where
         abbrev marks : List Mark
         marks = marks_of (shown marks_so_far (changed_name u)) u t
 
@@ -233,14 +248,16 @@ module _ (c : Cell) (g : model.Cell) (s : Stands c g) (h i k : ℕ) (house : Loc
               members = stands_at.members ∙ ap (λ (n : HouseNo). alone n.0) (sym master_same);
               table = took.table;
               history = marks_of-together marks_so_far u t stands_at.history (before_next marks_so_far house.floor.time t below above) accepted;
-              below = subst (IsBelow (marks_so_far ++ marks)) (sym (ap (λ (x : House). x.floor) master_now)) (below_after marks_so_far u house.floor.time t below above accepted);
+              below = subst (IsBelow (marks_so_far ++ marks)) (sym (ap (λ (x : House). x.floor) master_now))
+                  (below_after marks_so_far u house.floor.time t below above accepted);
               top = stands_at.top;
               present = stands_at.present ∙ ap (λ (n : HouseNo). alone n.0) (sym master_same);
             })
 
         answered : (accept_at g h d u r (Some t)).answer ≡ accepted_answer a
         answered =
-            ap (λ others. command.Stamped t (serials_of g (to_each others d h r.epoch t.time (model.Update marks)))) (ap (others_of h) members ∙ alone_others h) ∙ ap accepted_answer (sym took.answer)
+            ap (λ others. command.Stamped t (serials_of g (to_each others d h r.epoch t.time (model.Update marks)))) (ap (others_of h) members ∙ alone_others h)
+            ∙ ap accepted_answer (sym took.answer)
 
       -- the update of the table is the step of the model
       step_by : (o : Option UpdateRefusal) (st : Option Stamp) → refusal ≡ o → stamp ≡ st → Updates marks_so_far u house.floor.time o st a l'.table w.floor.time
@@ -249,19 +266,25 @@ module _ (c : Cell) (g : model.Cell) (s : Stands c g) (h i k : ℕ) (house : Loc
       step_by None None is issued took = record { answer = ap accepted_answer (sym took.answer); stands = unchanged took.table took.floor }
       step_by None (Some t) is issued took = record { answer = answered t is issued took; stands = grown_stands t is issued took }
 
-    pub accepted_step : (result : Result Accepted AllocError) (c' : Cell) (w : LocalHouse) (l' : LocalDirectory) → w.house ≡ house.house → w.node ≡ house.node → w.clock ≡ house.clock → l'.master ≡ l.master
+    -- an update at the directory's house is the model's step
+    pub accepted_step : (result : Result Accepted AllocError) (c' : Cell) (w : LocalHouse) (l' : LocalDirectory) → w.house ≡ house.house → w.node ≡ house.node
+        → w.clock ≡ house.clock → l'.master ≡ l.master
         → c'.houses.items ≡ slice_set c.houses.items k w → c'.directories.items ≡ slice_set c.directories.items i l'
-        → ((marks : List Mark) → IsHistory marks → IsBelow marks house.floor.time → l.table ≡ table_of marks → IfOk result (λ a. Updates marks u house.floor.time (refusal_of (shown marks (changed_name u)) u) stamp a l'.table w.floor.time))
+        → ((marks : List Mark) → IsHistory marks → IsBelow marks house.floor.time → l.table ≡ table_of marks
+        → IfOk result (λ a. Updates marks u house.floor.time (refusal_of (shown marks (changed_name u)) u) stamp a l'.table w.floor.time))
         → IfOk result (λ a. IsAccepted a c' (accept g h d u ((g.house h).slots d)))
     accepted_step result c' w l' house_same node_same clock_same master_same houses directories took =
-        IfOk-weaker result (λ a. Updates marks_so_far u house.floor.time refusal stamp a l'.table w.floor.time) (λ a. IsAccepted a c' (accept g h d u ((g.house h).slots d)))
-        (λ a updates. subst (IsAccepted a c') (sym is_due) (step_by c' a w l' house_same node_same clock_same master_same houses directories refusal stamp refl refl updates))
+        IfOk-weaker result (λ a. Updates marks_so_far u house.floor.time refusal stamp a l'.table w.floor.time)
+        (λ a. IsAccepted a c' (accept g h d u ((g.house h).slots d)))
+        (λ a updates. subst (IsAccepted a c') (sym is_due)
+        (step_by c' a w l' house_same node_same clock_same master_same houses directories refusal stamp refl refl updates))
         (took marks_so_far stands_at.history below stands_at.table)
 
 -- ---- a directory more
 
 -- a list with one more directory
-pub directory_added : (ls : List LocalDirectory) (l : LocalDirectory) (d : ℕ) → directory_of (ls ++ l ∷ []) d ≡ (if d == length ls + 1 then Some l else directory_of ls d)
+pub directory_added : (ls : List LocalDirectory) (l : LocalDirectory) (d : ℕ)
+    → directory_of (ls ++ l ∷ []) d ≡ (if d == length ls + 1 then Some l else directory_of ls d)
 directory_added ls l zero = let off : (zero == length ls + 1) ≡ false = grind (arith, nat_tests) in rw off refl
 directory_added ls l (suc j) = let alike : (suc j == length ls + 1) ≡ (j == length ls) = grind (arith, nat_tests) in rw alike (go ls j)
   where
@@ -282,7 +305,8 @@ directory_behind ls = ap (directory_of ls) (one_more (length ls)) ∙ go ls
 empty_history : IsHistory []
 empty_history = record { births = tt; ordered = tt; kinds = λ n c j k there other. absurd (Contains-none (Birth n j c) there) }
 
-module _ (c c' : Cell) (g : model.Cell) (s : Stands c g) (l : LocalDirectory) (made : has l.master.0 g.made ≡ true) (empty : l.table ≡ table_of []) (houses : c'.houses ≡ c.houses) (directories : c'.directories.items ≡ c.directories.items ++ l ∷ []) where
+module _ (c c' : Cell) (g : model.Cell) (s : Stands c g) (l : LocalDirectory) (made : has l.master.0 g.made ≡ true) (empty : l.table ≡ table_of [])
+    (houses : c'.houses ≡ c.houses) (directories : c'.directories.items ≡ c.directories.items ++ l ∷ []) where
   abbrev m : ℕ
   m = l.master.0
 
@@ -315,7 +339,8 @@ module _ (c c' : Cell) (g : model.Cell) (s : Stands c g) (l : LocalDirectory) (m
     directory_as_before : (d : ℕ) → d ≢ e → (o : Option LocalDirectory) → MaybeStandsDirectory o g d → MaybeStandsDirectory o g'' d
     directory_as_before d apart None stands = put_there g.top e d 1 apart ∙ stands
     directory_as_before d apart (Some k) stands =
-        directory_kept k g g'' d stands stands.made (slot_as_before k.master.0 d apart) (let level = same (λ x. x.floor) refl k.master.0 in omega (arith, level)) (put_there g.top e d 1 apart) (put_there g.present e d (alone m) apart)
+        directory_kept k g g'' d stands stands.made (slot_as_before k.master.0 d apart) (let level = same (λ x. x.floor) refl k.master.0 in
+        omega (arith, level)) (put_there g.top e d 1 apart) (put_there g.present e d (alone m) apart)
 
     new_stands : StandsDirectory l g'' e
     new_stands = record {
@@ -332,9 +357,11 @@ module _ (c c' : Cell) (g : model.Cell) (s : Stands c g) (l : LocalDirectory) (m
 
     directory_then : (d : ℕ) (b : Bool) → (d == e) ≡ b → MaybeStandsDirectory (if b then Some l else directory_of c.directories.items d) g'' d
     directory_then d true on = let is : e ≡ d = grind (arith, nat_tests, on) in subst (λ d. StandsDirectory l g'' d) is new_stands
-    directory_then d false off = let apart : d ≢ e = grind (arith, nat_tests, off) in directory_as_before d apart (directory_of c.directories.items d) (s.directories d)
+    directory_then d false off = let apart : d ≢ e = grind (arith, nat_tests, off) in
+        directory_as_before d apart (directory_of c.directories.items d) (s.directories d)
 
-    elsewhere_then : (z d : ℕ) (b : Bool) → (d == e) ≡ b → IsElsewhere z (if b then Some l else directory_of c.directories.items d) → (g''.house z).slots d ≡ model.Absent
+    elsewhere_then : (z d : ℕ) (b : Bool) → (d == e) ≡ b → IsElsewhere z (if b then Some l else directory_of c.directories.items d)
+        → (g''.house z).slots d ≡ model.Absent
     elsewhere_then z d true on other =
         let is : e ≡ d = grind (arith, nat_tests, on) in
         let away : z ≢ m = λ there. other (sym there) in
@@ -364,19 +391,25 @@ module _ (c : Cell) (g : model.Cell) (s : Stands c g) (h d : ℕ) (u : Change) w
   pub unmade_house : house_of c.houses.items h ≡ None → has h g.made ≡ false
   unmade_house none = ap (has h) s.made ∙ has_number c.houses.items h ∙ ap is_some none
 
+  -- a house that the program has was made in the model
   pub made_house : (w : LocalHouse) → house_of c.houses.items h ≡ Some w → has h g.made ≡ true
   made_house w is = ap (has h) s.made ∙ has_number c.houses.items h ∙ ap is_some is
 
   pub up_house : (w : LocalHouse) → house_of c.houses.items h ≡ Some w → (g.house h).up ≡ true
   up_house w is = let stands = s.houses h in let at = rw is at stands in at.up
 
+  -- an update of no directory is refused
   pub no_directory : directory_of c.directories.items d ≡ None → outcome g (command.Accept h d u) ≡ refused g command.NoDirectory
   no_directory none = rw (unknown_top none) refl
 
-  pub no_house : (l : LocalDirectory) → directory_of c.directories.items d ≡ Some l → house_of c.houses.items h ≡ None → outcome g (command.Accept h d u) ≡ refused g command.NoHouse
+  -- an update at no house is refused
+  pub no_house : (l : LocalDirectory) → directory_of c.directories.items d ≡ Some l → house_of c.houses.items h ≡ None
+      → outcome g (command.Accept h d u) ≡ refused g command.NoHouse
   no_house l is none = rw (known_top l is, unmade_house none) refl
 
-  pub passes : (l : LocalDirectory) → directory_of c.directories.items d ≡ Some l → (w : LocalHouse) → house_of c.houses.items h ≡ Some w → outcome g (command.Accept h d u) ≡ accept g h d u ((g.house h).slots d)
+  -- any other update comes to what the house makes of it
+  pub passes : (l : LocalDirectory) → directory_of c.directories.items d ≡ Some l → (w : LocalHouse) → house_of c.houses.items h ≡ Some w
+      → outcome g (command.Accept h d u) ≡ accept g h d u ((g.house h).slots d)
   passes l is w there = rw (known_top l is, made_house w there, up_house w there) refl
 
 -- the directory at a place in range
@@ -394,7 +427,9 @@ answered_step r a c o o' is said same = subst (IsStep r c) (sym same) (record { 
 
 -- ---- the root directory
 
-module _ (c c' : Cell) (g : model.Cell) (s : Stands c g) (l : LocalDirectory) (w : LocalHouse) (there : house_of c.houses.items l.master.0 ≡ Some w) (empty : l.table ≡ table_of []) (houses : c'.houses ≡ c.houses) (directories : c'.directories.items ≡ c.directories.items ++ l ∷ []) (none : c.directories.items ≡ []) where
+module _ (c c' : Cell) (g : model.Cell) (s : Stands c g) (l : LocalDirectory) (w : LocalHouse) (there : house_of c.houses.items l.master.0 ≡ Some w)
+    (empty : l.table ≡ table_of []) (houses : c'.houses ≡ c.houses) (directories : c'.directories.items ≡ c.directories.items ++ l ∷ [])
+    (none : c.directories.items ≡ []) where
   no_root : g.top 1 ≡ 0
   no_root = let stands = s.directories 1 in rw none at stands
 
@@ -410,18 +445,24 @@ module _ (c c' : Cell) (g : model.Cell) (s : Stands c g) (l : LocalDirectory) (w
       (founded_stands c c' g s l (made_house c g s l.master.0 1 (changes.Create []) w there) empty houses directories g.next_dir
       (s.next ∙ ap (λ ls. max 2 (length ls + 1)) none ∙ sym (ap (λ ls. max 2 (length ls + 1 + 1)) none)))
 
+  -- a root directory is the model's step
   pub root_step : IsStep (answer.Posted []) c' (outcome g (command.Root l.master.0 []))
   root_step = subst (IsStep (answer.Posted []) c') (sym root_passes) (record {
-    answer = ap (λ others. answer.Posted (serials_of g (to_each others 1 l.master.0 1 (g.house l.master.0).floor (model.Join (alone l.master.0) (copy_of (first_replica (alone l.master.0))))))) (sym (alone_others l.master.0));
+    answer = ap (λ others.
+        answer.Posted (serials_of g
+        (to_each others 1 l.master.0 1 (g.house l.master.0).floor (model.Join (alone l.master.0) (copy_of (first_replica (alone l.master.0)))))))
+        (sym (alone_others l.master.0));
     stands = root_stands;
   })
 
 -- there is a root
-pub root_exists : (c : Cell) (g : model.Cell) (s : Stands c g) (l : LocalDirectory) → directory_of c.directories.items 1 ≡ Some l → (m : ℕ) → outcome g (command.Root m []) ≡ refused g command.DirectoryExists
+pub root_exists : (c : Cell) (g : model.Cell) (s : Stands c g) (l : LocalDirectory) → directory_of c.directories.items 1 ≡ Some l → (m : ℕ)
+    → outcome g (command.Root m []) ≡ refused g command.DirectoryExists
 root_exists c g s l is m = rw (known_top c g s m 1 (changes.Create []) l is) refl
 
 -- there is none, and its master was not made
-pub root_of_none : (c : Cell) (g : model.Cell) (s : Stands c g) (m : ℕ) → c.directories.items ≡ [] → house_of c.houses.items m ≡ None → outcome g (command.Root m []) ≡ refused g command.NoHouse
+pub root_of_none : (c : Cell) (g : model.Cell) (s : Stands c g) (m : ℕ) → c.directories.items ≡ [] → house_of c.houses.items m ≡ None
+    → outcome g (command.Root m []) ≡ refused g command.NoHouse
 root_of_none c g s m none missing =
     let top : g.top 1 ≡ 0 = (let stands = s.directories 1 in rw none at stands) in
     rw (top, unmade_house c g s m 1 (changes.Create []) missing) refl
@@ -429,52 +470,76 @@ root_of_none c g s m none missing =
 -- ---- a child and its directory
 
 -- an update leaves the houses and the next number
-pub accept_keeps : (g : model.Cell) (h d : ℕ) (u : Change) (o : Slot) → ((accept g h d u o).cell.made ≡ g.made) × ((accept g h d u o).cell.next_dir ≡ g.next_dir)
+pub accept_keeps : (g : model.Cell) (h d : ℕ) (u : Change) (o : Slot)
+    → ((accept g h d u o).cell.made ≡ g.made) × ((accept g h d u o).cell.next_dir ≡ g.next_dir)
 accept_keeps g h d u model.Absent = (refl, refl)
 accept_keeps g h d u (model.Gone e) = (refl, refl)
 accept_keeps g h d u (Held r) = go (update_refusal h u r) (stamp_at (g.house h))
   where
-    go : (q : Option UpdateRefusal) (st : Option Stamp) → ((unless g (option_map command.Update q) (accept_at g h d u r st)).cell.made ≡ g.made) × ((unless g (option_map command.Update q) (accept_at g h d u r st)).cell.next_dir ≡ g.next_dir)
+    go : (q : Option UpdateRefusal) (st : Option Stamp) → ((unless g (option_map command.Update q) (accept_at g h d u r st)).cell.made ≡ g.made)
+        × ((unless g (option_map command.Update q) (accept_at g h d u r st)).cell.next_dir ≡ g.next_dir)
     go (Some q) st = (refl, refl)
     go None None = (refl, refl)
     go None (Some t) = (refl, refl)
 
-module _ (c c' : Cell) (g : model.Cell) (o : Outcome) (t : Stamp) (l : LocalDirectory) (number : ℕ) (is : IsAccepted (outcomes.Stamped t) c o) (made : has l.master.0 o.cell.made ≡ true)
-    (empty : l.table ≡ table_of []) (houses : c'.houses ≡ c.houses) (directories : c'.directories.items ≡ c.directories.items ++ l ∷ []) (next : number ≡ length c.directories.items + 1) (some : 1 ≤ length c.directories.items) where
+module _ (c c' : Cell) (g : model.Cell) (o : Outcome) (t : Stamp) (l : LocalDirectory) (number : ℕ) (is : IsAccepted (outcomes.Stamped t) c o)
+    (made : has l.master.0 o.cell.made ≡ true)
+    (empty : l.table ≡ table_of []) (houses : c'.houses ≡ c.houses) (directories : c'.directories.items ≡ c.directories.items ++ l ∷ [])
+    (next : number ≡ length c.directories.items + 1) (some : 1 ≤ length c.directories.items) where
   child_stands : Stands c' (record (founded o.cell number l.master.0 (alone l.master.0)) { next_dir = number + 1 })
   child_stands =
       subst (λ k. Stands c' (record (founded o.cell k l.master.0 (alone l.master.0)) { next_dir = k + 1 })) (sym next)
       (founded_stands c c' o.cell is.stands l made empty houses directories (length c.directories.items + 1 + 1) (grind (arith, some)))
 
+  -- a child and its directory are the model's step
   pub child_step : IsStep (answer.Made (record { 0 = number }) t []) c' (with_directory o number l.master.0 (alone l.master.0) o.answer)
   child_step =
       subst (λ a. IsStep (answer.Made (record { 0 = number }) t []) c' (with_directory o number l.master.0 (alone l.master.0) a)) (sym is.answer)
       (record {
-        answer = ap (λ others. answer.Made (record { 0 = number }) t (serials_of o.cell (to_each others number l.master.0 1 (o.cell.house l.master.0).floor (model.Join (alone l.master.0) (copy_of (first_replica (alone l.master.0))))))) (sym (alone_others l.master.0));
+        answer = ap (λ others.
+            answer.Made (record { 0 = number }) t
+            (serials_of o.cell (to_each others number l.master.0 1 (o.cell.house l.master.0).floor
+            (model.Join (alone l.master.0) (copy_of (first_replica (alone l.master.0))))))) (sym (alone_others l.master.0));
         stands = child_stands;
       })
 
 -- the child was refused
-pub no_child_step : (c : Cell) (o : Outcome) (q : UpdateRefusal) (a : Answer) (number m : ℕ) → IsAccepted (outcomes.Refused q) c o → a ≡ answer_of (accepted_answer (outcomes.Refused q)) → IsStep a c (with_directory o number m (alone m) o.answer)
+pub no_child_step : (c : Cell) (o : Outcome) (q : UpdateRefusal) (a : Answer) (number m : ℕ) → IsAccepted (outcomes.Refused q) c o
+    → a ≡ answer_of (accepted_answer (outcomes.Refused q)) → IsStep a c (with_directory o number m (alone m) o.answer)
 no_child_step c o q a number m is said =
-    subst (λ x. IsStep a c (with_directory o number m (alone m) x)) (sym is.answer) (record { answer = said ∙ ap answer_of (sym is.answer); stands = is.stands })
+    subst (λ x. IsStep a c (with_directory o number m (alone m) x)) (sym is.answer)
+    (record { answer = said ∙ ap answer_of (sym is.answer); stands = is.stands })
 
 -- what stands in the way of a child
 module _ (c : Cell) (g : model.Cell) (s : Stands c g) (h d : ℕ) (n : List ℕ) (m : ℕ) where
   abbrev any : Change
   any = changes.Create []
 
+  -- a child in no directory is refused
   pub mkdir_no_directory : directory_of c.directories.items d ≡ None → outcome g (command.Mkdir h d n m []) ≡ refused g command.NoDirectory
   mkdir_no_directory none = rw (unknown_top c g s h d any none) refl
 
-  pub mkdir_no_house : (l : LocalDirectory) → directory_of c.directories.items d ≡ Some l → house_of c.houses.items h ≡ None → outcome g (command.Mkdir h d n m []) ≡ refused g command.NoHouse
+  -- a child at no house is refused
+  pub mkdir_no_house : (l : LocalDirectory) → directory_of c.directories.items d ≡ Some l → house_of c.houses.items h ≡ None
+      → outcome g (command.Mkdir h d n m []) ≡ refused g command.NoHouse
   mkdir_no_house l is none = rw (known_top c g s h d any l is, unmade_house c g s h d any none) refl
 
-  pub mkdir_no_master : (l : LocalDirectory) → directory_of c.directories.items d ≡ Some l → (w : LocalHouse) → house_of c.houses.items h ≡ Some w → house_of c.houses.items m ≡ None → outcome g (command.Mkdir h d n m []) ≡ refused g command.NoHouse
+  -- a child whose master is no house is refused
+  pub mkdir_no_master : (l : LocalDirectory) → directory_of c.directories.items d ≡ Some l → (w : LocalHouse) → house_of c.houses.items h ≡ Some w
+      → house_of c.houses.items m ≡ None → outcome g (command.Mkdir h d n m []) ≡ refused g command.NoHouse
   mkdir_no_master l is w there none = rw (known_top c g s h d any l is, made_house c g s h d any w there, unmade_house c g s m d any none) refl
 
-  pub mkdir_passes : (l : LocalDirectory) → directory_of c.directories.items d ≡ Some l → (w : LocalHouse) → house_of c.houses.items h ≡ Some w → (v : LocalHouse) → house_of c.houses.items m ≡ Some v → outcome g (command.Mkdir h d n m []) ≡ mkdir g h d n m []
-  mkdir_passes l is w there v at = rw (known_top c g s h d any l is, made_house c g s h d any w there, made_house c g s m d any v at, up_house c g s h d any w there, up_house c g s m d any v at) refl
+  -- any other child comes to what its directory's house makes of it
+  pub mkdir_passes : (l : LocalDirectory) → directory_of c.directories.items d ≡ Some l → (w : LocalHouse) → house_of c.houses.items h ≡ Some w
+      → (v : LocalHouse) → house_of c.houses.items m ≡ Some v → outcome g (command.Mkdir h d n m []) ≡ mkdir g h d n m []
+  mkdir_passes l is w there v at =
+      rw (
+        known_top c g s h d any l is,
+        made_house c g s h d any w there,
+        made_house c g s m d any v at,
+        up_house c g s h d any w there,
+        up_house c g s m d any v at,
+      ) refl
 
 -- a list without length
 pub no_directories : (ls : List LocalDirectory) → length ls ≡ 0 → ls ≡ []
@@ -490,7 +555,8 @@ pub next_number : (c : Cell) (g : model.Cell) → Stands c g → (i : ℕ) → i
 next_number c g s i less = let next = s.next in grind (arith, less, next)
 
 -- the child that is made, as the model has it
-pub child_change : (n : List ℕ) (d e : ℕ) (h : Houses) (m : ℕ) → d ≡ e → h ≡ record { master = m; others = [] } → changes.MakeChild n (record { dir = d; master = h.master; others = h.others }) ≡ changes.MakeChild n (record { dir = e; master = m; others = [] })
+pub child_change : (n : List ℕ) (d e : ℕ) (h : Houses) (m : ℕ) → d ≡ e → h ≡ record { master = m; others = [] }
+    → changes.MakeChild n (record { dir = d; master = h.master; others = h.others }) ≡ changes.MakeChild n (record { dir = e; master = m; others = [] })
 child_change n d e h m number is =
     ap (λ k. changes.MakeChild n (record { dir = k; master = h.master; others = h.others })) number
     ∙ ap (λ (x : Houses). changes.MakeChild n (record { dir = e; master = x.master; others = x.others })) is
@@ -500,24 +566,35 @@ child_change n d e h m number is =
 -- the same houses are missing
 pub missing_alike : (c : Cell) (g : model.Cell) → Stands c g → (xs : List ℕ) → list_any (λ x. not (is_some (house_of c.houses.items x))) xs ≡ is_missing g xs
 missing_alike c g s [] = refl
-missing_alike c g s (x ∷ xs) = let made : has x g.made ≡ is_some (house_of c.houses.items x) = ap (has x) s.made ∙ has_number c.houses.items x in cc (made, missing_alike c g s xs)
+missing_alike c g s (x ∷ xs) = let made : has x g.made ≡ is_some (house_of c.houses.items x) = ap (has x) s.made ∙ has_number c.houses.items x in
+    cc (made, missing_alike c g s xs)
 
 module _ (c : Cell) (g : model.Cell) (s : Stands c g) (h d : ℕ) (n : List ℕ) (m : ℕ) (rs : List ℕ) where
   abbrev some_change : Change
   some_change = changes.Create []
 
+  -- a repointed child in no directory is refused
   pub repoint_no_directory : directory_of c.directories.items d ≡ None → outcome g (command.Repoint h d n m rs) ≡ refused g command.NoDirectory
   repoint_no_directory none = rw (unknown_top c g s h d some_change none) refl
 
-  pub repoint_no_house : (l : LocalDirectory) → directory_of c.directories.items d ≡ Some l → house_of c.houses.items h ≡ None → outcome g (command.Repoint h d n m rs) ≡ refused g command.NoHouse
+  -- one at no house is refused
+  pub repoint_no_house : (l : LocalDirectory) → directory_of c.directories.items d ≡ Some l → house_of c.houses.items h ≡ None
+      → outcome g (command.Repoint h d n m rs) ≡ refused g command.NoHouse
   repoint_no_house l is none = rw (known_top c g s h d some_change l is, unmade_house c g s h d some_change none) refl
 
-  pub repoint_no_other : (l : LocalDirectory) → directory_of c.directories.items d ≡ Some l → (w : LocalHouse) → house_of c.houses.items h ≡ Some w → is_missing g (m ∷ rs) ≡ true → outcome g (command.Repoint h d n m rs) ≡ refused g command.NoHouse
+  -- one whose houses were not all made is refused
+  pub repoint_no_other : (l : LocalDirectory) → directory_of c.directories.items d ≡ Some l → (w : LocalHouse) → house_of c.houses.items h ≡ Some w
+      → is_missing g (m ∷ rs) ≡ true → outcome g (command.Repoint h d n m rs) ≡ refused g command.NoHouse
   repoint_no_other l is w there missing = rw (known_top c g s h d some_change l is, made_house c g s h d some_change w there, missing) refl
 
-  pub repoint_bad : (l : LocalDirectory) → directory_of c.directories.items d ≡ Some l → (w : LocalHouse) → house_of c.houses.items h ≡ Some w → is_missing g (m ∷ rs) ≡ false → is_bad_list (m ∷ rs) ≡ true → outcome g (command.Repoint h d n m rs) ≡ refused g command.BadMembers
+  -- one whose houses are a bad list is refused
+  pub repoint_bad : (l : LocalDirectory) → directory_of c.directories.items d ≡ Some l → (w : LocalHouse) → house_of c.houses.items h ≡ Some w
+      → is_missing g (m ∷ rs) ≡ false → is_bad_list (m ∷ rs) ≡ true → outcome g (command.Repoint h d n m rs) ≡ refused g command.BadMembers
   repoint_bad l is w there all bad = rw (known_top c g s h d some_change l is, made_house c g s h d some_change w there, all, bad) refl
 
-  pub repoint_passes : (l : LocalDirectory) → directory_of c.directories.items d ≡ Some l → (w : LocalHouse) → house_of c.houses.items h ≡ Some w → is_missing g (m ∷ rs) ≡ false → is_bad_list (m ∷ rs) ≡ false
+  -- any other comes to what the directory's house makes of it
+  pub repoint_passes : (l : LocalDirectory) → directory_of c.directories.items d ≡ Some l → (w : LocalHouse) → house_of c.houses.items h ≡ Some w
+      → is_missing g (m ∷ rs) ≡ false → is_bad_list (m ∷ rs) ≡ false
       → outcome g (command.Repoint h d n m rs) ≡ accept g h d (changes.Repoint n m (ascending rs)) ((g.house h).slots d)
-  repoint_passes l is w there all good = rw (known_top c g s h d some_change l is, made_house c g s h d some_change w there, all, good, up_house c g s h d some_change w there) refl
+  repoint_passes l is w there all good =
+      rw (known_top c g s h d some_change l is, made_house c g s h d some_change w there, all, good, up_house c g s h d some_change w there) refl

@@ -9,14 +9,17 @@ use Rattle.cell_model.specs.Steps.{has}
 use Rattle.cds_cell.specs.declared.house.LocalDirectory.{LocalDirectory}
 use Rattle.cds_cell.specs.Standing.{StandsDirectory, alone}
 
+-- a number is equal to itself
 pub same_number : (x : ℕ) → (x == x) ≡ true
 same_number x = grind (arith, nat_tests)
 
 -- ---- another value at one place of a function
 
+-- the new value at the place of the change
 pub put_here : {A : Type 0} (f : ℕ → A) (k : ℕ) (v : A) → put f k v k ≡ v
 put_here f k v = rw (same_number k) refl
 
+-- the old value at every other place
 pub put_there : {A : Type 0} (f : ℕ → A) (k n : ℕ) (v : A) → n ≢ k → put f k v n ≡ f n
 put_there f k n v apart = let off : (n == k) ≡ false = grind (arith, nat_tests, apart) in rw off refl
 
@@ -34,12 +37,15 @@ put_alike field f k v same n = go (n == k) refl
 pub alone_is : (x : ℕ) → alone x ≡ record { house = x; since = 1; kind = Master } ∷ []
 alone_is x = rw (same_number x) refl
 
+-- its house accepts updates
 pub alone_accepts : (x : ℕ) → is_accepting x (alone x) ≡ true
 alone_accepts x = rw (same_number x) refl
 
+-- it has no others
 pub alone_others : (x : ℕ) → others_of x (alone x) ≡ []
 alone_others x = rw (same_number x) refl
 
+-- its house is the master
 pub alone_master : (x : ℕ) → master_of (alone x) ≡ x
 alone_master x = rw (same_number x) refl
 

@@ -14,12 +14,15 @@ use Rattle.cell_script.specs.declared.answer.ScriptRefusal.TheVariants as why
 use Rattle.cds_cell.specs.declared.cell.Cell.{Cell}
 use Rattle.cds_cell.specs.declared.house.LocalHouse.{LocalHouse}
 use Rattle.cds_cell.specs.declared.house.LocalDirectory.{LocalDirectory}
-use Rattle.cds_cell.specs.Standing.{Stands, StandsHouse, MaybeStandsHouse, MaybeStandsDirectory, IsStep, IsElsewhere, IsPlaceOf, numbers_of, house_of, directory_of}
-use Rattle.cds_cell.proofs.Houses.{has_either, is_either, taken_alike, has_number, numbers_added, house_added, once_added, numbers_kept, house_changed, not_there}
+use Rattle.cds_cell.specs.Standing.{Stands, StandsHouse, MaybeStandsHouse, MaybeStandsDirectory, IsStep, IsElsewhere, IsPlaceOf, numbers_of}
+use Rattle.cds_cell.specs.Standing.{house_of, directory_of}
+use Rattle.cds_cell.proofs.Houses.{has_either, is_either, taken_alike, has_number, numbers_added, house_added, once_added, numbers_kept}
+use Rattle.cds_cell.proofs.Houses.{house_changed, not_there}
 use Rattle.cds_cell.proofs.Frames.{put_here, put_there, put_alike, directory_kept}
 
 -- a command that is refused leaves the cell as it is
-pub refused_step : (c : Cell) (g : model.Cell) (a : Rattle.cell_script.specs.declared.answer.Answer.Answer) (r : command.Refusal) (o : Outcome) → Stands c g → a ≡ Rattle.cds_cell.specs.Scripted.answer_of (command.Refused r) → o ≡ refused g r → IsStep a c o
+pub refused_step : (c : Cell) (g : model.Cell) (a : Rattle.cell_script.specs.declared.answer.Answer.Answer) (r : command.Refusal) (o : Outcome)
+    → Stands c g → a ≡ Rattle.cds_cell.specs.Scripted.answer_of (command.Refused r) → o ≡ refused g r → IsStep a c o
 refused_step c g a r o s said is = subst (IsStep a c) (sym is) (record { answer = said; stands = s })
 
 -- ---- a house more
@@ -36,13 +39,16 @@ module _ (c c' : Cell) (g : model.Cell) (s : Stands c g) (w : LocalHouse) where
       ap (list_any (is_either g x w.node)) s.made
       ∙ sym (taken_alike g x w.node hs (ap (λ xs. Rattle.cell_model.specs.Steps.stands_twice xs) (sym s.made) ∙ s.once) s.houses)
 
+  -- a house whose number or node is taken is refused
   pub taken_step : list_any (has_either x w.node) hs ≡ true → IsStep (answer.Refused why.HouseExists) c (outcome g (command.House x w.node))
   taken_step is = let taken : is_taken g x w.node ≡ true = taken_is ∙ is in refused_step c g _ command.HouseExists _ s refl (rw taken refl)
 
-  module _ (free : list_any (has_either x w.node) hs ≡ false) (items : c'.houses.items ≡ hs ++ w ∷ []) (directories : c'.directories ≡ c.directories) (clock : w.clock ≡ 0) (floor : w.floor.time ≡ 0) where
+  module _ (free : list_any (has_either x w.node) hs ≡ false) (items : c'.houses.items ≡ hs ++ w ∷ []) (directories : c'.directories ≡ c.directories)
+      (clock : w.clock ≡ 0) (floor : w.floor.time ≡ 0) where
     new : (ys : List LocalHouse) → list_any (has_either x w.node) ys ≡ false → has x (numbers_of ys) ≡ false
     new [] is = refl
-    new (y ∷ ys) is = let rest : list_any (has_either x w.node) ys ≡ false = grind (arith, nat_tests, is) in let behind = new ys rest in grind (arith, nat_tests, is, behind)
+    new (y ∷ ys) is = let rest : list_any (has_either x w.node) ys ≡ false = grind (arith, nat_tests, is) in let behind = new ys rest in
+        grind (arith, nat_tests, is, behind)
 
     unmade : has x g.made ≡ false
     unmade = ap (has x) s.made ∙ new hs free
@@ -51,7 +57,8 @@ module _ (c c' : Cell) (g : model.Cell) (s : Stands c g) (w : LocalHouse) where
     house_stands y true on =
         let is : x ≡ y = grind (arith, nat_tests, on) in
         subst (λ y. StandsHouse w ((new_house g x w.node).house y)) is
-        (rw (put_here g.house x (record { node = w.node; clock = 0; floor = 0; up = true; slots = λ d. model.Absent })) (record { up = refl; node = refl; clock = sym clock; floor = sym floor }))
+        (rw (put_here g.house x (record { node = w.node; clock = 0; floor = 0; up = true; slots = λ d. model.Absent }))
+        (record { up = refl; node = refl; clock = sym clock; floor = sym floor }))
     house_stands y false off =
         let apart : y ≢ x = grind (arith, nat_tests, off) in
         rw (put_there g.house x y (record { node = w.node; clock = 0; floor = 0; up = true; slots = λ d. model.Absent }) apart) (s.houses y)
@@ -71,9 +78,11 @@ module _ (c c' : Cell) (g : model.Cell) (s : Stands c g) (w : LocalHouse) where
     directory_stands d None stands = stands
     directory_stands d (Some l) stands =
         let same : (new_house g x w.node).house l.master.0 ≡ g.house l.master.0 = put_there g.house x l.master.0 _ (apart_from l.master.0 stands.made) in
-        directory_kept l g (new_house g x w.node) d stands (still_made l.master.0 g.made stands.made) (ap (λ (h : House). h.slots d) same) (let level = ap (λ (h : House). h.floor) same in omega (arith, level)) refl refl
+        directory_kept l g (new_house g x w.node) d stands (still_made l.master.0 g.made stands.made) (ap (λ (h : House). h.slots d) same) (let level =
+        ap (λ (h : House). h.floor) same in omega (arith, level)) refl refl
 
-    elsewhere_stands : (y d : ℕ) (b : Bool) → (y == x) ≡ b → IsElsewhere y (directory_of c.directories.items d) → ((if b then (record { node = w.node; clock = 0; floor = 0; up = true; slots = λ d. model.Absent }) else g.house y)).slots d ≡ model.Absent
+    elsewhere_stands : (y d : ℕ) (b : Bool) → (y == x) ≡ b → IsElsewhere y (directory_of c.directories.items d)
+        → ((if b then (record { node = w.node; clock = 0; floor = 0; up = true; slots = λ d. model.Absent }) else g.house y)).slots d ≡ model.Absent
     elsewhere_stands y d true on other = refl
     elsewhere_stands y d false off other = s.elsewhere y d other
 
@@ -87,6 +96,7 @@ module _ (c c' : Cell) (g : model.Cell) (s : Stands c g) (w : LocalHouse) where
       next = s.next ∙ ap (λ (v : Vec LocalDirectory Global). max 2 (length v.items + 1)) (sym directories);
     }
 
+    -- any other house is made
     pub made_step : IsStep answer.Done c' (outcome g (command.House x w.node))
     made_step =
         let passes : is_taken g x w.node ≡ false = taken_is ∙ free in
@@ -96,13 +106,16 @@ module _ (c c' : Cell) (g : model.Cell) (s : Stands c g) (w : LocalHouse) where
 -- ---- a clock is set
 
 -- none of that number was made
-pub missing_step : (c : Cell) (g : model.Cell) (s : Stands c g) (x time : ℕ) → house_of c.houses.items x ≡ None → IsStep (answer.Refused why.NoHouse) c (outcome g (command.Clock x time))
+pub missing_step : (c : Cell) (g : model.Cell) (s : Stands c g) (x time : ℕ) → house_of c.houses.items x ≡ None
+    → IsStep (answer.Refused why.NoHouse) c (outcome g (command.Clock x time))
 missing_step c g s x time none =
     let unmade : has x g.made ≡ false = ap (has x) s.made ∙ has_number c.houses.items x ∙ ap is_some none in
     refused_step c g _ command.NoHouse _ s refl (rw unmade refl)
 
-module _ (c c' : Cell) (g : model.Cell) (s : Stands c g) (x i : ℕ) (old w : LocalHouse) (place : IsPlaceOf c.houses.items x i) (there : house_of c.houses.items x ≡ Some old) (number : w.house.0 ≡ x)
-    (items : c'.houses.items ≡ slice_set c.houses.items i w) (directories : c'.directories ≡ c.directories) (node : w.node ≡ old.node) (floor : w.floor ≡ old.floor) where
+module _ (c c' : Cell) (g : model.Cell) (s : Stands c g) (x i : ℕ) (old w : LocalHouse) (place : IsPlaceOf c.houses.items x i)
+    (there : house_of c.houses.items x ≡ Some old) (number : w.house.0 ≡ x)
+    (items : c'.houses.items ≡ slice_set c.houses.items i w) (directories : c'.directories ≡ c.directories) (node : w.node ≡ old.node)
+    (floor : w.floor ≡ old.floor) where
   made : has x g.made ≡ true
   made = ap (has x) s.made ∙ has_number c.houses.items x ∙ ap is_some there
 
@@ -122,13 +135,15 @@ module _ (c c' : Cell) (g : model.Cell) (s : Stands c g) (x i : ℕ) (old w : Lo
       let apart : z ≢ x = grind (arith, nat_tests, off, number) in
       rw (put_there g.house x z (record (g.house x) { clock = w.clock }) apart) (s.houses z)
 
-  alike : {B : Type 0} (field : House → B) → field (record (g.house x) { clock = w.clock }) ≡ field (g.house x) → (z : ℕ) → field (g'.house z) ≡ field (g.house z)
+  alike : {B : Type 0} (field : House → B) → field (record (g.house x) { clock = w.clock }) ≡ field (g.house x) → (z : ℕ)
+      → field (g'.house z) ≡ field (g.house z)
   alike field same z = put_alike field g.house x (record (g.house x) { clock = w.clock }) same z
 
   directory_set : (d : ℕ) (o : Option LocalDirectory) → MaybeStandsDirectory o g d → MaybeStandsDirectory o g' d
   directory_set d None stands = stands
   directory_set d (Some l) stands =
-      directory_kept l g g' d stands stands.made (alike (λ h. h.slots d) refl l.master.0) (let level = alike (λ h. h.floor) refl l.master.0 in omega (arith, level)) refl refl
+      directory_kept l g g' d stands stands.made (alike (λ h. h.slots d) refl l.master.0) (let level = alike (λ h. h.floor) refl l.master.0 in
+      omega (arith, level)) refl refl
 
   set_stands : Stands c' g'
   set_stands = record {
@@ -140,6 +155,7 @@ module _ (c c' : Cell) (g : model.Cell) (s : Stands c g) (x i : ℕ) (old w : Lo
     next = s.next ∙ ap (λ (v : Vec LocalDirectory Global). max 2 (length v.items + 1)) (sym directories);
   }
 
+  -- the clock of a house is set
   pub set_step : IsStep answer.Done c' (outcome g (command.Clock x w.clock))
   set_step =
       let is : outcome g (command.Clock x w.clock) ≡ stays (set_clock g x w.clock) command.Done = rw made refl in

@@ -1,5 +1,6 @@
 -- The houses of a cell, by number and by place.
-use Rattle.std.proofs.Common.{◌≡◌, ◌≢◌, ℕ, zero, suc, ◌+◌, List, [], ◌∷◌, ◌++◌, Bool, true, false, cond, slice_set, length, ◌<◌, subst, refl, sym, ◌∙◌, ap, arith}
+use Rattle.std.proofs.Common.{◌≡◌, ◌≢◌, ℕ, zero, suc, ◌+◌, List, [], ◌∷◌, ◌++◌, Bool, true, false, cond, slice_set, length, ◌<◌, subst, refl, sym}
+use Rattle.std.proofs.Common.{◌∙◌, ap, arith}
 use Rattle.std.specs.Prelude.{Option, Some, None, MatchOption, is_some, if◌then◌else◌, ◌==◌, ◌||◌}
 use Rattle.std.specs.List.{position_from, list_any}
 use Rattle.std.proofs.Math.ListN.{get_or}
@@ -27,7 +28,8 @@ place_found x k (h ∷ hs) = go (h.house.0 == x) refl (place_found x (k + 1) hs)
     behind other None found off = rw off found
     behind other (Some i) found off = let j = found.0 in let is = found.1 in (suc j, omega (arith, is), (other, found.2))
 
-    go : (b : Bool) → (h.house.0 == x) ≡ b → Place hs x (k + 1) (position_from (is_house x) (k + 1) hs) → Place (h ∷ hs) x k (cond b (Some k) (position_from (is_house x) (k + 1) hs))
+    go : (b : Bool) → (h.house.0 == x) ≡ b → Place hs x (k + 1) (position_from (is_house x) (k + 1) hs)
+        → Place (h ∷ hs) x k (cond b (Some k) (position_from (is_house x) (k + 1) hs))
     go true on rest = (0, omega arith, grind (arith, nat_tests, on))
     go false off rest = behind (grind (arith, nat_tests, off)) (position_from (is_house x) (k + 1) hs) rest off
 
@@ -36,7 +38,8 @@ pub has_number : (hs : List LocalHouse) (x : ℕ) → has x (numbers_of hs) ≡ 
 has_number [] x = refl
 has_number (h ∷ hs) x = go (h.house.0 == x) refl (has_number hs x)
   where
-    go : (b : Bool) → (h.house.0 == x) ≡ b → has x (numbers_of hs) ≡ is_some (house_of hs x) → has x (numbers_of (h ∷ hs)) ≡ is_some (if b then Some h else house_of hs x)
+    go : (b : Bool) → (h.house.0 == x) ≡ b → has x (numbers_of hs) ≡ is_some (house_of hs x)
+        → has x (numbers_of (h ∷ hs)) ≡ is_some (if b then Some h else house_of hs x)
     go true on rest = grind (arith, nat_tests, on)
     go false off rest = grind (arith, nat_tests, off, rest)
 
@@ -46,7 +49,9 @@ numbers_kept [] x i w is there = absurd there
 numbers_kept (h ∷ hs) x zero w is there = ap (λ n. n ∷ numbers_of hs) (is ∙ sym there)
 numbers_kept (h ∷ hs) x (suc i) w is there = ap (λ ns. h.house.0 ∷ ns) (numbers_kept hs x i w is there.1)
 
-pub house_changed : (hs : List LocalHouse) (x i : ℕ) (w : LocalHouse) → w.house.0 ≡ x → IsPlaceOf hs x i → (y : ℕ) → house_of (slice_set hs i w) y ≡ (if w.house.0 == y then Some w else house_of hs y)
+-- the houses after a change of one
+pub house_changed : (hs : List LocalHouse) (x i : ℕ) (w : LocalHouse) → w.house.0 ≡ x → IsPlaceOf hs x i → (y : ℕ)
+    → house_of (slice_set hs i w) y ≡ (if w.house.0 == y then Some w else house_of hs y)
 house_changed [] x i w is there y = absurd there
 house_changed (h ∷ hs) x zero w is there y = go (w.house.0 == y) refl
   where
@@ -64,14 +69,18 @@ house_changed (h ∷ hs) x (suc i) w is there y = go (h.house.0 == y) refl (hous
 pub house_at : (hs : List LocalHouse) (x i : ℕ) → IsPlaceOf hs x i → (h : LocalHouse) × (house_of hs x ≡ Some h) × (h.house.0 ≡ x)
 house_at [] x i there = absurd there
 house_at (h ∷ hs) x zero there = let on : (h.house.0 == x) ≡ true = grind (arith, nat_tests, there) in (h, rw on refl, there)
-house_at (h ∷ hs) x (suc i) there = let apart = there.0 in let off : (h.house.0 == x) ≡ false = grind (arith, nat_tests, apart) in let rest = house_at hs x i there.1 in (rest.0, rw off rest.1, rest.2)
+house_at (h ∷ hs) x (suc i) there = let apart = there.0 in let off : (h.house.0 == x) ≡ false = grind (arith, nat_tests, apart) in
+    let rest = house_at hs x i there.1 in (rest.0, rw off rest.1, rest.2)
 
 -- one house more
-new_behind : (h w : LocalHouse) (hs : List LocalHouse) (b : Bool) → (h.house.0 == w.house.0) ≡ b → (if b then Some h else house_of hs w.house.0) ≡ None → (house_of hs w.house.0 ≡ None) × (b ≡ false)
+new_behind : (h w : LocalHouse) (hs : List LocalHouse) (b : Bool) → (h.house.0 == w.house.0) ≡ b → (if b then Some h else house_of hs w.house.0) ≡ None
+    → (house_of hs w.house.0 ≡ None) × (b ≡ false)
 new_behind h w hs true on new = absurd (cc)
 new_behind h w hs false off new = (new, refl)
 
-pub house_added : (hs : List LocalHouse) (w : LocalHouse) → house_of hs w.house.0 ≡ None → (y : ℕ) → house_of (hs ++ w ∷ []) y ≡ (if w.house.0 == y then Some w else house_of hs y)
+-- the houses after one more
+pub house_added : (hs : List LocalHouse) (w : LocalHouse) → house_of hs w.house.0 ≡ None → (y : ℕ)
+    → house_of (hs ++ w ∷ []) y ≡ (if w.house.0 == y then Some w else house_of hs y)
 house_added [] w new y = refl
 house_added (h ∷ hs) w new y =
     let behind = new_behind h w hs (h.house.0 == w.house.0) refl new in
@@ -82,12 +91,14 @@ house_added (h ∷ hs) w new y =
     go true on apart rest = let other : (w.house.0 == y) ≡ false = grind (arith, nat_tests, on, apart) in rw other refl
     go false off apart rest = rest
 
+-- and their numbers
 pub numbers_added : (hs : List LocalHouse) (w : LocalHouse) → numbers_of (hs ++ w ∷ []) ≡ numbers_of hs ++ w.house.0 ∷ []
 numbers_added [] w = refl
 numbers_added (h ∷ hs) w = ap (λ ns. h.house.0 ∷ ns) (numbers_added hs w)
 
 -- what a search from the front finds
-pub found_from_front : (hs : List LocalHouse) (x : ℕ) (r : Option ℕ) → r ≡ position_from (is_house x) 0 hs → MatchOption r (house_of hs x ≡ None) (IsPlaceOf hs x)
+pub found_from_front : (hs : List LocalHouse) (x : ℕ) (r : Option ℕ) → r ≡ position_from (is_house x) 0 hs
+    → MatchOption r (house_of hs x ≡ None) (IsPlaceOf hs x)
 found_from_front hs x r is = at r (subst (Place hs x 0) (sym is) (place_found x 0 hs))
   where
     at : (r : Option ℕ) → Place hs x 0 r → MatchOption r (house_of hs x ≡ None) (IsPlaceOf hs x)
@@ -104,7 +115,8 @@ place_within (h ∷ hs) x (suc i) there = let less = place_within hs x i there.1
 pub get_at_place : (hs : List LocalHouse) (x i : ℕ) (d : LocalHouse) → IsPlaceOf hs x i → house_of hs x ≡ Some (get_or hs i d)
 get_at_place [] x i d there = absurd there
 get_at_place (h ∷ hs) x zero d there = let on : (h.house.0 == x) ≡ true = grind (arith, nat_tests, there) in rw on refl
-get_at_place (h ∷ hs) x (suc i) d there = let apart = there.0 in let off : (h.house.0 == x) ≡ false = grind (arith, nat_tests, apart) in rw off (get_at_place hs x i d there.1)
+get_at_place (h ∷ hs) x (suc i) d there = let apart = there.0 in let off : (h.house.0 == x) ≡ false = grind (arith, nat_tests, apart) in
+    rw off (get_at_place hs x i d there.1)
 
 -- the house that an index reads at the place of a number
 pub house_there : (hs : List LocalHouse) (x i : ℕ) (h : LocalHouse) → IsPlaceOf hs x i → h ≡ get_or hs i h → (house_of hs x ≡ Some h) × (h.house.0 ≡ x)
@@ -126,20 +138,26 @@ once_behind x xs once = (grind (arith, nat_tests, once), grind (arith, nat_tests
 abbrev pub is_either : Cell → (x node : ℕ) → ℕ → Bool
 is_either g x node y = (y == x) || ((g.house y).node == node)
 
+-- the house has this number or this node
 abbrev pub has_either : (x node : ℕ) → LocalHouse → Bool
 has_either x node h = (h.house.0 == x) || (h.node == node)
 
-pub taken_alike : (g : Cell) (x node : ℕ) (hs : List LocalHouse) → stands_twice (numbers_of hs) ≡ false → ((y : ℕ) → MaybeStandsHouse (house_of hs y) (g.house y)) → list_any (has_either x node) hs ≡ list_any (is_either g x node) (numbers_of hs)
+-- the program and the model find the number or the node taken alike
+pub taken_alike : (g : Cell) (x node : ℕ) (hs : List LocalHouse) → stands_twice (numbers_of hs) ≡ false
+    → ((y : ℕ) → MaybeStandsHouse (house_of hs y) (g.house y)) → list_any (has_either x node) hs ≡ list_any (is_either g x node) (numbers_of hs)
 taken_alike g x node [] once stands = refl
 taken_alike g x node (h ∷ hs) once stands =
     let apart = once_behind h.house.0 (numbers_of hs) once in
     cc (head (stands h.house.0), taken_alike g x node hs apart.1 (λ y. rest y (h.house.0 == y) refl apart.0 (stands y)))
   where
-    head : MaybeStandsHouse (if h.house.0 == h.house.0 then Some h else house_of hs h.house.0) (g.house h.house.0) → has_either x node h ≡ is_either g x node h.house.0
+    head : MaybeStandsHouse (if h.house.0 == h.house.0 then Some h else house_of hs h.house.0) (g.house h.house.0)
+        → has_either x node h ≡ is_either g x node h.house.0
     head there = let same : (h.house.0 == h.house.0) ≡ true = grind (arith, nat_tests) in let house = rw same at there in rw house.node refl
 
-    rest : (y : ℕ) (b : Bool) → (h.house.0 == y) ≡ b → has h.house.0 (numbers_of hs) ≡ false → MaybeStandsHouse (if b then Some h else house_of hs y) (g.house y) → MaybeStandsHouse (house_of hs y) (g.house y)
-    rest y true on apart there = let is : h.house.0 ≡ y = grind (arith, nat_tests, on) in rw (not_there hs y (ap (λ n. has n (numbers_of hs)) (sym is) ∙ apart)) tt
+    rest : (y : ℕ) (b : Bool) → (h.house.0 == y) ≡ b → has h.house.0 (numbers_of hs) ≡ false
+        → MaybeStandsHouse (if b then Some h else house_of hs y) (g.house y) → MaybeStandsHouse (house_of hs y) (g.house y)
+    rest y true on apart there = let is : h.house.0 ≡ y = grind (arith, nat_tests, on) in
+        rw (not_there hs y (ap (λ n. has n (numbers_of hs)) (sym is) ∙ apart)) tt
     rest y false off apart there = there
 
 -- one number more

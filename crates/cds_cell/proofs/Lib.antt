@@ -6,3 +6,4 @@ pub mod DirectorySteps
 pub mod Ascending
 pub mod Told
 pub mod Sorting
+pub mod ModelObjects

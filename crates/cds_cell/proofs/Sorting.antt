@@ -17,6 +17,7 @@ times_summed z (h ∷ hs) =
     ap (λ n. one_if (h.0 == z) + n) (times_summed z hs)
     ∙ sym (sum_by_pushed (λ (x : HouseNo). one_if (x.0 == z)) h hs (h ∷ hs) (IsPermutation-refl (h ∷ hs)))
 
+-- sorting leaves each number as often as before
 pub sorted_times : (z : ℕ) (xs ys : List HouseNo) → IsPermutation xs ys → times z (numbers ys) ≡ times z (numbers xs)
 sorted_times z xs ys moved = times_summed z ys ∙ sum_by-IsPermutation (λ (h : HouseNo). one_if (h.0 == z)) xs ys moved ∙ sym (times_summed z xs)
 
@@ -25,10 +26,13 @@ all_by_place : (x : ℕ) (hs : List HouseNo) → ((k : ℕ) (d : HouseNo) → k 
 all_by_place x [] each = tt
 all_by_place x (h ∷ hs) each = (each 0 h (omega arith), all_by_place x hs (λ k d less. each (suc k) d (omega (arith, less))))
 
+-- sorted houses have ascending numbers
 pub sorted_rises : (hs : List HouseNo) → IsNonDecreasingBy (λ (h : HouseNo). h.0) hs → Rises (numbers hs)
 sorted_rises [] sorted = tt
-sorted_rises (h ∷ hs) sorted =
-    (all_by_place h.0 hs (λ k d less. sorted 0 (suc k) d (omega arith) (omega (arith, less))), sorted_rises hs (IsNonDecreasingBy-drop (λ (x : HouseNo). x.0) 1 (h ∷ hs) sorted))
+sorted_rises (h ∷ hs) sorted = (
+  all_by_place h.0 hs (λ k d less. sorted 0 (suc k) d (omega arith) (omega (arith, less))),
+  sorted_rises hs (IsNonDecreasingBy-drop (λ (x : HouseNo). x.0) 1 (h ∷ hs) sorted),
+)
 
 -- a test of numbers, over houses
 pub any_of_numbers : (f : ℕ → Bool) (hs : List HouseNo) → list_any (λ (h : HouseNo). f h.0) hs ≡ list_any f (numbers hs)

@@ -5,6 +5,7 @@ use Rattle.std.specs.List.{list_any}
 use Rattle.std.specs.Option.{option_or}
 use Rattle.std.proofs.lemmas.Bool.Decides.{nat_tests}
 use Rattle.cds_stamps.specs.declared.numbers.HouseNo.{HouseNo}
+use Rattle.cds_stamps.specs.Numbers.{root_dir}
 use Rattle.cds_stamps.specs.Members.{master_of, others_of}
 use Rattle.cell_names.specs.ChildPointers.{Pointer}
 use Rattle.directory.specs.Shown.{shown, shown_in}
@@ -17,7 +18,7 @@ use Rattle.cds_cell.specs.declared.cell.Cell.{Cell}
 use Rattle.cds_cell.specs.declared.house.LocalHouse.{LocalHouse}
 use Rattle.cds_cell.specs.declared.house.LocalDirectory.{LocalDirectory}
 use Rattle.cds_cell.specs.Asking.{Asked, answering, answering_as_master, asked, first_some, held_in, preferring}
-use Rattle.cds_cell.specs.Readings.{root_dir, root_pointer, shown_sight, sight_at, values_of, values_at, reading}
+use Rattle.cds_cell.specs.Readings.{root_pointer, shown_sight, sight_at, values_of, values_at, reading}
 use Rattle.cds_cell.specs.Standing.{Stands, StandsDirectory, MaybeStandsHouse, IsElsewhere, directory_of, house_of, alone}
 use Rattle.cds_cell.specs.Telling.{told, told_sight, told_values, first_pointer}
 use Rattle.cds_cell.proofs.Accepting.{seen_in}
@@ -37,7 +38,8 @@ module _ (f : ℕ → Option Asked) (m : ℕ) (a : Asked) (there : f m ≡ Some 
   first_of_one [] = refl
   first_of_one (x ∷ xs) = go (m == x) refl (first_of_one xs)
     where
-      go : (b : Bool) → (m == x) ≡ b → first_some f xs ≡ (if has m xs then Some a else None) → option_or (f x) (first_some f xs) ≡ (if b || has m xs then Some a else None)
+      go : (b : Bool) → (m == x) ≡ b → first_some f xs ≡ (if has m xs then Some a else None)
+          → option_or (f x) (first_some f xs) ≡ (if b || has m xs then Some a else None)
       go true on rest = let is : m ≡ x = grind (arith, nat_tests, on) in let here : f x ≡ Some a = ap f (sym is) ∙ there in rw here refl
       go false off rest = let apart : x ≢ m = grind (arith, nat_tests, off) in rw (others x apart) rest
 
@@ -70,7 +72,8 @@ module _ (c : Cell) (g : model.Cell) (s : Stands c g) (prefer : Option ℕ) (hig
     nobody : (x : ℕ) → answering g d x ≡ None
     nobody x = go ((g.house x).up)
       where
-        go : (b : Bool) → (if b then Rattle.std.specs.Option.option_map {U = Asked} (λ r. record { house = x; replica = r }) (held_in ((g.house x).slots d)) else None) ≡ None
+        go : (b : Bool) → (if b then Rattle.std.specs.Option.option_map {U = Asked} (λ r. record { house = x; replica = r }) (held_in ((g.house x).slots d))
+            else None) ≡ None
         go true = rw (slots x) refl
         go false = refl
 
@@ -114,7 +117,8 @@ module _ (c : Cell) (g : model.Cell) (s : Stands c g) (prefer : Option ℕ) (hig
     nobody_else : (x : ℕ) → x ≢ m → answering g d x ≡ None
     nobody_else x apart = go ((g.house x).up)
       where
-        go : (b : Bool) → (if b then Rattle.std.specs.Option.option_map {U = Asked} (λ r. record { house = x; replica = r }) (held_in ((g.house x).slots d)) else None) ≡ None
+        go : (b : Bool) → (if b then Rattle.std.specs.Option.option_map {U = Asked} (λ r. record { house = x; replica = r }) (held_in ((g.house x).slots d))
+            else None) ≡ None
         go true = rw (away x apart) refl
         go false = refl
 
@@ -124,15 +128,18 @@ module _ (c : Cell) (g : model.Cell) (s : Stands c g) (prefer : Option ℕ) (hig
     one_asked : (houses : List ℕ) → asked g d prefer high houses ≡ (if has m houses then Some one else None)
     one_asked houses = go high
       where
-        go : (b : Bool) → (if b then first_some (answering_as_master g d) houses else first_some (answering g d) (preferring prefer houses)) ≡ (if has m houses then Some one else None)
+        go : (b : Bool) → (if b then first_some (answering_as_master g d) houses else first_some (answering g d) (preferring prefer houses))
+            ≡ (if has m houses then Some one else None)
         go true = first_of_one (answering_as_master g d) m one answers_as_master nobody_else_as_master houses
-        go false = first_of_one (answering g d) m one answers nobody_else (preferring prefer houses) ∙ ap (λ (b : Bool). if b then Some one else None) (has_preferred m prefer houses)
+        go false = first_of_one (answering g d) m one answers nobody_else (preferring prefer houses)
+            ∙ ap (λ (b : Bool). if b then Some one else None) (has_preferred m prefer houses)
 
     shows : (name : List ℕ) → shown_in l.table name ≡ shown stands.replica.history name
     shows name = seen_in l.table stands.replica.history name stands.table
 
   -- what is seen, and which values
-  sees_alike : (p : Pointer) (name : List ℕ) (o : Option LocalDirectory) → directory_of c.directories.items p.dir ≡ o → told_sight name p o ≡ sight_at name (asked g p.dir prefer high (p.master ∷ p.others))
+  sees_alike : (p : Pointer) (name : List ℕ) (o : Option LocalDirectory) → directory_of c.directories.items p.dir ≡ o
+      → told_sight name p o ≡ sight_at name (asked g p.dir prefer high (p.master ∷ p.others))
   sees_alike p name None none = ap (sight_at name) (sym (none_asked p.dir none (p.master ∷ p.others)))
   sees_alike p name (Some l) at = go (has l.master.0 (p.master ∷ p.others)) ∙ ap (sight_at name) (sym (one_asked p.dir l at (p.master ∷ p.others)))
     where
@@ -140,18 +147,20 @@ module _ (c : Cell) (g : model.Cell) (s : Stands c g) (prefer : Option ℕ) (hig
       go true = ap (shown_sight l.master.0) (shows p.dir l at name)
       go false = refl
 
-  values_alike : (f : Found) (attr : List ℕ) (o : Option LocalDirectory) → directory_of c.directories.items f.dir.0 ≡ o → told_values f attr o ≡ values_at f attr (held_in ((g.house f.house.0).slots f.dir.0))
-  values_alike f attr None none = rw (slots f.dir.0 none f.house.0) refl
+  values_alike : (f : Found) (attr : List ℕ) (o : Option LocalDirectory) → directory_of c.directories.items f.dir.0 ≡ o
+      → told_values f attr o ≡ values_at f attr (answering g f.dir.0 f.house.0)
+  values_alike f attr None none = rw (nobody f.dir.0 none f.house.0) refl
   values_alike f attr (Some l) at = go (l.master.0 == f.house.0) refl
     where
-      go : (b : Bool) → (l.master.0 == f.house.0) ≡ b → (if b then values_of attr (shown_in l.table f.name) else []) ≡ values_at f attr (held_in ((g.house f.house.0).slots f.dir.0))
+      go : (b : Bool) → (l.master.0 == f.house.0) ≡ b
+          → (if b then values_of attr (shown_in l.table f.name) else []) ≡ values_at f attr (answering g f.dir.0 f.house.0)
       go true on =
           let is : l.master.0 ≡ f.house.0 = grind (arith, nat_tests, on) in
-          let held : (g.house f.house.0).slots f.dir.0 ≡ Held (stands f.dir.0 l at).replica = ap (λ x. (g.house x).slots f.dir.0) (sym is) ∙ (stands f.dir.0 l at).held in
-          rw held (ap (values_of attr) (shows f.dir.0 l at f.name))
+          let asked_there : answering g f.dir.0 f.house.0 ≡ Some (one f.dir.0 l at) = ap (answering g f.dir.0) (sym is) ∙ answers f.dir.0 l at in
+          rw asked_there (ap (values_of attr) (shows f.dir.0 l at f.name))
       go false off =
           let apart : f.house.0 ≢ l.master.0 = grind (arith, nat_tests, off) in
-          rw (away f.dir.0 l at f.house.0 apart) refl
+          rw (nobody_else f.dir.0 l at f.house.0 apart) refl
 
   root_alike : (ls : List LocalDirectory) → c.directories.items ≡ ls → first_pointer ls ≡ root_pointer g
   root_alike [] is = let top : g.top root_dir ≡ 0 = (let known = s.directories 1 in rw is at known) in rw top refl
@@ -160,9 +169,12 @@ module _ (c : Cell) (g : model.Cell) (s : Stands c g) (prefer : Option ℕ) (hig
       let top : g.top root_dir ≡ 1 = (stands 1 l at).top in
       let present : g.present root_dir ≡ alone l.master.0 = (stands 1 l at).present in
       let master : master_of (g.present root_dir) ≡ l.master.0 = ap master_of present ∙ alone_master l.master.0 in
-      let others : others_of (master_of (g.present root_dir)) (g.present root_dir) ≡ [] = ap (λ x. others_of x (g.present root_dir)) master ∙ ap (others_of l.master.0) present ∙ alone_others l.master.0 in
-      rw top (ap Some (ap (λ x. record { dir = root_dir; master = x; others = [] }) (sym master) ∙ ap (λ xs. record { dir = root_dir; master = master_of (g.present root_dir); others = xs }) (sym others)))
+      let others : others_of (master_of (g.present root_dir)) (g.present root_dir) ≡ [] = ap (λ x. others_of x (g.present root_dir)) master
+      ∙ ap (others_of l.master.0) present ∙ alone_others l.master.0 in
+      rw top (ap Some (ap (λ x. record { dir = root_dir; master = x; others = [] }) (sym master)
+      ∙ ap (λ xs. record { dir = root_dir; master = master_of (g.present root_dir); others = xs }) (sym others)))
 
+  -- what the program tells a reader is what the model tells it
   pub told_is_reading : told c ≡ reading g prefer high
   told_is_reading i = record {
     root = root_alike c.directories.items refl i;

@@ -3,3 +3,4 @@ pub mod Readings
 pub mod Scripted
 pub mod Standing
 pub mod Telling
+pub mod TellingProofs

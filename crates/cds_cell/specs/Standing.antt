@@ -1,5 +1,6 @@
 -- Which cell of the model a cell of the program stands for: each directory at one house alone (own).
-use Rattle.std.specs.Prelude.{◌≡◌, ◌≢◌, ℕ, zero, suc, ◌+◌, ◌≤◌, ◌==◌, if◌then◌else◌, max, true, false, List, [], ◌∷◌, ◌++◌, map, length, slice_get, Option, Some, None}
+use Rattle.std.specs.Prelude.{◌≡◌, ◌≢◌, ℕ, zero, suc, ◌+◌, ◌≤◌, ◌==◌, if◌then◌else◌, max, true, false, List, [], ◌∷◌, ◌++◌, map, length, slice_get}
+use Rattle.std.specs.Prelude.{Option, Some, None}
 use Rattle.std.specs.FinMap.{FinMap}
 use Rattle.std.specs.List.{Contains}
 use Rattle.cds_stamps.specs.declared.stamp.Stamp.{Stamp}
@@ -41,6 +42,7 @@ pub record StandsHouse (h : LocalHouse) (m : model.House) : Type 0 where
   pub clock : m.clock ≡ h.clock
   pub floor : m.floor ≡ h.floor.time
 
+-- the same, where there is a house (own)
 abbrev pub MaybeStandsHouse : Option LocalHouse → model.House → Type 0
 MaybeStandsHouse None m = Unit {0}
 MaybeStandsHouse (Some h) m = StandsHouse h m
@@ -67,6 +69,7 @@ abbrev pub directory_of : List LocalDirectory → ℕ → Option LocalDirectory
 directory_of ls zero = None
 directory_of ls (suc i) = slice_get ls i
 
+-- the same, where there is a directory; else the console knows none of that number (own)
 abbrev pub MaybeStandsDirectory : Option LocalDirectory → model.Cell → ℕ → Type 0
 MaybeStandsDirectory None g d = g.top d ≡ 0
 MaybeStandsDirectory (Some l) g d = StandsDirectory l g d
@@ -125,6 +128,7 @@ pub record Took (h : List Mark) (time : ℕ) (expected : Accepted) (marks : List
   pub table : t ≡ table_of (h ++ marks)
   pub floor : time' ≡ time
 
+-- what comes of an update, by whether it is refused and which stamp is issued (own)
 abbrev pub Updates : List Mark → Change → (floor : ℕ) → Option UpdateRefusal → Option Stamp → Accepted → FinMap octets_cmp EntryCell → ℕ → Type 0
 Updates h u floor (Some r) stamp a table' floor' = Took h floor (accepted.Refused r) [] a table' floor'
 Updates h u floor None None a table' floor' = Took h floor (accepted.Refused update.StampsSpent) [] a table' floor'

@@ -1,5 +1,6 @@
 // The cell, and its steps.
-ghost use Rattle.std.specs.Prelude.{option_copied, is_some, not, ℕ, ◌+◌, ◌++◌, ◌∷◌, OnOk, None, Some, ◌≡◌, ◌<◌, [], length, IfOk, MatchOption, IsSomeAnd, slice_get, true, false};
+ghost use Rattle.std.specs.Prelude.{option_copied, is_some, not, ℕ, ◌+◌, ◌++◌, ◌∷◌, OnOk, None, Some, ◌≡◌, ◌<◌, [], length, IfOk, MatchOption};
+ghost use Rattle.std.specs.Prelude.{IsSomeAnd, slice_get, true, false};
 ghost use Rattle.std.specs.FinMap as map;
 ghost use Rattle.directory.specs.Updates.{change_of};
 ghost use Rattle.cell_model.specs.Cells as model;
@@ -13,11 +14,11 @@ ghost use Rattle.cds_cell.specs.Scripted.{NamesOneHouse, numbers, step_of};
 ghost use Rattle.cds_cell.specs.Standing.{step_meant, Stands, IsStep, IsAccepted, house_of, directory_of, IsPlaceOf};
 
 use crate::house::{LocalDirectory, LocalHouse};
-use crate::pointing::{alone, house_list};
+use crate::pointing::house_list;
 use crate::step::{Step, step_in};
 use crate::update::{Accepted, update_table};
 use cds_stamps::{DirId, Floor, HouseNo, Node, SimpleName};
-use cell_names::ChildPointer;
+use cell_names::{ChildPointer, HouseList};
 use cell_script::{Answer, Command, ScriptRefusal, Serials};
 use directory::{Table, Update, UpdateRefusal};
 use std::alloc::{AllocError, Global};
@@ -132,7 +133,8 @@ impl Cell {
     // A directory more, without entries.
     fn found(&mut self, alloc: Global, master: HouseNo) -> Result<(), AllocError>
         ensures houses { self.new.houses ≡ self.old.houses }
-        ensures ok { OnOk result ((l : LocalDirectory) × (l.master ≡ master) × (l.table ≡ map.empty) × (self.new.directories.items ≡ self.old.directories.items ++ l ∷ [])) }
+        ensures ok { OnOk result ((l : LocalDirectory) × (l.master ≡ master) × (l.table ≡ map.empty)
+            × (self.new.directories.items ≡ self.old.directories.items ++ l ∷ [])) }
     {
         self.directories.push(LocalDirectory {
             master,
@@ -177,7 +179,8 @@ impl Cell {
         master: HouseNo,
         others: &[HouseNo],
     ) -> Result<Answer, AllocError>
-        ensures { (g : model.Cell) → Stands self.old g → IfOk result (λ a. IsStep a self.new (outcome g (command.Repoint house.0 dir.0 name master.0 (numbers others.now)))) }
+        ensures { (g : model.Cell) → Stands self.old g
+            → IfOk result (λ a. IsStep a self.new (outcome g (command.Repoint house.0 dir.0 name master.0 (numbers others.now)))) }
     {
         let Some(at) = self.directory_place(dir) else {
             return Ok(Answer::Refused(ScriptRefusal::NoDirectory));
@@ -242,10 +245,11 @@ impl Cell {
     ) -> Result<Answer, AllocError>
         requires house { by < length self.old.houses.items }
         requires directory { at < length self.old.directories.items }
-        ensures { (g : model.Cell) (h : ℕ) → Stands self.old g → IsPlaceOf self.old.houses.items h by → has master.0 g.made ≡ true → IfOk result (λ a. IsStep a self.new (mkdir g h (at + 1) name master.0 [])) }
+        ensures { (g : model.Cell) (h : ℕ) → Stands self.old g → IsPlaceOf self.old.houses.items h by → has master.0 g.made ≡ true
+            → IfOk result (λ a. IsStep a self.new (mkdir g h (at + 1) name master.0 [])) }
     {
         let child = self.next_directory()?;
-        let houses = alone(alloc, master)?;
+        let houses = HouseList::alone(alloc, master)?;
         let update = Update::MakeChild(name, ChildPointer { dir: child, houses });
         match self.accept_at(alloc, by, at, &update)? {
             Accepted::Stamped(stamp) => {
@@ -274,7 +278,8 @@ impl Cell {
         dir: DirId,
         update: &Update,
     ) -> Result<Answer, AllocError>
-        ensures { (g : model.Cell) → Stands self.old g → IfOk result (λ a. IsStep a self.new (outcome g (command.Accept house.0 dir.0 (change_of update.now)))) }
+        ensures { (g : model.Cell) → Stands self.old g
+            → IfOk result (λ a. IsStep a self.new (outcome g (command.Accept house.0 dir.0 (change_of update.now)))) }
     {
         let Some(at) = self.directory_place(dir) else {
             return Ok(Answer::Refused(ScriptRefusal::NoDirectory));
@@ -297,7 +302,8 @@ impl Cell {
         requires house { by < length self.old.houses.items }
         requires directory { at < length self.old.directories.items }
         ensures count { length self.new.directories.items ≡ length self.old.directories.items }
-        ensures step { (g : model.Cell) (h : ℕ) → Stands self.old g → IsPlaceOf self.old.houses.items h by → IfOk result (λ a. IsAccepted a self.new (accept g h (at + 1) (change_of update.now) ((g.house h).slots (at + 1)))) }
+        ensures step { (g : model.Cell) (h : ℕ) → Stands self.old g → IsPlaceOf self.old.houses.items h by
+            → IfOk result (λ a. IsAccepted a self.new (accept g h (at + 1) (change_of update.now) ((g.house h).slots (at + 1)))) }
     {
         if self.directories[at].master != self.houses[by].house {
             return Ok(Accepted::Refused(UpdateRefusal::NoReplica));
@@ -316,7 +322,9 @@ impl Cell {
         requires house { by < length self.old.houses.items }
         requires directory { at < length self.old.directories.items }
         ensures count { length self.new.directories.items ≡ length self.old.directories.items }
-        ensures step { (g : model.Cell) (h : ℕ) (l : LocalDirectory) → Stands self.old g → IsPlaceOf self.old.houses.items h by → directory_of self.old.directories.items (at + 1) ≡ Some l → l.master.0 ≡ h → IfOk result (λ a. IsAccepted a self.new (accept g h (at + 1) (change_of update.now) ((g.house h).slots (at + 1)))) }
+        ensures step { (g : model.Cell) (h : ℕ) (l : LocalDirectory) → Stands self.old g → IsPlaceOf self.old.houses.items h by
+            → directory_of self.old.directories.items (at + 1) ≡ Some l → l.master.0 ≡ h
+            → IfOk result (λ a. IsAccepted a self.new (accept g h (at + 1) (change_of update.now) ((g.house h).slots (at + 1)))) }
     {
         let directory = &mut self.directories[at];
         let house = &mut self.houses[by];

@@ -7,24 +7,14 @@ use cds_stamps::{AllocOr, HouseNo};
 use cell_names::HouseList;
 use std::alloc::{AllocError, Global};
 
-/// The houses of a directory that this one has alone.
-pub(crate) fn alone(alloc: Global, master: HouseNo) -> Result<HouseList, AllocError>
-    ensures { IfOk result (λ h. h ≡ record { master = master.0; others = [] }) }
-{
-    match HouseList::new(alloc, master, &[]) {
-        Ok(houses) => Ok(houses),
-        Err(AllocOr::Fault(_)) => unreachable!(),
-        Err(AllocOr::OutOfMemory) => Err(AllocError),
-    }
-}
-
 /// The houses of a directory; none, where one stands twice or they are more than 64.
 pub(crate) fn house_list(
     alloc: Global,
     master: HouseNo,
     others: &[HouseNo],
 ) -> Result<Option<HouseList>, AllocError>
-    ensures { IfOk result (λ o. MatchOption o (is_bad_list (master.0 ∷ numbers others.now) ≡ true) (λ h. (is_bad_list (master.0 ∷ numbers others.now) ≡ false) × (h ≡ record { master = master.0; others = ascending (numbers others.now) }))) }
+    ensures { IfOk result (λ o. MatchOption o (is_bad_list (master.0 ∷ numbers others.now) ≡ true) (λ h. (is_bad_list (master.0 ∷ numbers others.now) ≡ false)
+        × (h ≡ record { master = master.0; others = ascending (numbers others.now) }))) }
 {
     let others = in_order(alloc, others)?;
     match HouseList::new(alloc, master, &others) {

@@ -6,11 +6,11 @@ ghost use Rattle.directory.specs.Shown.{shown_in};
 ghost use Rattle.cell_model.specs.Steps.{has};
 ghost use Rattle.resolver.specs.Readers.{Unreachable, sight_of};
 ghost use Rattle.cds_cell.specs.Readings.{led_sight, link_sight, child_sight, shown_sight, values_of};
-ghost use Rattle.cds_cell.specs.Telling.{told};
+ghost use Rattle.cds_cell.specs.Telling.{told, told_objects};
+ghost use Rattle.cds_cell.specs.TellingProofs.{told_shows_only};
 
 use crate::cell::Cell;
 use crate::house::LocalDirectory;
-use crate::pointing::alone;
 use attr_sets::Value;
 use cds_stamps::{AllocOr, AttrName, DirId, HouseNo, SimpleName};
 use cell_names::{ChildPointer, FullName, HouseList};
@@ -28,11 +28,15 @@ pub struct CellReader<'a> {
 impl EntryReader for CellReader<'_> {
     ghost tells = { λ r. told r.cell.now };
 
+    ghost objects = { λ r. told_objects r.cell.now };
+
+    ghost shows_only = { λ r. told_shows_only r.cell.now };
+
     fn root(&self, alloc: Global) -> Result<Option<ChildPointer>, AllocError> {
         match self.cell.root_master() {
             Some(master) => Ok(Some(ChildPointer {
-                dir: DirId(1),
-                houses: alone(alloc, master)?,
+                dir: DirId::ROOT,
+                houses: HouseList::alone(alloc, master)?,
             })),
             None => Ok(None),
         }
@@ -65,7 +69,9 @@ fn look_up(
     houses: &HouseList,
     name: &SimpleName,
 ) -> Result<Seen, AllocError>
-    ensures { IfOk result (λ seen. sight_of seen ≡ (if has directory.now.master.0 (houses.now.master ∷ houses.now.others) then shown_sight directory.now.master.0 (shown_in directory.now.table name.now) else Unreachable)) }
+    ensures { IfOk result (λ seen. sight_of seen
+        ≡ (if has directory.now.master.0 (houses.now.master ∷ houses.now.others) then shown_sight directory.now.master.0 (shown_in directory.now.table name.now)
+        else Unreachable)) }
 {
     if is_listed(houses, directory.master) {
         see(alloc, directory, name)
@@ -135,7 +141,8 @@ fn values_at(
     at: &Found,
     attr: &AttrName,
 ) -> Result<Vec<Value>, AllocError>
-    ensures { IfOk result (λ found. found.items ≡ (if directory.now.master.0 == at.now.house.0 then values_of attr.now (shown_in directory.now.table at.now.name) else [])) }
+    ensures { IfOk result
+        (λ found. found.items ≡ (if directory.now.master.0 == at.now.house.0 then values_of attr.now (shown_in directory.now.table at.now.name) else [])) }
 {
     if directory.master == at.house {
         values(alloc, directory, &at.name, attr)

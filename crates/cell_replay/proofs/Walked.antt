@@ -1,25 +1,14 @@
--- The end of a walk as a question uses it.
-use Rattle.std.proofs.Common.{◌≡◌, List, ℕ, Bool, true, false, subst, ap}
-use Rattle.std.specs.Prelude.{Result, Some}
-use Rattle.cds_stamps.specs.declared.alloc_or.AllocOr.{AllocOr}
-use Rattle.cds_stamps.specs.Outcomes.{Answers}
+-- What the program reads is what the model reads.
+use Rattle.std.proofs.Common.{◌≡◌, List, ℕ, Bool, true, false, ap}
+use Rattle.std.specs.Prelude.{Some}
 use Rattle.cell_model.specs.Cells as model
-use Rattle.resolver.specs.declared.refusal.Refusal.{Refusal}
-use Rattle.resolver.specs.declared.seen.Found.{Found}
-use Rattle.resolver.specs.Readers.{Reader}
-use Rattle.resolver.specs.Walks.{SomeEnd, found_of}
-use Rattle.resolver.specs.WalkEnds.{end_is}
+use Rattle.resolver.specs.WalkEnds.{walked}
 use Rattle.cds_cell.specs.declared.cell.Cell.{Cell}
 use Rattle.cds_cell.specs.Standing.{Stands}
 use Rattle.cds_cell.specs.Telling.{told}
 use Rattle.cds_cell.specs.Readings.{reading}
 use Rattle.cds_cell.proofs.Told.{told_is_reading}
-use Rattle.cell_replay.specs.Replies.{walked, asked_of, values_read, target_read}
-
--- what a call answers of some end of a walk, it answers of its end
-pub walk_answers : (reader : Reader) (last : Bool) (name : List (List ℕ)) (r : Result Found (AllocOr Refusal))
-    → SomeEnd reader last name (λ e. Answers r (found_of e)) → Answers r (walked reader last name)
-walk_answers reader last name r some = subst (λ e. Answers r (found_of e)) (end_is some.1) some.2
+use Rattle.cell_replay.specs.Replies.{asked_of, values_read, target_read}
 
 -- what the program is told is what the model's cell tells
 pub read_alike : (c : Cell) (g : model.Cell) (s : Stands c g) (h : ℕ) (high : Bool) (name : List (List ℕ)) (attr : List ℕ)

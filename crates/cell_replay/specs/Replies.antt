@@ -11,8 +11,7 @@ use Rattle.resolver.specs.declared.refusal.Refusal.{Refusal}
 use Rattle.resolver.specs.declared.refusal.Refusal.TheVariants as refusal
 use Rattle.resolver.specs.declared.seen.Found.{Found}
 use Rattle.resolver.specs.Readers.{Reader}
-use Rattle.resolver.specs.Walks.{found_of}
-use Rattle.resolver.specs.WalkEnds.{end_of}
+use Rattle.resolver.specs.WalkEnds.{walked}
 use Rattle.cell_script.specs.declared.command.Question.{Question}
 use Rattle.cell_script.specs.declared.command.Question.TheVariants as question
 use Rattle.cell_script.specs.declared.command.ScriptLine.{ScriptLine}
@@ -30,10 +29,6 @@ use Rattle.cds_records.specs.declared.fault.RecordFault.TheVariants as fault
 use Rattle.cds_records.specs.Records.{message, tag_of}
 use Rattle.cds_records.specs.Decoding.{decoding}
 
--- what the walk of a full name finds, or why it finds nothing (own)
-abbrev pub walked : Reader → (follow_last : Bool) → List (List ℕ) → Result Found Refusal
-walked reader follow_last name = found_of (end_of reader follow_last name)
-
 -- why the script says that a walk finds nothing (own)
 abbrev pub refusal_of_walk : Refusal → ScriptRefusal
 refusal_of_walk (refusal.NoSuchName done) = why.NoSuchName done
@@ -49,7 +44,7 @@ abbrev pub values_read : Reader → (attr : List ℕ) → Result Found Refusal �
 values_read reader attr (Ok found) = answer.Values (reader.values found attr)
 values_read reader attr (Err r) = answer.Refused (refusal_of_walk r)
 
--- where the entry that is found leads, if it is a link: the name that its value reads as (C705, soft links)
+-- where the entry that is found leads, if it is a link: the name that its value reads as (own, after C705, soft links)
 abbrev pub first_target : List (List ℕ) → Answer
 first_target [] = answer.Refused why.NotLink
 first_target (v ∷ vs) = answer.Target (components_of v)

@@ -35,7 +35,8 @@ cell = listed true (
     ∷ [])
 
 -- one link is passed twice, with different rests of the name behind it
-a_link_twice : Ends cell true (sub ∷ up ∷ sub ∷ up ∷ obj ∷ []) (Found (record { dir = record { 0 = 1 }; house = record { 0 = 1 }; name = obj; kind = kind.Object }))
+a_link_twice : Ends cell true (sub ∷ up ∷ sub ∷ up ∷ obj ∷ [])
+    (Found (record { dir = record { 0 = 1 }; house = record { 0 = 1 }; name = obj; kind = kind.Object }))
 a_link_twice = goes _ refl (goes _ refl (goes _ refl (goes _ refl (stops refl))))
 
 -- the first name counts as come up

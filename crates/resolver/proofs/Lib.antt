@@ -1,3 +1,4 @@
 mod PassLaws
 mod SeenLaws
+mod EndLaws
 mod Examples

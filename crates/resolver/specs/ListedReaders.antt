@@ -1,9 +1,12 @@
--- A reader over a list of entries, for examples. Own.
-use Rattle.std.specs.Prelude.{ℕ, Bool, ◌&&◌, ◌==◌, List, [], ◌∷◌, Some, None, nat_eq, if◌then◌else◌}
+-- Words of examples and tests alone: a reader over a list of entries. Own.
+use Rattle.std.specs.Prelude.{ℕ, Bool, ◌&&◌, ◌==◌, List, [], ◌∷◌, Option, Some, None, nat_eq, if◌then◌else◌}
 use Rattle.std.specs.Cmp.Lexicographic.{pointwise}
+use Rattle.std.specs.List.{filter_map}
 use Rattle.cell_names.specs.ChildPointers.{Pointer}
 use Rattle.resolver.specs.declared.seen.Seen.{Seen}
-use Rattle.resolver.specs.Readers.{Reader, Sight, Absent, sight_of}
+use Rattle.resolver.specs.declared.seen.Seen.TheVariants as seen
+use Rattle.resolver.specs.declared.seen.Found.{Found}
+use Rattle.resolver.specs.Readers.{Reader, Sight, Absent, sight_of, object_found}
 
 -- a directory that house 1 alone has
 abbrev pub at_one : ℕ → Pointer
@@ -17,3 +20,15 @@ sight_in (e ∷ es) dir name = if e.0 == dir && pointwise nat_eq e.1 name then s
 -- the reader of these entries, with or without a root directory
 abbrev pub listed : (rooted : Bool) → List (ℕ × List ℕ × Seen) → Reader
 listed rooted entries = record { root = if rooted then Some (at_one 1) else None; sees = λ p name. sight_in entries p.dir name; values = λ _ _. [] }
+
+-- the object that an entry is, if it is one
+abbrev pub object_seen : (dir : ℕ) → List ℕ → Seen → Option Found
+object_seen dir name seen.Unreachable = None
+object_seen dir name (seen.Absent house) = None
+object_seen dir name (seen.Object house) = Some (object_found dir house.0 name)
+object_seen dir name (seen.Link house target) = None
+object_seen dir name (seen.Child house child) = None
+
+-- the objects among the entries
+abbrev pub objects_in : List (ℕ × List ℕ × Seen) → List Found
+objects_in es = filter_map (λ e. object_seen e.0 e.1 e.2) es

@@ -1,12 +1,15 @@
 -- What a reader of a cell tells (own, after C705, clerks and clearinghouses).
-use Rattle.std.specs.Prelude.{ℕ, List, Option}
+use Rattle.std.specs.Prelude.{◌≡◌, ℕ, List, Option}
+use Rattle.std.specs.List.{Contains}
 use Rattle.cell_names.specs.ChildPointers.{Pointer, pointer_in}
+use Rattle.directory.specs.declared.entry.Kind.TheVariants as kind
 use Rattle.resolver.specs.declared.seen.Seen.{Seen}
 use Rattle.resolver.specs.declared.seen.Seen.TheVariants as seen
 use Rattle.resolver.specs.declared.seen.Found.{Found}
 
 -- what is seen of a name in a directory: none of its houses answers; the house that was asked shows no entry of this
--- name; or it shows an object, a link to a full name, or a child (C705, object entries, soft links and child pointers)
+-- name; or it shows an object, a link to a full name, or a child (own, after C705, object entries, soft links and child
+-- pointers)
 pub data Sight : Type 0 where
   Unreachable : Sight
   Absent : (house : ℕ) → Sight
@@ -28,3 +31,11 @@ sight_of (seen.Absent house) = Absent house.0
 sight_of (seen.Object house) = Object house.0
 sight_of (seen.Link house target) = Link house.0 target
 sight_of (seen.Child house child) = Child house.0 (pointer_in child)
+
+-- an object of a directory, at the house that shows it (own)
+abbrev pub object_found : (dir house : ℕ) → List ℕ → Found
+object_found dir house name = record { dir = record { 0 = dir }; house = record { 0 = house }; name = name; kind = kind.Object }
+
+-- each object that the reader shows, by whichever pointer, is one of these: so they are finitely many (own)
+abbrev pub ShowsOnly : Reader → List Found → Type 0
+ShowsOnly reader objects = (at : Pointer) (house : ℕ) (name : List ℕ) → reader.sees at name ≡ Object house → Contains objects (object_found at.dir house name)

@@ -1,6 +1,7 @@
 -- Resolution: the walk of a full name through the directories of a cell (own, after C705, name resolution by clerks).
 use Rattle.std.specs.Prelude.{◌≡◌, ℕ, ◌+◌, Bool, nat_lt, not, List, [], ◌∷◌, ◌++◌, length, drop, Option, Some, None, Result, Ok, Err, if◌then◌else◌}
 use Rattle.std.specs.List.{list_any}
+use Rattle.cds_stamps.specs.Numbers.{root_dir}
 use Rattle.cell_names.specs.FullNames.{spelling, longest_name, is_name}
 use Rattle.cell_names.specs.ChildPointers.{Pointer}
 use Rattle.directory.specs.declared.entry.Kind.{Kind}
@@ -32,11 +33,7 @@ pub data Step : Type 0 where
 abbrev pub most_links : ℕ
 most_links = 64
 
--- the number of the root directory (own)
-abbrev pub root_dir : ℕ
-root_dir = 1
-
--- the walk of a full name begins at the root directory (C705, name resolution)
+-- the walk of a full name begins at the root directory (own, after C705, name resolution)
 abbrev pub start : Reader → List (List ℕ) → Walker
 start reader name = record { name = name; at = reader.root; done = 0; came_up = name ∷ []; links = 0 }
 
@@ -48,11 +45,12 @@ link_refusal links came_up name =
     else (if nat_lt longest_name (length (spelling name)) then Some NameTooLong
     else (if list_any (λ earlier. is_name earlier name) came_up then Some LinkCycle else None))
 
--- a link is followed: the walk of this name begins again at the root directory, unless that is refused (C705, soft links)
+-- a link is followed: the walk of this name begins again at the root directory, unless that is refused (own, after C705, soft links)
 abbrev pub follow_unless : Option Refusal → Reader → (links : ℕ) → (came_up : List (List (List ℕ))) → List (List ℕ) → Step
 follow_unless (Some why) reader links came_up name = Stops (ends.Refused why)
 follow_unless None reader links came_up name = Goes (record { name = name; at = reader.root; done = 0; came_up = came_up ++ name ∷ []; links = links + 1 })
 
+-- a link to this name, where so many were followed and these names came up (own)
 abbrev pub follow : Reader → (links : ℕ) → (came_up : List (List (List ℕ))) → List (List ℕ) → Step
 follow reader links came_up name = follow_unless (link_refusal links came_up name) reader links came_up name
 
@@ -64,7 +62,7 @@ abbrev pub missing : (dir house : ℕ) → List ℕ → (done : ℕ) → Step
 missing dir house name done = Stops (ends.Missing (record { dir = record { 0 = dir }; house = record { 0 = house }; name = name; kind = None }) done)
 
 -- the last component of a name, by what is seen of it. `last` says whether a link that is the last component is followed:
--- its target is the new name (C705, soft links and child pointers)
+-- its target is the new name (own, after C705, soft links and child pointers)
 abbrev pub at_last : Reader → (last : Bool) → Walker → (dir : ℕ) → List ℕ → Sight → Step
 at_last reader last w dir c Unreachable = Stops (ends.Refused (refusal.Unreachable (record { 0 = dir })))
 at_last reader last w dir c (Absent house) = missing dir house c w.done
@@ -73,7 +71,7 @@ at_last reader last w dir c (Child house child) = found dir house c kind.Child
 at_last reader last w dir c (Link house target) = if last then follow reader w.links w.came_up target else found dir house c kind.Link
 
 -- a component with this rest of the name behind it, by what is seen of it: a child is entered, and a link is followed, its
--- target and the rest being the new name (C705, soft links and child pointers)
+-- target and the rest being the new name (own, after C705, soft links and child pointers)
 abbrev pub at_inner : Reader → Walker → (dir : ℕ) → (rest : List (List ℕ)) → Sight → Step
 at_inner reader w dir rest Unreachable = Stops (ends.Refused (refusal.Unreachable (record { 0 = dir })))
 at_inner reader w dir rest (Absent house) = Stops (ends.Refused (NoSuchName w.done))
@@ -86,12 +84,13 @@ abbrev pub in_directory : Reader → (last : Bool) → Walker → (dir : ℕ) �
 in_directory reader last w dir c [] seen = at_last reader last w dir c seen
 in_directory reader last w dir c (d ∷ rest) seen = at_inner reader w dir (d ∷ rest) seen
 
--- one step, by what is left of the name and the directory where the walk is (C705, name resolution)
+-- one step, by what is left of the name and the directory where the walk is (own, after C705, name resolution)
 abbrev pub step_from : Reader → (last : Bool) → Walker → (left : List (List ℕ)) → Option Pointer → Step
 step_from reader last w [] at = Stops (ends.Refused RootName)
 step_from reader last w (c ∷ rest) None = Stops (ends.Refused (refusal.Unreachable (record { 0 = root_dir })))
 step_from reader last w (c ∷ rest) (Some p) = in_directory reader last w p.dir c rest (reader.sees p c)
 
+-- one step of a walk, from where it is (own)
 abbrev pub step : Reader → (last : Bool) → Walker → Step
 step reader last w = step_from reader last w (drop w.done w.name) w.at
 

@@ -2,7 +2,7 @@
 ghost use Rattle.std.specs.Prelude.{◌≡◌, ◌+◌, ◌<◌, ◌^◌, [], IfOk};
 ghost use Rattle.resolver.specs.Readers.{Reader, sight_of};
 ghost use Rattle.resolver.specs.Walks.{Walker, Stops, at_last, at_inner, in_directory, found};
-ghost use Rattle.resolver.specs.Passes.{step_of};
+ghost use Rattle.resolver.specs.PassWords.{step_of};
 
 use crate::refusal::Refusal;
 use crate::seen::{Found, Place, Seen};
@@ -30,7 +30,9 @@ impl Component<'_> {
         follow_last: bool,
     ) -> Result<Move, AllocError>
         requires { self.now.done + 1 < 2 ^ 32 }
-        ensures { IfOk result (λ next. (reader : Reader) (w : Walker) → let here : Walker = record w { done = self.now.done } in in_directory reader follow_last here self.now.dir.0 self.now.name.now self.now.rest.now (sight_of seen) ≡ step_of reader here self.now.rest.now next) }
+        ensures { IfOk result (λ next. (reader : Reader) (w : Walker) → let here : Walker = record w { done = self.now.done } in
+            in_directory reader follow_last here self.now.dir.0 self.now.name.now self.now.rest.now (sight_of seen)
+            ≡ step_of reader here self.now.rest.now next) }
     {
         if self.rest.is_empty() {
             self.lead_last(alloc, seen, follow_last)
@@ -41,7 +43,8 @@ impl Component<'_> {
 
     // Where it leads as the last component.
     fn lead_last(&self, alloc: Global, seen: Seen, follow_last: bool) -> Result<Move, AllocError>
-        ensures { IfOk result (λ next. (reader : Reader) (w : Walker) → let here : Walker = record w { done = self.now.done } in at_last reader follow_last here self.now.dir.0 self.now.name.now (sight_of seen) ≡ step_of reader here [] next) }
+        ensures { IfOk result (λ next. (reader : Reader) (w : Walker) → let here : Walker = record w { done = self.now.done } in
+            at_last reader follow_last here self.now.dir.0 self.now.name.now (sight_of seen) ≡ step_of reader here [] next) }
     {
         match seen {
             Seen::Unreachable => Ok(Move::Stop(End::Refused(Refusal::Unreachable(self.dir)))),
@@ -69,7 +72,8 @@ impl Component<'_> {
     // Where it leads with others behind it.
     fn lead_on(&self, seen: Seen) -> Move
         requires { self.now.done + 1 < 2 ^ 32 }
-        ensures { (reader : Reader) (w : Walker) → let here : Walker = record w { done = self.now.done } in at_inner reader here self.now.dir.0 self.now.rest.now (sight_of seen) ≡ step_of reader here self.now.rest.now result }
+        ensures { (reader : Reader) (w : Walker) → let here : Walker = record w { done = self.now.done } in
+            at_inner reader here self.now.dir.0 self.now.rest.now (sight_of seen) ≡ step_of reader here self.now.rest.now result }
     {
         match seen {
             Seen::Unreachable => Move::Stop(End::Refused(Refusal::Unreachable(self.dir))),

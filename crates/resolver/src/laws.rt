@@ -4,10 +4,11 @@ ghost use Rattle.resolver.specs.declared.walk.End.{End};
 ghost use Rattle.resolver.specs.Readers.{Reader};
 ghost use Rattle.resolver.specs.Walks.{Ends};
 ghost use Rattle.resolver.specs.SeenEnds.{IsSeenEnd};
+ghost use Rattle.resolver.specs.WalkEnds.{end_of};
 
-/// Each walk comes to an end, whatever the reader tells.
+/// Each walk comes to an end, whatever the reader tells: to that of the function `end_of`.
 pub fn walks_end()
-    ensures { (reader : Reader) (last : Bool) (name : List (List ℕ)) → (e : End) × Ends reader last name e }
+    ensures { (reader : Reader) (last : Bool) (name : List (List ℕ)) → Ends reader last name (end_of reader last name) }
 {}
 
 /// A walk has one end.

@@ -1,8 +1,11 @@
 // What the walk of a full name asks for.
-ghost use Rattle.std.specs.Prelude.{◌≡◌, IfOk};
+ghost use Rattle.std.specs.Prelude.{◌≡◌, List, IfOk};
+ghost use Rattle.std.specs.List.Sorted.{IsStrictlySortedBy};
 ghost use Rattle.std.specs.Option.{option_map};
+ghost use Rattle.cds_stamps.specs.Octets.{octets_cmp};
 ghost use Rattle.cell_names.specs.ChildPointers.{pointer_in};
-ghost use Rattle.resolver.specs.Readers.{Reader, sight_of};
+ghost use Rattle.resolver.specs.declared.seen.Found.{Found};
+ghost use Rattle.resolver.specs.Readers.{Reader, ShowsOnly, sight_of};
 
 use crate::seen::{Found, Seen};
 use attr_sets::Value;
@@ -14,6 +17,9 @@ use std::alloc::{AllocError, Global};
 pub trait EntryReader {
     /// What it tells.
     ghost tells: { Self → Reader };
+
+    /// Objects, all that it shows among them.
+    ghost objects: { Self → List Found };
 
     /// Where the root directory is, if there is one.
     fn root(&self, alloc: Global) -> Result<Option<ChildPointer>, AllocError>
@@ -28,7 +34,11 @@ pub trait EntryReader {
     ) -> Result<Seen, AllocError>
         ensures { IfOk result (λ seen. sight_of seen ≡ (tells self.now).sees (pointer_in at.now) name.now) };
 
-    /// The values of an attribute that show of an entry, in the order in which the reader tells them.
+    /// The values of an attribute that show of an entry, ascending, each once.
     fn values(&self, alloc: Global, at: &Found, attr: &AttrName) -> Result<Vec<Value>, AllocError>
-        ensures { IfOk result (λ found. found.items ≡ (tells self.now).values at.now attr.now) };
+        ensures told { IfOk result (λ found. found.items ≡ (tells self.now).values at.now attr.now) }
+        ensures ascending { IfOk result (λ found. IsStrictlySortedBy octets_cmp found.items) };
+
+    /// It shows no other objects.
+    ghost shows_only: { (r : Self) → ShowsOnly (tells r) (objects r) };
 }

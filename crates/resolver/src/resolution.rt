@@ -2,6 +2,7 @@
 ghost use Rattle.std.specs.Prelude.{true};
 ghost use Rattle.cds_stamps.specs.Outcomes.{Answers};
 ghost use Rattle.resolver.specs.Walks.{SomeEnd, found_of, place_of};
+ghost use Rattle.resolver.specs.WalkEnds.{walked, placed};
 
 use crate::reader::EntryReader;
 use crate::refusal::Refusal;
@@ -19,7 +20,8 @@ pub fn resolve<R: EntryReader>(
     name: &FullName,
     follow_last: bool,
 ) -> Result<Found, AllocOr<Refusal>>
-    ensures { SomeEnd (R.tells reader.now) follow_last name.now (λ end. Answers result (found_of end)) }
+    ensures ends { SomeEnd (R.tells reader.now) follow_last name.now (λ end. Answers result (found_of end)) }
+    ensures walked { Answers result (walked (R.tells reader.now) follow_last name.now) }
 {
     match walk(alloc, reader, name, follow_last)? {
         End::Found(found) => Ok(found),
@@ -35,7 +37,8 @@ pub fn place<R: EntryReader>(
     reader: &R,
     name: &FullName,
 ) -> Result<crate::seen::Place, AllocOr<Refusal>>
-    ensures { SomeEnd (R.tells reader.now) true name.now (λ end. Answers result (place_of end)) }
+    ensures ends { SomeEnd (R.tells reader.now) true name.now (λ end. Answers result (place_of end)) }
+    ensures placed { Answers result (placed (R.tells reader.now) name.now) }
 {
     match walk(alloc, reader, name, true)? {
         End::Found(found) => Ok(crate::seen::Place {

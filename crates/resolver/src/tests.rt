@@ -2,7 +2,8 @@
 ghost use Rattle.std.specs.Prelude.{◌≡◌, IfOk};
 ghost use Rattle.cell_names.specs.ChildPointers.{pointer_in};
 ghost use Rattle.resolver.specs.Readers.{sight_of};
-ghost use Rattle.resolver.specs.ListedReaders.{at_one, sight_in, listed};
+ghost use Rattle.resolver.specs.ListedReaders.{at_one, sight_in, listed, objects_in};
+ghost use Rattle.resolver.specs.ListedReaderProofs.{listed_shows_only};
 
 use crate::{EntryReader, Found, Refusal, Seen, place, resolve};
 use attr_sets::Value;
@@ -32,19 +33,6 @@ fn pointer(alloc: Global, dir: u32) -> Result<ChildPointer, AllocError>
     })
 }
 
-// What is seen, again.
-fn copy_of(alloc: Global, seen: &Seen) -> Result<Seen, AllocError>
-    ensures { IfOk result (λ s. sight_of s ≡ sight_of seen.now) }
-{
-    match seen {
-        Seen::Unreachable => Ok(Seen::Unreachable),
-        Seen::Absent(house) => Ok(Seen::Absent(*house)),
-        Seen::Object(house) => Ok(Seen::Object(*house)),
-        Seen::Link(house, target) => Ok(Seen::Link(*house, target.copy(alloc)?)),
-        Seen::Child(house, child) => Ok(Seen::Child(*house, child.copy(alloc)?)),
-    }
-}
-
 // What is seen of a name in the entries of a directory.
 fn look_up(
     alloc: Global,
@@ -56,7 +44,7 @@ fn look_up(
 {
     for entry in entries {
         if entry.0 == dir && entry.1 == *name {
-            return copy_of(alloc, &entry.2);
+            return entry.2.copy(alloc);
         }
     }
     Ok(Seen::Absent(HOUSE))
@@ -64,6 +52,10 @@ fn look_up(
 
 impl EntryReader for Listed {
     ghost tells = { λ r. listed r.rooted r.entries.items };
+
+    ghost objects = { λ r. objects_in r.entries.items };
+
+    ghost shows_only = { λ r. listed_shows_only r.rooted r.entries.items };
 
     fn root(&self, alloc: Global) -> Result<Option<ChildPointer>, AllocError> {
         if self.rooted {

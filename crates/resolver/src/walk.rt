@@ -5,7 +5,7 @@ ghost use Rattle.cds_stamps.specs.Outcomes.{Answers, ok_unless};
 ghost use Rattle.cell_names.specs.FullNames.{is_name};
 ghost use Rattle.cell_names.specs.ChildPointers.{pointer_in};
 ghost use Rattle.resolver.specs.Walks.{Ends, link_refusal};
-ghost use Rattle.resolver.specs.Passes.{Passes, present_name, current_dir, beginning};
+ghost use Rattle.resolver.specs.PassWords.{Passes, present_name, current_dir, beginning};
 
 use crate::component::Component;
 use crate::reader::EntryReader;
@@ -14,9 +14,6 @@ use crate::seen::{Found, Place};
 use cds_stamps::{AllocOr, DirId};
 use cell_names::{ChildPointer, FullName, SpliceFault};
 use std::alloc::{AllocError, Global};
-
-/// The number of the root directory.
-const ROOT: DirId = DirId(1);
 
 /// The most links that one walk follows.
 const MOST_LINKS: usize = 64;
@@ -61,7 +58,7 @@ pub(crate) fn walk<R: EntryReader>(
     }
     match reader.root(alloc)? {
         Some(root) => walk_from(alloc, reader, &root, name, follow_last),
-        None => Ok(End::Refused(Refusal::Unreachable(ROOT))),
+        None => Ok(End::Refused(Refusal::Unreachable(DirId::ROOT))),
     }
 }
 
@@ -97,7 +94,8 @@ fn walk_name<R: EntryReader>(
     name: &FullName,
     follow_last: bool,
 ) -> Result<Pass, AllocError>
-    ensures { IfOk result (λ pass. (came_up : List (List (List ℕ))) (links : ℕ) → Passes (R.tells reader.now) follow_last (beginning root.now name.now came_up links) pass) }
+    ensures { IfOk result (λ pass. (came_up : List (List (List ℕ))) (links : ℕ)
+        → Passes (R.tells reader.now) follow_last (beginning root.now name.now came_up links) pass) }
 {
     let components = name.components();
     let mut entered = None;
@@ -155,7 +153,8 @@ fn follow(
     at: usize,
 ) -> Result<FullName, AllocOr<Refusal>>
     requires { at < length (present_name first.now later.now) }
-    ensures { let next = target.now ++ drop (at + 1) (present_name first.now later.now) in Answers result (ok_unless (link_refusal (length later.now) (first.now ∷ later.now) next) next) }
+    ensures { let next = target.now ++ drop (at + 1) (present_name first.now later.now) in
+        Answers result (ok_unless (link_refusal (length later.now) (first.now ∷ later.now) next) next) }
 {
     if later.len() >= MOST_LINKS {
         return Err(AllocOr::Fault(Refusal::TooManyLinks));

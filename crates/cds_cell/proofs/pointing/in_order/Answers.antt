@@ -14,4 +14,5 @@ returns c =
     one_order (numbers sorted) (ascending (numbers c.args.houses.now))
     (sorted_rises sorted (IsNonDecreasingBy-from_sort (λ (h : HouseNo). h.0) sorted c.sort_unstable.ensures.sorted))
     (ascending_rises (numbers c.args.houses.now))
-    (λ z. sorted_times z given sorted c.sort_unstable.ensures.permutation ∙ ap (λ hs. times z (numbers hs)) c.in_ok-sorted.ensures.items ∙ sym (ascending_times z (numbers c.args.houses.now)))
+    (λ z. sorted_times z given sorted c.sort_unstable.ensures.permutation ∙ ap (λ hs. times z (numbers hs)) c.in_ok-sorted.ensures.items
+    ∙ sym (ascending_times z (numbers c.args.houses.now)))

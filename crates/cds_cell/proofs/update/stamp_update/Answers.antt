@@ -11,9 +11,11 @@ returns-in_ok-join_update-in-Some c h known below stands =
     let s = c.in-Some.stamp in
     let issued : Some s ≡ next_stamp c.args.clock c.args.floor.now.time c.args.node = c.in-Some.ensures.stamp in
     let before = before_next h c.args.floor.now.time s below (next_above _ _ _ s (sym issued)) in
-    stamped_as h u c.args.floor.now.time c.join_update.new.table None _ s c.issue.new.self.time refl issued (c.in_ok-join_update-in-Some.ensures.ok h known before stands) c.in-Some.ensures.floor
+    stamped_as h u c.args.floor.now.time c.join_update.new.table None _ s c.issue.new.self.time refl issued
+    (c.in_ok-join_update-in-Some.ensures.ok h known before stands) c.in-Some.ensures.floor
 
 pub returns-in-None : goal.returns-in-None
 returns-in-None c h known below stands =
     let u = change_of c.args.update.now in
-    spent_as h u c.args.floor.now.time c.args.table.now None _ c.issue.new.self.time refl c.in-None.ensures.stamp stands (ap (λ (f : Floor). f.time) c.in-None.ensures.floor)
+    spent_as h u c.args.floor.now.time c.args.table.now None _ c.issue.new.self.time refl c.in-None.ensures.stamp stands
+    (ap (λ (f : Floor). f.time) c.in-None.ensures.floor)

@@ -14,5 +14,6 @@ returns-in-Err c h known below stands =
 pub returns-in-Ok : goal.returns-in-Ok
 returns-in-Ok c h known below stands =
     let u = change_of c.args.update.now in
-    let accepted : refusal_of (shown h (changed_name u)) u ≡ None = ap (λ e. refusal_of e u) (sym (seen_in c.args.table.now h (changed_name u) stands)) ∙ (ok_unless-Ok _ _ _ (sym c.in-Ok.ensures)).0 in
+    let accepted : refusal_of (shown h (changed_name u)) u ≡ None = ap (λ e. refusal_of e u) (sym (seen_in c.args.table.now h (changed_name u) stands))
+    ∙ (ok_unless-Ok _ _ _ (sym c.in-Ok.ensures)).0 in
     rw accepted (c.stamp_update.ensures h known below stands)

@@ -2,7 +2,8 @@ use Rattle.std.proofs.Common.{◌≡◌, ◌∙◌, true, false, Some}
 use Rattle.std.proofs.lemmas.Result.{IfOk-weaker}
 use Rattle.cds_cell.specs.Telling.{told}
 use Rattle.cds_cell.specs.Readings.{reading}
-use Rattle.cell_replay.specs.Replies.{asked_of, values_read, target_read, walked}
+use Rattle.resolver.specs.WalkEnds.{walked}
+use Rattle.cell_replay.specs.Replies.{asked_of, values_read, target_read}
 use Rattle.cell_replay.proofs.Walked.{read_alike, target_alike}
 use Rattle.cell_replay.proofs.questions.answer_question.Goals as goal
 

@@ -1,4 +1,4 @@
-use Rattle.resolver.specs.WalkEnds.{one_end}
+use Rattle.resolver.specs.WalkEndProofs.{one_end}
 use Rattle.resolver.proofs.laws.walks_have_one_end.Goals as goal
 
 pub returns : goal.returns

@@ -8,4 +8,5 @@ pub returns-then-len-eq0 : goal.returns-then-len-eq0
 returns-then-len-eq0 g c = empty_walk c.args.name.now (sym c.len.ensures ∙ c.if-len-eq0.true)
 
 pub returns-in-None : goal.returns-in-None
-returns-in-None g c = rootless_walk c.args.name.now (λ empty. c.if-len-eq0.false (c.len.ensures ∙ empty)) (sym c.in_ok-root.ensures ∙ ap (option_map pointer_in) c.in-None.is)
+returns-in-None g c = rootless_walk c.args.name.now (λ empty. c.if-len-eq0.false (c.len.ensures ∙ empty)) (sym c.in_ok-root.ensures
+    ∙ ap (option_map pointer_in) c.in-None.is)

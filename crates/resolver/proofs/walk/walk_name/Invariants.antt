@@ -1,7 +1,7 @@
 use Rattle.std.proofs.Common.{ℕ, List}
 use Rattle.resolver.specs.declared.walk.End.{End}
 use Rattle.resolver.specs.Walks.{EndsFrom}
-use Rattle.resolver.specs.Passes.{current_dir, beginning, inside}
+use Rattle.resolver.specs.PassWords.{current_dir, beginning, inside}
 use Rattle.resolver.proofs.walk.walk_name.Given as goal
 
 -- the walk of these components ends as it does from the component at hand on

@@ -9,5 +9,6 @@ use Rattle.cds_cell.proofs.cell.Cell.lacks.Goals as goal
 
 pub returns-else-not-is_made : goal.returns-else-not-is_made
 returns-else-not-is_made c =
-    let any = any_from_yields_List (λ (h : HouseNo). not (is_some (house_of c.args.self.now.houses.items h.0))) _ _ c.any.result c.any.ensures.ran (YieldsList-from_slice c.args.others.now (cc)) (λ x b q k. search (rules, tests)) in
+    let any = any_from_yields_List (λ (h : HouseNo). not (is_some (house_of c.args.self.now.houses.items h.0))) _ _ c.any.result c.any.ensures.ran
+    (YieldsList-from_slice c.args.others.now (cc)) (λ x b q k. search (rules, tests)) in
     rw (sym c.if-not-is_made.ensures) (any ∙ any_of_numbers (λ x. not (is_some (house_of c.args.self.now.houses.items x))) c.args.others.now)

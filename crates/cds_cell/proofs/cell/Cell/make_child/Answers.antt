@@ -23,15 +23,18 @@ returns-in-Stamped c g h s place made =
     let o : Outcome = accept g h d u ((g.house h).slots d) in
     let is : IsAccepted (outcomes.Stamped t) c.accept_at.new.self o =
     subst (λ (a : Accepted). IsAccepted a c.accept_at.new.self o) c.in-Stamped.is
-    (subst (λ v. IsAccepted c.in_ok-stamp.field-0 c.accept_at.new.self (accept g h d v ((g.house h).slots d))) (child_change c.args.name c.in_ok-child.child.0 g.next_dir c.in_ok-houses.houses m number c.in_ok-houses.ensures)
+    (subst (λ v. IsAccepted c.in_ok-stamp.field-0 c.accept_at.new.self (accept g h d v ((g.house h).slots d)))
+    (child_change c.args.name c.in_ok-child.child.0 g.next_dir c.in_ok-houses.houses m number c.in_ok-houses.ensures)
     (c.in_ok-stamp.ensures.step g h s place)) in
     let new = c.in_ok-found-in-Stamped.ensures.ok in
     let l : LocalDirectory = new.0 in
     let count = c.in_ok-stamp.ensures.count in
     let less = c.requires.directory in
     let next : g.next_dir ≡ length c.accept_at.new.self.directories.items + 1 = (let was = c.in_ok-child.ensures in omega (arith, number, was, count)) in
-    let known : has l.master.0 o.cell.made ≡ true = ap (λ (n : HouseNo). has n.0 o.cell.made) new.1 ∙ ap (has m) (accept_keeps g h d u ((g.house h).slots d)).0 ∙ made in
-    let step = child_step c.accept_at.new.self c.found.new.self g o t l g.next_dir is known (new.2 ∙ sym table_of-nil) c.in_ok-found-in-Stamped.ensures.houses new.3 next (omega (arith, count, less)) in
+    let known : has l.master.0 o.cell.made ≡ true = ap (λ (n : HouseNo). has n.0 o.cell.made) new.1 ∙ ap (has m) (accept_keeps g h d u ((g.house h).slots d)).0
+    ∙ made in
+    let step = child_step c.accept_at.new.self c.found.new.self g o t l g.next_dir is known (new.2
+    ∙ sym table_of-nil) c.in_ok-found-in-Stamped.ensures.houses new.3 next (omega (arith, count, less)) in
     let here : IsStep (answer.Made (dir_id g.next_dir) t []) c.found.new.self (mkdir g h d c.args.name m []) =
     subst (λ (n : HouseNo). IsStep (answer.Made (dir_id g.next_dir) t []) c.found.new.self (with_directory o g.next_dir n.0 (alone n.0) o.answer)) new.1 step in
     rw c.new.ensures (subst (λ (k : DirId). IsStep (answer.Made k t []) c.found.new.self (mkdir g h d c.args.name m [])) (ap dir_id (sym number)) here)
@@ -45,6 +48,7 @@ returns c g h s place made =
     let o : Outcome = accept g h d u ((g.house h).slots d) in
     let is : IsAccepted (outcomes.Refused c.in-Refused.refusal) c.accept_at.new.self o =
     subst (λ (a : Accepted). IsAccepted a c.accept_at.new.self o) c.in-Refused.is
-    (subst (λ v. IsAccepted c.in_ok-stamp.field-0 c.accept_at.new.self (accept g h d v ((g.house h).slots d))) (child_change c.args.name c.in_ok-child.child.0 g.next_dir c.in_ok-houses.houses m number c.in_ok-houses.ensures)
+    (subst (λ v. IsAccepted c.in_ok-stamp.field-0 c.accept_at.new.self (accept g h d v ((g.house h).slots d)))
+    (child_change c.args.name c.in_ok-child.child.0 g.next_dir c.in_ok-houses.houses m number c.in_ok-houses.ensures)
     (c.in_ok-stamp.ensures.step g h s place)) in
     no_child_step c.accept_at.new.self o c.in-Refused.refusal c.answer.result g.next_dir m is c.answer.ensures

@@ -1,4 +1,4 @@
--- What the parts of the resolver come to: one component, and one full name of a walk. Own.
+-- Words of private contracts alone: what the parts of the resolver come to, one component and one full name of a walk. Own.
 use Rattle.std.specs.Prelude.{◌≡◌, ℕ, ◌+◌, ◌-◌, ◌<◌, Bool, List, ◌++◌, length, drop, slice_get, Option, Some, unwrap_or}
 use Rattle.cell_names.specs.ChildPointers.{pointer_in}
 use Rattle.cell_names.specs.declared.pointer.ChildPointer.{ChildPointer}
