@@ -1,12 +1,14 @@
 -- Lists whose keys ascend, and the maps of their items.
-use Rattle.std.proofs.Common.{◌≡◌, Bool, true, false, T, cond, List, [], ◌∷◌, ◌++◌, length, Some, None, refl, sym, ap, subst, ◌∙◌, append_assoc, append-nil, arith}
+use Rattle.std.proofs.Common.{◌≡◌, Bool, true, false, T, cond, List, [], ◌∷◌, ◌++◌, length, Some, None, refl, sym, ap, subst, ◌∙◌, append_assoc, append-nil}
+use Rattle.std.proofs.Common.{arith}
 use Rattle.std.specs.Prelude.{◌&&◌, IfSome}
 use Rattle.std.specs.List.{AllByRecursion}
 use Rattle.std.specs.Ordering.{eq_by_cmp, is_lt, is_eq, ordering_reverse}
 use Rattle.std.specs.declared.cmp.Ordering.{Ordering}
 use Rattle.std.specs.declared.cmp.Ordering.TheVariants.{Less, Equal, Greater}
 use Rattle.std.specs.Cmp.{IsTotalOrder, tied_itself}
-use Rattle.std.specs.FinMap.{FinMap, IsAntisymmetric, empty, insert, entries, entries_sorted, put, find, is_sorted, same_entries_map, entries-insert, len-entries, len-empty}
+use Rattle.std.specs.FinMap.{FinMap, IsAntisymmetric, empty, insert, entries, entries_sorted, put, find, is_sorted, same_entries_map, entries-insert}
+use Rattle.std.specs.FinMap.{len-entries, len-empty}
 use Rattle.std.specs.FinMap.Entries.{below_all}
 use Rattle.cds_stamps.specs.Keyed.{tied}
 use Rattle.cds_records.specs.Records.{add_all}
@@ -35,7 +37,8 @@ no_items (x ∷ es) e = absurd (omega arith)
 module _ {K X : Type 0} {R : K → K → Ordering} (total : IsTotalOrder R) where
   pub below_less : (j k : K) (es : List (K × X)) → R j k ≡ Less → T (below_all R k es) → T (below_all R j es)
   below_less j k [] p h = tt
-  below_less j k (e ∷ es) p h = both _ _ (subst (λ r. T (is_lt r)) (sym (total.trans j k e.0 p (less _ (first_of _ _ h)))) tt) (below_less j k es p (second_of _ _ h))
+  below_less j k (e ∷ es) p h =
+      both _ _ (subst (λ r. T (is_lt r)) (sym (total.trans j k e.0 p (less _ (first_of _ _ h)))) tt) (below_less j k es p (second_of _ _ h))
 
   below_later : (k : K) (ds : List (K × X)) (e : K × X) (es : List (K × X)) → T (below_all R k (ds ++ e ∷ es)) → R k e.0 ≡ Less
   below_later k [] e es h = less _ (first_of _ _ h)
@@ -51,7 +54,8 @@ module _ {K X : Type 0} {R : K → K → Ordering} (total : IsTotalOrder R) wher
   added_last : (m : FinMap R X) (es : List (K × X)) → T (is_sorted R (entries m ++ es)) → entries (add_all m es) ≡ entries m ++ es
   added_last m [] h = sym (append-nil (entries m))
   added_last m (e ∷ es) h =
-      let one : entries (insert m e.0 e.1) ++ es ≡ entries m ++ e ∷ es = ap (λ (ds : List (K × X)). ds ++ es) (entries-insert total m e.0 e.1 ∙ put_last (entries m) e es h) ∙ append_assoc (entries m) (e ∷ []) es in
+      let one : entries (insert m e.0 e.1) ++ es ≡ entries m ++ e ∷ es =
+      ap (λ (ds : List (K × X)). ds ++ es) (entries-insert total m e.0 e.1 ∙ put_last (entries m) e es h) ∙ append_assoc (entries m) (e ∷ []) es in
       added_last (insert m e.0 e.1) es (subst (λ ds. T (is_sorted R ds)) (sym one) h) ∙ one
 
   pub entries_added : (es : List (K × X)) → T (is_sorted R es) → entries (add_all (empty {R = R}) es) ≡ es

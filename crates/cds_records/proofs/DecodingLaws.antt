@@ -30,7 +30,8 @@ left_within (next first second) octets rule left h =
           omega (arith, behind, ap length front.1, length-append front.0 w.1))
     ]
 
-pub decoded : {A : Type 0} (l : Layout A) (octets : List ℕ) (value : A) (rest : List ℕ) (n : ℕ) → read l octets ≡ Ok (value, rest) → n ≡ length octets - length rest → Decodes l octets (Ok (value, n))
+pub decoded : {A : Type 0} (l : Layout A) (octets : List ℕ) (value : A) (rest : List ℕ) (n : ℕ) → read l octets ≡ Ok (value, rest)
+    → n ≡ length octets - length rest → Decodes l octets (Ok (value, n))
 decoded l octets value rest n e n_is =
     let f = front_stands l octets value rest (read_stands l octets value rest e) in
     let len : n ≡ length f.0 = omega (arith, ap length f.1, length-append f.0 rest) in
@@ -50,7 +51,8 @@ decoded l octets value rest n e n_is =
           absurd cc;
     }
 
-pub not_decoded : {A : Type 0} (l : Layout A) (octets : List ℕ) (b : Broken) (fault : RecordFault) → read l octets ≡ Err b → fault ≡ fault_at b.rule (length octets - b.left + 1) → Decodes l octets (Err (Fault fault))
+pub not_decoded : {A : Type 0} (l : Layout A) (octets : List ℕ) (b : Broken) (fault : RecordFault) → read l octets ≡ Err b
+    → fault ≡ fault_at b.rule (length octets - b.left + 1) → Decodes l octets (Err (Fault fault))
 not_decoded l octets b fault e named =
     let breaks = read_breaks l octets b e in
     let within = left_within l octets b.rule b.left breaks in
@@ -77,10 +79,12 @@ rest_within l octets value rest e =
     let f = front_stands l octets value rest (read_stands l octets value rest e) in
     omega (arith, ap length f.1, length-append f.0 rest)
 
-pub error_within : {A : Type 0} (l : Layout A) (octets z : List ℕ) (e : AllocOr Broken) → Reads (λ (x : A). x) l octets z (Err e) → IsLeftWithin (length octets) e
+pub error_within : {A : Type 0} (l : Layout A) (octets z : List ℕ) (e : AllocOr Broken) → Reads (λ (x : A). x) l octets z (Err e)
+    → IsLeftWithin (length octets) e
 error_within l octets z (Fault b) h = left_within l octets b.rule b.left (read_breaks l octets b h)
 error_within l octets z OutOfMemory h = tt
 
-pub error_decodes : {A : Type 0} (l : Layout A) (octets z : List ℕ) (e : AllocOr Broken) → Reads (λ (x : A). x) l octets z (Err e) → Decodes l octets (Err (error_of (length octets) e))
+pub error_decodes : {A : Type 0} (l : Layout A) (octets z : List ℕ) (e : AllocOr Broken) → Reads (λ (x : A). x) l octets z (Err e)
+    → Decodes l octets (Err (error_of (length octets) e))
 error_decodes l octets z (Fault b) h = not_decoded l octets b (fault_at b.rule (length octets - b.left + 1)) h refl
 error_decodes l octets z OutOfMemory h = no_memory l octets

@@ -1,5 +1,6 @@
 -- Octets of keyed lists, written item by item, and of the maps that they are the entries of.
-use Rattle.std.proofs.Common.{◌≡◌, ℕ, Bool, true, false, T, List, [], ◌∷◌, ◌++◌, length, Option, Some, None, refl, sym, ap, subst, ◌∙◌, append_assoc, append-nil, arith}
+use Rattle.std.proofs.Common.{◌≡◌, ℕ, Bool, true, false, T, List, [], ◌∷◌, ◌++◌, length, Option, Some, None, refl, sym, ap, subst, ◌∙◌, append_assoc}
+use Rattle.std.proofs.Common.{append-nil, arith}
 use Rattle.std.specs.Prelude.{IfSome, if◌then◌else◌}
 use Rattle.std.specs.declared.cmp.Ordering.{Ordering}
 use Rattle.std.specs.Ordering.{is_lt, nat_cmp}
@@ -77,7 +78,8 @@ module _ {K X : Type 0} (o : KeyOrder K) (key : Option K → Layout K) (content 
   pub record Completes (all rest : List (K × X)) (old out : List ℕ) : Type 0 where
     pub before : Option K
     pub ascends : IsAscending before rest
-    pub completes : (own : List ℕ) → IsWhole (ascending key content (length rest) before) rest own → Writes (ascending key content (length all) None) all old (out ++ own)
+    pub completes : (own : List ℕ) → IsWhole (ascending key content (length rest) before) rest own
+        → Writes (ascending key content (length all) None) all old (out ++ own)
 
   pub nothing_written : (all : List (K × X)) (old : List ℕ) → IsAscending None all → Completes all all old old
   nothing_written all old ascends = record { before = None; ascends = ascends; completes = λ own h. record { own = own; behind = refl; whole = h } }
@@ -91,12 +93,18 @@ module _ {K X : Type 0} (o : KeyOrder K) (key : Option K → Layout K) (content 
         ascends = so_far.ascends.1;
         completes = λ own h.
             let more = whole_next (ascending key content (length rest) (Some e.0)) (λ es. done (e ∷ es)) rest (e ∷ rest) own [] h (refl, refl) in
-            let more_own = subst (λ z. IsWhole (next (ascending key content (length rest) (Some e.0)) (λ es. done (e ∷ es))) (e ∷ rest) z) (append-nil own) more in
-            let both = so_far.completes (one.own ++ own) (whole_next (item key content so_far.before) (λ e. next (ascending key content (length rest) (Some e.0)) (λ es. done (e ∷ es))) e (e ∷ rest) one.own own one.whole more_own) in
-            subst (λ z. Writes (ascending key content (length all) None) all old z) (sym (append_assoc out one.own own) ∙ ap (λ z. z ++ own) (sym one.behind)) both;
+            let more_own =
+            subst (λ z. IsWhole (next (ascending key content (length rest) (Some e.0)) (λ es. done (e ∷ es))) (e ∷ rest) z) (append-nil own) more in
+            let both =
+            so_far.completes (one.own ++ own)
+            (whole_next (item key content so_far.before) (λ e. next (ascending key content (length rest) (Some e.0)) (λ es. done (e ∷ es))) e
+            (e ∷ rest) one.own own one.whole more_own) in
+            subst (λ z. Writes (ascending key content (length all) None) all old z)
+            (sym (append_assoc out one.own own) ∙ ap (λ z. z ++ own) (sym one.behind)) both;
       }
 
-  pub all_written : (all rest : List (K × X)) (old out : List ℕ) → rest ≡ [] → Completes all rest old out → Writes (ascending key content (length all) None) all old out
+  pub all_written : (all rest : List (K × X)) (old out : List ℕ) → rest ≡ [] → Completes all rest old out
+      → Writes (ascending key content (length all) None) all old out
   unfolding ascending
   all_written all rest old out none so_far =
       let end : Completes all [] old out = subst (λ r. Completes all r old out) none so_far in
@@ -119,8 +127,11 @@ module _ {K X : Type 0} (o : KeyOrder K) (V : X → Type 0) (key : Option K → 
 
   pub writing_begins : (m : FinMap o.cmp X) (rest : List (K × X)) (old : List ℕ) → rest ≡ entries m → Written m rest old old
   writing_begins m rest old e valid =
-      subst (λ r. AllByRecursion (λ e. V e.1) r × Completes o key content (entries m) r old old) (sym e)
-      (each_entry o.total o.exact V (entries m) (entries_sorted m) (λ q. subst (λ x. IfSome x V) (get-entries m q) (valid q)), nothing_written o key content (entries m) old (ascends (entries m) (entries_sorted m)))
+      subst (λ r. AllByRecursion (λ e. V e.1) r × Completes o key content (entries m) r old old) (sym e) (
+        each_entry o.total o.exact V (entries m) (entries_sorted m) (λ q. subst (λ x. IfSome x V) (get-entries m q) (valid q)),
+        nothing_written o key content
+            (entries m) old (ascends (entries m) (entries_sorted m)),
+      )
 
   pub writing_goes_on : (m : FinMap o.cmp X) (es rest : List (K × X)) (k : K) (x : X) (old out new : List ℕ) → es ≡ (k, x) ∷ rest → Written m es old out
       → (V x → (before : Option K) → o.rule before k ≡ None → Writes (item key content before) (k, x) out new) → Written m rest old new
@@ -128,13 +139,19 @@ module _ {K X : Type 0} (o : KeyOrder K) (V : X → Type 0) (key : Option K → 
       let h = subst (λ r. AllByRecursion (λ e. V e.1) r × Completes o key content (entries m) r old out) first (so_far valid) in
       (h.0.1, item_written o key content (entries m) rest (k, x) old out new h.1 (writes h.0.0))
 
-  pub writing_ends : (m : FinMap o.cmp X) (rest : List (K × X)) (old out : List ℕ) → rest ≡ [] → Written m rest old out → EachValue V m → Writes (map_of {R = o.cmp} key content (len m)) m old out
+  pub writing_ends : (m : FinMap o.cmp X) (rest : List (K × X)) (old out : List ℕ) → rest ≡ [] → Written m rest old out → EachValue V m
+      → Writes (map_of {R = o.cmp} key content (len m)) m old out
   unfolding map_of
   writing_ends m rest old out none so_far valid =
       let all = all_written o key content (entries m) rest old out none (so_far valid).1 in
-      let map = whole_next (ascending key content (length (entries m)) None) (λ es. done (add_all (empty {R = o.cmp}) es)) (entries m) m all.own [] all.whole (added_entries o.total m, refl) in
+      let map =
+      whole_next (ascending key content (length (entries m)) None) (λ es. done (add_all (empty {R = o.cmp}) es)) (entries m) m all.own [] all.whole
+      (added_entries o.total m, refl) in
       record {
         own = all.own;
         behind = all.behind;
-        whole = subst (λ n. IsWhole (next (ascending key content n None) (λ es. done (add_all (empty {R = o.cmp}) es))) m all.own) (sym (len-entries m)) (subst (λ z. IsWhole (next (ascending key content (length (entries m)) None) (λ es. done (add_all (empty {R = o.cmp}) es))) m z) (append-nil all.own) map);
+        whole =
+            subst (λ n. IsWhole (next (ascending key content n None) (λ es. done (add_all (empty {R = o.cmp}) es))) m all.own) (sym (len-entries m))
+            (subst (λ z. IsWhole (next (ascending key content (length (entries m)) None) (λ es. done (add_all (empty {R = o.cmp}) es))) m z)
+            (append-nil all.own) map);
       }

@@ -1,5 +1,6 @@
 -- Reading by a layout gives exactly what stands there, or exactly the first field that breaks a rule.
-use Rattle.std.proofs.Common.{◌≡◌, ℕ, ◌<◌, ◌≤◌, ◌⊎◌, List, [], ◌++◌, length, take, drop, Option, Some, None, Result, Ok, Err, refl, sym, ap, subst, ◌∙◌, inl, inr, append_assoc, append-nil, arith}
+use Rattle.std.proofs.Common.{◌≡◌, ℕ, ◌<◌, ◌≤◌, ◌⊎◌, List, [], ◌++◌, length, take, drop, Option, Some, None, Result, Ok, Err, refl, sym, ap, subst, ◌∙◌, inl}
+use Rattle.std.proofs.Common.{inr, append_assoc, append-nil, arith}
 use Rattle.std.proofs.lemmas.Bool.{le-ltb, lt-ltb, cases_lt}
 use Rattle.std.proofs.lemmas.List.{take_at, drop_at, take-append-drop, length-append, length-take-le, append_cancel_right}
 use Rattle.cds_records.specs.declared.fault.Rule.{Rule}
@@ -26,22 +27,29 @@ bind_err (Err c) f d e = inl cc
 abbrev one : {A : Type 0} → ℕ → (List ℕ → A) → (A → Option Rule) → List ℕ → Result (A × List ℕ) Broken
 one size says rule x = read (field size says rule) x
 
-short_field : {A : Type 0} (size : ℕ) (says : List ℕ → A) (rule : A → Option Rule) (x : List ℕ) → length x < size → one size says rule x ≡ Err (record { rule = Short; left = 0 })
+short_field : {A : Type 0} (size : ℕ) (says : List ℕ → A) (rule : A → Option Rule) (x : List ℕ) → length x < size
+    → one size says rule x ≡ Err (record { rule = Short; left = 0 })
 short_field size says rule x short = rw (lt-ltb (length x) size short) refl
 
-whole_field : {A : Type 0} (size : ℕ) (says : List ℕ → A) (rule : A → Option Rule) (x : List ℕ) → size ≤ length x → one size says rule x ≡ ruled (rule (says (take size x))) (length x) (says (take size x)) (drop size x)
+whole_field : {A : Type 0} (size : ℕ) (says : List ℕ → A) (rule : A → Option Rule) (x : List ℕ) → size ≤ length x
+    → one size says rule x ≡ ruled (rule (says (take size x))) (length x) (says (take size x)) (drop size x)
 whole_field size says rule x whole = rw (le-ltb (length x) size whole) refl
 
-front_field : {A : Type 0} (says : List ℕ → A) (rule : A → Option Rule) (own rest : List ℕ) → one (length own) says rule (own ++ rest) ≡ ruled (rule (says own)) (length (own ++ rest)) (says own) rest
+front_field : {A : Type 0} (says : List ℕ → A) (rule : A → Option Rule) (own rest : List ℕ)
+    → one (length own) says rule (own ++ rest) ≡ ruled (rule (says own)) (length (own ++ rest)) (says own) rest
 front_field says rule own rest =
     whole_field (length own) says rule (own ++ rest) (omega (arith, length-append own rest))
     ∙ rw (take_at own rest (length own) refl, drop_at own rest (length own) refl) refl
 
-field_ok : {A : Type 0} (size : ℕ) (says : List ℕ → A) (rule : A → Option Rule) (own rest : List ℕ) (v : A) → length own ≡ size → says own ≡ v → rule v ≡ None → one size says rule (own ++ rest) ≡ Ok (v, rest)
-field_ok size says rule own rest v len said lawful = subst (λ n. one n says rule (own ++ rest) ≡ Ok (v, rest)) len (front_field says rule own rest ∙ rw (said, lawful) refl)
+field_ok : {A : Type 0} (size : ℕ) (says : List ℕ → A) (rule : A → Option Rule) (own rest : List ℕ) (v : A) → length own ≡ size → says own ≡ v
+    → rule v ≡ None → one size says rule (own ++ rest) ≡ Ok (v, rest)
+field_ok size says rule own rest v len said lawful =
+    subst (λ n. one n says rule (own ++ rest) ≡ Ok (v, rest)) len (front_field says rule own rest ∙ rw (said, lawful) refl)
 
-field_err : {A : Type 0} (size : ℕ) (says : List ℕ → A) (rule : A → Option Rule) (own rest : List ℕ) (r : Rule) → length own ≡ size → rule (says own) ≡ Some r → one size says rule (own ++ rest) ≡ Err (record { rule = r; left = length (own ++ rest) })
-field_err size says rule own rest r len breaks = subst (λ n. one n says rule (own ++ rest) ≡ Err (record { rule = r; left = length (own ++ rest) })) len (front_field says rule own rest ∙ rw breaks refl)
+field_err : {A : Type 0} (size : ℕ) (says : List ℕ → A) (rule : A → Option Rule) (own rest : List ℕ) (r : Rule) → length own ≡ size
+    → rule (says own) ≡ Some r → one size says rule (own ++ rest) ≡ Err (record { rule = r; left = length (own ++ rest) })
+field_err size says rule own rest r len breaks =
+    subst (λ n. one n says rule (own ++ rest) ≡ Err (record { rule = r; left = length (own ++ rest) })) len (front_field says rule own rest ∙ rw breaks refl)
 
 ruled_ok : {A : Type 0} (r : Option Rule) (n : ℕ) (v w : A) (y z : List ℕ) → ruled r n v y ≡ Ok (w, z) → (r ≡ None) × (v ≡ w) × (y ≡ z)
 ruled_ok {A} None n v w y z e =
@@ -69,13 +77,14 @@ read_stands {A} (done a) x v rest e =
 read_stands (field size says rule) x v rest e =
     elim (cases_lt (length x) size) [
       | inl short ↦ absurd (let fails = short_field size says rule x short in cc)
-      | inr whole ↦ (let r = ruled_ok (rule (says (take size x))) (length x) (says (take size x)) v (drop size x) rest (sym (whole_field size says rule x whole) ∙ e) in (
-        take size x,
-        sym (take-append-drop size x) ∙ ap (λ (y : List ℕ). take size x ++ y) r.2,
-        length-take-le size x whole,
-        r.1,
-        ap rule (sym r.1) ∙ r.0,
-      ))
+      | inr whole ↦ (let r = ruled_ok (rule (says (take size x))) (length x) (says (take size x)) v (drop size x) rest
+          (sym (whole_field size says rule x whole) ∙ e) in (
+            take size x,
+            sym (take-append-drop size x) ∙ ap (λ (y : List ℕ). take size x ++ y) r.2,
+            length-take-le size x whole,
+            r.1,
+            ap rule (sym r.1) ∙ r.0,
+          ))
     ]
 read_stands (next first second) x v rest e =
     let a = bind_ok (read first x) (λ y. read (second y.0) y.1) (v, rest) e in
@@ -86,7 +95,8 @@ breaks_read (done a) x r left h = absurd h
 breaks_read (field size says rule) x r left h =
     elim h [
       | inl s ↦ short_field size says rule x s.0 ∙ (λ i. Err (record { rule = sym s.1 i; left = sym s.2 i }))
-      | inr w ↦ ap (one size says rule) w.2 ∙ field_err size says rule w.0 w.1 r w.3 w.4 ∙ (λ i. Err (record { rule = r; left = (ap length (sym w.2) ∙ sym w.5) i }))
+      | inr w ↦ ap (one size says rule) w.2 ∙ field_err size says rule w.0 w.1 r w.3 w.4
+          ∙ (λ i. Err (record { rule = r; left = (ap length (sym w.2) ∙ sym w.5) i }))
     ]
 breaks_read (next first second) x r left h =
     elim h [
@@ -101,7 +111,8 @@ read_breaks (field size says rule) x b e =
       | inl short ↦ (let fails = short_field size says rule x short in
           let same : b ≡ record { rule = Short; left = 0 } = cc in
           inl (short, ap (λ (b : Broken). b.rule) same, ap (λ (b : Broken). b.left) same))
-      | inr whole ↦ (let r = ruled_err (rule (says (take size x))) (length x) (says (take size x)) (drop size x) b (sym (whole_field size says rule x whole) ∙ e) in
+      | inr whole ↦ (let r = ruled_err (rule (says (take size x))) (length x) (says (take size x)) (drop size x) b
+          (sym (whole_field size says rule x whole) ∙ e) in
           inr (take size x, drop size x, sym (take-append-drop size x), length-take-le size x whole, r.0, r.1))
     ]
 read_breaks (next first second) x b e =
@@ -111,7 +122,8 @@ read_breaks (next first second) x b e =
     ]
 
 -- what stands in front of a rest stands so in front of any
-pub front_stands : {A : Type 0} (l : Layout A) (x : List ℕ) (v : A) (rest : List ℕ) → Stands l x v rest → (front : List ℕ) × (x ≡ front ++ rest) × ((other : List ℕ) → Stands l (front ++ other) v other)
+pub front_stands : {A : Type 0} (l : Layout A) (x : List ℕ) (v : A) (rest : List ℕ) → Stands l x v rest
+    → (front : List ℕ) × (x ≡ front ++ rest) × ((other : List ℕ) → Stands l (front ++ other) v other)
 front_stands (done a) x v rest h = ([], h.1, λ other. (h.0, refl))
 front_stands (field size says rule) x v rest h = (h.0, h.1, λ other. (h.0, refl, h.2, h.3, h.4))
 front_stands (next first second) x v rest h =
@@ -119,7 +131,13 @@ front_stands (next first second) x v rest h =
     let two = front_stands (second h.0) h.1 v rest h.3 in (
       one.0 ++ two.0,
       one.1 ∙ ap (λ (y : List ℕ). one.0 ++ y) two.1 ∙ sym (append_assoc one.0 two.0 rest),
-      λ other. (h.0, two.0 ++ other, subst (λ y. Stands first y h.0 (two.0 ++ other)) (sym (append_assoc one.0 two.0 other)) (one.2 (two.0 ++ other)), two.2 other),
+      λ other. (
+        h.0,
+        two.0 ++ other,
+        subst (λ y. Stands first y h.0 (two.0 ++ other)) (sym (append_assoc one.0 two.0 other))
+            (one.2 (two.0 ++ other)),
+        two.2 other,
+      ),
     )
 
 -- whole octets of a layout begin no others, and say one value

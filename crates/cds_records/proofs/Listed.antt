@@ -1,5 +1,6 @@
 -- Reading members one after another, as a loop does, and that they are a member list.
-use Rattle.std.proofs.Common.{◌≡◌, ℕ, zero, suc, ◌-◌, ◌+◌, ◌≤◌, ◌<◌, Bool, true, false, List, [], ◌∷◌, ◌++◌, length, Option, Some, None, Result, Ok, Err, refl, sym, ap, subst, ◌∙◌, append_assoc, append-nil, arith}
+use Rattle.std.proofs.Common.{◌≡◌, ℕ, zero, suc, ◌-◌, ◌+◌, ◌≤◌, ◌<◌, Bool, true, false, List, [], ◌∷◌, ◌++◌, length, Option, Some, None, Result, Ok, Err}
+use Rattle.std.proofs.Common.{refl, sym, ap, subst, ◌∙◌, append_assoc, append-nil, arith}
 use Rattle.std.specs.Prelude.{◌||◌, ◌==◌, not, nat_lt, if◌then◌else◌}
 use Rattle.std.proofs.lemmas.List.{length-map}
 use Rattle.std.proofs.lemmas.List.Sums.{sum_by-cons}
@@ -20,7 +21,8 @@ use Rattle.cds_records.proofs.LayoutLaws.{ok_is, bind_ok, read_stands}
 abbrev pub behind : List Member → Result (List Member × List ℕ) Broken → Result (List Member × List ℕ) Broken
 behind front r = r >>= λ y. Ok (front ++ y.0, y.1)
 
-regroup : (front : List Member) (m : Member) (r : Result (List Member × List ℕ) Broken) → behind front (r >>= λ y. Ok (m ∷ y.0, y.1)) ≡ behind (front ++ m ∷ []) r
+regroup : (front : List Member) (m : Member) (r : Result (List Member × List ℕ) Broken)
+    → behind front (r >>= λ y. Ok (m ∷ y.0, y.1)) ≡ behind (front ++ m ∷ []) r
 regroup front m (Ok y) = ap (λ (ms : List Member). Ok (ms, y.1)) (sym (append_assoc front (m ∷ []) y.0))
 regroup front m (Err b) = refl
 
@@ -31,17 +33,22 @@ members_begin count x = let k : count - 0 ≡ count = omega arith in rw k (nothi
     nothing_before (Ok y) = refl
     nothing_before (Err b) = refl
 
-pub members_go_on : (front : List Member) (count i : ℕ) (before : Option ℕ) (master : Bool) (x : List ℕ) (m : Member) (z : List ℕ) (total : Result (List Member × List ℕ) Broken) → i < count → read (member (count - i - 1) before master) x ≡ Ok (m, z)
-    → behind front (read (listed (count - i) before master) x) ≡ total → behind (front ++ m ∷ []) (read (listed (count - (i + 1)) (Some m.house.0) (master || is_master m.kind)) z) ≡ total
+pub members_go_on : (front : List Member) (count i : ℕ) (before : Option ℕ) (master : Bool) (x : List ℕ) (m : Member) (z : List ℕ)
+    (total : Result (List Member × List ℕ) Broken) → i < count → read (member (count - i - 1) before master) x ≡ Ok (m, z)
+    → behind front (read (listed (count - i) before master) x) ≡ total
+    → behind (front ++ m ∷ []) (read (listed (count - (i + 1)) (Some m.house.0) (master || is_master m.kind)) z) ≡ total
 unfolding listed
 members_go_on front count i before master x m z total lt h so_far =
     let k : count - i ≡ suc (count - (i + 1)) = omega arith in
     let j : count - i - 1 ≡ count - (i + 1) = omega arith in
     let read_here : read (member (count - (i + 1)) before master) x ≡ Ok (m, z) = ap (λ n. read (member n before master) x) (sym j) ∙ h in
-    let one : behind front (read (listed (count - i) before master) x) ≡ behind (front ++ m ∷ []) (read (listed (count - (i + 1)) (Some m.house.0) (master || is_master m.kind)) z) = rw (k, read_here) (regroup front m (read (listed (count - (i + 1)) (Some m.house.0) (master || is_master m.kind)) z)) in
+    let one : behind front (read (listed (count - i) before master) x) ≡ behind (front ++ m ∷ [])
+    (read (listed (count - (i + 1)) (Some m.house.0) (master || is_master m.kind)) z) = rw (k, read_here)
+    (regroup front m (read (listed (count - (i + 1)) (Some m.house.0) (master || is_master m.kind)) z)) in
     sym one ∙ so_far
 
-pub members_end : {V : Type 0} (seen : V → List Member) (e : AllocOr Broken) (front : List Member) (count i : ℕ) (before : Option ℕ) (master : Bool) (x z w start : List ℕ) → i < count → Reads (λ (m : Member). m) (member (count - i - 1) before master) x z (Err e)
+pub members_end : {V : Type 0} (seen : V → List Member) (e : AllocOr Broken) (front : List Member) (count i : ℕ) (before : Option ℕ) (master : Bool)
+    (x z w start : List ℕ) → i < count → Reads (λ (m : Member). m) (member (count - i - 1) before master) x z (Err e)
     → behind front (read (listed (count - i) before master) x) ≡ read (listed count None false) start → Reads seen (listed count None false) start w (Err e)
 unfolding listed
 members_end seen OutOfMemory front count i before master x z w start lt h so_far = tt
@@ -52,7 +59,8 @@ members_end seen (Fault b) front count i before master x z w start lt h so_far =
     let one : behind front (read (listed (count - i) before master) x) ≡ Err b = rw (k, read_here) refl in
     sym so_far ∙ one
 
-pub members_done : (front : List Member) (count i : ℕ) (before : Option ℕ) (master : Bool) (x : List ℕ) (total : Result (List Member × List ℕ) Broken) → count ≤ i → behind front (read (listed (count - i) before master) x) ≡ total → total ≡ Ok (front, x)
+pub members_done : (front : List Member) (count i : ℕ) (before : Option ℕ) (master : Bool) (x : List ℕ) (total : Result (List Member × List ℕ) Broken)
+    → count ≤ i → behind front (read (listed (count - i) before master) x) ≡ total → total ≡ Ok (front, x)
 unfolding listed
 members_done front count i before master x total le so_far =
     let k : count - i ≡ 0 = omega arith in
@@ -87,7 +95,8 @@ some_master : (n : ℕ) (master : Bool) (k : ℕ) → kind_rule n master k ≡ N
 some_master n true k e f = refl
 some_master n false k e f = grind (arith, e, f)
 
-member_lawful : (n : ℕ) (before : Option ℕ) (master : Bool) (x : List ℕ) (m : Member) (z : List ℕ) → read (member n before master) x ≡ Ok (m, z) → IsLawfulMember n before master m
+member_lawful : (n : ℕ) (before : Option ℕ) (master : Bool) (x : List ℕ) (m : Member) (z : List ℕ) → read (member n before master) x ≡ Ok (m, z)
+    → IsLawfulMember n before master m
 unfolding member member_kind octet
 member_lawful n before master x m z e =
     let h = read_stands (member n before master) x m z e in
@@ -102,16 +111,20 @@ not_below : (before : Option ℕ) (house : ℕ) → number_order before house �
 not_below None house e = grind arith
 not_below (Some b) house e = grind (arith, e)
 
-one_more_master : (n : ℕ) (master mine : Bool) (rest : ℕ) → (mine ≡ true → master ≡ false) → (mine ≡ false → (master || not (n == 0)) ≡ true) → (((master || mine) || not (n == 0)) ≡ true → rest + one_if (master || mine) ≡ 1)
+one_more_master : (n : ℕ) (master mine : Bool) (rest : ℕ) → (mine ≡ true → master ≡ false) → (mine ≡ false → (master || not (n == 0)) ≡ true)
+    → (((master || mine) || not (n == 0)) ≡ true → rest + one_if (master || mine) ≡ 1)
     → (one_if mine + rest) + one_if master ≡ 1
-one_more_master n master true rest first later h = elim master as (λ b. (true ≡ true → b ≡ false) → (((b || true) || not (n == 0)) ≡ true → rest + one_if (b || true) ≡ 1) → (one_if true + rest) + one_if b ≡ 1) [
-  | true ↦ λ first h. absurd (let never = first refl in cc)
-  | false ↦ λ first h. (let k = h refl in omega arith)
-] first h
+one_more_master n master true rest first later h =
+    elim master as (λ b. (true ≡ true → b ≡ false) → (((b || true) || not (n == 0)) ≡ true → rest + one_if (b || true) ≡ 1)
+    → (one_if true + rest) + one_if b ≡ 1) [
+      | true ↦ λ first h. absurd (let never = first refl in cc)
+      | false ↦ λ first h. (let k = h refl in omega arith)
+    ] first h
 one_more_master n true false rest first later h = (let k = h refl in omega arith)
 one_more_master n false false rest first later h = (let k = h (later refl) in omega arith)
 
-list_lawful : (n : ℕ) (before : Option ℕ) (master : Bool) (x : List ℕ) (ms : List Member) (y : List ℕ) → read (listed n before master) x ≡ Ok (ms, y) → IsLawful n before master ms
+list_lawful : (n : ℕ) (before : Option ℕ) (master : Bool) (x : List ℕ) (ms : List Member) (y : List ℕ) → read (listed n before master) x ≡ Ok (ms, y)
+    → IsLawful n before master ms
 unfolding listed
 list_lawful zero before master x ms y e =
     let none : [] ≡ ms = ap (λ (p : List Member × List ℕ). p.0) (ok_is ([], x) (ms, y) e) in
@@ -121,7 +134,9 @@ list_lawful zero before master x ms y e =
     nothing true e = refl
     nothing false e = absurd cc
 list_lawful (suc n) before master x ms y e =
-    let a = bind_ok (read (member n before master) x) (λ w. read (next (listed n (Some w.0.house.0) (master || is_master w.0.kind)) (λ ms. done (w.0 ∷ ms))) w.1) (ms, y) e in
+    let a =
+    bind_ok (read (member n before master) x) (λ w. read (next (listed n (Some w.0.house.0) (master || is_master w.0.kind)) (λ ms. done (w.0 ∷ ms))) w.1)
+    (ms, y) e in
     let m = a.0.0 in
     let b = bind_ok (read (listed n (Some m.house.0) (master || is_master m.kind)) a.0.1) (λ w. Ok (m ∷ w.0, w.1)) (ms, y) a.2 in
     let all : m ∷ b.0.0 ≡ ms = ap (λ (p : List Member × List ℕ). p.0) (ok_is (m ∷ b.0.0, b.0.1) (ms, y) b.2) in
@@ -130,10 +145,13 @@ list_lawful (suc n) before master x ms y e =
     subst (IsLawful (suc n) before master) all (record {
       len = ap suc rest.len;
       order = λ place. rw (not_below before m.house.0 one.above) (rest.order (place + 1));
-      masters = λ _. ap (λ k. k + one_if master) (sum_by-cons (λ (m : listed_member). one_if (is_master m.kind)) (member_of m) (members_of b.0.0)) ∙ one_more_master n master (is_master m.kind) (masters_in (members_of b.0.0)) one.first one.later rest.masters;
+      masters =
+          λ _. ap (λ k. k + one_if master) (sum_by-cons (λ (m : listed_member). one_if (is_master m.kind)) (member_of m) (members_of b.0.0))
+          ∙ one_more_master n master (is_master m.kind) (masters_in (members_of b.0.0)) one.first one.later rest.masters;
     })
 
-pub listed_lawful : (n : ℕ) (x : List ℕ) (ms : List Member) (y : List ℕ) → 1 ≤ n → n ≤ 64 → read (listed n None false) x ≡ Ok (ms, y) → members_fault (members_of ms) ≡ None
+pub listed_lawful : (n : ℕ) (x : List ℕ) (ms : List Member) (y : List ℕ) → 1 ≤ n → n ≤ 64 → read (listed n None false) x ≡ Ok (ms, y)
+    → members_fault (members_of ms) ≡ None
 listed_lawful n x ms y some few e =
     let h = list_lawful n None false x ms y e in
     let len : length (members_of ms) ≡ n = length-map ms member_of ∙ h.len in

@@ -24,7 +24,8 @@ decoding_decodes {A} l octets = go (read l octets) refl
     go (Err b) is = not_decoded l octets b (fault_at b.rule (length octets - b.left + 1)) is refl
 
 -- each answer is what is decoded, or want of memory
-pub answers_decoding : {A : Type 0} (l : Layout A) (octets : List ℕ) (r : Result (A × ℕ) (AllocOr RecordFault)) → Decodes l octets r → Answers r (decoding l octets)
+pub answers_decoding : {A : Type 0} (l : Layout A) (octets : List ℕ) (r : Result (A × ℕ) (AllocOr RecordFault)) → Decodes l octets r
+    → Answers r (decoding l octets)
 answers_decoding {A} l octets r h = go (decoding l octets) (decoding_decodes l octets)
   where
     go : (d : Result (A × ℕ) RecordFault) → Decodes l octets (with_memory d) → Answers r d

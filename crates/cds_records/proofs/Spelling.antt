@@ -1,5 +1,6 @@
 -- Layouts that spell each value in one way.
-use Rattle.std.proofs.Common.{◌≡◌, ℕ, zero, suc, ◌+◌, ◌*◌, ◌<◌, Bool, true, false, T, List, [], ◌∷◌, ◌++◌, length, take, drop, get_or, Option, Some, None, refl, sym, ap, subst, ◌∙◌, inl, inr, append-nil, length-drop, arith}
+use Rattle.std.proofs.Common.{◌≡◌, ℕ, zero, suc, ◌+◌, ◌*◌, ◌<◌, Bool, true, false, T, List, [], ◌∷◌, ◌++◌, length, take, drop, get_or, Option, Some, None}
+use Rattle.std.proofs.Common.{refl, sym, ap, subst, ◌∙◌, inl, inr, append-nil, length-drop, arith}
 use Rattle.std.specs.Prelude.{slice_index}
 use Rattle.std.specs.List.{All}
 use Rattle.std.specs.Int.{w16, w32, w64, from_be_bytes}
@@ -51,7 +52,8 @@ pub record Tells {A B : Type 0} (first : Layout B) (second : B → Layout A) : T
   pub told : (b c : B) (v : A) (w x y z : List ℕ) → IsWhole first b w → IsWhole (second b) v x → IsWhole first c y → IsWhole (second c) v z → b ≡ c
 
 -- so it does where that is got back of the value
-pub tells : {A B : Type 0} {first : Layout B} {second : B → Layout A} (back : A → B) → ((b : B) (v : A) (w x : List ℕ) → IsWhole first b w → IsWhole (second b) v x → back v ≡ b) → Tells first second
+pub tells : {A B : Type 0} {first : Layout B} {second : B → Layout A} (back : A → B)
+    → ((b : B) (v : A) (w x : List ℕ) → IsWhole first b w → IsWhole (second b) v x → back v ≡ b) → Tells first second
 tells back is = record { told = λ b c v w x y z g h i j. sym (is b v w x g h) ∙ is c v y z i j }
 
 record Parts {A B : Type 0} (first : Layout B) (second : B → Layout A) (v : A) (octets : List ℕ) : Type 0 where
@@ -62,12 +64,14 @@ record Parts {A B : Type 0} (first : Layout B) (second : B → Layout A) (v : A)
   one : IsWhole first said front
   two : IsWhole (second said) v rest
 
-in_parts : {A B : Type 0} (first : Layout B) (second : B → Layout A) (v : A) (octets : List ℕ) → IsWhole (next first second) v octets → Parts first second v octets
+in_parts : {A B : Type 0} (first : Layout B) (second : B → Layout A) (v : A) (octets : List ℕ) → IsWhole (next first second) v octets
+    → Parts first second v octets
 in_parts first second v octets h =
     let f = front_stands first octets h.0 h.1 h.2 in
     record { said = h.0; front = f.0; rest = h.1; is = f.1; one = subst (λ z. IsWhole first h.0 z) (append-nil f.0) (f.2 []); two = h.3 }
 
-pub spell_next : {A B : Type 0} {first : Layout B} {second : B → Layout A} → Tells first second → OneSpelling first → ((b : B) → OneSpelling (second b)) → OneSpelling (next first second)
+pub spell_next : {A B : Type 0} {first : Layout B} {second : B → Layout A} → Tells first second → OneSpelling first → ((b : B) → OneSpelling (second b))
+    → OneSpelling (next first second)
 spell_next {first = first} {second = second} t one two = record {
   same = λ v a b p q h k.
       let mine = in_parts first second v a h in
@@ -75,8 +79,12 @@ spell_next {first = first} {second = second} t one two = record {
       let my_bytes = subst IsBytes mine.is p in
       let its_bytes = subst IsBytes other.is q in
       let said = t.told mine.said other.said v mine.front mine.rest other.front other.rest mine.one mine.two other.one other.two in
-      let fronts = one.same other.said mine.front other.front (front_bytes mine.front mine.rest my_bytes) (front_bytes other.front other.rest its_bytes) (subst (λ b. IsWhole first b mine.front) said mine.one) other.one in
-      let rests = (two other.said).same v mine.rest other.rest (rest_bytes mine.front mine.rest my_bytes) (rest_bytes other.front other.rest its_bytes) (subst (λ b. IsWhole (second b) v mine.rest) said mine.two) other.two in
+      let fronts =
+      one.same other.said mine.front other.front (front_bytes mine.front mine.rest my_bytes) (front_bytes other.front other.rest its_bytes)
+      (subst (λ b. IsWhole first b mine.front) said mine.one) other.one in
+      let rests =
+      (two other.said).same v mine.rest other.rest (rest_bytes mine.front mine.rest my_bytes) (rest_bytes other.front other.rest its_bytes)
+      (subst (λ b. IsWhole (second b) v mine.rest) said mine.two) other.two in
       mine.is ∙ (λ i. fronts i ++ rests i) ∙ sym other.is;
 }
 
@@ -98,7 +106,8 @@ same_tail : {X : Type 0} (x : X) (xs ys : List X) → x ∷ xs ≡ x ∷ ys → 
 same_tail x xs ys e = cc
 
 -- one of a list, and the others
-pub spell_cons : {X : Type 0} {first : Layout X} {rest : X → Layout (List X)} → OneSpelling first → ((x : X) → OneSpelling (rest x)) → OneSpelling (next first (λ x. next (rest x) (λ xs. done (x ∷ xs))))
+pub spell_cons : {X : Type 0} {first : Layout X} {rest : X → Layout (List X)} → OneSpelling first → ((x : X) → OneSpelling (rest x))
+    → OneSpelling (next first (λ x. next (rest x) (λ xs. done (x ∷ xs))))
 spell_cons one others =
     spell_next (record { told = λ x y xs u v w z g h i j. same_head x y h.0 j.0 (h.3.0 ∙ sym j.3.0) }) one (λ x.
     spell_last (λ xs. x ∷ xs) (same_tail x) (others x))
@@ -128,23 +137,29 @@ octet_says : SaysOne 1 (λ o. slice_index o 0)
 octet_says = record { same = λ a b p q l k e. one_octet a b l k e }
 
 says_16 : SaysOne 2 (from_be_bytes w16)
-says_16 = record { same = λ a b p q l k e. sym (be_bytes_2 a (from_be_bytes w16 a) l (each_byte a p) refl) ∙ be_bytes_2 b (from_be_bytes w16 a) k (each_byte b q) e }
+says_16 =
+    record { same = λ a b p q l k e. sym (be_bytes_2 a (from_be_bytes w16 a) l (each_byte a p) refl) ∙ be_bytes_2 b (from_be_bytes w16 a) k (each_byte b q) e }
 
 says_32 : SaysOne 4 (from_be_bytes w32)
-says_32 = record { same = λ a b p q l k e. sym (be_bytes_4 a (from_be_bytes w32 a) l (each_byte a p) refl) ∙ be_bytes_4 b (from_be_bytes w32 a) k (each_byte b q) e }
+says_32 =
+    record { same = λ a b p q l k e. sym (be_bytes_4 a (from_be_bytes w32 a) l (each_byte a p) refl) ∙ be_bytes_4 b (from_be_bytes w32 a) k (each_byte b q) e }
 
 says_64 : SaysOne 8 (from_be_bytes w64)
-says_64 = record { same = λ a b p q l k e. sym (be_bytes_8 a (from_be_bytes w64 a) l (each_byte a p) refl) ∙ be_bytes_8 b (from_be_bytes w64 a) k (each_byte b q) e }
+says_64 =
+    record { same = λ a b p q l k e. sym (be_bytes_8 a (from_be_bytes w64 a) l (each_byte a p) refl) ∙ be_bytes_8 b (from_be_bytes w64 a) k (each_byte b q) e }
 
 -- two things said, one behind the other
 say_both : {A B C : Type 0} (m n : ℕ) (one : List ℕ → A) (two : List ℕ → B) (says : List ℕ → C) → SaysOne m one → SaysOne n two
-    → ((a b : List ℕ) → IsBytes (drop m a) → IsBytes (drop m b) → says a ≡ says b → (one (take m a) ≡ one (take m b)) × (two (drop m a) ≡ two (drop m b))) → SaysOne (m + n) says
+    → ((a b : List ℕ) → IsBytes (drop m a) → IsBytes (drop m b) → says a ≡ says b → (one (take m a) ≡ one (take m b)) × (two (drop m a) ≡ two (drop m b)))
+    → SaysOne (m + n) says
 say_both m n one two says first second split = record {
   same = λ a b p q l k e.
       let my_rest = All-drop (λ n. n < 256) m a p in
       let its_rest = All-drop (λ n. n < 256) m b q in
       let parts = split a b my_rest its_rest e in
-      let fronts = first.same (take m a) (take m b) (All-take (λ n. n < 256) m a p) (All-take (λ n. n < 256) m b q) (length-take-le m a (omega arith)) (length-take-le m b (omega arith)) parts.0 in
+      let fronts =
+      first.same (take m a) (take m b) (All-take (λ n. n < 256) m a p) (All-take (λ n. n < 256) m b q) (length-take-le m a (omega arith))
+      (length-take-le m b (omega arith)) parts.0 in
       let rests = second.same (drop m a) (drop m b) my_rest its_rest (omega (arith, length-drop m a)) (omega (arith, length-drop m b)) parts.1 in
       sym (take-append-drop m a) ∙ (λ i. fronts i ++ rests i) ∙ take-append-drop m b;
 }
@@ -156,7 +171,9 @@ high_and_low : (a b c d : ℕ) → b < 4294967296 → d < 4294967296 → 4294967
 high_and_low a b c d p q e = (omega arith, omega arith)
 
 node_says : SaysOne 6 node_of
-node_says = say_both 2 4 (from_be_bytes w16) (from_be_bytes w32) node_of says_16 says_32 (λ a b p q e. high_and_low _ _ _ _ (four_octets (drop 2 a) p) (four_octets (drop 2 b) q) e)
+node_says =
+    say_both 2 4 (from_be_bytes w16) (from_be_bytes w32) node_of says_16 says_32
+    (λ a b p q e. high_and_low _ _ _ _ (four_octets (drop 2 a) p) (four_octets (drop 2 b) q) e)
 
 stamp_says : SaysOne 14 stamp_of
 stamp_says = say_both 8 6 (from_be_bytes w64) node_of stamp_of says_64 node_says (λ a b p q e. (ap (λ (s : Stamp). s.time) e, ap (λ (s : Stamp). s.node) e))
@@ -203,13 +220,15 @@ module _ {K X : Type 0} {R : K → K → Ordering} (total : IsTotalOrder R) wher
     none_above None = tt
     none_above (Some b) = tt
 
-    all_above : (before : Option K) (e : K × X) (es : List (K × X)) (x y : List ℕ) → Stands (key before) x e.0 y → T (below_all R e.0 es) → Above before (e ∷ es)
+    all_above : (before : Option K) (e : K × X) (es : List (K × X)) (x y : List ℕ) → Stands (key before) x e.0 y → T (below_all R e.0 es)
+        → Above before (e ∷ es)
     all_above None e es x y h p = tt
     all_above (Some b) e es x y h p =
         let above = rises b e.0 x y h in
         both _ _ (subst (λ r. T (is_lt r)) (sym above) tt) (below_less total b e.0 es above p)
 
-    items_ascend : (n : ℕ) (before : Option K) (x : List ℕ) (es : List (K × X)) (y : List ℕ) → Stands (ascending key content n before) x es y → T (is_sorted R es) × Above before es
+    items_ascend : (n : ℕ) (before : Option K) (x : List ℕ) (es : List (K × X)) (y : List ℕ) → Stands (ascending key content n before) x es y
+        → T (is_sorted R es) × Above before es
     unfolding ascending item
     items_ascend zero before x es y h = subst (λ es. T (is_sorted R es) × Above before es) h.0 (tt, none_above before)
     items_ascend (suc n) before x es y h =
@@ -225,7 +244,8 @@ module _ {K X : Type 0} {R : K → K → Ordering} (total : IsTotalOrder R) wher
     -- a map has as many entries as there are items
     map_count : (n : ℕ) (x : List ℕ) (m : FinMap R X) (y : List ℕ) → Stands (map_of {R = R} key content n) x m y → len m ≡ n
     unfolding map_of
-    map_count n x m y h = len-entries m ∙ ap length (ap entries (sym h.3.0) ∙ entries_added total h.0 (items_ascend n None x h.0 h.1 h.2).0) ∙ item_count n None x h.0 h.1 h.2
+    map_count n x m y h =
+        len-entries m ∙ ap length (ap entries (sym h.3.0) ∙ entries_added total h.0 (items_ascend n None x h.0 h.1 h.2).0) ∙ item_count n None x h.0 h.1 h.2
 
     module _ (keys : (before : Option K) → OneSpelling (key before)) (contents : OneSpelling content) where
       spell_item : (before : Option K) → OneSpelling (item key content before)
@@ -241,10 +261,14 @@ module _ {K X : Type 0} {R : K → K → Ordering} (total : IsTotalOrder R) wher
 
       spell_map : (n : ℕ) → OneSpelling (map_of {R = R} key content n)
       unfolding map_of
-      spell_map n = spell_next (tells entries (λ es m w x g h. ap entries (sym h.0) ∙ entries_added total es (items_ascend n None w es [] g).0)) (spell_items n None) (λ es. spell_done (add_all empty es))
+      spell_map n =
+          spell_next (tells entries (λ es m w x g h. ap entries (sym h.0) ∙ entries_added total es (items_ascend n None w es [] g).0)) (spell_items n None)
+          (λ es. spell_done (add_all empty es))
 
       -- the number of a map's items, and the map, which is put into another value
-      pub spell_counted : {A : Type 0} {count : Layout ℕ} (f : FinMap R X → A) (back : A → FinMap R X) → ((m : FinMap R X) → back (f m) ≡ m) → OneSpelling count → OneSpelling (next count (λ n. next (map_of {R = R} key content n) (λ m. done (f m))))
+      pub spell_counted : {A : Type 0} {count : Layout ℕ} (f : FinMap R X → A) (back : A → FinMap R X) → ((m : FinMap R X) → back (f m) ≡ m)
+          → OneSpelling count → OneSpelling (next count (λ n. next (map_of {R = R} key content n) (λ m. done (f m))))
       spell_counted {A = A} f back is one =
-          spell_next (tells (λ v. len (back v)) (λ n v w x g h. ap (λ (v : A). len (back v)) (sym h.3.0) ∙ ap len (is h.0) ∙ map_count n x h.0 h.1 h.2)) one (λ n.
+          spell_next (tells (λ v. len (back v)) (λ n v w x g h. ap (λ (v : A). len (back v)) (sym h.3.0) ∙ ap len (is h.0) ∙ map_count n x h.0 h.1 h.2)) one
+          (λ n.
           spell_last f (λ m o e. sym (is m) ∙ ap back e ∙ is o) (spell_map n))

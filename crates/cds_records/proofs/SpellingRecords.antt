@@ -28,10 +28,13 @@ use Rattle.cds_records.specs.declared.message.Body.TheVariants.{Update, Gather, 
 use Rattle.cds_records.specs.Dirs.{dir_cmp, dir_total}
 use Rattle.cds_records.specs.Kinds.{kind_in, kind_number}
 use Rattle.cds_records.specs.Layouts.{done, choose, Stands}
-use Rattle.cds_records.specs.Fields.{free, outside, number_order, octets_order, stamp_order, octet, number, stamp_if, optional_stamp, octets_of, simple_name, attr_name, value}
-use Rattle.cds_records.specs.Records.{mark, cell, kind, entry, replica, kind_rule, member_kind, member, listed, members, fragment, copied, joined, body, tag_of, message, message_in}
+use Rattle.cds_records.specs.Fields.{free, outside, number_order, octets_order, stamp_order, octet, number, stamp_if, optional_stamp, octets_of, simple_name}
+use Rattle.cds_records.specs.Fields.{attr_name, value}
+use Rattle.cds_records.specs.Records.{mark, cell, kind, entry, replica, kind_rule, member_kind, member, listed, members, fragment, copied, joined, body}
+use Rattle.cds_records.specs.Records.{tag_of, message, message_in}
 use Rattle.cds_records.specs.Images.{dir_number, held, dir_state, image, image_in}
-use Rattle.cds_records.proofs.Spelling.{OneSpelling, tells, spell_next, spell_done, spell_last, spell_choose, spell_cons, spell_octet, spell_16, spell_32, spell_64, spell_node, spell_stamp, spell_sized, spell_counted}
+use Rattle.cds_records.proofs.Spelling.{OneSpelling, tells, spell_next, spell_done, spell_last, spell_choose, spell_cons, spell_octet, spell_16, spell_32}
+use Rattle.cds_records.proofs.Spelling.{spell_64, spell_node, spell_stamp, spell_sized, spell_counted}
 
 -- ---- names and values
 
@@ -94,14 +97,16 @@ present_flag (suc (suc n)) e = absurd (grind (arith, e))
 spell_mark : (cleared : Option Stamp) → OneSpelling (mark cleared)
 unfolding mark octet
 spell_mark cleared =
-    spell_next (tells (λ m. cond m.present 1 0) (λ n m w x g h. ap (λ (m : ValueMark). cond m.present 1 0) (sym h.3.0) ∙ present_flag n g.4)) (spell_octet _) (λ n.
+    spell_next (tells (λ m. cond m.present 1 0) (λ n m w x g h. ap (λ (m : ValueMark). cond m.present 1 0) (sym h.3.0) ∙ present_flag n g.4)) (spell_octet _)
+    (λ n.
     spell_last (λ s. record { present = n == 1; stamp = s }) (λ s t e. ap (λ (m : ValueMark). m.stamp) e) (spell_stamp (stamp_order cleared)))
 
 spell_cell : OneSpelling cell
 unfolding cell
 spell_cell =
     spell_next (tells (λ c. c.cleared) (λ t c w x g h. ap (λ (c : AttrCell). c.cleared) (sym h.3.3.0))) spell_optional_stamp (λ t.
-    spell_counted nat_list_cmp_total value (mark t) values_rise spell_value (spell_mark t) (λ marks. record { cleared = t; values = marks }) (λ c. c.values) (λ m. refl) (spell_64 _))
+    spell_counted nat_list_cmp_total value (mark t) values_rise spell_value (spell_mark t) (λ marks. record { cleared = t; values = marks }) (λ c. c.values)
+    (λ m. refl) (spell_64 _))
 
 kind_flag : (n : ℕ) → outside BadFlag 1 3 n ≡ None → rank (kind_of_rank (n - 1)) + 1 ≡ n
 kind_flag zero e = absurd (grind (arith, e))
@@ -112,7 +117,9 @@ kind_flag (suc (suc (suc (suc n)))) e = absurd (grind (arith, e))
 
 spell_kind : OneSpelling kind
 unfolding kind octet
-spell_kind = spell_next (tells (λ k. rank k + 1) (λ n k w x g h. ap (λ k. rank k + 1) (sym h.0) ∙ kind_flag n g.4)) (spell_octet _) (λ n. spell_done (kind_of_rank (n - 1)))
+spell_kind =
+    spell_next (tells (λ k. rank k + 1) (λ n k w x g h. ap (λ k. rank k + 1) (sym h.0) ∙ kind_flag n g.4)) (spell_octet _)
+    (λ n. spell_done (kind_of_rank (n - 1)))
 
 spell_entry : OneSpelling entry
 unfolding entry
@@ -120,13 +127,15 @@ spell_entry =
     spell_next (tells (λ e. e.kind) (λ k e w x g h. ap (λ (e : EntryCell). e.kind) (sym h.3.3.3.3.0))) spell_kind (λ k.
     spell_next (tells (λ e. e.birth) (λ s e w x g h. ap (λ (e : EntryCell). e.birth) (sym h.3.3.3.0))) (spell_stamp free) (λ birth.
     spell_next (tells (λ e. e.death) (λ t e w x g h. ap (λ (e : EntryCell). e.death) (sym h.3.3.0))) spell_optional_stamp (λ death.
-    spell_counted nat_list_cmp_total attr_name cell attr_names_rise spell_attr_name spell_cell (λ attrs. record { birth = birth; kind = k; death = death; attrs = attrs }) (λ e. e.attrs) (λ m. refl) (spell_64 free))))
+    spell_counted nat_list_cmp_total attr_name cell attr_names_rise spell_attr_name spell_cell
+    (λ attrs. record { birth = birth; kind = k; death = death; attrs = attrs }) (λ e. e.attrs) (λ m. refl) (spell_64 free))))
 
 spell_replica : OneSpelling replica
 unfolding replica
 spell_replica =
     spell_next (tells (λ r. r.all_up_to) (λ t r w x g h. ap (λ (r : Replica). r.all_up_to) (sym h.3.3.0))) spell_optional_stamp (λ t.
-    spell_counted nat_list_cmp_total simple_name entry simple_names_rise spell_simple_name spell_entry (λ entries. record { table = entries; all_up_to = t }) (λ r. r.table) (λ m. refl) (spell_64 free))
+    spell_counted nat_list_cmp_total simple_name entry simple_names_rise spell_simple_name spell_entry (λ entries. record { table = entries; all_up_to = t })
+    (λ r. r.table) (λ m. refl) (spell_64 free))
 
 -- ---- members
 
@@ -138,14 +147,16 @@ member_flag left master (suc (suc (suc n))) e = absurd (grind (arith, e))
 
 spell_member_kind : (left : ℕ) (master : Bool) → OneSpelling (member_kind left master)
 unfolding member_kind octet
-spell_member_kind left master = spell_next (tells kind_number (λ n k w x g h. ap kind_number (sym h.0) ∙ member_flag left master n g.4)) (spell_octet _) (λ n. spell_done (kind_in n))
+spell_member_kind left master =
+    spell_next (tells kind_number (λ n k w x g h. ap kind_number (sym h.0) ∙ member_flag left master n g.4)) (spell_octet _) (λ n. spell_done (kind_in n))
 
 spell_member : (left : ℕ) (before : Option ℕ) (master : Bool) → OneSpelling (member left before master)
 unfolding member
 spell_member left before master =
     spell_next (tells (λ m. m.house.0) (λ n m w x g h. ap (λ (m : Member). m.house.0) (sym h.3.3.0))) (spell_octet _) (λ house.
     spell_next (tells (λ m. m.since.0) (λ n m w x g h. ap (λ (m : Member). m.since.0) (sym h.3.0))) (spell_64 free) (λ since.
-    spell_last (λ k. record { house = record { 0 = house }; since = record { 0 = since }; kind = k }) (λ k j e. ap (λ (m : Member). m.kind) e) (spell_member_kind left master)))
+    spell_last (λ k. record { house = record { 0 = house }; since = record { 0 = since }; kind = k }) (λ k j e. ap (λ (m : Member). m.kind) e)
+    (spell_member_kind left master)))
 
 spell_listed : (n : ℕ) (before : Option ℕ) (master : Bool) → OneSpelling (listed n before master)
 unfolding listed
@@ -217,12 +228,15 @@ pub spell_message : OneSpelling message
 unfolding message message_in octet
 spell_message =
     spell_next (tells (λ m. 1) (λ k m w x g h. the_number BadTag 1 k g.4)) (spell_octet _) (λ format.
-    spell_next (tells (λ m. tag_of m.body) (λ tag m w x g h. ap (λ (m : Message). tag_of m.body) (sym h.3.3.3.3.3.0) ∙ body_tag tag h.3.3.3.3.0 h.3.3.3.1 h.3.3.3.3.1 g.4 h.3.3.3.3.2)) (spell_octet _) (λ tag.
+    spell_next (tells (λ m. tag_of m.body)
+    (λ tag m w x g h. ap (λ (m : Message). tag_of m.body) (sym h.3.3.3.3.3.0) ∙ body_tag tag h.3.3.3.3.0 h.3.3.3.1 h.3.3.3.3.1 g.4 h.3.3.3.3.2))
+    (spell_octet _) (λ tag.
     spell_next (tells (λ m. m.dir.0) (λ n m w x g h. ap (λ (m : Message). m.dir.0) (sym h.3.3.3.3.0))) (spell_32 free) (λ dir.
     spell_next (tells (λ m. m.from.0) (λ n m w x g h. ap (λ (m : Message). m.from.0) (sym h.3.3.3.0))) (spell_octet free) (λ house.
     spell_next (tells (λ m. m.epoch.0) (λ n m w x g h. ap (λ (m : Message). m.epoch.0) (sym h.3.3.0))) (spell_64 free) (λ epoch.
     spell_next (tells (λ m. m.floor) (λ n m w x g h. ap (λ (m : Message). m.floor) (sym h.3.0))) (spell_64 free) (λ floor.
-    spell_last (λ b. record { dir = record { 0 = dir }; from = record { 0 = house }; epoch = record { 0 = epoch }; floor = floor; body = b }) (λ b c e. ap (λ (m : Message). m.body) e) (spell_body tag)))))))
+    spell_last (λ b. record { dir = record { 0 = dir }; from = record { 0 = house }; epoch = record { 0 = epoch }; floor = floor; body = b })
+    (λ b c e. ap (λ (m : Message). m.body) e) (spell_body tag)))))))
 
 -- ---- images
 
@@ -258,12 +272,14 @@ spell_held epoch =
     spell_next (tells members_of (λ ms d w x g h. ap members_of (sym h.3.0))) spell_members (λ ms.
     spell_last (λ r. Held (record { 0 = epoch }) ms r) (same_replica epoch ms) spell_replica)
 
-said_epoch : (test : Bool) (epoch : ℕ) (d : ImageDir) (x y : List ℕ) → Stands (choose test (held epoch) (done (Gone (record { 0 = epoch })))) x d y → epoch_of d ≡ epoch
+said_epoch : (test : Bool) (epoch : ℕ) (d : ImageDir) (x y : List ℕ) → Stands (choose test (held epoch) (done (Gone (record { 0 = epoch })))) x d y
+    → epoch_of d ≡ epoch
 unfolding held epoch_of
 said_epoch true epoch d x y h = ap epoch_of (sym h.3.3.0)
 said_epoch false epoch d x y h = ap epoch_of (sym h.0)
 
-said_state : (state epoch : ℕ) (d : ImageDir) (x y : List ℕ) → outside BadFlag 1 2 state ≡ None → Stands (choose (state == 1) (held epoch) (done (Gone (record { 0 = epoch })))) x d y → state_of d ≡ state
+said_state : (state epoch : ℕ) (d : ImageDir) (x y : List ℕ) → outside BadFlag 1 2 state ≡ None
+    → Stands (choose (state == 1) (held epoch) (done (Gone (record { 0 = epoch })))) x d y → state_of d ≡ state
 unfolding held state_of
 said_state zero epoch d x y e h = absurd (grind (arith, e))
 said_state (suc zero) epoch d x y e h = ap state_of (sym h.3.3.0)
@@ -285,4 +301,5 @@ spell_image =
     spell_next (tells (λ i. i.house.0) (λ n i w x g h. ap (λ (i : Image). i.house.0) (sym h.3.3.3.3.0))) (spell_octet free) (λ house.
     spell_next (tells (λ i. i.node) (λ n i w x g h. ap (λ (i : Image). i.node) (sym h.3.3.3.0))) spell_node (λ node.
     spell_next (tells (λ i. i.floor) (λ n i w x g h. ap (λ (i : Image). i.floor) (sym h.3.3.0))) (spell_64 free) (λ floor.
-    spell_counted dir_total dir_number dir_state dirs_rise spell_dir_number spell_dir (λ dirs. record { house = record { 0 = house }; node = node; floor = floor; dirs = dirs }) (λ i. i.dirs) (λ m. refl) (spell_64 free))))))
+    spell_counted dir_total dir_number dir_state dirs_rise spell_dir_number spell_dir
+    (λ dirs. record { house = record { 0 = house }; node = node; floor = floor; dirs = dirs }) (λ i. i.dirs) (λ m. refl) (spell_64 free))))))

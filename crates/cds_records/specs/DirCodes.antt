@@ -31,7 +31,9 @@ member_code =
 
 -- a replica by its table and its AllUpTo (own)
 abbrev pub replica_code : Coded Replica
-replica_code = code_by (Entries × Option Stamp) (coded× (code octets_code entry_code) (coded_option stamp_code)) (λ r. (r.table, r.all_up_to)) (λ p. record { table = p.0; all_up_to = p.1 }) (λ _. refl)
+replica_code =
+    code_by (Entries × Option Stamp) (coded× (code octets_code entry_code) (coded_option stamp_code)) (λ r. (r.table, r.all_up_to))
+    (λ p. record { table = p.0; all_up_to = p.1 }) (λ _. refl)
 
 -- the parts of what is kept of a directory, held or gone (own)
 abbrev pub parts : ImageDir → (ℕ × (List Member × Replica)) ⊎ ℕ
@@ -49,4 +51,5 @@ parts_back (Gone e) = refl
 
 -- what is kept of a directory by its parts (own)
 abbrev pub image_dir_code : Coded ImageDir
-image_dir_code = code_by ((ℕ × (List Member × Replica)) ⊎ ℕ) (coded⊎ (coded× coded_ℕ (coded× (coded_list member_code) replica_code)) coded_ℕ) parts of_parts parts_back
+image_dir_code =
+    code_by ((ℕ × (List Member × Replica)) ⊎ ℕ) (coded⊎ (coded× coded_ℕ (coded× (coded_list member_code) replica_code)) coded_ℕ) parts of_parts parts_back

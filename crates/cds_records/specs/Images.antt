@@ -22,12 +22,16 @@ held epoch = next members (λ ms. next replica (λ r. done (Held (record { 0 = e
 
 -- the state of a directory: held is 1, gone 2; its epoch; and where it is held its members and replica (own)
 unfoldable pub dir_state : Layout ImageDir
-dir_state = next (octet (outside BadFlag 1 2)) (λ state. next (number w64 free) (λ epoch. choose (state == 1) (held epoch) (done (Gone (record { 0 = epoch })))))
+dir_state =
+    next (octet (outside BadFlag 1 2)) (λ state. next (number w64 free) (λ epoch. choose (state == 1) (held epoch) (done (Gone (record { 0 = epoch })))))
 
 -- format and tag, house, node, floor, and the directories (own)
 unfoldable pub image_in : (format : ℕ) → Layout Image
 image_in format =
-    next (octet (outside BadTag format format)) (λ _. next (octet (outside BadTag 9 9)) (λ _. next (octet free) (λ house. next node (λ node. next (number w64 free) (λ floor. next (number w64 free) (λ n. next (map_of {R = dir_cmp} dir_number dir_state n) (λ dirs.
+    next (octet (outside BadTag format format))
+    (λ _. next (octet (outside BadTag 9 9))
+    (λ _. next (octet free)
+    (λ house. next node (λ node. next (number w64 free) (λ floor. next (number w64 free) (λ n. next (map_of {R = dir_cmp} dir_number dir_state n) (λ dirs.
     done (record { house = record { 0 = house }; node = node; floor = floor; dirs = dirs }))))))))
 
 -- images of format 1 (own)

@@ -35,7 +35,8 @@ Reads view l old new (Err (Fault b)) = read l old ≡ Err b
 Reads view l old new (Err OutOfMemory) = Unit {0}
 
 -- what a reader of one more item returned, its key, and how it left the map and the octets (own)
-abbrev pub Adds : {Y K X : Type 0} {R : K → K → Ordering} → (Y → K) → Layout (K × X) → (old new : FinMap R X) → List ℕ → List ℕ → Result Y (AllocOr Broken) → Type 0
+abbrev pub Adds : {Y K X : Type 0} {R : K → K → Ordering} → (Y → K) → Layout (K × X) → (old new : FinMap R X) → List ℕ → List ℕ → Result Y (AllocOr Broken)
+    → Type 0
 Adds {X = X} view l m n old new (Ok y) = (x : X) × (read l old ≡ Ok ((view y, x), new)) × (n ≡ insert m (view y) x)
 Adds view l m n old new (Err (Fault b)) = read l old ≡ Err b
 Adds view l m n old new (Err OutOfMemory) = Unit {0}

@@ -72,7 +72,8 @@ entry =
 
 -- AllUpTo, and the entries of the table (own)
 unfoldable pub replica : Layout Replica
-replica = next optional_stamp (λ t. next (number w64 free) (λ n. next (map_of simple_name entry n) (λ entries. done (record { table = entries; all_up_to = t }))))
+replica =
+    next optional_stamp (λ t. next (number w64 free) (λ n. next (map_of simple_name entry n) (λ entries. done (record { table = entries; all_up_to = t }))))
 
 -- ---- members
 
@@ -141,7 +142,9 @@ tag_of Leave = 8
 -- format and tag, the directory, the sender's house, epoch and floor, and what the message carries (own)
 unfoldable pub message_in : (format : ℕ) → Layout Message
 message_in format =
-    next (octet (outside BadTag format format)) (λ _. next (octet (outside BadTag 1 8)) (λ tag. next (number w32 free) (λ dir. next (octet free) (λ house. next (number w64 free) (λ epoch. next (number w64 free) (λ floor.
+    next (octet (outside BadTag format format))
+    (λ _. next (octet (outside BadTag 1 8))
+    (λ tag. next (number w32 free) (λ dir. next (octet free) (λ house. next (number w64 free) (λ epoch. next (number w64 free) (λ floor.
     next (body tag) (λ b. done (record { dir = record { 0 = dir }; from = record { 0 = house }; epoch = record { 0 = epoch }; floor = floor; body = b }))))))))
 
 -- messages of format 1 (own)

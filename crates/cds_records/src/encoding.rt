@@ -124,7 +124,10 @@ fn kind_number(kind: MemberKind) -> u8
 
 /// A member.
 fn put_member(out: &mut Vec<u8>, member: &Member) -> Result<(), AllocError>
-    ensures { OnOk result ((left : ℕ) (before : Option ℕ) (master : Bool) → number_order before member.now.house.0 ≡ None → records.kind_rule left master (kinds.kind_number member.now.kind) ≡ None → Writes (records.member left before master) member.now out.old.items out.new.items) }
+    ensures { OnOk result
+        ((left : ℕ) (before : Option ℕ) (master : Bool) → number_order before member.now.house.0 ≡ None
+        → records.kind_rule left master (kinds.kind_number member.now.kind) ≡ None
+        → Writes (records.member left before master) member.now out.old.items out.new.items) }
 {
     put_octet(out, member.house.0)?;
     put_u64(out, member.since.0)?;

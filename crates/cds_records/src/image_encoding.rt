@@ -39,7 +39,9 @@ pub fn encode_image(alloc: Global, image: &Image) -> Result<Vec<u8>, AllocError>
 
 /// The directories of an image.
 fn put_dirs(out: &mut Vec<u8>, dirs: &ImageDirs) -> Result<(), AllocError>
-    ensures { OnOk result (EachValue IsValidDir dirs.now → Writes (records.map_of {R = dir_cmp} images.dir_number images.dir_state (map.len dirs.now)) dirs.now out.old.items out.new.items) }
+    ensures { OnOk result
+        (EachValue IsValidDir dirs.now
+        → Writes (records.map_of {R = dir_cmp} images.dir_number images.dir_state (map.len dirs.now)) dirs.now out.old.items out.new.items) }
 {
     for (dir, kept) in dirs.iter() {
         put_numbered(out, dir, kept)?;
@@ -49,7 +51,9 @@ fn put_dirs(out: &mut Vec<u8>, dirs: &ImageDirs) -> Result<(), AllocError>
 
 /// A directory and what is kept of it.
 fn put_numbered(out: &mut Vec<u8>, dir: &DirId, kept: &ImageDir) -> Result<(), AllocError>
-    ensures { OnOk result (IsValidDir kept.now → (before : Option number.DirId) → number_order (option_map (λ (d : number.DirId). d.0) before) dir.now.0 ≡ None → Writes (records.item images.dir_number images.dir_state before) (dir.now, kept.now) out.old.items out.new.items) }
+    ensures { OnOk result
+        (IsValidDir kept.now → (before : Option number.DirId) → number_order (option_map (λ (d : number.DirId). d.0) before) dir.now.0 ≡ None
+        → Writes (records.item images.dir_number images.dir_state before) (dir.now, kept.now) out.old.items out.new.items) }
 {
     put_u32(out, dir.0)?;
     put_dir(out, kept)?;

@@ -114,7 +114,8 @@ pub(crate) fn put_optional_stamp(out: &mut Vec<u8>, stamp: &Option<Stamp>) -> Re
 
 /// A simple name.
 pub(crate) fn put_simple_name(out: &mut Vec<u8>, name: &SimpleName) -> Result<(), AllocError>
-    ensures { OnOk result ((before : Option (List ℕ)) → fields.octets_order before name.now ≡ None → Writes (fields.simple_name before) name.now out.old.items out.new.items) }
+    ensures { OnOk result
+        ((before : Option (List ℕ)) → fields.octets_order before name.now ≡ None → Writes (fields.simple_name before) name.now out.old.items out.new.items) }
 {
     let octets = name.octets();
     put_octet(out, octets.len() as u8)?;
@@ -124,7 +125,8 @@ pub(crate) fn put_simple_name(out: &mut Vec<u8>, name: &SimpleName) -> Result<()
 
 /// The name of an attribute.
 fn put_attr_name(out: &mut Vec<u8>, name: &AttrName) -> Result<(), AllocError>
-    ensures { OnOk result ((before : Option (List ℕ)) → fields.octets_order before name.now ≡ None → Writes (fields.attr_name before) name.now out.old.items out.new.items) }
+    ensures { OnOk result
+        ((before : Option (List ℕ)) → fields.octets_order before name.now ≡ None → Writes (fields.attr_name before) name.now out.old.items out.new.items) }
 {
     let octets = name.octets();
     put_octet(out, octets.len() as u8)?;
@@ -134,7 +136,8 @@ fn put_attr_name(out: &mut Vec<u8>, name: &AttrName) -> Result<(), AllocError>
 
 /// A value.
 fn put_value(out: &mut Vec<u8>, value: &Value) -> Result<(), AllocError>
-    ensures { OnOk result ((before : Option (List ℕ)) → fields.octets_order before value.now ≡ None → Writes (fields.value before) value.now out.old.items out.new.items) }
+    ensures { OnOk result
+        ((before : Option (List ℕ)) → fields.octets_order before value.now ≡ None → Writes (fields.value before) value.now out.old.items out.new.items) }
 {
     put_u16(out, value.len() as u16)?;
     out.extend_from_slice(value.octets())?;
@@ -150,7 +153,8 @@ fn flag(present: bool) -> u8
 
 /// A mark.
 fn put_mark(out: &mut Vec<u8>, mark: &ValueMark) -> Result<(), AllocError>
-    ensures { OnOk result ((cleared : Option Stamp) → fields.stamp_order cleared mark.now.stamp ≡ None → Writes (records.mark cleared) mark.now out.old.items out.new.items) }
+    ensures { OnOk result
+        ((cleared : Option Stamp) → fields.stamp_order cleared mark.now.stamp ≡ None → Writes (records.mark cleared) mark.now out.old.items out.new.items) }
 {
     put_octet(out, flag(mark.present))?;
     put_stamp(out, &mark.stamp)?;
@@ -159,7 +163,10 @@ fn put_mark(out: &mut Vec<u8>, mark: &ValueMark) -> Result<(), AllocError>
 
 /// A value and its mark.
 fn put_marked(out: &mut Vec<u8>, value: &Value, mark: &ValueMark) -> Result<(), AllocError>
-    ensures { OnOk result ((cleared : Option Stamp) → fields.stamp_order cleared mark.now.stamp ≡ None → (before : Option (List ℕ)) → fields.octets_order before value.now ≡ None → Writes (records.item fields.value (records.mark cleared) before) (value.now, mark.now) out.old.items out.new.items) }
+    ensures { OnOk result
+        ((cleared : Option Stamp) → fields.stamp_order cleared mark.now.stamp ≡ None → (before : Option (List ℕ))
+        → fields.octets_order before value.now ≡ None
+        → Writes (records.item fields.value (records.mark cleared) before) (value.now, mark.now) out.old.items out.new.items) }
 {
     put_value(out, value)?;
     put_mark(out, mark)?;
@@ -168,7 +175,9 @@ fn put_marked(out: &mut Vec<u8>, value: &Value, mark: &ValueMark) -> Result<(), 
 
 /// The values of an attribute with their marks.
 fn put_marks(out: &mut Vec<u8>, marks: &ValueMap, cleared: &Option<Stamp>) -> Result<(), AllocError>
-    ensures { OnOk result (EachValue (λ (m : ValueMark). fields.stamp_order cleared.now m.stamp ≡ None) marks.now → Writes (records.map_of {R = octets_cmp} fields.value (records.mark cleared.now) (map.len marks.now)) marks.now out.old.items out.new.items) }
+    ensures { OnOk result
+        (EachValue (λ (m : ValueMark). fields.stamp_order cleared.now m.stamp ≡ None) marks.now
+        → Writes (records.map_of {R = octets_cmp} fields.value (records.mark cleared.now) (map.len marks.now)) marks.now out.old.items out.new.items) }
 {
     for (value, mark) in marks.iter() {
         put_marked(out, value, mark)?;
@@ -188,7 +197,9 @@ fn put_cell(out: &mut Vec<u8>, cell: &AttrCell) -> Result<(), AllocError>
 
 /// An attribute and its cell.
 fn put_attr(out: &mut Vec<u8>, name: &AttrName, cell: &AttrCell) -> Result<(), AllocError>
-    ensures { OnOk result (IsHeldCell cell.now → (before : Option (List ℕ)) → fields.octets_order before name.now ≡ None → Writes (records.item fields.attr_name records.cell before) (name.now, cell.now) out.old.items out.new.items) }
+    ensures { OnOk result
+        (IsHeldCell cell.now → (before : Option (List ℕ)) → fields.octets_order before name.now ≡ None
+        → Writes (records.item fields.attr_name records.cell before) (name.now, cell.now) out.old.items out.new.items) }
 {
     put_attr_name(out, name)?;
     put_cell(out, cell)?;
@@ -197,7 +208,9 @@ fn put_attr(out: &mut Vec<u8>, name: &AttrName, cell: &AttrCell) -> Result<(), A
 
 /// The attributes of an entry.
 fn put_attrs(out: &mut Vec<u8>, attrs: &AttrMap) -> Result<(), AllocError>
-    ensures { OnOk result (EachValue IsHeldCell attrs.now → Writes (records.map_of {R = octets_cmp} fields.attr_name records.cell (map.len attrs.now)) attrs.now out.old.items out.new.items) }
+    ensures { OnOk result
+        (EachValue IsHeldCell attrs.now
+        → Writes (records.map_of {R = octets_cmp} fields.attr_name records.cell (map.len attrs.now)) attrs.now out.old.items out.new.items) }
 {
     for (name, cell) in attrs.iter() {
         put_attr(out, name, cell)?;
@@ -230,7 +243,9 @@ pub(crate) fn put_entry(out: &mut Vec<u8>, entry: &EntryCell) -> Result<(), Allo
 
 /// A name and its entry.
 fn put_named(out: &mut Vec<u8>, name: &SimpleName, entry: &EntryCell) -> Result<(), AllocError>
-    ensures { OnOk result (IsValidEntry entry.now → (before : Option (List ℕ)) → fields.octets_order before name.now ≡ None → Writes (records.item fields.simple_name records.entry before) (name.now, entry.now) out.old.items out.new.items) }
+    ensures { OnOk result
+        (IsValidEntry entry.now → (before : Option (List ℕ)) → fields.octets_order before name.now ≡ None
+        → Writes (records.item fields.simple_name records.entry before) (name.now, entry.now) out.old.items out.new.items) }
 {
     put_simple_name(out, name)?;
     put_entry(out, entry)?;
@@ -239,7 +254,9 @@ fn put_named(out: &mut Vec<u8>, name: &SimpleName, entry: &EntryCell) -> Result<
 
 /// The entries of a table.
 fn put_table(out: &mut Vec<u8>, table: &Table) -> Result<(), AllocError>
-    ensures { OnOk result (IsValidTable table.now → Writes (records.map_of {R = octets_cmp} fields.simple_name records.entry (map.len table.now)) table.now out.old.items out.new.items) }
+    ensures { OnOk result
+        (IsValidTable table.now
+        → Writes (records.map_of {R = octets_cmp} fields.simple_name records.entry (map.len table.now)) table.now out.old.items out.new.items) }
 {
     for (name, entry) in table.iter() {
         put_named(out, name, entry)?;

@@ -7,17 +7,29 @@ use Rattle.cds_records.proofs.Valid.{message_valid}
 use Rattle.cds_records.proofs.decoding.decode.Goals as goal
 
 pub overflow_sub-result : goal.overflow_sub-result
-overflow_sub-result c = omega (arith, c.left.ensures, rest_within message c.args.octets.now c.in-Ok.message c.message.new.self (ap (read message) (sym c.new-reader.ensures) ∙ c.in-Ok.ensures))
+overflow_sub-result c =
+    omega (
+      arith,
+      c.left.ensures,
+      rest_within message c.args.octets.now c.in-Ok.message c.message.new.self
+          (ap (read message) (sym c.new-reader.ensures) ∙ c.in-Ok.ensures),
+    )
 
 pub fault_from-requires : goal.fault_from-requires
-fault_from-requires c = error_within message c.args.octets.now c.message.new.self c.in-Err.error (subst (λ x. Reads (λ (m : Message). m) message x c.message.new.self (Err c.in-Err.error)) c.new-reader.ensures c.in-Err.ensures)
+fault_from-requires c =
+    error_within message c.args.octets.now c.message.new.self c.in-Err.error
+    (subst (λ x. Reads (λ (m : Message). m) message x c.message.new.self (Err c.in-Err.error)) c.new-reader.ensures c.in-Err.ensures)
 
 pub returns-in-Ok-clause-decodes : goal.returns-in-Ok-clause-decodes
-returns-in-Ok-clause-decodes c = decoded message c.args.octets.now c.in-Ok.message c.message.new.self _ (ap (read message) (sym c.new-reader.ensures) ∙ c.in-Ok.ensures) (omega (arith, c.left.ensures))
+returns-in-Ok-clause-decodes c =
+    decoded message c.args.octets.now c.in-Ok.message c.message.new.self _ (ap (read message) (sym c.new-reader.ensures) ∙ c.in-Ok.ensures)
+    (omega (arith, c.left.ensures))
 
 pub returns-in-Ok-clause-valid : goal.returns-in-Ok-clause-valid
 returns-in-Ok-clause-valid c = message_valid c.new-reader.result c.in-Ok.message c.message.new.self c.in-Ok.ensures
 
 pub returns-in-Err-clause-decodes : goal.returns-in-Err-clause-decodes
 returns-in-Err-clause-decodes c =
-    rw c.fault_from.ensures (error_decodes message c.args.octets.now c.message.new.self c.in-Err.error (subst (λ x. Reads (λ (m : Message). m) message x c.message.new.self (Err c.in-Err.error)) c.new-reader.ensures c.in-Err.ensures))
+    rw c.fault_from.ensures
+    (error_decodes message c.args.octets.now c.message.new.self c.in-Err.error
+    (subst (λ x. Reads (λ (m : Message). m) message x c.message.new.self (Err c.in-Err.error)) c.new-reader.ensures c.in-Err.ensures))

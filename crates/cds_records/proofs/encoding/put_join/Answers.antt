@@ -7,4 +7,5 @@ use Rattle.cds_records.proofs.encoding.put_join.Goals as goal
 pub returns : goal.returns
 returns c = λ valid.
     join_written c.args.members.now c.args.replica.now c.args.out.now.items c.put_members.new.out.items c.put_replica.new.out.items
-    (subst (λ ms. Writes members ms c.args.out.now.items c.put_members.new.out.items) c.list.ensures.value c.in_ok-put_members.ensures) (c.in_ok-put_replica.ensures valid)
+    (subst (λ ms. Writes members ms c.args.out.now.items c.put_members.new.out.items) c.list.ensures.value c.in_ok-put_members.ensures)
+    (c.in_ok-put_replica.ensures valid)

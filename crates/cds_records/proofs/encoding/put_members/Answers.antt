@@ -11,9 +11,12 @@ loop-member-init c = no_member_written c.args.list.now c.put_octet.new.out.items
 
 pub loop-member-preserved : goal.loop-member-preserved
 loop-member-preserved c =
-    one_member_written c.args.list.now (drop c.loop-member.member-index c.args.list.now) (drop (c.loop-member.member-index + 1) c.args.list.now) _ c.put_octet.new.out.items c.loop-member.out.items c.put_member.new.out.items
+    one_member_written c.args.list.now (drop c.loop-member.member-index c.args.list.now)
+    (drop (c.loop-member.member-index + 1) c.args.list.now) _ c.put_octet.new.out.items c.loop-member.out.items c.put_member.new.out.items
     (drop_more c.args.list.now c.loop-member.member-index _ c.loop-member-test.true) c.loop-member.invariant c.in_ok-put_member.ensures
 
 pub returns : goal.returns
 returns c =
-    members_written c.args.list.now (drop c.loop-member.member-index c.args.list.now) c.args.out.now.items c.put_octet.new.out.items c.loop-member.out.items c.requires (drop_all c.loop-member.member-index c.args.list.now c.loop-member-test.false) c.in_ok-put_octet.ensures c.loop-member.invariant
+    members_written c.args.list.now
+    (drop c.loop-member.member-index c.args.list.now) c.args.out.now.items c.put_octet.new.out.items c.loop-member.out.items c.requires
+    (drop_all c.loop-member.member-index c.args.list.now c.loop-member-test.false) c.in_ok-put_octet.ensures c.loop-member.invariant

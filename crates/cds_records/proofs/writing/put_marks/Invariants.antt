@@ -6,4 +6,5 @@ use Rattle.cds_records.proofs.KeyedWriting.{octets_keys, Written}
 use Rattle.cds_records.proofs.writing.put_marks.Given as goal
 
 abbrev pub invariant-loop-value : goal.invariant-loop-value
-invariant-loop-value l = Written octets_keys (λ (m : ValueMark). stamp_order l.cleared m.stamp ≡ None) value (mark l.cleared) l.marks l.value-iterator l.fn.out.items l.out.items
+invariant-loop-value l =
+    Written octets_keys (λ (m : ValueMark). stamp_order l.cleared m.stamp ≡ None) value (mark l.cleared) l.marks l.value-iterator l.fn.out.items l.out.items

@@ -13,5 +13,6 @@ returns c = λ rule lawful.
     stamp_written c.args.stamp.now c.args.out.now.items c.extend_from_slice.new.self.items (omega arith)
     (omega (arith, c.number-node.ensures.same, c.number-node.ensures.below))
     (c.in_ok-extend_from_slice.ensures.items ∙ (λ i. c.args.out.now.items ++ put_mid 8 6 (c.write_u64.ensures i ++ room) (node i))
-    ∙ ap (λ o. c.args.out.now.items ++ (to_be_bytes w64 c.args.stamp.now.time ++ o)) (six_octets c.number-node.result ∙ ap node_octets c.number-node.ensures.same))
+    ∙ ap (λ o. c.args.out.now.items ++ (to_be_bytes w64 c.args.stamp.now.time ++ o))
+    (six_octets c.number-node.result ∙ ap node_octets c.number-node.ensures.same))
     rule lawful

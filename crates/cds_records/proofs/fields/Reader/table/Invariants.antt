@@ -9,4 +9,5 @@ use Rattle.cds_records.proofs.fields.Reader.table.Given as goal
 
 abbrev pub invariant-loop : goal.invariant-loop
 invariant-loop l =
-    to_come simple_name entry l.table l.count l.counter (option_map (λ b. b.now) l.before) l.self ≡ read (map_of {R = octets_cmp} simple_name entry l.count) l.fn.self
+    to_come simple_name entry l.table l.count l.counter (option_map (λ b. b.now) l.before) l.self ≡ read
+    (map_of {R = octets_cmp} simple_name entry l.count) l.fn.self
