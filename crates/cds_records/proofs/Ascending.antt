@@ -13,18 +13,22 @@ use Rattle.std.specs.FinMap.Entries.{below_all}
 use Rattle.cds_stamps.specs.Keyed.{tied}
 use Rattle.cds_records.specs.Records.{add_all}
 
+-- two tests that hold, as one
 pub both : (a b : Bool) → T a → T b → T (a && b)
 both true b p q = q
 both false b p q = absurd p
 
+-- the first of two tests
 pub first_of : (a b : Bool) → T (a && b) → T a
 first_of true b p = tt
 first_of false b p = absurd p
 
+-- the second of two tests
 pub second_of : (a b : Bool) → T (a && b) → T b
 second_of true b p = p
 second_of false b p = absurd p
 
+-- what the test for less means
 pub less : (r : Ordering) → T (is_lt r) → r ≡ Less
 less Less p = refl
 less Equal p = absurd p
@@ -35,6 +39,7 @@ no_items [] e = refl
 no_items (x ∷ es) e = absurd (omega arith)
 
 module _ {K X : Type 0} {R : K → K → Ordering} (total : IsTotalOrder R) where
+  -- what is below all items of a list is so for a lesser key
   pub below_less : (j k : K) (es : List (K × X)) → R j k ≡ Less → T (below_all R k es) → T (below_all R j es)
   below_less j k [] p h = tt
   below_less j k (e ∷ es) p h =
@@ -58,6 +63,7 @@ module _ {K X : Type 0} {R : K → K → Ordering} (total : IsTotalOrder R) wher
       ap (λ (ds : List (K × X)). ds ++ es) (entries-insert total m e.0 e.1 ∙ put_last (entries m) e es h) ∙ append_assoc (entries m) (e ∷ []) es in
       added_last (insert m e.0 e.1) es (subst (λ ds. T (is_sorted R ds)) (sym one) h) ∙ one
 
+  -- sorted items that are added to an empty map are its entries
   pub entries_added : (es : List (K × X)) → T (is_sorted R es) → entries (add_all (empty {R = R}) es) ≡ es
   entries_added es h =
       let none : entries (empty {X = X} {R = R}) ≡ [] = no_items _ (sym (len-entries empty) ∙ len-empty R X) in
@@ -67,6 +73,7 @@ module _ {K X : Type 0} {R : K → K → Ordering} (total : IsTotalOrder R) wher
   pub added_entries : (m : FinMap R X) → add_all empty (entries m) ≡ m
   added_entries m = same_entries_map (add_all empty (entries m)) m (entries_added (entries m) (entries_sorted m))
 
+  -- the same, for any list that is the map's entries
   pub entries_make : (m none : FinMap R X) (items : List (K × X)) → none ≡ empty → items ≡ entries m → add_all none items ≡ m
   entries_make m none items e f = (λ i. add_all (e i) (f i)) ∙ added_entries m
 

@@ -7,7 +7,8 @@ use Rattle.cds_records.specs.declared.fault.RecordFault.{RecordFault}
 use Rattle.cds_stamps.specs.declared.alloc_or.AllocOr.{AllocOr}
 use Rattle.cds_stamps.specs.declared.alloc_or.AllocOr.TheVariants.{Fault, OutOfMemory}
 use Rattle.cds_records.specs.Layouts.{Layout, done, field, next, Stands, Breaks}
-use Rattle.cds_records.specs.Reading.{read, Reads}
+use Rattle.cds_records.specs.Reading.{read}
+use Rattle.cds_records.specs.PrivateReading.{Reads}
 use Rattle.cds_records.specs.Decoding.{fault_at, error_of, IsLeftWithin, IsWhole, Decodes}
 use Rattle.cds_records.proofs.LayoutLaws.{ok_is, stands_read, read_stands, breaks_read, read_breaks, front_stands}
 
@@ -30,6 +31,7 @@ left_within (next first second) octets rule left h =
           omega (arith, behind, ap length front.1, length-append front.0 w.1))
     ]
 
+-- what was read is what the octets decode to
 pub decoded : {A : Type 0} (l : Layout A) (octets : List ℕ) (value : A) (rest : List ℕ) (n : ℕ) → read l octets ≡ Ok (value, rest)
     → n ≡ length octets - length rest → Decodes l octets (Ok (value, n))
 decoded l octets value rest n e n_is =
@@ -51,6 +53,7 @@ decoded l octets value rest n e n_is =
           absurd cc;
     }
 
+-- a rule that was broken is the fault of the octets
 pub not_decoded : {A : Type 0} (l : Layout A) (octets : List ℕ) (b : Broken) (fault : RecordFault) → read l octets ≡ Err b
     → fault ≡ fault_at b.rule (length octets - b.left + 1) → Decodes l octets (Err (Fault fault))
 not_decoded l octets b fault e named =
@@ -79,11 +82,13 @@ rest_within l octets value rest e =
     let f = front_stands l octets value rest (read_stands l octets value rest e) in
     omega (arith, ap length f.1, length-append f.0 rest)
 
+-- an error leaves no more octets than there were
 pub error_within : {A : Type 0} (l : Layout A) (octets z : List ℕ) (e : AllocOr Broken) → Reads (λ (x : A). x) l octets z (Err e)
     → IsLeftWithin (length octets) e
 error_within l octets z (Fault b) h = left_within l octets b.rule b.left (read_breaks l octets b h)
 error_within l octets z OutOfMemory h = tt
 
+-- a reader's error is what the octets decode to
 pub error_decodes : {A : Type 0} (l : Layout A) (octets z : List ℕ) (e : AllocOr Broken) → Reads (λ (x : A). x) l octets z (Err e)
     → Decodes l octets (Err (error_of (length octets) e))
 error_decodes l octets z (Fault b) h = not_decoded l octets b (fault_at b.rule (length octets - b.left + 1)) h refl

@@ -17,7 +17,7 @@ use Rattle.cds_records.specs.declared.fault.Rule.{Rule}
 use Rattle.cds_records.specs.declared.fault.Rule.TheVariants.{OutOfOrder}
 use Rattle.cds_records.specs.Layouts.{Layout, done, next}
 use Rattle.cds_records.specs.Decoding.{IsWhole}
-use Rattle.cds_records.specs.Writing.{Writes}
+use Rattle.cds_records.specs.PrivateWriting.{Writes}
 use Rattle.cds_records.specs.Fields.{octets_order, number_order}
 use Rattle.cds_records.specs.Dirs.{dir_cmp, dir_total, dir_exact}
 use Rattle.cds_records.specs.Records.{item, ascending, add_all, map_of}
@@ -35,6 +35,7 @@ pub record KeyOrder (K : Type 0) : Type 0 where
   pub first : (k : K) → rule None k ≡ None
   pub above : (b k : K) → T (is_lt (cmp b k)) → rule (Some b) k ≡ None
 
+-- a key that is in order breaks no rule
 pub in_order : (b : Bool) → T b → (if b then None else Some OutOfOrder) ≡ None
 in_order true p = refl
 in_order false p = absurd p
@@ -53,6 +54,7 @@ octets_keys = record {
 abbrev pub dir_order : Option DirId → DirId → Option Rule
 dir_order before d = number_order (option_map (λ d. d.0) before) d.0
 
+-- a number above the one before it breaks no rule
 pub dir_above : (b k : ℕ) → T (is_lt (nat_cmp b k)) → number_order (Some b) k ≡ None
 dir_above b k p = grind (arith, p)
 
@@ -125,6 +127,7 @@ module _ {K X : Type 0} (o : KeyOrder K) (V : X → Type 0) (key : Option K → 
   abbrev pub Written : FinMap o.cmp X → List (K × X) → List ℕ → List ℕ → Type 0
   Written m rest old out = EachValue V m → AllByRecursion (λ e. V e.1) rest × Completes o key content (entries m) rest old out
 
+  -- before the first item nothing of the map is written
   pub writing_begins : (m : FinMap o.cmp X) (rest : List (K × X)) (old : List ℕ) → rest ≡ entries m → Written m rest old old
   writing_begins m rest old e valid =
       subst (λ r. AllByRecursion (λ e. V e.1) r × Completes o key content (entries m) r old old) (sym e) (
@@ -133,12 +136,14 @@ module _ {K X : Type 0} (o : KeyOrder K) (V : X → Type 0) (key : Option K → 
             (entries m) old (ascends (entries m) (entries_sorted m)),
       )
 
+  -- an item that was written brings the loop one further
   pub writing_goes_on : (m : FinMap o.cmp X) (es rest : List (K × X)) (k : K) (x : X) (old out new : List ℕ) → es ≡ (k, x) ∷ rest → Written m es old out
       → (V x → (before : Option K) → o.rule before k ≡ None → Writes (item key content before) (k, x) out new) → Written m rest old new
   writing_goes_on m es rest k x old out new first so_far writes valid =
       let h = subst (λ r. AllByRecursion (λ e. V e.1) r × Completes o key content (entries m) r old out) first (so_far valid) in
       (h.0.1, item_written o key content (entries m) rest (k, x) old out new h.1 (writes h.0.0))
 
+  -- behind the last item the map is written
   pub writing_ends : (m : FinMap o.cmp X) (rest : List (K × X)) (old out : List ℕ) → rest ≡ [] → Written m rest old out → EachValue V m
       → Writes (map_of {R = o.cmp} key content (len m)) m old out
   unfolding map_of

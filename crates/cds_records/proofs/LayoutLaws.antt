@@ -11,9 +11,11 @@ use Rattle.cds_records.specs.Reading.{◌>>=◌, ruled, read}
 
 -- ---- steps
 
+-- equal answers have equal values
 pub ok_is : {A E : Type 0} (x y : A) → ◌≡◌ {A = Result A E} (Ok x) (Ok y) → x ≡ y
 ok_is x y e = cc
 
+-- two steps that answer: what each answers
 pub bind_ok : {A B E : Type 0} (r : Result A E) (f : A → Result B E) (y : B) → (r >>= f) ≡ Ok y → (x : A) × (r ≡ Ok x) × (f x ≡ Ok y)
 bind_ok (Ok x) f y e = (x, refl, e)
 bind_ok (Err d) f y e = absurd cc
@@ -65,11 +67,13 @@ ruled_err (Some r) n v y b e =
 
 -- ---- the laws
 
+-- what stands at the front is read
 pub stands_read : {A : Type 0} (l : Layout A) (x : List ℕ) (v : A) (rest : List ℕ) → Stands l x v rest → read l x ≡ Ok (v, rest)
 stands_read (done a) x v rest h = λ i. Ok (h.0 i, h.1 i)
 stands_read (field size says rule) x v rest h = ap (one size says rule) h.1 ∙ field_ok size says rule h.0 rest v h.2 h.3 h.4
 stands_read (next first second) x v rest h = rw (stands_read first x h.0 h.1 h.2) (stands_read (second h.0) h.1 v rest h.3)
 
+-- what is read stands at the front
 pub read_stands : {A : Type 0} (l : Layout A) (x : List ℕ) (v : A) (rest : List ℕ) → read l x ≡ Ok (v, rest) → Stands l x v rest
 read_stands {A} (done a) x v rest e =
     let same : (a, x) ≡ (v, rest) = ok_is (a, x) (v, rest) e in
@@ -90,6 +94,7 @@ read_stands (next first second) x v rest e =
     let a = bind_ok (read first x) (λ y. read (second y.0) y.1) (v, rest) e in
     (a.0.0, a.0.1, read_stands first x a.0.0 a.0.1 a.1, read_stands (second a.0.0) a.0.1 v rest a.2)
 
+-- a field that breaks a rule fails the reading
 pub breaks_read : {A : Type 0} (l : Layout A) (x : List ℕ) (r : Rule) (left : ℕ) → Breaks l x r left → read l x ≡ Err (record { rule = r; left = left })
 breaks_read (done a) x r left h = absurd h
 breaks_read (field size says rule) x r left h =
@@ -104,6 +109,7 @@ breaks_read (next first second) x r left h =
       | inr w ↦ rw (stands_read first x w.0 w.1 w.2) (breaks_read (second w.0) w.1 r left w.3)
     ]
 
+-- a reading fails only at a field that breaks a rule
 pub read_breaks : {A : Type 0} (l : Layout A) (x : List ℕ) (b : Broken) → read l x ≡ Err b → Breaks l x b.rule b.left
 read_breaks (done a) x b e = absurd cc
 read_breaks (field size says rule) x b e =

@@ -11,7 +11,8 @@ use Rattle.cds_stamps.specs.Members.{Member as listed_member}
 use Rattle.cds_stamps.specs.Members.{is_master, member_of, members_of, members_fault, first_unordered, masters_in}
 use Rattle.cds_records.specs.declared.fault.Broken.{Broken}
 use Rattle.cds_records.specs.Layouts.{next, done}
-use Rattle.cds_records.specs.Reading.{◌>>=◌, read, Reads}
+use Rattle.cds_records.specs.Reading.{◌>>=◌, read}
+use Rattle.cds_records.specs.PrivateReading.{Reads}
 use Rattle.cds_records.specs.Fields.{number_order, octet}
 use Rattle.cds_records.specs.Kinds.{kind_in}
 use Rattle.cds_records.specs.Records.{kind_rule, member_kind, member, listed}
@@ -26,6 +27,7 @@ regroup : (front : List Member) (m : Member) (r : Result (List Member × List �
 regroup front m (Ok y) = ap (λ (ms : List Member). Ok (ms, y.1)) (sym (append_assoc front (m ∷ []) y.0))
 regroup front m (Err b) = refl
 
+-- before the first member all of the list is to come
 pub members_begin : (count : ℕ) (x : List ℕ) → behind [] (read (listed (count - 0) None false) x) ≡ read (listed count None false) x
 members_begin count x = let k : count - 0 ≡ count = omega arith in rw k (nothing_before (read (listed count None false) x))
   where
@@ -33,6 +35,7 @@ members_begin count x = let k : count - 0 ≡ count = omega arith in rw k (nothi
     nothing_before (Ok y) = refl
     nothing_before (Err b) = refl
 
+-- a member that was read brings the loop one further
 pub members_go_on : (front : List Member) (count i : ℕ) (before : Option ℕ) (master : Bool) (x : List ℕ) (m : Member) (z : List ℕ)
     (total : Result (List Member × List ℕ) Broken) → i < count → read (member (count - i - 1) before master) x ≡ Ok (m, z)
     → behind front (read (listed (count - i) before master) x) ≡ total
@@ -47,6 +50,7 @@ members_go_on front count i before master x m z total lt h so_far =
     (regroup front m (read (listed (count - (i + 1)) (Some m.house.0) (master || is_master m.kind)) z)) in
     sym one ∙ so_far
 
+-- a member that fails fails the list
 pub members_end : {V : Type 0} (seen : V → List Member) (e : AllocOr Broken) (front : List Member) (count i : ℕ) (before : Option ℕ) (master : Bool)
     (x z w start : List ℕ) → i < count → Reads (λ (m : Member). m) (member (count - i - 1) before master) x z (Err e)
     → behind front (read (listed (count - i) before master) x) ≡ read (listed count None false) start → Reads seen (listed count None false) start w (Err e)
@@ -59,6 +63,7 @@ members_end seen (Fault b) front count i before master x z w start lt h so_far =
     let one : behind front (read (listed (count - i) before master) x) ≡ Err b = rw (k, read_here) refl in
     sym so_far ∙ one
 
+-- behind the last member the list is read
 pub members_done : (front : List Member) (count i : ℕ) (before : Option ℕ) (master : Bool) (x : List ℕ) (total : Result (List Member × List ℕ) Broken)
     → count ≤ i → behind front (read (listed (count - i) before master) x) ≡ total → total ≡ Ok (front, x)
 unfolding listed
@@ -150,6 +155,7 @@ list_lawful (suc n) before master x ms y e =
           ∙ one_more_master n master (is_master m.kind) (masters_in (members_of b.0.0)) one.first one.later rest.masters;
     })
 
+-- a list of 1 to 64 members that was read is a member list
 pub listed_lawful : (n : ℕ) (x : List ℕ) (ms : List Member) (y : List ℕ) → 1 ≤ n → n ≤ 64 → read (listed n None false) x ≡ Ok (ms, y)
     → members_fault (members_of ms) ≡ None
 listed_lawful n x ms y some few e =

@@ -6,7 +6,8 @@ use Rattle.cds_stamps.specs.declared.alloc_or.AllocOr.{AllocOr}
 use Rattle.cds_stamps.specs.declared.alloc_or.AllocOr.TheVariants.{Fault, OutOfMemory}
 use Rattle.cds_records.specs.declared.fault.Broken.{Broken}
 use Rattle.cds_records.specs.Layouts.{Layout}
-use Rattle.cds_records.specs.Reading.{◌>>=◌, read, Reads, Adds}
+use Rattle.cds_records.specs.Reading.{◌>>=◌, read}
+use Rattle.cds_records.specs.PrivateReading.{Reads, Adds}
 use Rattle.cds_records.specs.Records.{item, ascending, add_all, map_of}
 
 -- the items that are still to be read, added to the map of those before
@@ -24,10 +25,12 @@ abbrev pub to_come : {K X : Type 0} {R : K → K → Ordering} → (Option K →
 to_come key content m count i before x = added m (read (ascending key content (count - i) before) x)
 
 module _ {K X : Type 0} {R : K → K → Ordering} (key : Option K → Layout K) (content : Layout X) where
+  -- before the first item all of the map is to come
   pub begins : (count : ℕ) (x : List ℕ) → to_come {R = R} key content empty count 0 None x ≡ read (map_of {R = R} key content count) x
   unfolding map_of
   begins count x = let k : count - 0 ≡ count = omega arith in rw k refl
 
+  -- an item that was read brings the loop one further
   pub goes_on : {Y : Type 0} (view : Y → K) (y : Y) (m n : FinMap R X) (count i : ℕ) (before : Option K) (x z : List ℕ)
       (total : Result (FinMap R X × List ℕ) Broken) → i < count → Adds view (item key content before) m n x z (Ok y)
       → to_come key content m count i before x ≡ total → to_come key content n count (i + 1) (Some (view y)) z ≡ total
@@ -38,6 +41,7 @@ module _ {K X : Type 0} {R : K → K → Ordering} (key : Option K → Layout K)
       rw (k, adds.1) (one_added m (view y, adds.0) (read (ascending key content (count - (i + 1)) (Some (view y))) z)) in
       ap (λ n. to_come key content n count (i + 1) (Some (view y)) z) adds.2 ∙ sym one ∙ so_far
 
+  -- an item that fails fails the map
   pub ends : {Y V : Type 0} (seen : V → FinMap R X) (view : Y → K) (e : AllocOr Broken) (m n : FinMap R X) (count i : ℕ) (before : Option K)
       (x z w start : List ℕ) → i < count → Adds view (item key content before) m n x z (Err e)
       → to_come key content m count i before x ≡ read (map_of {R = R} key content count) start → Reads seen (map_of {R = R} key content count) start w (Err e)
@@ -48,6 +52,7 @@ module _ {K X : Type 0} {R : K → K → Ordering} (key : Option K → Layout K)
       let one : to_come key content m count i before x ≡ Err b = rw (k, adds) refl in
       sym so_far ∙ one
 
+  -- behind the last item the map is read
   pub is_done : (m : FinMap R X) (count i : ℕ) (before : Option K) (x : List ℕ) (total : Result (FinMap R X × List ℕ) Broken) → count ≤ i
       → to_come key content m count i before x ≡ total → total ≡ Ok (m, x)
   unfolding ascending

@@ -10,8 +10,10 @@ each_passes : (p : ℕ → Bool) (o : List ℕ) → list_all p o ≡ true → Al
 each_passes p [] e = tt
 each_passes p (b ∷ bs) e = (grind (arith, e), each_passes p bs (grind (arith, e)))
 
+-- octets of names in a fit number are a simple name
 pub lawful_simple_name : (o : List ℕ) → list_all is_name_octet o ≡ true → 1 ≤ length o → length o ≤ 254 → simple_name_fault o ≡ None
 lawful_simple_name o e some few = (simple_name_laws o).1 (record { filled = some; short = few; each = All-from_recursion _ o (each_passes is_name_octet o e) })
 
+-- octets of attribute names in a fit number are one
 pub lawful_attr_name : (o : List ℕ) → list_all is_attr_octet o ≡ true → 1 ≤ length o → length o ≤ 31 → attr_fault o ≡ None
 lawful_attr_name o e some few = (attr_name_laws o).1 (record { filled = some; short = few; each = All-from_recursion _ o (each_passes is_attr_octet o e) })

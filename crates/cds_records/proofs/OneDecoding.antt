@@ -16,6 +16,7 @@ use Rattle.cds_records.proofs.DecodingLaws.{decoded, not_decoded}
 abbrev of_read : {A : Type 0} → ℕ → Result (A × List ℕ) Broken → Result (A × ℕ) RecordFault
 of_read len = result_map_both (λ r. (r.0, len - length r.1)) (λ b. fault_at b.rule (len - b.left + 1))
 
+-- what is answered is what the function says
 pub decoding_decodes : {A : Type 0} (l : Layout A) (octets : List ℕ) → Decodes l octets (with_memory (decoding l octets))
 decoding_decodes {A} l octets = go (read l octets) refl
   where

@@ -70,6 +70,7 @@ in_parts first second v octets h =
     let f = front_stands first octets h.0 h.1 h.2 in
     record { said = h.0; front = f.0; rest = h.1; is = f.1; one = subst (λ z. IsWhole first h.0 z) (append-nil f.0) (f.2 []); two = h.3 }
 
+-- one layout and then another, where the value tells what the first said
 pub spell_next : {A B : Type 0} {first : Layout B} {second : B → Layout A} → Tells first second → OneSpelling first → ((b : B) → OneSpelling (second b))
     → OneSpelling (next first second)
 spell_next {first = first} {second = second} t one two = record {
@@ -88,6 +89,7 @@ spell_next {first = first} {second = second} t one two = record {
       mine.is ∙ (λ i. fronts i ++ rests i) ∙ sym other.is;
 }
 
+-- a layout without octets
 pub spell_done : {A : Type 0} (a : A) → OneSpelling (done a)
 spell_done a = record { same = λ v x y p q h k. h.1 ∙ sym k.1 }
 
@@ -95,6 +97,7 @@ spell_done a = record { same = λ v x y p q h k. h.1 ∙ sym k.1 }
 pub spell_last : {A B : Type 0} {l : Layout B} (f : B → A) → ((b c : B) → f b ≡ f c → b ≡ c) → OneSpelling l → OneSpelling (next l (λ b. done (f b)))
 spell_last f apart one = spell_next (record { told = λ b c v w x y z g h i j. apart b c (h.0 ∙ sym j.0) }) one (λ b. spell_done (f b))
 
+-- a choice between two layouts
 pub spell_choose : {A : Type 0} {l m : Layout A} (test : Bool) → OneSpelling l → OneSpelling m → OneSpelling (choose test l m)
 spell_choose true one two = one
 spell_choose false one two = two
@@ -178,26 +181,32 @@ node_says =
 stamp_says : SaysOne 14 stamp_of
 stamp_says = say_both 8 6 (from_be_bytes w64) node_of stamp_of says_64 node_says (λ a b p q e. (ap (λ (s : Stamp). s.time) e, ap (λ (s : Stamp). s.node) e))
 
+-- an octet has one spelling
 pub spell_octet : (rule : ℕ → Option Rule) → OneSpelling (octet rule)
 unfolding octet
 spell_octet rule = spell_field octet_says
 
+-- a number of 2 octets has one spelling
 pub spell_16 : (rule : ℕ → Option Rule) → OneSpelling (number w16 rule)
 unfolding number
 spell_16 rule = spell_field says_16
 
+-- a number of 4 octets has one spelling
 pub spell_32 : (rule : ℕ → Option Rule) → OneSpelling (number w32 rule)
 unfolding number
 spell_32 rule = spell_field says_32
 
+-- a number of 8 octets has one spelling
 pub spell_64 : (rule : ℕ → Option Rule) → OneSpelling (number w64 rule)
 unfolding number
 spell_64 rule = spell_field says_64
 
+-- a node has one spelling
 pub spell_node : OneSpelling node
 unfolding node
 spell_node = spell_field node_says
 
+-- a stamp has one spelling
 pub spell_stamp : (rule : Stamp → Option Rule) → OneSpelling (stamp rule)
 unfolding stamp
 spell_stamp rule = spell_field stamp_says

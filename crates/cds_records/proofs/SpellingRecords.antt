@@ -224,6 +224,7 @@ body_tag (suc (suc (suc (suc (suc (suc (suc (suc (suc n))))))))) b x y e h = abs
 the_number : (rule : Rule) (n k : ℕ) → outside rule n n k ≡ None → n ≡ k
 the_number rule n k e = grind (arith, e)
 
+-- a message has one spelling
 pub spell_message : OneSpelling message
 unfolding message message_in octet
 spell_message =
@@ -293,6 +294,7 @@ spell_dir =
     spell_next (tells epoch_of (λ epoch d w x g h. said_epoch (state == 1) epoch d x [] h)) (spell_64 free) (λ epoch.
     spell_choose (state == 1) (spell_held epoch) (spell_done (Gone (record { 0 = epoch })))))
 
+-- an image has one spelling
 pub spell_image : OneSpelling image
 unfolding image image_in octet
 spell_image =

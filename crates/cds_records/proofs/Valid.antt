@@ -194,6 +194,7 @@ body_valid tag =
     (pick (tag == 7) _ (done Leave) (made joined (λ j. Join j.0 j.1) joined_valid)
     (λ x b y e. subst (λ (p : Body × List ℕ). IsValidBody p.0) (ok_is (Leave, x) (b, y) e) tt)))))))
 
+-- a message that was read is valid
 pub message_valid : (x : List ℕ) (m : Message) (y : List ℕ) → read message x ≡ Ok (m, y) → IsValidMessage m
 unfolding message message_in
 message_valid x m y e =
@@ -221,6 +222,7 @@ dir_valid x d y e =
     at true epoch x d y e = held_is_valid epoch x d y e
     at false epoch x d y e = subst (λ (p : ImageDir × List ℕ). IsValidDir p.0) (ok_is (Gone (record { 0 = epoch }), x) (d, y) e) tt
 
+-- an image that was read is valid
 pub image_valid : (x : List ℕ) (i : Image) (y : List ℕ) → read image x ≡ Ok (i, y) → IsValidImage i
 unfolding image image_in
 image_valid x i y e =

@@ -12,7 +12,7 @@ use Rattle.cds_records.specs.declared.message.Body.{Body}
 use Rattle.cds_records.specs.declared.message.Body.TheVariants.{Update, Gather, Gathered, Spread, SpreadAck, Advance, Join, Leave}
 use Rattle.cds_records.specs.Layouts.{done, next}
 use Rattle.cds_records.specs.Decoding.{IsWhole}
-use Rattle.cds_records.specs.Writing.{Writes}
+use Rattle.cds_records.specs.PrivateWriting.{Writes}
 use Rattle.cds_records.specs.Fields.{free, outside, octets_order, octet, number, stamp, simple_name}
 use Rattle.cds_records.specs.Records.{entry, replica, members, fragment, copied, joined, body, tag_of, message, message_in}
 use Rattle.cds_records.proofs.WritingLaws.{writes_next, writes_done}
@@ -20,6 +20,7 @@ use Rattle.cds_records.proofs.WritingLaws.{writes_next, writes_done}
 abbrev StampWriter : Stamp → List ℕ → List ℕ → Type 0
 StampWriter s x y = (rule : Stamp → Option Rule) → rule s ≡ None → Writes (stamp rule) s x y
 
+-- what is written of an update
 pub update_written : (f : Fragment) (x y z : List ℕ)
     → ((before : Option (List ℕ)) → octets_order before f.name ≡ None → Writes (simple_name before) f.name x y) → Writes entry f.entry y z
     → Writes (body 1) (Update f) x z
@@ -29,14 +30,17 @@ update_written f x y z name e =
     (writes_next (simple_name None) (λ n. next entry (λ e. done (record { name = n; entry = e }))) f.name f x y z (name None refl)
     (writes_next entry (λ e. done (record { name = f.name; entry = e })) f.entry f y z z e (writes_done f z))) (writes_done (Update f) z)
 
+-- what is written of a Gather
 pub gather_written : (s : Stamp) (x y : List ℕ) → StampWriter s x y → Writes (body 2) (Gather s) x y
 unfolding body
 gather_written s x y w = writes_next (stamp free) (λ t. done (Gather t)) s (Gather s) x y y (w free refl) (writes_done (Gather s) y)
 
+-- what is written of a SpreadAck
 pub spread_ack_written : (s : Stamp) (x y : List ℕ) → StampWriter s x y → Writes (body 5) (SpreadAck s) x y
 unfolding body
 spread_ack_written s x y w = writes_next (stamp free) (λ t. done (SpreadAck t)) s (SpreadAck s) x y y (w free refl) (writes_done (SpreadAck s) y)
 
+-- what is written of an Advance
 pub advance_written : (s : Stamp) (x y : List ℕ) → StampWriter s x y → Writes (body 6) (Advance s) x y
 unfolding body
 advance_written s x y w = writes_next (stamp free) (λ t. done (Advance t)) s (Advance s) x y y (w free refl) (writes_done (Advance s) y)
@@ -47,16 +51,19 @@ copied_written s r x y z w v =
     writes_next (stamp free) (λ t. next replica (λ r. done (t, r))) s (s, r) x y z (w free refl)
     (writes_next replica (λ r. done (s, r)) r (s, r) y z z v (writes_done (s, r) z))
 
+-- what is written of a Gathered
 pub gathered_written : (s : Stamp) (r : Replica) (x y z : List ℕ) → StampWriter s x y → Writes replica r y z → Writes (body 3) (Gathered s r) x z
 unfolding body
 gathered_written s r x y z w v =
     writes_next copied (λ c. done (Gathered c.0 c.1)) (s, r) (Gathered s r) x z z (copied_written s r x y z w v) (writes_done (Gathered s r) z)
 
+-- what is written of a Spread
 pub spread_written : (s : Stamp) (r : Replica) (x y z : List ℕ) → StampWriter s x y → Writes replica r y z → Writes (body 4) (Spread s r) x z
 unfolding body
 spread_written s r x y z w v =
     writes_next copied (λ c. done (Spread c.0 c.1)) (s, r) (Spread s r) x z z (copied_written s r x y z w v) (writes_done (Spread s r) z)
 
+-- what is written of a Join
 pub join_written : (ms : List Member) (r : Replica) (x y z : List ℕ) → Writes members ms x y → Writes replica r y z → Writes (body 7) (Join ms r) x z
 unfolding body joined
 join_written ms r x y z w v =
@@ -64,6 +71,7 @@ join_written ms r x y z w v =
     (writes_next members (λ ms. next replica (λ r. done (ms, r))) ms (ms, r) x y z w
     (writes_next replica (λ r. done (ms, r)) r (ms, r) y z z v (writes_done (ms, r) z))) (writes_done (Join ms r) z)
 
+-- of a Leave nothing is written
 pub leave_written : (x : List ℕ) → Writes (body 8) Leave x x
 unfolding body
 leave_written x = writes_done Leave x
@@ -81,6 +89,7 @@ tag_lawful Leave = refl
 abbrev pub OctetWriter : ℕ → List ℕ → List ℕ → Type 0
 OctetWriter n x y = (rule : ℕ → Option Rule) → rule n ≡ None → Writes (octet rule) n x y
 
+-- a message, written part by part
 pub message_written : (m : Message) (a b c d e f g h : List ℕ) → a ≡ [] → OctetWriter 1 a b → OctetWriter (tag_of m.body) b c
     → ((rule : ℕ → Option Rule) → rule m.dir.0 ≡ None → Writes (number w32 rule) m.dir.0 c d) → OctetWriter m.from.0 d e
     → ((rule : ℕ → Option Rule) → rule m.epoch.0 ≡ None → Writes (number w64 rule) m.epoch.0 e f)

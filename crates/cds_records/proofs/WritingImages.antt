@@ -13,7 +13,7 @@ use Rattle.cds_records.specs.declared.image.Image.{Image}
 use Rattle.cds_records.specs.declared.image.ImageDir.TheVariants.{Held, Gone}
 use Rattle.cds_records.specs.Layouts.{done, next, choose}
 use Rattle.cds_records.specs.Decoding.{IsWhole}
-use Rattle.cds_records.specs.Writing.{Writes}
+use Rattle.cds_records.specs.PrivateWriting.{Writes}
 use Rattle.cds_records.specs.Dirs.{dir_cmp}
 use Rattle.cds_records.specs.Fields.{free, outside, octet, number, node}
 use Rattle.cds_records.specs.Records.{map_of, members, replica}
@@ -25,6 +25,7 @@ use Rattle.cds_records.proofs.WritingLaws.{writes_next, writes_done}
 abbrev NumberWriter : ℕ → List ℕ → List ℕ → Type 0
 NumberWriter n x y = (rule : ℕ → Option Rule) → rule n ≡ None → Writes (number w64 rule) n x y
 
+-- the number of a directory that was written is that field
 pub dir_number_written : (d : DirId) (x y : List ℕ) → ((rule : ℕ → Option Rule) → rule d.0 ≡ None → Writes (number w32 rule) d.0 x y)
     → (before : Option DirId) → dir_order before d ≡ None → Writes (dir_number before) d x y
 unfolding dir_number
@@ -32,6 +33,7 @@ dir_number_written d x y w before above =
     writes_next (number w32 (λ n. dir_order before (record { 0 = n }))) (λ n. done (record { 0 = n })) d.0 d x y y
     (w (λ n. dir_order before (record { 0 = n })) above) (writes_done d y)
 
+-- what is written of a directory that is held
 pub held_written : (e : EpochNo) (ms : List Member) (r : Replica) (a b c d f : List ℕ) → OctetWriter 1 a b → NumberWriter e.0 b c → Writes members ms c d
     → Writes replica r d f → Writes dir_state (Held e ms r) a f
 unfolding dir_state held
@@ -43,6 +45,7 @@ held_written e ms r a b c d f state epoch w v =
     (writes_next members (λ ms. next replica (λ r. done (Held (record { 0 = e.0 }) ms r))) ms (Held e ms r) c d f w
     (writes_next replica (λ r. done (Held (record { 0 = e.0 }) ms r)) r (Held e ms r) d f f v (writes_done (Held e ms r) f))))
 
+-- what is written of a directory that was left
 pub gone_written : (e : EpochNo) (a b c : List ℕ) → OctetWriter 2 a b → NumberWriter e.0 b c → Writes dir_state (Gone e) a c
 unfolding dir_state
 gone_written e a b c state epoch =
@@ -51,6 +54,7 @@ gone_written e a b c state epoch =
     (state (outside BadFlag 1 2) refl)
     (writes_next (number w64 free) (λ epoch. done (Gone (record { 0 = epoch }))) e.0 (Gone e) b c c (epoch free refl) (writes_done (Gone e) c))
 
+-- an image, written part by part
 pub image_written : (i : Image) (a b c d e f g h : List ℕ) → a ≡ [] → OctetWriter 1 a b → OctetWriter 9 b c → OctetWriter i.house.0 c d
     → Writes node i.node d e → NumberWriter i.floor e f → NumberWriter (len i.dirs) f g
     → Writes (map_of {R = dir_cmp} dir_number dir_state (len i.dirs)) i.dirs g h → IsWhole image i h

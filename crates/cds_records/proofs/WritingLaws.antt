@@ -27,7 +27,7 @@ use Rattle.cds_stamps.specs.Octets.{octets_cmp}
 use Rattle.cds_records.specs.declared.fault.Rule.{Rule}
 use Rattle.cds_records.specs.Layouts.{Layout, done, field, next, Stands}
 use Rattle.cds_records.specs.Decoding.{IsWhole}
-use Rattle.cds_records.specs.Writing.{Writes}
+use Rattle.cds_records.specs.PrivateWriting.{Writes}
 use Rattle.cds_records.specs.Fields.{free, outside, name_rule, node_of, node_octets, stamp_of, octets_order, stamp_order, octet, number, node, stamp}
 use Rattle.cds_records.specs.Fields.{stamp_if, optional_stamp, octets_of, simple_name, attr_name, value}
 use Rattle.cds_records.specs.Records.{item, map_of, mark, empty_cell, cell, kind, entry, replica}
@@ -35,6 +35,7 @@ use Rattle.cds_records.proofs.LayoutLaws.{front_stands}
 
 -- ---- one layout and then another
 
+-- octets of one layout, and then octets of the next
 pub whole_next : {A B : Type 0} (first : Layout B) (second : B → Layout A) (b : B) (v : A) (x y : List ℕ) → IsWhole first b x → IsWhole (second b) v y
     → IsWhole (next first second) v (x ++ y)
 whole_next first second b v x y h k =
@@ -42,6 +43,7 @@ whole_next first second b v x y h k =
     let same : x ≡ f.0 = f.1 ∙ append-nil f.0 in
     (b, y, subst (λ z. Stands first (z ++ y) b y) (sym same) (f.2 y), k)
 
+-- writing by one layout, and then by the next
 pub writes_next : {A B : Type 0} (first : Layout B) (second : B → Layout A) (b : B) (v : A) (x y z : List ℕ) → Writes first b x y → Writes (second b) v y z
     → Writes (next first second) v x z
 writes_next first second b v x y z one two = record {
@@ -50,6 +52,7 @@ writes_next first second b v x y z one two = record {
   whole = whole_next first second b v one.own two.own one.whole two.whole;
 }
 
+-- a layout that is done writes nothing
 pub writes_done : {A : Type 0} (a : A) (x : List ℕ) → Writes (done a) a x x
 writes_done a x = record { own = []; behind = sym (append-nil x); whole = (refl, refl) }
 
@@ -59,20 +62,24 @@ pub field_whole : {A : Type 0} (size : ℕ) (says : List ℕ → A) (rule : A �
     → rule v ≡ None → IsWhole (field size says rule) v own
 field_whole size says rule v own len said lawful = (own, sym (append-nil own), len, said, lawful)
 
+-- what is written of an octet
 pub octet_written : (n : ℕ) (x y : List ℕ) → y ≡ x ++ n ∷ [] → (rule : ℕ → Option Rule) → rule n ≡ None → Writes (octet rule) n x y
 unfolding octet
 octet_written n x y e rule lawful = record { own = n ∷ []; behind = e; whole = field_whole 1 _ rule n (n ∷ []) refl refl lawful }
 
+-- what is written of a number of 2 octets
 pub u16_written : (n : ℕ) (x y : List ℕ) → n < 2 ^ 16 → y ≡ x ++ to_be_bytes w16 n → (rule : ℕ → Option Rule) → rule n ≡ None → Writes (number w16 rule) n x y
 unfolding number
 u16_written n x y fits e rule lawful =
     record { own = to_be_bytes w16 n; behind = e; whole = field_whole 2 _ rule n (to_be_bytes w16 n) refl (from_be_bytes-to_be_bytes_2 n fits) lawful }
 
+-- what is written of a number of 4 octets
 pub u32_written : (n : ℕ) (x y : List ℕ) → n < 2 ^ 32 → y ≡ x ++ to_be_bytes w32 n → (rule : ℕ → Option Rule) → rule n ≡ None → Writes (number w32 rule) n x y
 unfolding number
 u32_written n x y fits e rule lawful =
     record { own = to_be_bytes w32 n; behind = e; whole = field_whole 4 _ rule n (to_be_bytes w32 n) refl (from_be_bytes-to_be_bytes_4 n fits) lawful }
 
+-- what is written of a number of 8 octets
 pub u64_written : (n : ℕ) (x y : List ℕ) → n < 2 ^ 64 → y ≡ x ++ to_be_bytes w64 n → (rule : ℕ → Option Rule) → rule n ≡ None → Writes (number w64 rule) n x y
 unfolding number
 u64_written n x y fits e rule lawful =
@@ -94,10 +101,12 @@ six_octets n =
     let f : n % 256 ≡ n % 4294967296 % 256 = omega arith in
     λ i. a i ∷ n / 4294967296 % 256 ∷ c i ∷ d i ∷ e i ∷ f i ∷ []
 
+-- what is written of a node
 pub node_written : (n : ℕ) (x y : List ℕ) → n < 2 ^ 48 → y ≡ x ++ node_octets n → Writes node n x y
 unfolding node
 node_written n x y fits e = record { own = node_octets n; behind = e; whole = field_whole 6 node_of free n (node_octets n) refl (node_back n fits) refl }
 
+-- what is written of a stamp
 pub stamp_written : (s : Stamp) (x y : List ℕ) → s.time < 2 ^ 64 → s.node < 2 ^ 48 → y ≡ x ++ (to_be_bytes w64 s.time ++ node_octets s.node)
     → (rule : Stamp → Option Rule) → rule s ≡ None → Writes (stamp rule) s x y
 unfolding stamp
@@ -119,21 +128,26 @@ each_passes : (p : ℕ → Bool) (o : List ℕ) → AllByRecursion (λ b. IsTrue
 each_passes p [] h = refl
 each_passes p (b ∷ bs) h = grind (arith, h.0, each_passes p bs h.1)
 
+-- the octets of a simple name, and how many they are
 pub simple_name_lawful : (o : List ℕ) → simple_name_fault o ≡ None → (list_all is_name_octet o ≡ true) × (1 ≤ length o) × (length o ≤ 254)
 simple_name_lawful o e = let n = (simple_name_laws o).0 e in (each_passes is_name_octet o (recursion_from_All _ o n.each), n.filled, n.short)
 
+-- the octets of an attribute's name, and how many they are
 pub attr_name_lawful : (o : List ℕ) → attr_fault o ≡ None → (list_all is_attr_octet o ≡ true) × (1 ≤ length o) × (length o ≤ 31)
 attr_name_lawful o e = let n = (attr_name_laws o).0 e in (each_passes is_attr_octet o (recursion_from_All _ o n.each), n.filled, n.short)
 
+-- how many octets a value has
 pub value_lawful : (o : List ℕ) → value_fault o ≡ None → (1 ≤ length o) × (length o ≤ 1024)
 value_lawful o e = (grind (arith, e), grind (arith, e))
 
+-- a number in its range breaks no rule
 pub within_lawful : (rule : Rule) (least most n : ℕ) → least ≤ n → n ≤ most → outside rule least most n ≡ None
 within_lawful rule least most n low high = grind arith
 
 pub name_rule_lawful : (p : ℕ → Bool) (before : Option (List ℕ)) (o : List ℕ) → list_all p o ≡ true → octets_order before o ≡ None → name_rule p before o ≡ None
 name_rule_lawful p before o each above = rw each above
 
+-- what is written of a simple name behind its length
 pub simple_name_written : (o x y z : List ℕ) → simple_name_fault o ≡ None
     → ((rule : ℕ → Option Rule) → rule (length o) ≡ None → Writes (octet rule) (length o) x y) → z ≡ y ++ o → (before : Option (List ℕ))
     → octets_order before o ≡ None → Writes (simple_name before) o x z
@@ -144,6 +158,7 @@ simple_name_written o x y z lawful size e before above =
     (size (outside BadLength 1 254) (within_lawful BadLength 1 254 (length o) l.1 l.2))
     (octets_written o y z e (name_rule is_name_octet before) (name_rule_lawful is_name_octet before o l.0 above))
 
+-- what is written of an attribute's name behind its length
 pub attr_name_written : (o x y z : List ℕ) → attr_fault o ≡ None → ((rule : ℕ → Option Rule) → rule (length o) ≡ None → Writes (octet rule) (length o) x y)
     → z ≡ y ++ o → (before : Option (List ℕ)) → octets_order before o ≡ None → Writes (attr_name before) o x z
 unfolding attr_name
@@ -153,6 +168,7 @@ attr_name_written o x y z lawful size e before above =
     (size (outside BadLength 1 31) (within_lawful BadLength 1 31 (length o) l.1 l.2))
     (octets_written o y z e (name_rule is_attr_octet before) (name_rule_lawful is_attr_octet before o l.0 above))
 
+-- what is written of a value behind its length
 pub value_written : (o x y z : List ℕ) → value_fault o ≡ None → ((rule : ℕ → Option Rule) → rule (length o) ≡ None → Writes (number w16 rule) (length o) x y)
     → z ≡ y ++ o → (before : Option (List ℕ)) → octets_order before o ≡ None → Writes (value before) o x z
 unfolding value
@@ -162,6 +178,7 @@ value_written o x y z lawful size e before above =
     (size (outside BadLength 1 1024) (within_lawful BadLength 1 1024 (length o) l.0 l.1))
     (octets_written o y z e (octets_order before) above)
 
+-- what is written of an item: its key, and what is said of it
 pub pair_written : {K X : Type 0} (key : Option K → Layout K) (content : Layout X) (before : Option K) (k : K) (v : X) (x y z : List ℕ)
     → Writes (key before) k x y → Writes content v y z → Writes (item key content before) (k, v) x z
 unfolding item
@@ -171,10 +188,12 @@ pair_written key content before k v x y z one two =
 
 -- ---- what stands in replicas
 
+-- a flag of 0, where there is no stamp
 pub no_stamp_written : (x y : List ℕ) → ((rule : ℕ → Option Rule) → rule 0 ≡ None → Writes (octet rule) 0 x y) → Writes optional_stamp None x y
 unfolding optional_stamp
 no_stamp_written x y flag = writes_next (octet (outside BadFlag 0 1)) stamp_if 0 None x y y (flag (outside BadFlag 0 1) refl) (writes_done None y)
 
+-- a flag of 1, and the stamp
 pub a_stamp_written : (s : Stamp) (x y z : List ℕ) → ((rule : ℕ → Option Rule) → rule 1 ≡ None → Writes (octet rule) 1 x y)
     → ((rule : Stamp → Option Rule) → rule s ≡ None → Writes (stamp rule) s y z) → Writes optional_stamp (Some s) x z
 unfolding optional_stamp
@@ -186,6 +205,7 @@ flag_back : (b : Bool) (n : ℕ) → n ≡ cond b 1 0 → (outside BadFlag 0 1 n
 flag_back true n e = rw e (refl, refl)
 flag_back false n e = rw e (refl, refl)
 
+-- what is written of a mark
 pub mark_written : (cleared : Option Stamp) (m : ValueMark) (n : ℕ) (x y z : List ℕ) → n ≡ cond m.present 1 0
     → ((rule : ℕ → Option Rule) → rule n ≡ None → Writes (octet rule) n x y)
     → ((rule : Stamp → Option Rule) → rule m.stamp ≡ None → Writes (stamp rule) m.stamp y z) → stamp_order cleared m.stamp ≡ None → Writes (mark cleared) m x z
@@ -215,6 +235,7 @@ some_mark c valid = at c.cleared (len c.values) refl refl
     at None (suc n) e f = (let some : (suc n == 0) ≡ false = grind arith in rw some refl)
     at (Some s) n e f = refl
 
+-- what is written of the cell of an attribute
 pub cell_written : (c : AttrCell) (x y z w : List ℕ) → IsHeldCell c → Writes optional_stamp c.cleared x y
     → ((rule : ℕ → Option Rule) → rule (len c.values) ≡ None → Writes (number w64 rule) (len c.values) y z)
     → (EachValue (λ (m : ValueMark). stamp_order c.cleared m.stamp ≡ None) c.values
@@ -242,6 +263,7 @@ kind_written k x y writes =
     writes_next (octet (outside BadFlag 1 3)) (λ n. done (kind_of_rank (n - 1))) (rank k + 1) k x y y (writes (outside BadFlag 1 3) (kind_back k).0)
     (subst (λ v. Writes (done (kind_of_rank (rank k + 1 - 1))) v y y) (kind_back k).1 (writes_done (kind_of_rank (rank k + 1 - 1)) y))
 
+-- what is written of an entry
 pub entry_written : (e : EntryCell) (a b c d f g : List ℕ)
     → ((rule : ℕ → Option Rule) → rule (rank e.kind + 1) ≡ None → Writes (octet rule) (rank e.kind + 1) a b)
     → ((rule : Stamp → Option Rule) → rule e.birth ≡ None → Writes (stamp rule) e.birth b c)
@@ -269,6 +291,7 @@ entry_written e a b c d f g k birth death count attrs =
     (writes_next (map_of {R = octets_cmp} attr_name cell (len e.attrs))
     (λ attrs. done (record { birth = e.birth; kind = e.kind; death = e.death; attrs = attrs })) e.attrs e f g g attrs (writes_done e g)))))
 
+-- what is written of a replica
 pub replica_written : (r : Replica) (a b c d : List ℕ) → Writes optional_stamp r.all_up_to a b
     → ((rule : ℕ → Option Rule) → rule (len r.table) ≡ None → Writes (number w64 rule) (len r.table) b c)
     → Writes (map_of {R = octets_cmp} simple_name entry (len r.table)) r.table c d → Writes replica r a d

@@ -15,7 +15,7 @@ use Rattle.cds_records.specs.declared.fault.Rule.{Rule}
 use Rattle.cds_records.specs.declared.fault.Rule.TheVariants.{BadLength}
 use Rattle.cds_records.specs.Layouts.{done, next}
 use Rattle.cds_records.specs.Decoding.{IsWhole}
-use Rattle.cds_records.specs.Writing.{Writes}
+use Rattle.cds_records.specs.PrivateWriting.{Writes}
 use Rattle.cds_records.specs.Fields.{free, outside, number_order, octet, number}
 use Rattle.cds_records.specs.Kinds.{kind_in, kind_number, kind_back}
 use Rattle.cds_records.specs.Records.{kind_rule, member_kind, member, listed, members}
@@ -28,6 +28,7 @@ kind_written left master k x y lawful writes =
     writes_next (octet (kind_rule left master)) (λ k. done (kind_in k)) (kind_number k) k x y y (writes (kind_rule left master) lawful)
     (subst (λ v. Writes (done (kind_in (kind_number k))) v y y) (kind_back k) (writes_done (kind_in (kind_number k)) y))
 
+-- what is written of a member
 pub member_written : (m : Member) (x y z w : List ℕ) → ((rule : ℕ → Option Rule) → rule m.house.0 ≡ None → Writes (octet rule) m.house.0 x y)
     → ((rule : ℕ → Option Rule) → rule m.since.0 ≡ None → Writes (number w64 rule) m.since.0 y z)
     → ((rule : ℕ → Option Rule) → rule (kind_number m.kind) ≡ None → Writes (octet rule) (kind_number m.kind) z w)
@@ -60,10 +61,12 @@ pub record ListCompletes (all rest : List Member) (old out : List ℕ) : Type 0 
   pub lawful : IsListed before master rest
   pub completes : (own : List ℕ) → IsWhole (listed (length rest) before master) rest own → Writes (listed (length all) None false) all old (out ++ own)
 
+-- before the first member nothing of the list is written
 pub no_member_written : (all : List Member) (old : List ℕ) → IsListed None false all → ListCompletes all all old old
 no_member_written all old lawful =
     record { before = None; master = false; lawful = lawful; completes = λ own h. record { own = own; behind = refl; whole = h } }
 
+-- a member that was written brings the loop one further
 pub one_member_written : (all es rest : List Member) (m : Member) (old out new : List ℕ) → es ≡ m ∷ rest → ListCompletes all es old out
     → ((left : ℕ) (before : Option ℕ) (master : Bool) → number_order before m.house.0 ≡ None → kind_rule left master (kind_number m.kind) ≡ None
     → Writes (member left before master) m out new) → ListCompletes all rest old new
@@ -127,6 +130,7 @@ list_lawful place before master (m ∷ ms) e f =
     let k = may_stand m.kind (length ms) master (masters_in (members_of ms)) (no_masters ms) count in
     (above before m.house.0 t.0, k.0, list_lawful (place + 1) (Some m.house.0) (master || is_master m.kind) ms t.1 k.1)
 
+-- a member list keeps the rules of its fields
 pub members_lawful : (ms : List Member) → members_fault (members_of ms) ≡ None → IsListed None false ms × (1 ≤ length ms) × (length ms ≤ 64)
 members_lawful ms e =
     let facts = no_members_fault (members_of ms) e in (
@@ -136,6 +140,7 @@ members_lawful ms e =
           (arith, facts.1, length-map ms member_of),
     )
 
+-- behind the last member the list is written
 pub members_written : (ms rest : List Member) (x y z : List ℕ) → members_fault (members_of ms) ≡ None → rest ≡ []
     → ((rule : ℕ → Option Rule) → rule (length ms) ≡ None → Writes (octet rule) (length ms) x y) → ListCompletes ms rest y z → Writes members ms x z
 unfolding members listed

@@ -13,8 +13,10 @@ use Rattle.cds_stamps.specs.declared.numbers.DirId.{DirId}
 abbrev pub dir_cmp : DirId → DirId → Ordering
 dir_cmp a b = nat_cmp a.0 b.0
 
+-- this order is total (proof)
 pub dir_total : IsTotalOrder dir_cmp
 dir_total = on_total (λ (d : DirId). d.0) nat_cmp_total
 
+-- equal in it are only the same (proof)
 pub dir_exact : IsAntisymmetric dir_cmp
 dir_exact a b e = ap (λ (n : ℕ). record { 0 = n }) (exact_unsigned a.0 b.0 e)

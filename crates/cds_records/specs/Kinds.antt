@@ -12,6 +12,7 @@ abbrev pub kind_number : MemberKind → ℕ
 kind_number Master = 1
 kind_number ReadOnly = 2
 
+-- the kind of its number (proof)
 pub kind_back : (k : MemberKind) → kind_in (kind_number k) ≡ k
 kind_back Master = refl
 kind_back ReadOnly = refl

@@ -1,11 +1,12 @@
 pub mod Layouts
 pub mod Reading
+pub mod PrivateReading
 pub mod Fields
 pub mod Records
 pub mod Decoding
 pub mod Validity
-pub mod Writing
+pub mod PrivateWriting
 pub mod Kinds
 pub mod Dirs
-pub mod DirCodes
+pub mod PrivateDirCodes
 pub mod Images

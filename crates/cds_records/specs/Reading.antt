@@ -1,9 +1,5 @@
--- Reading octets by a layout, field by field, as the private readers do.
-use Rattle.std.specs.Prelude.{◌≡◌, ℕ, List, length, take, drop, Option, Some, None, Result, Ok, Err, nat_lt, if◌then◌else◌}
-use Rattle.std.specs.FinMap.{FinMap, insert}
-use Rattle.std.specs.declared.cmp.Ordering.{Ordering}
-use Rattle.cds_stamps.specs.declared.alloc_or.AllocOr.{AllocOr}
-use Rattle.cds_stamps.specs.declared.alloc_or.AllocOr.TheVariants.{Fault, OutOfMemory}
+-- Reading octets by a layout, field by field (own).
+use Rattle.std.specs.Prelude.{ℕ, List, length, take, drop, Option, Some, None, Result, Ok, Err, nat_lt, if◌then◌else◌}
 use Rattle.cds_records.specs.declared.fault.Rule.{Rule}
 use Rattle.cds_records.specs.declared.fault.Rule.TheVariants.{Short}
 use Rattle.cds_records.specs.declared.fault.Broken.{Broken}
@@ -27,16 +23,3 @@ read (field size says rule) octets =
     if nat_lt (length octets) size then Err (record { rule = Short; left = 0 })
     else ruled (rule (says (take size octets))) (length octets) (says (take size octets)) (drop size octets)
 read (next first second) octets = read first octets >>= λ y. read (second y.0) y.1
-
--- what a reader returned, seen by `view`, and what it leaves are what reading by the layout gives; or it is want of memory (own)
-abbrev pub Reads : {X A : Type 0} → (X → A) → Layout A → List ℕ → List ℕ → Result X (AllocOr Broken) → Type 0
-Reads view l old new (Ok x) = read l old ≡ Ok (view x, new)
-Reads view l old new (Err (Fault b)) = read l old ≡ Err b
-Reads view l old new (Err OutOfMemory) = Unit {0}
-
--- what a reader of one more item returned, its key, and how it left the map and the octets (own)
-abbrev pub Adds : {Y K X : Type 0} {R : K → K → Ordering} → (Y → K) → Layout (K × X) → (old new : FinMap R X) → List ℕ → List ℕ → Result Y (AllocOr Broken)
-    → Type 0
-Adds {X = X} view l m n old new (Ok y) = (x : X) × (read l old ≡ Ok ((view y, x), new)) × (n ≡ insert m (view y) x)
-Adds view l m n old new (Err (Fault b)) = read l old ≡ Err b
-Adds view l m n old new (Err OutOfMemory) = Unit {0}

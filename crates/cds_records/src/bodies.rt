@@ -1,6 +1,6 @@
 // Readers of messages.
 ghost use Rattle.std.specs.Prelude.{◌≡◌, ◌≤◌};
-ghost use Rattle.cds_records.specs.Reading.{Reads};
+ghost use Rattle.cds_records.specs.PrivateReading.{Reads};
 ghost use Rattle.cds_records.specs.Records.{fragment, copied, joined, body, message, message_in};
 
 use crate::fault::{ReadError, Rule};

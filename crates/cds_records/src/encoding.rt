@@ -4,7 +4,7 @@ ghost use Rattle.cds_stamps.specs.Members.{members_of, members_fault};
 ghost use Rattle.directory.specs.Entries.{IsValidEntry, IsValidTable};
 ghost use Rattle.cds_records.specs.Decoding.{IsWhole};
 ghost use Rattle.cds_records.specs.Validity.{IsValidBody, IsValidMessage};
-ghost use Rattle.cds_records.specs.Writing.{Writes};
+ghost use Rattle.cds_records.specs.PrivateWriting.{Writes};
 ghost use Rattle.cds_records.specs.Fields.{number_order};
 ghost use Rattle.cds_records.specs.Kinds as kinds;
 ghost use Rattle.cds_records.specs.Records as records;

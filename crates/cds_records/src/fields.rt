@@ -6,7 +6,7 @@ ghost use Rattle.std.specs.List.{list_all};
 ghost use Rattle.std.specs.Option.{option_map};
 ghost use Rattle.cds_stamps.specs.Names.{is_name_octet, is_attr_octet, simple_name_fault, attr_fault};
 ghost use Rattle.attr_sets.specs.Values.{value_fault};
-ghost use Rattle.cds_records.specs.Reading.{Reads};
+ghost use Rattle.cds_records.specs.PrivateReading.{Reads};
 ghost use Rattle.cds_records.specs.Fields.{node_of, free, outside, stamp_order, octets_order, name_rule, octet, number, node, stamp, optional_stamp};
 ghost use Rattle.cds_records.specs.Fields.{octets_of, simple_name, attr_name, value};
 ghost use Rattle.cds_records.specs.declared.fault.Rule.TheVariants.{Short, OutOfOrder};

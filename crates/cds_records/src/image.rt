@@ -36,7 +36,7 @@ pub struct ImageDirs {
 impl Model for ImageDirs {
     ghost use Rattle.std.specs.FinMap as map;
     ghost use Rattle.cds_records.specs.Dirs.{dir_cmp};
-    ghost use Rattle.cds_records.specs.DirCodes.{dir_code, image_dir_code};
+    ghost use Rattle.cds_records.specs.PrivateDirCodes.{dir_code, image_dir_code};
     ghost use Rattle.cds_records.specs.declared.image.ImageDir.{ImageDir};
 
     ghost Value = { map.FinMap dir_cmp ImageDir };

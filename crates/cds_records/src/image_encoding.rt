@@ -11,7 +11,7 @@ ghost use Rattle.cds_records.specs.Fields.{number_order};
 ghost use Rattle.cds_records.specs.Images as images;
 ghost use Rattle.cds_records.specs.Records as records;
 ghost use Rattle.cds_records.specs.Validity.{IsValidDir, IsValidImage};
-ghost use Rattle.cds_records.specs.Writing.{Writes};
+ghost use Rattle.cds_records.specs.PrivateWriting.{Writes};
 ghost use Rattle.cds_records.specs.declared.image.ImageDir.TheVariants as states;
 
 use crate::encoding::put_members;

@@ -3,7 +3,7 @@ ghost use Rattle.std.specs.Prelude.{◌≡◌, Some, None, OnOk, if◌then◌els
 ghost use Rattle.std.specs.FinMap as map;
 ghost use Rattle.std.specs.Int.{w32};
 ghost use Rattle.std.specs.Option.{option_map};
-ghost use Rattle.cds_records.specs.Reading.{Reads, Adds};
+ghost use Rattle.cds_records.specs.PrivateReading.{Reads, Adds};
 ghost use Rattle.cds_records.specs.Fields.{number_order, number};
 ghost use Rattle.cds_records.specs.Records.{item, map_of};
 ghost use Rattle.cds_records.specs.Dirs.{dir_cmp};

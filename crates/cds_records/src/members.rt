@@ -1,7 +1,7 @@
 // Readers of member lists.
 ghost use Rattle.std.specs.Prelude.{◌≡◌, ◌-◌, ◌||◌, Some, None, MatchOption, false, if◌then◌else◌};
 ghost use Rattle.cds_stamps.specs.Members.{is_master, members_of, members_fault};
-ghost use Rattle.cds_records.specs.Reading.{Reads};
+ghost use Rattle.cds_records.specs.PrivateReading.{Reads};
 ghost use Rattle.cds_records.specs.Fields.{number_order, octet};
 ghost use Rattle.cds_records.specs.Kinds.{kind_in};
 ghost use Rattle.cds_records.specs.Records.{kind_rule, member_kind, member, listed, members};

@@ -5,7 +5,7 @@ ghost use Rattle.std.specs.Int.{w64};
 ghost use Rattle.std.specs.Option.{option_map};
 ghost use Rattle.cds_stamps.specs.Octets.{octets_cmp};
 ghost use Rattle.directory.specs.Kinds.{kind_of_rank};
-ghost use Rattle.cds_records.specs.Reading.{Reads, Adds};
+ghost use Rattle.cds_records.specs.PrivateReading.{Reads, Adds};
 ghost use Rattle.cds_records.specs.Fields.{number, value, attr_name, simple_name};
 ghost use Rattle.cds_records.specs.Records.{item, map_of, mark, empty_cell, cell, kind, entry, replica};
 ghost use Rattle.cds_records.specs.declared.fault.Rule.TheVariants.{BadLength};

@@ -9,7 +9,7 @@ ghost use Rattle.cds_stamps.specs.declared.stamp.Stamp.{Stamp};
 ghost use Rattle.attr_sets.specs.declared.mark.ValueMark.{ValueMark};
 ghost use Rattle.directory.specs.Entries.{IsHeldCell, IsValidEntry, IsValidTable};
 ghost use Rattle.directory.specs.Kinds.{rank};
-ghost use Rattle.cds_records.specs.Writing.{Writes};
+ghost use Rattle.cds_records.specs.PrivateWriting.{Writes};
 ghost use Rattle.cds_records.specs.Fields as fields;
 ghost use Rattle.cds_records.specs.Records as records;
 ghost use Rattle.cds_records.specs.declared.fault.Rule.{Rule};

@@ -85,7 +85,8 @@ root_is : says (codes "root 2") ≡ Ok (Some (line.Cell (command.Root (record { 
 unfolding said_by counted taken number_of
 root_is = refl
 
-repoint_is : says (codes "repoint 1 2 s 3 4 5") ≡ Ok (Some (line.Cell (command.Repoint (record { 0 = 1 }) (record { 0 = 2 }) (codes "s") (record { 0 = 3 }) (record { 0 = 4 } ∷ record { 0 = 5 } ∷ []))))
+repoint_is : says (codes "repoint 1 2 s 3 4 5") ≡ Ok
+    (Some (line.Cell (command.Repoint (record { 0 = 1 }) (record { 0 = 2 }) (codes "s") (record { 0 = 3 }) (record { 0 = 4 } ∷ record { 0 = 5 } ∷ []))))
 unfolding said_by counted taken number_of
 repoint_is = refl
 
@@ -101,7 +102,8 @@ link_is : says (codes "link 1 1 up /.:") ≡ Ok (Some (line.Cell (command.Link (
 unfolding said_by counted taken number_of
 link_is = refl
 
-read_is : says (codes "read 1 high /.:/sub/lpr A") ≡ Ok (Some (line.Question (question.Read (record { 0 = 1 }) true (codes "sub" ∷ codes "lpr" ∷ []) (codes "A"))))
+read_is : says (codes "read 1 high /.:/sub/lpr A") ≡ Ok
+    (Some (line.Question (question.Read (record { 0 = 1 }) true (codes "sub" ∷ codes "lpr" ∷ []) (codes "A"))))
 unfolding said_by counted taken number_of
 read_is = refl
 

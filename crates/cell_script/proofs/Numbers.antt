@@ -1,5 +1,6 @@
 -- Decimal numbers, digit by digit.
-use Rattle.std.proofs.Common.{◌≡◌, ◌≢◌, ℕ, suc, ◌+◌, ◌-◌, ◌*◌, ◌^◌, ◌<◌, ◌≤◌, Bool, true, false, List, [], ◌∷◌, length, refl, sym, ◌∙◌, ap, subst, arith, if◌then◌else◌}
+use Rattle.std.proofs.Common.{◌≡◌, ◌≢◌, ℕ, suc, ◌+◌, ◌-◌, ◌*◌, ◌^◌, ◌<◌, ◌≤◌, Bool, true, false, List, [], ◌∷◌, length, refl, sym, ◌∙◌, ap, subst, arith}
+use Rattle.std.proofs.Common.{if◌then◌else◌}
 use Rattle.std.specs.Prelude.{Option, None, Some, ◌&&◌, nat_lt, ◌==◌}
 use Rattle.std.specs.List.{list_all}
 use Rattle.std.specs.Char.{is_ascii_digit}
@@ -36,6 +37,7 @@ regrouped value c P rest = grind (arith)
 more : (value c : ℕ) (cs : List ℕ) → value * 10 ^ length (c ∷ cs) + value_of (c ∷ cs) ≡ (10 * value + (c - 48)) * 10 ^ length cs + value_of cs
 more value c cs = ap (λ (p : ℕ). value * p + value_of (c ∷ cs)) (next_power (length cs)) ∙ regrouped value (c - 48) (10 ^ length cs) (value_of cs)
 
+-- one more digit behind a number
 pub number_on_digit : (value c : ℕ) (cs : List ℕ) → is_ascii_digit c ≡ true → number_on value (c ∷ cs) ≡ number_on (10 * value + (c - 48)) cs
 unfolding number_on
 number_on_digit value c cs digit = rw digit (ap (below (list_all is_ascii_digit cs)) (more value c cs))

@@ -1,5 +1,6 @@
 -- The first word of a line, and the words behind it.
-use Rattle.std.proofs.Common.{◌≡◌, ℕ, ◌+◌, ◌<◌, ◌≤◌, suc, Bool, true, false, List, [], ◌∷◌, take, drop, drop-cons, get_or, add-one, length, refl, ap, ◌∙◌, sym, arith}
+use Rattle.std.proofs.Common.{◌≡◌, ℕ, ◌+◌, ◌<◌, ◌≤◌, suc, Bool, true, false, List, [], ◌∷◌, take, drop, drop-cons, get_or, add-one, length, refl, ap, ◌∙◌}
+use Rattle.std.proofs.Common.{sym, arith}
 use Rattle.std.specs.Prelude.{not, ◌==◌, ◌&&◌, filter, if◌then◌else◌}
 use Rattle.std.specs.List.{slice_split, prefix_len, onto_first}
 use Rattle.std.proofs.lemmas.Bool.Decides.{nat_tests}
@@ -88,7 +89,8 @@ is_a_space true e = refl
 is_a_space false e = cc
 
 -- an octet is counted where a word begins with it
-pub counts_on : (in_word other : Bool) (b : ℕ) (bs : List ℕ) → other ≡ not (b == 32) → words_behind in_word (b ∷ bs) ≡ (if other && not in_word then 1 else 0) + words_behind other bs
+pub counts_on : (in_word other : Bool) (b : ℕ) (bs : List ℕ) → other ≡ not (b == 32)
+    → words_behind in_word (b ∷ bs) ≡ (if other && not in_word then 1 else 0) + words_behind other bs
 counts_on true true b bs is = let h = word_goes_on b bs (is_no_space (b == 32) is) in omega (arith, h)
 counts_on false true b bs is = let h = word_begins b bs (is_no_space (b == 32) is) in omega (arith, h)
 counts_on true false b bs is = let h = space_between true b bs (is_a_space (b == 32) is) in omega (arith, h)

@@ -10,7 +10,8 @@ use Rattle.cell_script.specs.declared.command.ScriptLine.{ScriptLine}
 use Rattle.cell_script.specs.declared.command.ScriptLine.TheVariants as line
 use Rattle.cell_script.specs.declared.fault.ParseFault.{ParseFault}
 use Rattle.cell_script.specs.declared.fault.ParseFault.TheVariants.{UnknownCommand, NotBuilt}
-use Rattle.cell_script.specs.Forms.{◌>>=◌, Form, House, Directory, Time, Node, SimpleName, FullName, AttrName, Value, Octets, Confidence, Houses, NoHouses, Words, Builds, followed_by, read_as}
+use Rattle.cell_script.specs.Forms.{◌>>=◌, Form, House, Directory, Time, Node, SimpleName, FullName, AttrName, Value, Octets, Confidence, Houses, NoHouses}
+use Rattle.cell_script.specs.Forms.{Words, Builds, followed_by, read_as}
 
 -- a command: its first word, the forms of the words behind it, and what a line of them says (own)
 pub record Row : Type 0 where

@@ -6,7 +6,8 @@ use Rattle.cds_stamps.specs.declared.alloc_or.AllocOr.{AllocOr}
 use Rattle.cds_stamps.specs.declared.alloc_or.AllocOr.TheVariants.{Fault, OutOfMemory}
 use Rattle.cell_script.specs.declared.fault.ParseFault.{ParseFault}
 use Rattle.cell_script.specs.declared.fault.ParseFault.TheVariants.{WrongCount, BadWord, NotBuilt}
-use Rattle.cell_script.specs.Words.{number_of, house_of, directory_of, node_of, simple_name_of, full_name_of, attr_name_of, octets_value_of, octets_of, confidence_of}
+use Rattle.cell_script.specs.Words.{number_of, house_of, directory_of, node_of, simple_name_of, full_name_of, attr_name_of, octets_value_of, octets_of}
+use Rattle.cell_script.specs.Words.{confidence_of}
 
 -- the forms of words; the last two stand for any number of words (own)
 pub data Form : Type 0 where

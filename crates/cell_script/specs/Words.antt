@@ -1,5 +1,6 @@
 -- The words of a script line, and what a single word says (own).
-use Rattle.std.specs.Prelude.{ℕ, ◌+◌, ◌-◌, ◌*◌, ◌^◌, Bool, true, false, not, ◌&&◌, nat_lt, nat_le, ◌==◌, if◌then◌else◌, List, [], ◌∷◌, length, filter, Some, None, Option, codes}
+use Rattle.std.specs.Prelude.{ℕ, ◌+◌, ◌-◌, ◌*◌, ◌^◌, Bool, true, false, not, ◌&&◌, nat_lt, nat_le, ◌==◌, if◌then◌else◌, List, [], ◌∷◌, length, filter, Some}
+use Rattle.std.specs.Prelude.{None, Option, codes}
 use Rattle.std.specs.List.{list_all, slice_split}
 use Rattle.std.specs.Str.{bytes_eq}
 use Rattle.std.specs.Option.{option_and_then, option_map}
@@ -53,7 +54,7 @@ directory_of w = option_map (λ n. record { 0 = n }) (number_to 4294967295 w)
 abbrev pub node_of : List ℕ → Option ℕ
 node_of w = option_map (λ octets. from_be_bytes w64 (0 ∷ 0 ∷ octets)) (result_ok (decode_sized w 6))
 
--- names: a simple one, a full one by its components, and that of an attribute (C705, CDS names)
+-- names: a simple one, a full one by its components, and that of an attribute (own, after C705, CDS names)
 abbrev pub simple_name_of : List ℕ → Option (List ℕ)
 simple_name_of w = result_ok (ok_unless (simple_name_fault w) w)
 
@@ -74,6 +75,6 @@ octets_value_of w = option_and_then value_in (result_ok (decode_of w))
 abbrev pub octets_of : List ℕ → Option (List ℕ)
 octets_of w = result_ok (decode_of w)
 
--- how much the answer of a replica is trusted: `high` is true (C705, confidence of a clerk's lookups)
+-- how much the answer of a replica is trusted: `high` is true (own, after C705, confidence of a clerk's lookups)
 abbrev pub confidence_of : List ℕ → Option Bool
 confidence_of w = if bytes_eq w (codes "low") then Some false else (if bytes_eq w (codes "high") then Some true else None)

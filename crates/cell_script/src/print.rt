@@ -2,7 +2,8 @@
 ghost use Rattle.std.specs.Prelude.{◌≡◌, ◌++◌, ◌∷◌, length, take, IfOk, OnOk, OnErr, codes, decimal};
 ghost use Rattle.hex.specs.Hex.{encode_lower};
 ghost use Rattle.cell_names.specs.FullNames.{spelling};
-ghost use Rattle.cell_script.specs.Texts.{line_text, spaced, stamp_text, posted_text, values_text, accepted_text, refusal_name, refusal_numbers, message_name, answer_text, fault_text, parse_fault_text};
+ghost use Rattle.cell_script.specs.Texts.{line_text, spaced, stamp_text, posted_text, values_text, accepted_text, refusal_name, refusal_numbers};
+ghost use Rattle.cell_script.specs.Texts.{message_name, answer_text, fault_text, parse_fault_text};
 
 use crate::answer::{Answer, ScriptRefusal};
 use crate::fault::ParseFault;

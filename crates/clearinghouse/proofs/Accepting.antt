@@ -1,5 +1,6 @@
 -- An update that is accepted: its marks are merged in, and posted.
-use Rattle.std.proofs.Common.{◌≡◌, ℕ, ◌<◌, ◌≤◌, Bool, true, false, cond, List, [], ◌∷◌, ◌++◌, Option, Some, None, refl, sym, ap, subst, ◌∙◌, arith, inl, inr, ⊎_elim}
+use Rattle.std.proofs.Common.{◌≡◌, ℕ, ◌<◌, ◌≤◌, Bool, true, false, cond, List, [], ◌∷◌, ◌++◌, Option, Some, None, refl, sym, ap, subst, ◌∙◌, arith, inl, inr}
+use Rattle.std.proofs.Common.{⊎_elim}
 use Rattle.std.specs.Prelude.{if◌then◌else◌}
 use Rattle.std.specs.List.{Contains, AllByRecursion}
 use Rattle.std.proofs.lemmas.Bool.Decides.{nat_tests}
@@ -34,7 +35,7 @@ use Rattle.clearinghouse.specs.declared.states.Held.{Held}
 use Rattle.clearinghouse.specs.declared.posted.Posted.{Posted}
 use Rattle.clearinghouse.specs.Posting.{posts_to, StandEach}
 use Rattle.clearinghouse.specs.Standing.{StandsHeld}
-use Rattle.clearinghouse.specs.Turns.{new_marks, AddsMarks, IsTaken}
+use Rattle.clearinghouse.specs.PrivateTurns.{new_marks, AddsMarks, IsTaken}
 use Rattle.clearinghouse.specs.declared.updates.Accepted.TheVariants as accepted
 use Rattle.clearinghouse.proofs.Posts.{each_stands}
 use Rattle.clearinghouse.proofs.Turning.{refused_turn}
@@ -63,17 +64,20 @@ kept_up_to : (t : Stamp) (ms : List Mark) (k : Mark) → Contains (up_to ms (Som
 kept_up_to t [] k h = absurd (Contains-none k h)
 kept_up_to t (m ∷ ms) k h = at (kept_up_to t ms k) (is_up_to t (stamp_in m)) refl
   where
-    at : (Contains (up_to ms (Some t)) k → In k ms × (is_up_to t (stamp_in k) ≡ true)) → (b : Bool) → is_up_to t (stamp_in m) ≡ b → In k (m ∷ ms) × (is_up_to t (stamp_in k) ≡ true)
+    at : (Contains (up_to ms (Some t)) k → In k ms × (is_up_to t (stamp_in k) ≡ true)) → (b : Bool) → is_up_to t (stamp_in m) ≡ b
+        → In k (m ∷ ms) × (is_up_to t (stamp_in k) ≡ true)
     at rest true e =
         let there : Contains (m ∷ up_to ms (Some t)) k = subst (λ b. Contains (cond b (m ∷ up_to ms (Some t)) (up_to ms (Some t))) k) e h in
-        ⊎_elim (λ same. (inl (sym same), subst (λ k. is_up_to t (stamp_in k) ≡ true) same e)) (λ more. (let w = rest more in (inr w.0, w.1))) (Contains-cases m (up_to ms (Some t)) k there)
+        ⊎_elim (λ same. (inl (sym same), subst (λ k. is_up_to t (stamp_in k) ≡ true) same e)) (λ more. (let w = rest more in (inr w.0, w.1)))
+        (Contains-cases m (up_to ms (Some t)) k there)
     at rest false e =
         let there : Contains (up_to ms (Some t)) k = subst (λ b. Contains (cond b (m ∷ up_to ms (Some t)) (up_to ms (Some t))) k) e h in
         (let w = rest there in (inr w.0, w.1))
 
 -- ---- the marks of an update
 
-module _ (r : model.Replica) (floor : ℕ) (u : Change) (s : Stamp) (history : IsHistory r.history) (below : ReplicaBelow r floor) (above : floor < s.time) (fine : refusal_of (shown r.history (changed_name u)) u ≡ None) where
+module _ (r : model.Replica) (floor : ℕ) (u : Change) (s : Stamp) (history : IsHistory r.history) (below : ReplicaBelow r floor) (above : floor < s.time)
+    (fine : refusal_of (shown r.history (changed_name u)) u ≡ None) where
   before : IsBefore r.history s
   before = before_stamp r.history floor s below.marks above
 
@@ -106,7 +110,8 @@ module _ (r : model.Replica) (floor : ℕ) (u : Change) (s : Stamp) (history : I
   grown_below =
       let made = marks_made (shown r.history (changed_name u)) u s fine born_before in record {
         marks = λ k i. ⊎_elim (λ (old : In k r.history). (let low = below.marks k old in (omega (arith, low.0), omega (arith, low.1))))
-            (λ (new : In k (new_marks r u s)). (let stamped = time_up_to (stamp_in k) s (made.stamped k new) in let born = time_up_to (born_in k) (stamp_in k) (made.ordered k new) in (stamped, omega arith)))
+            (λ (new : In k (new_marks r u s)). (let stamped = time_up_to (stamp_in k) s (made.stamped k new) in
+            let born = time_up_to (born_in k) (stamp_in k) (made.ordered k new) in (stamped, omega arith)))
             (In-append_cases k r.history (new_marks r u s) i);
         all_up_to = λ t e. (let low = below.all_up_to t e in omega arith);
         phase = λ t e. (let low = below.phase t e in omega arith);
@@ -118,17 +123,22 @@ module _ (r : model.Replica) (floor : ℕ) (u : Change) (s : Stamp) (history : I
     entry = entry;
   }
 
-pub adds_marks : (held held' : Held) (r : model.Replica) (floor : ℕ) (u : Change) (s : Stamp) (house : HouseNo) (dir : DirId) (f : Fragment) (m : Message) (posted : List Posted)
+-- marks that are merged in and posted are those of the step
+pub adds_marks : (held held' : Held) (r : model.Replica) (floor : ℕ) (u : Change) (s : Stamp) (house : HouseNo) (dir : DirId) (f : Fragment) (m : Message)
+    (posted : List Posted)
     → refusal_of (shown_in held.replica.table (changed_name u)) u ≡ None → StandsHeld floor held r → floor < s.time
     → f.name ≡ changed_name u → entry_of (marks_of (shown_in held.replica.table (changed_name u)) u s) f.name ≡ Some f.entry
     → held'.epoch ≡ held.epoch → held'.members ≡ held.members
-    → ((h marks : List Mark) → CanMerge h marks held.replica.all_up_to → IsFragmentOf marks f → held.replica ≡ replica_of h held.replica.all_up_to → held'.replica ≡ replica_of (h ++ marks) held.replica.all_up_to)
-    → m ≡ record { dir = dir; from = house; epoch = held.epoch; floor = s.time; body = body.Update f } → posted ≡ posts_to (others_of house.0 (members_of held.members)) m
+    → ((h marks : List Mark) → CanMerge h marks held.replica.all_up_to → IsFragmentOf marks f → held.replica ≡ replica_of h held.replica.all_up_to
+    → held'.replica ≡ replica_of (h ++ marks) held.replica.all_up_to)
+    → m ≡ record { dir = dir; from = house; epoch = held.epoch; floor = s.time; body = body.Update f }
+    → posted ≡ posts_to (others_of house.0 (members_of held.members)) m
     → AddsMarks r house.0 dir.0 u s held' posted
 adds_marks held held' r floor u s house dir f m posted fine stands above name entry epoch members merged message posts =
     let table : held.replica.table ≡ table_of r.history = ap (λ (x : Replica). x.table) stands.replica in
     let up : held.replica.all_up_to ≡ r.all_up_to = ap (λ (x : Replica). x.all_up_to) stands.replica in
-    let seen : shown_in held.replica.table (changed_name u) ≡ shown r.history (changed_name u) = ap (λ t. shown_in t (changed_name u)) table ∙ shown_in-table_of r.history (changed_name u) in
+    let seen : shown_in held.replica.table (changed_name u) ≡ shown r.history (changed_name u) =
+    ap (λ t. shown_in t (changed_name u)) table ∙ shown_in-table_of r.history (changed_name u) in
     let accepted : refusal_of (shown r.history (changed_name u)) u ≡ None = ap (λ e. refusal_of e u) (sym seen) ∙ fine in
     let own : entry_of (new_marks r u s) f.name ≡ Some f.entry = subst (λ e. entry_of (marks_of e u s) f.name ≡ Some f.entry) seen entry in
     let fragment = fragment_of r floor u s stands.history stands.below above accepted f name own in
@@ -137,16 +147,21 @@ adds_marks held held' r floor u s house dir f m posted fine stands above name en
       stands = record {
         epoch = stands.epoch ∙ ap (λ (e : EpochNo). e.0) (sym epoch);
         members = stands.members ∙ ap members_of (sym members);
-        replica = merged r.history (new_marks r u s) (subst (CanMerge r.history (new_marks r u s)) (sym up) merge) fragment (stands.replica ∙ ap (replica_of r.history) (sym up)) ∙ ap (replica_of (r.history ++ new_marks r u s)) up;
+        replica =
+            merged r.history (new_marks r u s) (subst (CanMerge r.history (new_marks r u s)) (sym up) merge) fragment
+            (stands.replica ∙ ap (replica_of r.history) (sym up)) ∙ ap (replica_of (r.history ++ new_marks r u s)) up;
         phase = stands.phase;
         history = merge.both;
         below = grown_below r floor u s stands.history stands.below above accepted;
       };
       each =
           subst (λ ps. StandEach ps (to_each (others_of house.0 r.members) dir.0 house.0 r.epoch s.time (model.Update (new_marks r u s)))) (sym posts)
-          (subst (λ (n : Message). StandEach (posts_to (others_of house.0 (members_of held.members)) n) (to_each (others_of house.0 r.members) dir.0 house.0 r.epoch s.time (model.Update (new_marks r u s)))) (sym message)
-          (subst (λ (e : ℕ). StandEach (posts_to (others_of house.0 (members_of held.members)) first) (to_each (others_of house.0 r.members) dir.0 house.0 e s.time (model.Update (new_marks r u s)))) (sym stands.epoch)
-          (subst (λ ms. StandEach (posts_to (others_of house.0 (members_of held.members)) first) (to_each (others_of house.0 ms) dir.0 house.0 held.epoch.0 s.time (model.Update (new_marks r u s)))) (sym stands.members)
+          (subst (λ (n : Message). StandEach (posts_to (others_of house.0 (members_of held.members)) n)
+          (to_each (others_of house.0 r.members) dir.0 house.0 r.epoch s.time (model.Update (new_marks r u s)))) (sym message)
+          (subst (λ (e : ℕ). StandEach (posts_to (others_of house.0 (members_of held.members)) first)
+          (to_each (others_of house.0 r.members) dir.0 house.0 e s.time (model.Update (new_marks r u s)))) (sym stands.epoch)
+          (subst (λ ms. StandEach (posts_to (others_of house.0 (members_of held.members)) first)
+          (to_each (others_of house.0 ms) dir.0 house.0 held.epoch.0 s.time (model.Update (new_marks r u s)))) (sym stands.members)
           (each_stands first (model.Update (new_marks r u s)) (others_of house.0 (members_of held.members)) fragment))));
     }
   where
@@ -159,12 +174,16 @@ module _ (h : ℕ) (u : Change) (held : Held) (r : model.Replica) (floor : ℕ) 
   table_seen : shown_in held.replica.table (changed_name u) ≡ shown r.history (changed_name u)
   table_seen = ap (λ t. shown_in t (changed_name u)) (ap (λ (x : Replica). x.table) stands.replica) ∙ shown_in-table_of r.history (changed_name u)
 
-  pub its_refusal : (q : Option UpdateRefusal) → is_accepting h (members_of held.members) ≡ true → refusal_of (shown_in held.replica.table (changed_name u)) u ≡ q → update_refusal h u r ≡ q
+  -- the refusal of the table is that of the model
+  pub its_refusal : (q : Option UpdateRefusal) → is_accepting h (members_of held.members) ≡ true
+      → refusal_of (shown_in held.replica.table (changed_name u)) u ≡ q → update_refusal h u r ≡ q
   its_refusal q master is =
       ap (λ ms. if is_accepting h ms then refusal_of (shown r.history (changed_name u)) u else Some why.NotMaster) stands.members
       ∙ ap (λ b. if b then refusal_of (shown r.history (changed_name u)) u else Some why.NotMaster) master
       ∙ ap (λ e. refusal_of e u) (sym table_seen) ∙ is
 
-  pub refused_as : (g : model.Cell) (d : ℕ) (q : UpdateRefusal) → (g.house h).floor ≡ floor → (g.house h).slots d ≡ model.Held r → update_refusal h u r ≡ Some q → IsTaken g h d (accept g h d u (model.Held r)) (accepted.Refused q) held floor
+  -- a refusal is the step of the model
+  pub refused_as : (g : model.Cell) (d : ℕ) (q : UpdateRefusal) → (g.house h).floor ≡ floor → (g.house h).slots d ≡ model.Held r
+      → update_refusal h u r ≡ Some q → IsTaken g h d (accept g h d u (model.Held r)) (accepted.Refused q) held floor
   refused_as g d q same here is =
       rw is (record { answer = refl; turn = refused_turn g h d floor held r (command.Update q) stands same here })

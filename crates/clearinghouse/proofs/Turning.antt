@@ -11,7 +11,7 @@ use Rattle.clearinghouse.specs.declared.states.Held.{Held}
 use Rattle.clearinghouse.specs.declared.posted.Posted.{Posted}
 use Rattle.clearinghouse.specs.Posting.{StandEach}
 use Rattle.clearinghouse.specs.Standing.{StandsHeld, founds}
-use Rattle.clearinghouse.specs.Turns.{TurnsAt}
+use Rattle.clearinghouse.specs.PrivateTurns.{TurnsAt}
 
 same_number : (n : ℕ) → (n == n) ≡ true
 same_number n = grind arith
@@ -23,8 +23,10 @@ put_elsewhere : {A : Type 0} (f : ℕ → A) (k n : ℕ) (v : A) → (n == k) �
 put_elsewhere f k n v other = ap (λ b. cond b v (f n)) other
 
 -- a house that holds something else, and posts
-pub moved_turn : (g : model.Cell) (h d floor : ℕ) (held : Held) (r : model.Replica) (posts : List model.Message) (posted : List Posted) (a : command.Answer) (accepted : List command.Accepted)
-    → StandsHeld floor held r → StandEach posted posts → TurnsAt g h d (record { cell = moved g h (holding (g.house h) d floor (model.Held r)) posts; answer = a; accepted = accepted }) held floor posted
+pub moved_turn : (g : model.Cell) (h d floor : ℕ) (held : Held) (r : model.Replica) (posts : List model.Message) (posted : List Posted) (a : command.Answer)
+    (accepted : List command.Accepted)
+    → StandsHeld floor held r → StandEach posted posts
+    → TurnsAt g h d (record { cell = moved g h (holding (g.house h) d floor (model.Held r)) posts; answer = a; accepted = accepted }) held floor posted
 moved_turn g h d floor held r posts posted a accepted stands each =
     let house = put_here g.house h (holding (g.house h) d floor (model.Held r)) in record {
       up = ap (λ (x : model.House). x.up) house;
@@ -40,7 +42,8 @@ moved_turn g h d floor held r posts posted a accepted stands each =
     }
 
 -- nothing changes
-pub refused_turn : (g : model.Cell) (h d floor : ℕ) (held : Held) (r : model.Replica) (q : command.Refusal) → StandsHeld floor held r → (g.house h).floor ≡ floor → (g.house h).slots d ≡ model.Held r → TurnsAt g h d (refused g q) held floor []
+pub refused_turn : (g : model.Cell) (h d floor : ℕ) (held : Held) (r : model.Replica) (q : command.Refusal) → StandsHeld floor held r
+    → (g.house h).floor ≡ floor → (g.house h).slots d ≡ model.Held r → TurnsAt g h d (refused g q) held floor []
 refused_turn g h d floor held r q stands is here = record {
   up = refl;
   node = refl;
@@ -63,7 +66,8 @@ below_later r a b le h = record {
 }
 
 -- a new directory at its master
-pub founded_turn : (g : model.Cell) (h d floor : ℕ) (ms : List Member) (held : Held) (posted : List Posted) → (g.house h).floor ≡ floor → StandsHeld floor held (first_replica ms) → StandEach posted (first_joins g d h ms) → TurnsAt g h d (founds g d h ms) held floor posted
+pub founded_turn : (g : model.Cell) (h d floor : ℕ) (ms : List Member) (held : Held) (posted : List Posted) → (g.house h).floor ≡ floor
+    → StandsHeld floor held (first_replica ms) → StandEach posted (first_joins g d h ms) → TurnsAt g h d (founds g d h ms) held floor posted
 founded_turn g h d floor ms held posted is stands each =
     let house = put_here g.house h (holding (g.house h) d (g.house h).floor (model.Held (first_replica ms))) in record {
       up = ap (λ (x : model.House). x.up) house;

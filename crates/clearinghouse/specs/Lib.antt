@@ -1,4 +1,4 @@
-pub mod StateCodes
+pub mod PrivateCodes
 pub mod Posting
 pub mod Standing
-pub mod Turns
+pub mod PrivateTurns

@@ -67,7 +67,8 @@ impl Clearinghouse {
         ensures house { self.new.house ≡ self.old.house }
         ensures node { self.new.node ≡ self.old.node }
         ensures floor { self.new.floor ≡ self.old.floor }
-        ensures turn { (g : model.Cell) → StandsHouse self.old (g.house self.old.house.0) → IfOk result (λ posted. IsTurn g (founds g dir.0 self.old.house.0 (members_of members.now)) self.new posted) }
+        ensures turn { (g : model.Cell) → StandsHouse self.old (g.house self.old.house.0)
+            → IfOk result (λ posted. IsTurn g (founds g dir.0 self.old.house.0 (members_of members.now)) self.new posted) }
         ensures err { OnErr result (self.new ≡ self.old) }
     {
         let message = self.first_join(alloc, dir, members)?;
@@ -84,7 +85,15 @@ impl Clearinghouse {
         dir: DirId,
         members: &Members,
     ) -> Result<Message, AllocError>
-        ensures { IfOk result (λ m. m ≡ record { dir = dir; from = self.now.house; epoch = record { 0 = 1 }; floor = self.now.floor.time; body = body.Join members.now (replica_of [] None) }) }
+        ensures { IfOk result
+            (λ m. m ≡ record {
+              dir = dir;
+              from = self.now.house;
+              epoch = record { 0 = 1 };
+              floor = self.now.floor.time;
+              body = body.Join members.now
+                  (replica_of [] None);
+            }) }
     {
         let floor = self.floor.time;
         Ok(Message {
@@ -109,7 +118,8 @@ impl Clearinghouse {
         ensures house { self.new.house ≡ self.old.house }
         ensures node { self.new.node ≡ self.old.node }
         ensures refused { IfOk result (λ a. IfRefused a (self.new ≡ self.old)) }
-        ensures turn { (g : model.Cell) → StandsHouse self.old (g.house self.old.house.0) → (g.house self.old.house.0).clock ≡ clock → IfOk result (λ a. IsAccepted g (accept g self.old.house.0 dir.0 (change_of update.now) ((g.house self.old.house.0).slots dir.0)) self.new a) }
+        ensures turn { (g : model.Cell) → StandsHouse self.old (g.house self.old.house.0) → (g.house self.old.house.0).clock ≡ clock
+            → IfOk result (λ a. IsAccepted g (accept g self.old.house.0 dir.0 (change_of update.now) ((g.house self.old.house.0).slots dir.0)) self.new a) }
         ensures err { OnErr result (self.new ≡ self.old) }
     {
         let by = Acceptor {

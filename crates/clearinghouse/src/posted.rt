@@ -25,7 +25,7 @@ pub struct PostedList {
 impl Model for PostedList {
     ghost use Rattle.std.specs.Prelude.{List};
     ghost use Rattle.std.specs.Coded.{coded_list};
-    ghost use Rattle.clearinghouse.specs.StateCodes.{posted_code};
+    ghost use Rattle.clearinghouse.specs.PrivateCodes.{posted_code};
     ghost use Rattle.clearinghouse.specs.declared.posted.Posted.{Posted};
 
     ghost Value = { List Posted };

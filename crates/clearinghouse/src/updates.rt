@@ -6,7 +6,7 @@ ghost use Rattle.directory.specs.Shown.{shown, shown_in, refusal_of, marks_of};
 ghost use Rattle.cell_model.specs.Cells as model;
 ghost use Rattle.cell_model.specs.Steps.{accept, accept_at, stamp_at};
 ghost use Rattle.clearinghouse.specs.Standing.{IfRefused, StandsHeld};
-ghost use Rattle.clearinghouse.specs.Turns.{ActsAt, AddsMarks, IsTaken, IsTakenAs, IsTakenIn, IsNotHeld};
+ghost use Rattle.clearinghouse.specs.PrivateTurns.{ActsAt, AddsMarks, IsTaken, IsTakenAs, IsTakenIn, IsNotHeld};
 ghost use Rattle.clearinghouse.specs.declared.states.Held as held;
 ghost use Rattle.clearinghouse.specs.declared.states.DirState.TheVariants as state;
 ghost use Rattle.clearinghouse.specs.declared.updates.Accepted.TheVariants as accepted;
@@ -51,7 +51,10 @@ impl DirStates {
         ensures rises { floor.old.time ≤ floor.new.time }
         ensures err { OnErr result (self.new ≡ self.old) }
         ensures err_floor { OnErr result (floor.new ≡ floor.old) }
-        ensures held { (g : model.Cell) (r : model.Replica) (held : held.Held) → map.get self.old dir ≡ Some (state.Held held) → StandsHeld floor.old.time held r → ActsAt g by floor.old.time dir.0 r → IfOk result (λ a. IsTakenIn g by.house.0 dir.0 (accept g by.house.0 dir.0 (change_of update.now) (model.Held r)) a self.old self.new floor.new.time) }
+        ensures held { (g : model.Cell) (r : model.Replica) (held : held.Held) → map.get self.old dir ≡ Some (state.Held held)
+            → StandsHeld floor.old.time held r → ActsAt g by floor.old.time dir.0 r
+            → IfOk result (λ a. IsTakenIn g by.house.0 dir.0
+            (accept g by.house.0 dir.0 (change_of update.now) (model.Held r)) a self.old self.new floor.new.time) }
         ensures not_held { IsNotHeld (map.get self.old dir) → IfOk result (λ a. a ≡ accepted.Refused why.NoReplica) }
     {
         match self.states.get_mut(&dir) {
@@ -76,7 +79,9 @@ impl DirState {
         ensures rises { floor.old.time ≤ floor.new.time }
         ensures err { OnErr result (self.new ≡ self.old) }
         ensures err_floor { OnErr result (floor.new ≡ floor.old) }
-        ensures held { (g : model.Cell) (r : model.Replica) (held : held.Held) → self.old ≡ state.Held held → StandsHeld floor.old.time held r → ActsAt g by floor.old.time dir.0 r → IfOk result (λ a. IsTakenAs g by.house.0 dir.0 (accept g by.house.0 dir.0 (change_of update.now) (model.Held r)) a self.new floor.new.time) }
+        ensures held { (g : model.Cell) (r : model.Replica) (held : held.Held) → self.old ≡ state.Held held → StandsHeld floor.old.time held r
+            → ActsAt g by floor.old.time dir.0 r
+            → IfOk result (λ a. IsTakenAs g by.house.0 dir.0 (accept g by.house.0 dir.0 (change_of update.now) (model.Held r)) a self.new floor.new.time) }
         ensures not_held { IsNotHeld (Some self.old) → IfOk result (λ a. a ≡ accepted.Refused why.NoReplica) }
     {
         match self {
@@ -101,7 +106,8 @@ impl Held {
         ensures rises { floor.old.time ≤ floor.new.time }
         ensures err { OnErr result (self.new ≡ self.old) }
         ensures err_floor { OnErr result (floor.new ≡ floor.old) }
-        ensures turn { (g : model.Cell) (r : model.Replica) → StandsHeld floor.old.time self.old r → ActsAt g by floor.old.time dir.0 r → IfOk result (λ a. IsTaken g by.house.0 dir.0 (accept g by.house.0 dir.0 (change_of update.now) (model.Held r)) a self.new floor.new.time) }
+        ensures turn { (g : model.Cell) (r : model.Replica) → StandsHeld floor.old.time self.old r → ActsAt g by floor.old.time dir.0 r
+            → IfOk result (λ a. IsTaken g by.house.0 dir.0 (accept g by.house.0 dir.0 (change_of update.now) (model.Held r)) a self.new floor.new.time) }
     {
         if !self.is_master(by.house) {
             return Ok(Accepted::Refused(UpdateRefusal::NotMaster));
@@ -135,7 +141,9 @@ impl Held {
         ensures rises { floor.old.time ≤ floor.new.time }
         ensures err { OnErr result (self.new ≡ self.old) }
         ensures err_floor { OnErr result (floor.new ≡ floor.old) }
-        ensures turn { (g : model.Cell) (r : model.Replica) → StandsHeld floor.old.time self.old r → ActsAt g by floor.old.time dir.0 r → IfOk result (λ a. IsTaken g by.house.0 dir.0 (accept_at g by.house.0 dir.0 (change_of update.now) r (stamp_at (g.house by.house.0))) a self.new floor.new.time) }
+        ensures turn { (g : model.Cell) (r : model.Replica) → StandsHeld floor.old.time self.old r → ActsAt g by floor.old.time dir.0 r
+            → IfOk result (λ a. IsTaken g by.house.0 dir.0
+            (accept_at g by.house.0 dir.0 (change_of update.now) r (stamp_at (g.house by.house.0))) a self.new floor.new.time) }
     {
         let mut raised = *floor;
         match raised.issue(by.clock, by.node) {
@@ -158,7 +166,8 @@ impl Held {
         update: &Update,
     ) -> Result<PostedList, AllocError>
         requires { refusal_of (shown_in self.old.replica.table (changed_name (change_of update.now))) (change_of update.now) ≡ None }
-        ensures adds { (r : model.Replica) (floor : ℕ) → StandsHeld floor self.old r → floor < stamp.now.time → IfOk result (λ posted. AddsMarks r house.0 dir.0 (change_of update.now) stamp.now self.new posted) }
+        ensures adds { (r : model.Replica) (floor : ℕ) → StandsHeld floor self.old r → floor < stamp.now.time
+            → IfOk result (λ posted. AddsMarks r house.0 dir.0 (change_of update.now) stamp.now self.new posted) }
         ensures err { OnErr result (self.new ≡ self.old) }
     {
         let epoch = self.epoch;

@@ -1,5 +1,6 @@
 use Rattle.std.proofs.Common.{◌∙◌, ap, sym, subst, arith, Err}
-use Rattle.cds_records.specs.Reading.{read, Reads}
+use Rattle.cds_records.specs.Reading.{read}
+use Rattle.cds_records.specs.PrivateReading.{Reads}
 use Rattle.cds_records.specs.Images.{image}
 use Rattle.cds_records.specs.declared.image.Image.{Image}
 use Rattle.cds_records.proofs.DecodingLaws.{decoded, rest_within, error_within, error_decodes}

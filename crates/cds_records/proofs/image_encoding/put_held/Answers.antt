@@ -1,5 +1,5 @@
 use Rattle.std.proofs.Common.{subst}
-use Rattle.cds_records.specs.Writing.{Writes}
+use Rattle.cds_records.specs.PrivateWriting.{Writes}
 use Rattle.cds_records.specs.Records.{members}
 use Rattle.cds_records.proofs.WritingImages.{held_written}
 use Rattle.cds_records.proofs.image_encoding.put_held.Goals as goal

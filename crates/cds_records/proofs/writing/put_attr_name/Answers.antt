@@ -1,6 +1,6 @@
 use Rattle.std.proofs.Common.{◌≡◌, subst, arith, None}
 use Rattle.cds_records.specs.Fields.{octets_order, attr_name}
-use Rattle.cds_records.specs.Writing.{Writes}
+use Rattle.cds_records.specs.PrivateWriting.{Writes}
 use Rattle.cds_records.proofs.WritingLaws.{attr_name_lawful, attr_name_written}
 use Rattle.cds_records.proofs.writing.put_attr_name.Goals as goal
 

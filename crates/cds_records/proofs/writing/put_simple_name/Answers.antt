@@ -1,6 +1,6 @@
 use Rattle.std.proofs.Common.{◌≡◌, subst, arith, None}
 use Rattle.cds_records.specs.Fields.{octets_order, simple_name}
-use Rattle.cds_records.specs.Writing.{Writes}
+use Rattle.cds_records.specs.PrivateWriting.{Writes}
 use Rattle.cds_records.proofs.WritingLaws.{simple_name_lawful, simple_name_written}
 use Rattle.cds_records.proofs.writing.put_simple_name.Goals as goal
 

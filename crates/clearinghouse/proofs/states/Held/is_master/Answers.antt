@@ -9,5 +9,6 @@ use Rattle.clearinghouse.proofs.states.Held.is_master.Goals as goal
 
 pub returns : goal.returns
 returns c =
-    any_from_yields_List (λ (m : Member). (m.house.0 == c.args.house.0) && is_master m.kind) _ _ c.any.result c.any.ensures.ran (YieldsList-from_slice c.list.result.now (cc)) (λ x b q k. search (rules, tests))
+    any_from_yields_List (λ (m : Member). (m.house.0 == c.args.house.0) && is_master m.kind) _ _ c.any.result c.any.ensures.ran
+    (YieldsList-from_slice c.list.result.now (cc)) (λ x b q k. search (rules, tests))
     ∙ accepting_any c.args.house.0 c.list.result.now ∙ ap (λ ms. is_accepting c.args.house.0 (members_of ms)) c.list.ensures.value

@@ -1,4 +1,4 @@
--- What tells apart what houses have of directories (own).
+-- Words that only the views of types cite, nothing that is to be believed: what tells apart what houses have of directories (own).
 use Rattle.std.specs.Prelude.{◌≡◌, ℕ, ◌⊎◌, List, refl}
 use Rattle.std.proofs.Common.{inl, inr}
 use Rattle.std.specs.Coded.{Coded, code_by, coded×, coded⊎, coded_ℕ, coded_list}
@@ -11,7 +11,7 @@ use Rattle.directory.specs.Entries.{entry_code}
 use Rattle.purge_rule.specs.declared.replica.Replica.{Replica}
 use Rattle.cds_records.specs.declared.message.Body.{Body}
 use Rattle.cds_records.specs.declared.message.Body.TheVariants.{Update, Gather, Gathered, Spread, SpreadAck, Advance, Join, Leave}
-use Rattle.cds_records.specs.DirCodes.{member_code, replica_code}
+use Rattle.cds_records.specs.PrivateDirCodes.{member_code, replica_code}
 use Rattle.clearinghouse.specs.declared.posted.Posted.{Posted}
 use Rattle.clearinghouse.specs.declared.states.DirState.{DirState}
 use Rattle.clearinghouse.specs.declared.states.DirState.TheVariants.{Held, Gone}
@@ -31,7 +31,8 @@ parts_back (Gone e) = refl
 
 -- what a house has of a directory, by its parts (own)
 abbrev pub dir_state_code : Coded DirState
-dir_state_code = code_by ((ℕ × (List Member × Replica)) ⊎ ℕ) (coded⊎ (coded× coded_ℕ (coded× (coded_list member_code) replica_code)) coded_ℕ) parts of_parts parts_back
+dir_state_code =
+    code_by ((ℕ × (List Member × Replica)) ⊎ ℕ) (coded⊎ (coded× coded_ℕ (coded× (coded_list member_code) replica_code)) coded_ℕ) parts of_parts parts_back
 
 -- ---- posted messages
 
@@ -75,7 +76,9 @@ copied_code = coded× stamp_code replica_code
 abbrev pub body_code : Coded Body
 body_code =
     code_by Carried
-    (coded⊎ (coded× octets_code entry_code) (coded⊎ stamp_code (coded⊎ copied_code (coded⊎ copied_code (coded⊎ stamp_code (coded⊎ stamp_code (coded⊎ (coded× (coded_list member_code) replica_code) coded_ℕ)))))))
+    (coded⊎ (coded× octets_code entry_code)
+    (coded⊎ stamp_code (coded⊎ copied_code
+    (coded⊎ copied_code (coded⊎ stamp_code (coded⊎ stamp_code (coded⊎ (coded× (coded_list member_code) replica_code) coded_ℕ)))))))
     carried carrying carried_back
 
 -- a posted message by its numbers and what it carries (own)

@@ -1,4 +1,4 @@
--- Octets that are written behind others (own).
+-- A word of private contracts: octets that are written behind others (own).
 use Rattle.std.specs.Prelude.{◌≡◌, ℕ, List, ◌++◌}
 use Rattle.cds_records.specs.Layouts.{Layout}
 use Rattle.cds_records.specs.Decoding.{IsWhole}

@@ -1,4 +1,4 @@
--- What tells directories of images apart (own).
+-- Words that only the views of types cite, nothing that is to be believed: what tells directories of images apart (own).
 use Rattle.std.specs.Prelude.{◌≡◌, ℕ, ◌⊎◌, List, Option, refl}
 use Rattle.std.proofs.Common.{inl, inr}
 use Rattle.std.specs.FinMap.{code}

@@ -1,4 +1,4 @@
--- What a call makes of one directory at a house, as a step of the model (own, after C705, updates).
+-- Words of private contracts: what a call makes of one directory at a house, as a step of the model (own, after C705, updates).
 use Rattle.std.specs.Prelude.{◌≡◌, ℕ, ◌==◌, false, List, ◌++◌, Option, Some, None}
 use Rattle.std.specs.FinMap.{FinMap, insert}
 use Rattle.cds_stamps.specs.declared.stamp.Stamp.{Stamp}
