@@ -9,8 +9,6 @@ mod lines;
 mod memory;
 mod scan;
 mod standard;
-#[cfg(test)]
-mod tests;
 mod window;
 
 pub use ends::{Failed, PutFault, Sink, Source, put_all};

@@ -14,8 +14,6 @@ pub mod laws;
 mod members;
 mod message;
 mod tables;
-#[cfg(test)]
-mod tests;
 mod writing;
 
 pub use decoding::{decode, decode_image};

@@ -8,8 +8,6 @@ mod fault;
 mod lists;
 mod parse;
 mod print;
-#[cfg(test)]
-mod tests;
 mod word;
 mod words;
 

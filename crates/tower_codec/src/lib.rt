@@ -18,6 +18,3 @@ pub use fault::{BindingFault, TowerFault};
 pub use rpc::{Interface, Protseq, RpcTower};
 pub use view::{FloorView, TowerView};
 pub use writer::TowerWriter;
-
-#[cfg(test)]
-mod tests;

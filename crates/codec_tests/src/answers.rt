@@ -1,0 +1,109 @@
+// Answers as text, above all those that no command gives yet; and a line that is parsed.
+use attr_sets::Value;
+use cds_stamps::{DirId, Node, Stamp};
+use cell_names::FullName;
+use cell_script::{
+    Answer, Command, ParseFault, ScriptLine, ScriptRefusal, Serials, Values, parse_line,
+    print_answer, print_fault, print_parse_fault,
+};
+use std::alloc::Global;
+use std::test::Fail;
+
+fn serials(alloc: Global, numbers: &[u64]) -> Result<Serials, Fail> {
+    let mut serials = Serials::new(alloc);
+    for number in numbers {
+        serials.push(*number)?;
+    }
+    Ok(serials)
+}
+
+fn stamp() -> Result<Stamp, Fail> {
+    let node = Node::new(0x0a0b).ok_or("a node")?;
+    Ok(Stamp { time: 100, node })
+}
+
+// Whether the answer to line 7 is this text.
+fn is_told(alloc: Global, answer: Answer, text: &str) -> Result<bool, Fail> {
+    let line = print_answer(alloc, 7, &answer)?;
+    Ok(line.as_slice() == text.as_bytes())
+}
+
+#[test]
+fn posted_messages_are_numbered(rt: HostRuntime) -> Result<(), Fail> {
+    let alloc = rt.alloc();
+    let none = Answer::Posted(serials(alloc, &[])?);
+    assert!(rt; is_told(alloc, none, "7 ok\n")?);
+    let two = Answer::Posted(serials(alloc, &[1, 2])?);
+    assert!(rt; is_told(alloc, two, "7 ok posted 1 2\n")?);
+    Ok(())
+}
+
+#[test]
+fn stamps_stand_before_the_posted(rt: HostRuntime) -> Result<(), Fail> {
+    let alloc = rt.alloc();
+    let made = Answer::Made(DirId(2), stamp()?, serials(alloc, &[9])?);
+    assert!(rt; is_told(alloc, made, "7 ok 2 100@000000000a0b posted 9\n")?);
+    let stamped = Answer::Stamped(stamp()?, serials(alloc, &[3, 10])?);
+    assert!(rt; is_told(alloc, stamped, "7 ok 100@000000000a0b posted 3 10\n")?);
+    Ok(())
+}
+
+#[test]
+fn values_and_targets(rt: HostRuntime) -> Result<(), Fail> {
+    let alloc = rt.alloc();
+    let mut values = Values::new(alloc);
+    values.push(Value::new(alloc, &[0, 16])?)?;
+    values.push(Value::new(alloc, &[255])?)?;
+    assert!(rt; is_told(alloc, Answer::Values(values), "7 ok 2 0010 ff\n")?);
+    let target = Answer::Target(FullName::parse(alloc, b"/.:/a")?);
+    assert!(rt; is_told(alloc, target, "7 ok /.:/a\n")?);
+    Ok(())
+}
+
+#[test]
+fn messages_have_their_names(rt: HostRuntime) -> Result<(), Fail> {
+    let alloc = rt.alloc();
+    for (tag, text) in [(3, "7 ok Gathered 46\n"), (5, "7 ok SpreadAck 46\n")] {
+        assert!(rt; is_told(alloc, Answer::Decoded(tag, 46), text)?);
+    }
+    Ok(())
+}
+
+// Whether the refusal of line 7 is this text.
+fn is_refused(alloc: Global, refusal: ScriptRefusal, text: &str) -> Result<bool, Fail> {
+    is_told(alloc, Answer::Refused(refusal), text)
+}
+
+#[test]
+fn refusals_that_no_command_gives_yet(rt: HostRuntime) -> Result<(), Fail> {
+    let alloc = rt.alloc();
+    assert!(rt; is_refused(alloc, ScriptRefusal::Down, "7 refused Down\n")?);
+    assert!(rt; is_refused(alloc, ScriptRefusal::NotMaster, "7 refused NotMaster\n")?);
+    let spent = ScriptRefusal::StampsSpent(Some(2), serials(alloc, &[4, 5])?);
+    assert!(rt; is_refused(alloc, spent, "7 refused StampsSpent 2 posted 4 5\n")?);
+    let spent = ScriptRefusal::StampsSpent(Some(0), serials(alloc, &[])?);
+    assert!(rt; is_refused(alloc, spent, "7 refused StampsSpent 0\n")?);
+    Ok(())
+}
+
+#[test]
+fn faults_have_their_texts(rt: HostRuntime) -> Result<(), Fail> {
+    let alloc = rt.alloc();
+    let line = print_parse_fault(alloc, 3, ParseFault::NotBuilt(4))?;
+    assert_eq!(rt; line.as_slice(), b"3 fault NotBuilt 4\n".as_slice());
+    let line = print_fault(alloc, 2, "LineTooLong", 4097)?;
+    assert_eq!(rt; line.as_slice(), b"2 fault LineTooLong 4097\n".as_slice());
+    Ok(())
+}
+
+#[test]
+fn a_line_is_a_command_or_says_nothing(rt: HostRuntime) -> Result<(), Fail> {
+    let alloc = rt.alloc();
+    let line = parse_line(alloc, b"  clock  7 100 ")?;
+    assert!(rt;
+        matches!(&line, Some(ScriptLine::Cell(Command::Clock(house, 100))) if house.0 == 7)
+    );
+    let comment = parse_line(alloc, b" # clock 7 100")?;
+    assert!(rt; comment.is_none());
+    Ok(())
+}
