@@ -20,7 +20,7 @@ use crate::untowers::Speller;
 use cds_base::LineFault;
 use cds_cell::Cell;
 use cds_stamps::AllocOr;
-use cell_script::{Answer, ParseFault, ScriptLine, parse_line, print_answer, print_parse_fault};
+use cell_script::{Answer, ParseFault, ScriptLine, parse_line, print_parse_fault};
 use std::alloc::{AllocError, Global};
 
 /// A form of the program.
@@ -175,9 +175,7 @@ fn answered(
     ensures err { OnErr result (waiting.new ≡ waiting.old) }
 {
     let answer = reply(alloc, cell, line)?;
-    let text = print_answer(alloc, number, &answer)?;
-    waiting.add(&text)?;
-    Ok(())
+    waiting.add_answer(alloc, number, &answer)
 }
 
 // What the cell replies to a line.

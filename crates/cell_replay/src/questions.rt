@@ -18,12 +18,9 @@ use cds_records::RecordFault;
 use cds_stamps::{AllocOr, AttrName, HouseNo};
 use cell_names::FullName;
 use cell_script::{Answer, Question, ScriptRefusal, Values};
-use directory::Kind;
+use directory::{Kind, LINK_TARGET};
 use resolver::{EntryReader, Found, Refusal, resolve};
 use std::alloc::{AllocError, Global};
-
-/// The attribute of a link that has its target.
-const LINK_TARGET: &[u8] = b"CDS_LinkTarget";
 
 /// The answer to a question. Each directory stands at one house, so neither the preferred house nor the confidence makes
 /// a difference yet.
@@ -114,22 +111,12 @@ fn target_of_found<R: EntryReader>(
 {
     match found.kind {
         Kind::Link => {
-            let attr = link_attribute(alloc)?;
+            let attr = AttrName::known(alloc, LINK_TARGET)?;
             let values = reader.values(alloc, found, &attr)?;
             first_name(alloc, &values)
         }
         Kind::Object => Ok(Answer::Refused(ScriptRefusal::NotLink)),
         Kind::Child => Ok(Answer::Refused(ScriptRefusal::NotLink)),
-    }
-}
-
-fn link_attribute(alloc: Global) -> Result<AttrName, AllocError>
-    ensures { IfOk result (λ a. a ≡ link_target) }
-{
-    match AttrName::parse(alloc, LINK_TARGET) {
-        Ok(attr) => Ok(attr),
-        Err(AllocOr::Fault(_)) => unreachable!(),
-        Err(AllocOr::OutOfMemory) => Err(AllocError),
     }
 }
 

@@ -3,6 +3,7 @@ ghost use Rattle.std.specs.Prelude.{◌≡◌, ◌++◌, ◌<◌, ◌≤◌, [],
 ghost use Rattle.std.specs.Io.KnownBytes.{Appends};
 ghost use Rattle.cds_base.specs.Counts.{HasCause};
 ghost use Rattle.tower_codec.specs.Spelling.{tower_octets};
+ghost use Rattle.cell_script.specs.Texts.{answer_text, line_text};
 ghost use Rattle.cell_replay.specs.TowerTexts.{tower_text};
 ghost use Rattle.cell_replay.specs.PrivateWaiting.{Flushes};
 ghost use Rattle.cell_replay.specs.declared.limits.TheConstants.{LONGEST_TOWER};
@@ -10,6 +11,7 @@ ghost use Rattle.cell_replay.specs.declared.limits.TheConstants.{LONGEST_TOWER};
 use crate::limits::MOST_WAITING;
 use crate::tower_text::append_tower;
 use cds_base::{PutFault, Sink, put_all};
+use cell_script::{Answer, append_answer};
 use std::alloc::{AllocError, Global};
 use std::marker::Model;
 use tower_codec::TowerView;
@@ -51,6 +53,19 @@ impl Waiting {
         ensures err { OnErr result (self.new ≡ self.old) }
     {
         self.octets.extend_from_slice(reply)
+    }
+
+    /// The line of an answer more.
+    pub(crate) fn add_answer(
+        &mut self,
+        alloc: Global,
+        number: u32,
+        answer: &Answer,
+    ) -> Result<(), AllocError>
+        ensures ok { OnOk result (self.new ≡ self.old ++ line_text number (answer_text answer.now)) }
+        ensures err { OnErr result (self.new ≡ self.old) }
+    {
+        append_answer(alloc, &mut self.octets, number, answer)
     }
 
     /// The line of a tower more.
