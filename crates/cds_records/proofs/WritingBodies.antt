@@ -120,21 +120,26 @@ message_written m a b c d e f g h start format tag dir from epoch floor carried 
     (λ house. next (number w64 free)
     (λ epoch. next (number w64 free)
     (λ floor. next (body (tag_of m.body))
-    (λ b. done (record { dir = record { 0 = dir }; from = record { 0 = house }; epoch = record { 0 = epoch }; floor = floor; body = b })))))) m.dir.0 m c d h (dir free refl)
+    (λ b. done (record { dir = record { 0 = dir }; from = record { 0 = house }; epoch = record { 0 = epoch }; floor = floor; body = b })))))) m.dir.0 m c d
+    h (dir free refl)
     (writes_next (octet free)
     (λ house. next (number w64 free)
     (λ epoch. next (number w64 free)
     (λ floor. next (body (tag_of m.body))
-    (λ b. done (record { dir = record { 0 = m.dir.0 }; from = record { 0 = house }; epoch = record { 0 = epoch }; floor = floor; body = b }))))) m.from.0 m d e h (from free refl)
+    (λ b. done (record { dir = record { 0 = m.dir.0 }; from = record { 0 = house }; epoch = record { 0 = epoch }; floor = floor; body = b }))))) m.from.0 m
+    d e h (from free refl)
     (writes_next (number w64 free)
     (λ epoch. next (number w64 free)
     (λ floor. next (body (tag_of m.body))
-    (λ b. done (record { dir = record { 0 = m.dir.0 }; from = record { 0 = m.from.0 }; epoch = record { 0 = epoch }; floor = floor; body = b })))) m.epoch.0 m e f h (epoch free refl)
+    (λ b. done (record { dir = record { 0 = m.dir.0 }; from = record { 0 = m.from.0 }; epoch = record { 0 = epoch }; floor = floor; body = b })))) m.epoch.0
+    m e f h (epoch free refl)
     (writes_next (number w64 free)
     (λ floor. next (body (tag_of m.body))
-    (λ b. done (record { dir = record { 0 = m.dir.0 }; from = record { 0 = m.from.0 }; epoch = record { 0 = m.epoch.0 }; floor = floor; body = b }))) m.floor m f g h (floor free refl)
+    (λ b. done (record { dir = record { 0 = m.dir.0 }; from = record { 0 = m.from.0 }; epoch = record { 0 = m.epoch.0 }; floor = floor; body = b })))
+    m.floor m f g h (floor free refl)
     (writes_next (body (tag_of m.body))
-    (λ b. done (record { dir = record { 0 = m.dir.0 }; from = record { 0 = m.from.0 }; epoch = record { 0 = m.epoch.0 }; floor = m.floor; body = b })) m.body m g h h carried (writes_done m h)))))))
+    (λ b. done (record { dir = record { 0 = m.dir.0 }; from = record { 0 = m.from.0 }; epoch = record { 0 = m.epoch.0 }; floor = m.floor; body = b }))
+    m.body m g h h carried (writes_done m h)))))))
     in
     let front : Writes message m [] h = subst (λ z. Writes message m z h) start whole in
     subst (λ z. IsWhole message m z) (sym front.behind) front.whole

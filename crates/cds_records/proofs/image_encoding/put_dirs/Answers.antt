@@ -11,8 +11,10 @@ loop-dir-init c =
 
 pub loop-dir-preserved : goal.loop-dir-preserved
 loop-dir-preserved c =
-    writing_goes_on dir_keys IsValidDir dir_number dir_state c.args.dirs.now c.loop-dir.dir-iterator c.next.new.self c.in-Some.dir.now c.in-Some.kept.now c.args.out.now.items c.loop-dir.out.items c.put_numbered.new.out.items c.in-Some.ensures.steps c.loop-dir.invariant c.in_ok-put_numbered.ensures
+    writing_goes_on dir_keys IsValidDir dir_number dir_state c.args.dirs.now c.loop-dir.dir-iterator c.next.new.self c.in-Some.dir.now c.in-Some.kept.now
+    c.args.out.now.items c.loop-dir.out.items c.put_numbered.new.out.items c.in-Some.ensures.steps c.loop-dir.invariant c.in_ok-put_numbered.ensures
 
 pub returns : goal.returns
 returns c =
-    writing_ends dir_keys IsValidDir dir_number dir_state c.args.dirs.now c.loop-dir.dir-iterator c.args.out.now.items c.loop-dir.out.items c.in-None.ensures.steps.0 c.loop-dir.invariant
+    writing_ends dir_keys IsValidDir dir_number dir_state c.args.dirs.now c.loop-dir.dir-iterator c.args.out.now.items c.loop-dir.out.items
+    c.in-None.ensures.steps.0 c.loop-dir.invariant

@@ -12,8 +12,10 @@ loop-name-init c =
 
 pub loop-name-preserved : goal.loop-name-preserved
 loop-name-preserved c =
-    writing_goes_on octets_keys IsHeldCell attr_name cell c.args.attrs.now c.loop-name.name-iterator c.next.new.self c.in-Some.name.now c.in-Some.cell.now c.args.out.now.items c.loop-name.out.items c.put_attr.new.out.items c.in-Some.ensures.steps c.loop-name.invariant c.in_ok-put_attr.ensures
+    writing_goes_on octets_keys IsHeldCell attr_name cell c.args.attrs.now c.loop-name.name-iterator c.next.new.self c.in-Some.name.now c.in-Some.cell.now
+    c.args.out.now.items c.loop-name.out.items c.put_attr.new.out.items c.in-Some.ensures.steps c.loop-name.invariant c.in_ok-put_attr.ensures
 
 pub returns : goal.returns
 returns c =
-    writing_ends octets_keys IsHeldCell attr_name cell c.args.attrs.now c.loop-name.name-iterator c.args.out.now.items c.loop-name.out.items c.in-None.ensures.steps.0 c.loop-name.invariant
+    writing_ends octets_keys IsHeldCell attr_name cell c.args.attrs.now c.loop-name.name-iterator c.args.out.now.items c.loop-name.out.items
+    c.in-None.ensures.steps.0 c.loop-name.invariant

@@ -13,9 +13,11 @@ loop-value-init c =
 pub loop-value-preserved : goal.loop-value-preserved
 loop-value-preserved c =
     writing_goes_on octets_keys (λ (m : ValueMark). stamp_order c.args.cleared.now m.stamp ≡ None) value
-    (mark c.args.cleared.now) c.args.marks.now c.loop-value.value-iterator c.next.new.self c.in-Some.value.now c.in-Some.mark.now c.args.out.now.items c.loop-value.out.items c.put_marked.new.out.items c.in-Some.ensures.steps c.loop-value.invariant (c.in_ok-put_marked.ensures c.args.cleared.now)
+    (mark c.args.cleared.now) c.args.marks.now c.loop-value.value-iterator c.next.new.self c.in-Some.value.now c.in-Some.mark.now c.args.out.now.items
+    c.loop-value.out.items c.put_marked.new.out.items c.in-Some.ensures.steps c.loop-value.invariant (c.in_ok-put_marked.ensures c.args.cleared.now)
 
 pub returns : goal.returns
 returns c =
     writing_ends octets_keys (λ (m : ValueMark). stamp_order c.args.cleared.now m.stamp ≡ None) value
-    (mark c.args.cleared.now) c.args.marks.now c.loop-value.value-iterator c.args.out.now.items c.loop-value.out.items c.in-None.ensures.steps.0 c.loop-value.invariant
+    (mark c.args.cleared.now) c.args.marks.now c.loop-value.value-iterator c.args.out.now.items c.loop-value.out.items c.in-None.ensures.steps.0
+    c.loop-value.invariant

@@ -11,4 +11,5 @@ pub returns : goal.returns
 returns c = λ before above.
     subst (λ k. octets_order before k ≡ None
     → Writes (simple_name before) k c.args.out.now.items c.extend_from_slice.new.self.items) c.octets-octets.ensures.value
-    (simple_name_written c.octets-octets.result.now c.args.out.now.items c.put_octet.new.out.items c.extend_from_slice.new.self.items c.octets-octets.ensures.lawful c.in_ok-put_octet.ensures c.in_ok-extend_from_slice.ensures.items before) above
+    (simple_name_written c.octets-octets.result.now c.args.out.now.items c.put_octet.new.out.items c.extend_from_slice.new.self.items
+    c.octets-octets.ensures.lawful c.in_ok-put_octet.ensures c.in_ok-extend_from_slice.ensures.items before) above

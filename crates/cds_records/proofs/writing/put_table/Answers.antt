@@ -12,8 +12,11 @@ loop-name-init c =
 
 pub loop-name-preserved : goal.loop-name-preserved
 loop-name-preserved c =
-    writing_goes_on octets_keys IsValidEntry simple_name entry c.args.table.now c.loop-name.name-iterator c.next.new.self c.in-Some.name.now c.in-Some.entry.now c.args.out.now.items c.loop-name.out.items c.put_named.new.out.items c.in-Some.ensures.steps c.loop-name.invariant c.in_ok-put_named.ensures
+    writing_goes_on octets_keys IsValidEntry simple_name entry c.args.table.now c.loop-name.name-iterator c.next.new.self c.in-Some.name.now
+    c.in-Some.entry.now c.args.out.now.items c.loop-name.out.items c.put_named.new.out.items c.in-Some.ensures.steps c.loop-name.invariant
+    c.in_ok-put_named.ensures
 
 pub returns : goal.returns
 returns c =
-    writing_ends octets_keys IsValidEntry simple_name entry c.args.table.now c.loop-name.name-iterator c.args.out.now.items c.loop-name.out.items c.in-None.ensures.steps.0 c.loop-name.invariant
+    writing_ends octets_keys IsValidEntry simple_name entry c.args.table.now c.loop-name.name-iterator c.args.out.now.items c.loop-name.out.items
+    c.in-None.ensures.steps.0 c.loop-name.invariant

@@ -23,7 +23,8 @@ pub returns-in_ok-extend_from_slice-in-Decoded-2-clause-err : goal.returns-in_ok
 returns-in_ok-extend_from_slice-in-Decoded-2-clause-err c =
     let line = c.args.line.now.items in
     let named =
-    grown_twice line _ _ _ c.extend_from_slice-in-Decoded-2.new.self.items c.in_ok-extend_from_slice-in-Decoded.ensures.items c.in_ok-extend_from_slice-in-Decoded-2.ensures.items in
+    grown_twice line _ _ _ c.extend_from_slice-in-Decoded-2.new.self.items c.in_ok-extend_from_slice-in-Decoded.ensures.items
+    c.in_ok-extend_from_slice-in-Decoded-2.ensures.items in
     on_err_weaker c.push_spaced-in-Decoded.result
     (still_begins line _ c.extend_from_slice-in-Decoded-2.new.self.items c.push_spaced-in-Decoded.new.line.items named) c.push_spaced-in-Decoded.ensures.err
 
@@ -31,6 +32,7 @@ pub returns-in_ok-extend_from_slice-in-Refused-2-clause-err : goal.returns-in_ok
 returns-in_ok-extend_from_slice-in-Refused-2-clause-err c =
     let line = c.args.line.now.items in
     let named =
-    grown_twice line _ _ _ c.extend_from_slice-in-Refused-2.new.self.items c.in_ok-extend_from_slice-in-Refused.ensures.items c.in_ok-extend_from_slice-in-Refused-2.ensures.items in
+    grown_twice line _ _ _ c.extend_from_slice-in-Refused-2.new.self.items c.in_ok-extend_from_slice-in-Refused.ensures.items
+    c.in_ok-extend_from_slice-in-Refused-2.ensures.items in
     on_err_weaker c.push_numbers.result
     (still_begins line _ c.extend_from_slice-in-Refused-2.new.self.items c.push_numbers.new.line.items named) c.push_numbers.ensures.err

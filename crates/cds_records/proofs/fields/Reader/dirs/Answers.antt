@@ -14,7 +14,8 @@ pub returns-in_err-own : goal.returns-in_err-own
 returns-in_err-own c =
     let p = err_from_is_err_and c.from_residual.result c.from_residual.ensures.1 in
     rw (p.1, p.2) (ends dir_number dir_state (λ x. x)
-    (λ (x : DirId). x) c.in_err-own.field-0.0 c.loop.dirs c.add_dir.new.dirs c.args.count c.loop.counter c.loop.before c.loop.self c.add_dir.new.self c.add_dir.new.self c.args.self.now c.loop-test.true c.in_err-own.ensures c.loop.invariant)
+    (λ (x : DirId). x) c.in_err-own.field-0.0 c.loop.dirs c.add_dir.new.dirs c.args.count c.loop.counter c.loop.before c.loop.self c.add_dir.new.self
+    c.add_dir.new.self c.args.self.now c.loop-test.true c.in_err-own.ensures c.loop.invariant)
 
 pub loop-preserved : goal.loop-preserved
 loop-preserved c =

@@ -6,4 +6,5 @@ use Rattle.cds_records.proofs.fields.Reader.members.Goals as goal
 pub known-requires : goal.known-requires
 known-requires c =
     ap (λ ms. members_fault (members_of ms)) c.as_slice.ensures.value
-    ∙ listed_lawful c.in_ok-count.count c.octet_within.new.self c.in_ok-list.list.items c.listed.new.self c.in_ok-count.ensures.within.0 c.in_ok-count.ensures.within.1 c.in_ok-list.ensures
+    ∙ listed_lawful c.in_ok-count.count c.octet_within.new.self c.in_ok-list.list.items c.listed.new.self c.in_ok-count.ensures.within.0
+    c.in_ok-count.ensures.within.1 c.in_ok-list.ensures

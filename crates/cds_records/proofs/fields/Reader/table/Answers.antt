@@ -16,7 +16,8 @@ returns-in_err-own c =
     let p = err_from_is_err_and c.from_residual.result c.from_residual.ensures.1 in
     rw (p.1, p.2) (ends simple_name entry (λ x. x)
     (λ (x : Bor (List ℕ)). x.now) c.in_err-own.field-0.0 c.loop.table c.add_entry.new.table c.args.count c.loop.counter
-    (option_map (λ b. b.now) c.loop.before) c.loop.self c.add_entry.new.self c.add_entry.new.self c.args.self.now c.loop-test.true c.in_err-own.ensures c.loop.invariant)
+    (option_map (λ b. b.now) c.loop.before) c.loop.self c.add_entry.new.self c.add_entry.new.self c.args.self.now c.loop-test.true c.in_err-own.ensures
+    c.loop.invariant)
 
 pub loop-preserved : goal.loop-preserved
 loop-preserved c =
