@@ -4,8 +4,6 @@
 mod house;
 mod posted;
 mod states;
-#[cfg(test)]
-mod tests;
 mod updates;
 
 pub use house::Clearinghouse;

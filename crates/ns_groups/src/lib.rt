@@ -3,8 +3,6 @@
 
 pub mod laws;
 mod member;
-#[cfg(test)]
-mod tests;
 mod updates;
 
 pub use member::{GroupFault, member_of, members};

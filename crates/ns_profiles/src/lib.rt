@@ -8,8 +8,6 @@ mod element;
 mod fault;
 pub mod laws;
 mod search;
-#[cfg(test)]
-mod tests;
 mod updates;
 
 pub use element::{Annotation, Element};

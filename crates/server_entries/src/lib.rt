@@ -10,6 +10,3 @@ mod tower;
 pub use client::{Wanted, bindings};
 pub use exports::{ExportFault, OBJECTS, TOWERS, export, unexport};
 pub use tower::{ServerFault, tower_of_value};
-
-#[cfg(test)]
-mod tests;

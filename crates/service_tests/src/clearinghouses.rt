@@ -1,6 +1,6 @@
 // A clearinghouse makes a directory, and takes updates of it.
-use super::*;
 use cds_stamps::{DirId, EpochNo, HouseNo, Member, MemberKind, Members, Node, SimpleName};
+use clearinghouse::{Accepted, Clearinghouse, Posted, PostedList};
 use directory::{Update, UpdateRefusal};
 use std::alloc::Global;
 use std::test::Fail;
@@ -64,58 +64,52 @@ fn tell(alloc: Global, house: &mut Clearinghouse, clock: u64, name: &[u8]) -> Re
     }
 }
 
-// House 2 at node 10.
-fn second(alloc: Global) -> Option<Clearinghouse> {
-    let node = Node::new(10)?;
-    Some(Clearinghouse::new(alloc, HouseNo(2), node))
+// House 2 at node 10, which has nothing.
+fn second(alloc: Global) -> Result<Clearinghouse, Fail> {
+    let node = Node::new(10).ok_or("a node")?;
+    Ok(Clearinghouse::new(alloc, HouseNo(2), node))
 }
 
-// Makes the root with these members, if it is their master and has no root.
-fn make_root(alloc: Global, house: &mut Clearinghouse) -> Result<Option<PostedList>, Fail> {
+// House 2 with the root, and what it posts of it.
+fn founded(alloc: Global) -> Result<(Clearinghouse, PostedList), Fail> {
+    let node = Node::new(10).ok_or("a node")?;
+    let mut house = Clearinghouse::new(alloc, HouseNo(2), node);
     let members = members(alloc)?;
-    if members.master() != house.house || house.state(ROOT).is_some() {
-        return Ok(None);
+    if members.master() != HouseNo(2) || house.state(ROOT).is_some() {
+        return Err("another master, or a directory".into());
     }
     let posted = house.create_directory(alloc, ROOT, &members)?;
-    Ok(Some(posted))
-}
-
-// Whether the two other members are told to join.
-fn tells_of_a_join(posted: &Option<PostedList>) -> bool {
-    match posted {
-        Some(posted) => goes_to_the_others(posted, 0, 7),
-        None => false,
-    }
+    Ok((house, posted))
 }
 
 #[test]
-fn the_others_join_a_new_directory_and_are_told_of_its_updates(
-    rt: HostRuntime,
-) -> Result<(), Fail> {
+fn a_house_without_the_directory_refuses(rt: HostRuntime) -> Result<(), Fail> {
+    let mut house = second(rt.alloc())?;
+    let told = tell(rt.alloc(), &mut house, 5, b"e")?;
+    assert_eq!(rt; told, Told::Refused(UpdateRefusal::NoReplica));
+    assert!(rt; house.state(ROOT).is_none() && house.floor() == 0);
+    Ok(())
+}
+
+// The clock, the name of an object that is created, and what comes of it.
+#[rattlefmt::skip]
+static CREATED: [(u64, &[u8], Told); 6] = [
+    (0, b"e", Told::Stamped(1, true)),
+    (9, b"e", Told::Refused(UpdateRefusal::EntryExists)),
+    (100, b"f", Told::Stamped(100, true)),
+    (7, b"g", Told::Stamped(101, true)),
+    (u64::MAX, b"h", Told::Stamped(u64::MAX, true)),
+    (0, b"i", Told::Refused(UpdateRefusal::StampsSpent)),
+];
+
+#[test]
+fn the_others_are_told_of_a_directory_and_its_updates(rt: HostRuntime) -> Result<(), Fail> {
     let alloc = rt.alloc();
-    let Some(mut house) = second(alloc) else {
-        assert!(rt; false, "the node has 48 bits");
-        return Ok(());
-    };
-    assert_eq!(rt; house.floor(), 0);
-    assert!(rt; house.state(ROOT).is_none());
-    let absent = tell(alloc, &mut house, 5, b"e")?;
-    assert_eq!(rt; absent, Told::Refused(UpdateRefusal::NoReplica));
-    let posted = make_root(alloc, &mut house)?;
-    assert!(rt; tells_of_a_join(&posted));
-    assert!(rt; house.state(ROOT).is_some());
-    let rows: [(u64, &[u8], Told); 5] = [
-        (0, b"e", Told::Stamped(1, true)),
-        (9, b"e", Told::Refused(UpdateRefusal::EntryExists)),
-        (100, b"f", Told::Stamped(100, true)),
-        (7, b"g", Told::Stamped(101, true)),
-        (u64::MAX, b"h", Told::Stamped(u64::MAX, true)),
-    ];
-    for (clock, name, wanted) in rows {
+    let (mut house, posted) = founded(alloc)?;
+    assert!(rt; goes_to_the_others(&posted, 0, 7));
+    for (clock, name, wanted) in CREATED {
         assert_eq!(rt; tell(alloc, &mut house, clock, name)?, wanted);
     }
-    assert_eq!(rt; house.floor(), u64::MAX);
-    let spent = tell(alloc, &mut house, 0, b"i")?;
-    assert_eq!(rt; spent, Told::Refused(UpdateRefusal::StampsSpent));
+    assert!(rt; house.state(ROOT).is_some() && house.floor() == u64::MAX);
     Ok(())
 }
