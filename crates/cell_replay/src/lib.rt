@@ -10,10 +10,6 @@ mod limits;
 mod questions;
 mod replay;
 mod replies;
-#[cfg(test)]
-mod tests;
-#[cfg(test)]
-mod tower_tests;
 mod tower_text;
 mod towers;
 mod untowers;

@@ -7,8 +7,6 @@ mod reader;
 mod refusal;
 mod resolution;
 mod seen;
-#[cfg(test)]
-mod tests;
 mod walk;
 
 pub use reader::EntryReader;

@@ -1,5 +1,5 @@
 // The values of an attribute after updates, and after a join of what each makes alone.
-use attr_sets::{AttrCell, Value, ValueFault};
+use attr_sets::{AttrCell, Value, ValueFault, all_in_order};
 use cds_stamps::{AllocOr, Lattice, Node, Stamp};
 use std::alloc::Global;
 use std::test::Fail;
@@ -107,4 +107,19 @@ fn values_have_1_to_1024_octets(rt: HostRuntime) {
     assert_eq!(rt; len_of(rt.alloc(), &[]), bad);
     assert_eq!(rt; len_of(rt.alloc(), &[1; 1024]), Ok(1024));
     assert_eq!(rt; len_of(rt.alloc(), &[1; 1025]), bad);
+}
+
+#[test]
+fn values_ascend_once_each(rt: HostRuntime) -> Result<(), Fail> {
+    let alloc = rt.alloc();
+    let values = [
+        Value::known(alloc, b"b")?,
+        Value::known(alloc, b"ab")?,
+        Value::known(alloc, b"b")?,
+    ];
+    let sorted = all_in_order(alloc, &values)?;
+    assert!(rt;
+        matches!(sorted.as_slice(), [first, second] if **first == values[1] && **second == values[0])
+    );
+    Ok(())
 }

@@ -5,6 +5,7 @@ use cds_stamps::{
 };
 use cell_names::{ChildFault, ChildPointer, FullName, HouseList, HousesFault, SpliceFault};
 use std::alloc::Global;
+use std::hash::{DefaultHasher, Hash, Hasher};
 use std::test::Fail;
 
 // Octets, and why they are no simple name.
@@ -61,6 +62,22 @@ fn names_of_known_octets(rt: HostRuntime) -> Result<(), Fail> {
     assert_eq!(rt; octets.copy(alloc)?, octets.clone()?);
     assert_eq!(rt; SimpleName::known(alloc, b"lpr")?.octets(), octets.list());
     assert_eq!(rt; AttrName::known(alloc, b"lpr")?.octets(), octets.list());
+    Ok(())
+}
+
+// What a hasher makes of a name.
+fn hashed(name: &SimpleName) -> u64 {
+    let mut hasher = DefaultHasher::new();
+    name.hash(&mut hasher);
+    hasher.finish()
+}
+
+#[test]
+fn equal_names_have_one_hash(rt: HostRuntime) -> Result<(), Fail> {
+    let name = SimpleName::parse(rt.alloc(), b"lpr")?;
+    let other = SimpleName::parse(rt.alloc(), b"lp")?;
+    assert_eq!(rt; hashed(&name), hashed(&name.copy(rt.alloc())?));
+    assert!(rt; hashed(&name) != hashed(&other));
     Ok(())
 }
 
@@ -175,6 +192,22 @@ fn child_pointers(rt: HostRuntime) {
         let wanted = place.map(|place| AllocOr::Fault(ChildFault::BadChild(place)));
         assert_eq!(rt; pointer(rt.alloc(), octets), wanted.map_or(Ok(true), Err));
     }
+}
+
+#[test]
+fn a_pointer_to_one_house(rt: HostRuntime) -> Result<(), Fail> {
+    let alloc = rt.alloc();
+    let houses = HouseList::alone(alloc, HouseNo(9))?;
+    assert!(rt; houses.master() == HouseNo(9) && houses.others().is_empty());
+    let pointer = ChildPointer::known(alloc, &[0, 0, 0, 7, 1, 9])?;
+    assert!(rt;
+        pointer
+            == ChildPointer {
+                dir: DirId(7),
+                houses
+            }
+    );
+    Ok(())
 }
 
 // A member since the first epoch.

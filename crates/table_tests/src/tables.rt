@@ -73,14 +73,19 @@ fn update(alloc: Global, verb: Verb, attr: &[u8], value: &[u8]) -> Result<Update
     }
 }
 
-// Takes an update of the entry e in, or tells why it is refused.
+// Takes an update of the entry e in, in place or by its fragment, or tells why it is refused.
 fn taken(
     alloc: Global,
     table: &mut Table,
     time: u64,
     update: &Update,
+    in_place: bool,
 ) -> Result<Option<UpdateRefusal>, Fail> {
     match table.check(update) {
+        Ok(()) if in_place => {
+            table.apply(alloc, update, stamp(time)?)?;
+            Ok(None)
+        }
         Ok(()) => {
             let fragment = table.fragment(alloc, update, stamp(time)?)?;
             table.join_entry(alloc, &fragment.copy(alloc)?)?;
@@ -96,9 +101,10 @@ fn tried(
     table: &mut Table,
     time: u64,
     step: (Verb, &[u8], &[u8]),
+    in_place: bool,
 ) -> Result<Option<UpdateRefusal>, Fail> {
     let update = update(alloc, step.0, step.1, step.2)?;
-    taken(alloc, table, time, &update)
+    taken(alloc, table, time, &update, in_place)
 }
 
 // Whose entry a table has.
@@ -178,11 +184,17 @@ static CHILD: [Row; 5] = [
 ];
 
 // The table after these rows, at ascending times, if each ends as it says.
-fn after(alloc: Global, rows: &[Row]) -> Result<Table, Fail> {
+fn after(alloc: Global, rows: &[Row], in_place: bool) -> Result<Table, Fail> {
     let mut table = Table::new(alloc);
     for (time, row) in rows.iter().enumerate() {
         let (verb, attr, value, refusal, values) = *row;
-        let taken = tried(alloc, &mut table, time as u64, (verb, attr, value))?;
+        let taken = tried(
+            alloc,
+            &mut table,
+            time as u64,
+            (verb, attr, value),
+            in_place,
+        )?;
         if taken != refusal || shown(alloc, &table, b"A")? != values {
             return Err(Fail::new(time));
         }
@@ -192,22 +204,28 @@ fn after(alloc: Global, rows: &[Row]) -> Result<Table, Fail> {
 
 #[test]
 fn updates_of_an_object(rt: HostRuntime) -> Result<(), Fail> {
-    let table = after(rt.alloc(), &OBJECT)?;
-    assert_eq!(rt; (table.len(), table.live_entries()), (1, 1));
+    for in_place in [false, true] {
+        let table = after(rt.alloc(), &OBJECT, in_place)?;
+        assert_eq!(rt; (table.len(), table.live_entries()), (1, 1));
+    }
     Ok(())
 }
 
 #[test]
 fn updates_of_a_link(rt: HostRuntime) -> Result<(), Fail> {
-    let table = after(rt.alloc(), &LINK)?;
-    assert!(rt; leads_to(rt.alloc(), &table, b"/.:/z")?);
+    for in_place in [false, true] {
+        let table = after(rt.alloc(), &LINK, in_place)?;
+        assert!(rt; leads_to(rt.alloc(), &table, b"/.:/z")?);
+    }
     Ok(())
 }
 
 #[test]
 fn updates_of_a_child(rt: HostRuntime) -> Result<(), Fail> {
-    let table = after(rt.alloc(), &CHILD)?;
-    assert!(rt; leads_to(rt.alloc(), &table, AT_THREE)?);
+    for in_place in [false, true] {
+        let table = after(rt.alloc(), &CHILD, in_place)?;
+        assert!(rt; leads_to(rt.alloc(), &table, AT_THREE)?);
+    }
     Ok(())
 }
 
@@ -215,7 +233,7 @@ fn updates_of_a_child(rt: HostRuntime) -> Result<(), Fail> {
 pub fn table_of(alloc: Global, steps: &[(Verb, &[u8], &[u8])]) -> Result<Table, Fail> {
     let mut table = Table::new(alloc);
     for (before, step) in steps.iter().enumerate() {
-        tried(alloc, &mut table, before as u64 + 1, *step)?;
+        tried(alloc, &mut table, before as u64 + 1, *step, false)?;
     }
     Ok(table.copy(alloc)?)
 }

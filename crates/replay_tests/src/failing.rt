@@ -1,0 +1,135 @@
+// Runs over sources and sinks that fail, and how much is read ahead and held back.
+use crate::runs::{ROOM, words_of};
+use cds_base::{MemSink, MemSource};
+use cell_replay::{Status, run};
+use std::alloc::Global;
+use std::test::Fail;
+
+// A script of 170 octets, of which the first line has 21, and its answers.
+const SCRIPT: &[u8] = b"house 1 00000000000a\n\
+    root 1\n\
+    clock 1 100\n\
+    create 1 1 lpr\n\
+    add 1 1 lpr CDS_Class 5072\n\
+    read 1 low /.:/lpr CDS_Class\n\
+    remove 1 1 lpr CDS_Class 5072\n\
+    read 1 low /.:/lpr CDS_Class\n";
+
+const ANSWERS: &[u8] = b"1 ok\n\
+    2 ok\n\
+    3 ok\n\
+    4 ok 100@00000000000a\n\
+    5 ok 101@00000000000a\n\
+    6 ok 1 5072\n\
+    7 ok 102@00000000000a\n\
+    8 ok 0\n";
+
+// The most octets of a read, the number of the read that fails, the most octets of a write, and the number of the write that
+// fails (at 0 none does). What is written then, how many octets are left, and how the run ends.
+type Row<'a> = (usize, u64, usize, u64, &'a [u8], usize, Status);
+
+#[rattlefmt::skip]
+static RUNS: [Row<'static>; 6] = [
+    (4096, 0, 1, 2, b"1", 0, Status::WriteFault),
+    (4096, 1, 4096, 0, b"", 170, Status::ReadFault),
+    // The first read gives the first line alone. Its answer goes out before the second, which is not made where that fails.
+    (21, 2, 4096, 1, b"", 149, Status::WriteFault),
+    (21, 0, 4096, 1, b"", 149, Status::WriteFault),
+    (21, 2, 4096, 0, b"1 ok\n", 149, Status::ReadFault),
+    // The read that would give the end of the input.
+    (4096, 2, 4096, 0, ANSWERS, 0, Status::ReadFault),
+];
+
+// Whether a form over these octets, whose source and sink fail as a row says, ends as it says.
+fn ends_so(alloc: Global, form: &str, octets: &[u8], row: Row) -> Result<bool, Fail> {
+    let (reads, failing_read, writes, failing_write, written, left, status) = row;
+    let words = words_of(alloc, form)?;
+    let octets = octets.to_vec(alloc)?;
+    let mut source = MemSource::new(octets, vec![in alloc; failing_read]?, reads.max(1));
+    let mut sink = MemSink::new(alloc, ROOM, vec![in alloc; failing_write]?, writes.max(1))?;
+    let end = run(alloc, &words, &mut source, &mut sink);
+    Ok(end == status && sink.written() == written && source.left().len() == left)
+}
+
+#[test]
+fn scripts_over_ends_that_fail(rt: HostRuntime) -> Result<(), Fail> {
+    for row in RUNS {
+        assert!(rt; ends_so(rt.alloc(), "run", SCRIPT, row)?, "{:?}", row.4);
+    }
+    Ok(())
+}
+
+// A piece so often.
+fn repeated(alloc: Global, piece: &[u8], times: usize) -> Result<Vec<u8>, Fail> {
+    let mut octets = Vec::new(alloc);
+    for _ in 0..times {
+        octets.extend_from_slice(piece)?;
+    }
+    Ok(octets)
+}
+
+// The numbers of the read and the write that fail, how many towers are told, how many octets are left, and how the run ends.
+// A read gives at most 750 octets of 750 towers of 2, so that the window of 1,025 octets is full after two.
+#[rattlefmt::skip]
+static TOWERS: [(u64, u64, usize, usize, Status); 4] = [
+    (1, 0, 0, 1500, Status::ReadFault),
+    (2, 0, 0, 750, Status::ReadFault),
+    (3, 0, 512, 475, Status::ReadFault),
+    (3, 1, 0, 475, Status::WriteFault),
+];
+
+#[test]
+fn towers_over_ends_that_fail(rt: HostRuntime) -> Result<(), Fail> {
+    let alloc = rt.alloc();
+    let octets = repeated(alloc, &[0, 0], 750)?;
+    for (failing_read, failing_write, told, left, status) in TOWERS {
+        let text = repeated(alloc, b"-\n", told)?;
+        let row = (
+            750,
+            failing_read,
+            4096,
+            failing_write,
+            text.as_slice(),
+            left,
+            status,
+        );
+        assert!(rt; ends_so(alloc, "towers", &octets, row)?, "{failing_read}");
+    }
+    Ok(())
+}
+
+// What is written of the answers to a script whose write of this number fails, and how many octets are left.
+fn stopped(alloc: Global, script: Vec<u8>, failing: u64) -> Result<(usize, usize), Fail> {
+    let words = words_of(alloc, "run")?;
+    let mut source = MemSource::new(script, Vec::new(alloc), 1_000_000);
+    let mut sink = MemSink::new(alloc, 1_000_000, vec![in alloc; failing]?, 1_000_000)?;
+    let status = run(alloc, &words, &mut source, &mut sink);
+    if status != Status::WriteFault {
+        return Err("the write did not fail".into());
+    }
+    Ok((sink.written().len(), source.left().len()))
+}
+
+#[test]
+fn little_is_read_ahead(rt: HostRuntime) -> Result<(), Fail> {
+    let alloc = rt.alloc();
+    let mut script = SCRIPT.to_vec(alloc)?;
+    script.extend_from_slice(&repeated(alloc, b"clock 1 1\n", 10_000)?)?;
+    let (written, left) = stopped(alloc, script, 1)?;
+    // All but what is read at once, and the first line.
+    assert!(rt; written == 0 && left >= 100_170 - 8_192 - 21);
+    Ok(())
+}
+
+#[test]
+fn answers_go_out_when_65536_octets_wait(rt: HostRuntime) -> Result<(), Fail> {
+    let alloc = rt.alloc();
+    let mut script = b"house 1 00000000000a\nroot 1\ncreate 1 1 e\nadd 1 1 e A ".to_vec(alloc)?;
+    script.extend_from_slice(&repeated(alloc, b"a0", 1_024)?)?;
+    script.push(b'\n')?;
+    script.extend_from_slice(&repeated(alloc, b"read 1 low /.:/e A\n", 300)?)?;
+    let (written, left) = stopped(alloc, script, 2)?;
+    // They are the answers to 32 of the 300 reads, which were read together.
+    assert_eq!(rt; (written / 2_048, left), (32, 0));
+    Ok(())
+}

@@ -1,0 +1,83 @@
+// Where full names lead in a cell.
+use attr_sets::Value;
+use cds_cell::{Cell, CellReader};
+use cds_stamps::{AllocOr, AttrName};
+use cell_names::FullName;
+use cell_script::{ScriptLine, parse_line};
+use resolver::{EntryReader, Refusal, place, resolve};
+use std::alloc::Global;
+use std::test::Fail;
+
+// A cell with a child directory, a link into it, and a link in a circle.
+#[rattlefmt::skip]
+static LINES: [&[u8]; 8] = [
+    b"house 1 00000000000a",
+    b"root 1",
+    b"mkdir 1 1 sub 1",
+    b"create 1 2 e",
+    b"add 1 2 e A 07",
+    b"link 1 1 soft /.:/sub/e",
+    b"link 1 1 new /.:/sub/new",
+    b"link 1 1 loop /.:/loop",
+];
+
+// Gives a cell one command.
+fn step(alloc: Global, cell: &mut Cell, line: &[u8]) -> Result<(), Fail> {
+    match parse_line(alloc, line)? {
+        Some(ScriptLine::Cell(command)) => {
+            cell.step(alloc, command)?;
+            Ok(())
+        }
+        _ => Err("no command".into()),
+    }
+}
+
+fn cell_of(alloc: Global) -> Result<Cell, Fail> {
+    let mut cell = Cell::new(alloc);
+    for line in LINES {
+        step(alloc, &mut cell, line)?;
+    }
+    Ok(cell)
+}
+
+// The directory and the name of the place of a full name, and whether an entry is there; or why it has none.
+fn place_of(
+    alloc: Global,
+    cell: &Cell,
+    name: &[u8],
+    wanted: Result<(u32, &[u8], bool), Refusal>,
+) -> Result<bool, Fail> {
+    let name = FullName::parse(alloc, name)?;
+    let wanted = wanted;
+    match place(alloc, &CellReader { cell }, &name) {
+        Ok(place) => Ok(wanted == Ok((place.dir.0, place.name.octets(), place.kind.is_some()))),
+        Err(AllocOr::Fault(refusal)) => Ok(wanted == Err(refusal)),
+        Err(AllocOr::OutOfMemory) => Err("out of memory".into()),
+    }
+}
+
+#[test]
+fn places_of_names(rt: HostRuntime) -> Result<(), Fail> {
+    let alloc = rt.alloc();
+    let cell = cell_of(alloc)?;
+    assert!(rt; place_of(alloc, &cell, b"/.:/soft", Ok((2, b"e", true)))?);
+    assert!(rt; place_of(alloc, &cell, b"/.:/new", Ok((2, b"new", false)))?);
+    assert!(rt; place_of(alloc, &cell, b"/.:/loop", Err(Refusal::LinkCycle))?);
+    assert!(rt; place_of(alloc, &cell, b"/.:/none/x", Err(Refusal::NoSuchName(0)))?);
+    Ok(())
+}
+
+// The values of an attribute of the entry that a full name leads to.
+fn values_of(alloc: Global, cell: &Cell, name: &[u8]) -> Result<Vec<Value>, Fail> {
+    let reader = CellReader { cell };
+    let name = FullName::parse(alloc, name)?;
+    let found = resolve(alloc, &reader, &name, true)?;
+    Ok(reader.values(alloc, &found, &AttrName::parse(alloc, b"A")?)?)
+}
+
+#[test]
+fn values_of_names(rt: HostRuntime) -> Result<(), Fail> {
+    let values = values_of(rt.alloc(), &cell_of(rt.alloc())?, b"/.:/soft")?;
+    assert!(rt; matches!(values.as_slice(), [value] if value.octets() == [7].as_slice()));
+    Ok(())
+}

@@ -1,0 +1,139 @@
+// A run of each form, read and written an octet at a time and at once.
+ghost use Rattle.std.specs.Prelude.{◌<◌};
+
+use cds_base::{MemSink, MemSource};
+use cell_replay::{Status, run};
+use std::alloc::{AllocError, Global};
+use std::test::Fail;
+
+// More octets than any run here writes.
+pub const ROOM: usize = 4096;
+
+pub fn words_of(alloc: Global, form: &str) -> Result<Vec<String>, AllocError> {
+    Ok(vec![in alloc; String::from_str(alloc, form)?]?)
+}
+
+// What a form writes over an input, and how it ends.
+fn outcome_of(
+    alloc: Global,
+    form: &str,
+    input: &[u8],
+    most: usize,
+) -> Result<(Vec<u8>, Status), AllocError>
+    requires { 0 < most }
+{
+    let words = words_of(alloc, form)?;
+    let mut source = MemSource::new(input.to_vec(alloc)?, Vec::new(alloc), most);
+    let mut sink = MemSink::new(alloc, ROOM, Vec::new(alloc), most)?;
+    let status = run(alloc, &words, &mut source, &mut sink);
+    Ok((sink.written().to_vec(alloc)?, status))
+}
+
+// Whether a form writes this over an input, and ends so, however the input is cut into pieces.
+fn gives(
+    alloc: Global,
+    form: &str,
+    input: &[u8],
+    output: &[u8],
+    status: Status,
+) -> Result<bool, AllocError> {
+    let (slow, slow_end) = outcome_of(alloc, form, input, 1)?;
+    let (fast, fast_end) = outcome_of(alloc, form, input, 4096)?;
+    let is_same = slow.as_slice() == output && fast.as_slice() == output;
+    Ok(is_same && slow_end == status && fast_end == status)
+}
+
+// Each command once.
+const SCRIPT: &[u8] = b"# each command\n\
+    house 1 00000000000a\n\
+    clock 1 100\n\
+    root 1\n\
+    mkdir 1 1 sub 1\n\
+    repoint 1 1 sub 1\n\
+    create 1 2 e\n\
+    link 1 1 l /.:/sub/e\n\
+    add 1 2 e A 01\n\
+    put 1 2 e A 02\n\
+    remove 1 2 e A 01\n\
+    read 1 low /.:/l A\n\
+    readlink 1 high /.:/l\n\
+    clear 1 2 e A\n\
+    delete 1 2 e\n\
+    delete 1 2 e\n\
+    decode 0108000000010100000000000000010000000000000002\n";
+
+const ANSWERS: &[u8] = b"2 ok\n\
+    3 ok\n\
+    4 ok\n\
+    5 ok 2 100@00000000000a\n\
+    6 ok 101@00000000000a\n\
+    7 ok 102@00000000000a\n\
+    8 ok 103@00000000000a\n\
+    9 ok 104@00000000000a\n\
+    10 ok 105@00000000000a\n\
+    11 ok 106@00000000000a\n\
+    12 ok 1 02\n\
+    13 ok /.:/sub/e\n\
+    14 ok 107@00000000000a\n\
+    15 ok 108@00000000000a\n\
+    16 refused NoSuchEntry\n\
+    17 ok Leave 23\n";
+
+#[test]
+fn a_script_is_run(rt: HostRuntime) -> Result<(), Fail> {
+    assert!(rt; gives(rt.alloc(), "run", SCRIPT, ANSWERS, Status::Ok)?);
+    Ok(())
+}
+
+#[test]
+fn a_script_is_checked(rt: HostRuntime) -> Result<(), Fail> {
+    assert!(rt; gives(rt.alloc(), "check", SCRIPT, b"ok 17 16\n", Status::Ok)?);
+    Ok(())
+}
+
+// A fault behind an answer, and what stands behind the fault is not looked at.
+const FAULTY: &[u8] = b"clock 1 1\nhous 1\nclock 1 1\n\x7f\n";
+
+#[test]
+fn the_first_faulty_line_ends_a_run(rt: HostRuntime) -> Result<(), Fail> {
+    let fault = b"2 fault UnknownCommand 1\n";
+    assert!(rt; gives(rt.alloc(), "check", FAULTY, fault, Status::BadInput)?);
+    let answers = b"1 refused NoHouse\n2 fault UnknownCommand 1\n";
+    assert!(rt; gives(rt.alloc(), "run", FAULTY, answers, Status::BadInput)?);
+    Ok(())
+}
+
+// The text of two towers, and their octets.
+const TEXT: &[u8] = b"-\n0b: 0708:010203\n";
+
+const OCTETS: &[u8] = &[0, 0, 2, 0, 1, 0, 11, 0, 0, 2, 0, 7, 8, 3, 0, 1, 2, 3];
+
+#[test]
+fn towers_are_printed_and_spelled(rt: HostRuntime) -> Result<(), Fail> {
+    assert!(rt; gives(rt.alloc(), "towers", OCTETS, TEXT, Status::Ok)?);
+    assert!(rt; gives(rt.alloc(), "untowers", TEXT, OCTETS, Status::Ok)?);
+    Ok(())
+}
+
+#[test]
+fn towers_at_fault_end_a_run(rt: HostRuntime) -> Result<(), Fail> {
+    assert!(rt;
+        gives(
+            rt.alloc(),
+            "towers",
+            &OCTETS[..8],
+            b"-\n2 fault ShortLength 7\n",
+            Status::BadInput
+        )?
+    );
+    assert!(rt;
+        gives(
+            rt.alloc(),
+            "untowers",
+            b"-\n0b\n-\n",
+            &[0, 0],
+            Status::BadInput
+        )?
+    );
+    Ok(())
+}
