@@ -6,7 +6,7 @@ use cds_stamps::{DirId, EpochNo, HouseNo, Members, Node};
 use purge_rule::Replica;
 use std::alloc::{AllocError, Global};
 use std::collections::BTreeMap;
-use std::collections::btree_map::Iter;
+use std::collections::btree_map::{IntoIter, Iter};
 use std::marker::Model;
 
 /// What a house keeps over a crash: who it is, its floor, and its directories.
@@ -69,6 +69,11 @@ impl ImageDirs {
         self.dirs.iter()
     }
 
+    /// The directories with what is kept of them, ascending, given away.
+    pub fn into_entries(self) -> IntoIter<DirId, ImageDir, Global> {
+        self.dirs.into_iter()
+    }
+
     /// What is kept of a directory.
     pub fn get(&self, dir: &DirId) -> Option<&ImageDir>
         ensures { option_copied result ≡ map.get self.now dir.now }
@@ -108,6 +113,27 @@ impl ImageDir {
                 Ok(ImageDir::Held(*epoch, members, replica.copy(alloc)?))
             }
             ImageDir::Gone(epoch) => Ok(ImageDir::Gone(*epoch)),
+        }
+    }
+}
+
+impl Image {
+    /// The greatest time in it: its floor, and those of its replicas.
+    pub fn latest_time(&self) -> u64 {
+        let mut time = self.floor;
+        for (_, kept) in self.dirs.iter() {
+            time = time.max(kept.latest_time());
+        }
+        time
+    }
+}
+
+impl ImageDir {
+    /// The greatest time in the replica that is kept; 0 where there is none.
+    fn latest_time(&self) -> u64 {
+        match self {
+            ImageDir::Held(_, _, replica) => replica.latest_time(),
+            ImageDir::Gone(_) => 0,
         }
     }
 }

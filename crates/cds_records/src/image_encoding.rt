@@ -18,7 +18,7 @@ use crate::encoding::put_members;
 use crate::format::{FORMAT, IMAGE};
 use crate::image::{Image, ImageDir, ImageDirs};
 use crate::writing::{put_node, put_octet, put_replica, put_u32, put_u64};
-use cds_stamps::{DirId, EpochNo, Members};
+use cds_stamps::{DirId, EpochNo, HouseNo, Members, Node};
 use purge_rule::Replica;
 use std::alloc::{AllocError, Global};
 
@@ -93,4 +93,53 @@ fn put_gone(out: &mut Vec<u8>, epoch: EpochNo) -> Result<(), AllocError>
     put_octet(out, 2)?;
     put_u64(out, epoch.0)?;
     Ok(())
+}
+
+/// An image in the making: octets of what a house keeps, written from borrowed parts.
+#[derive(Drop)]
+pub struct ImageWriter {
+    out: Vec<u8>,
+}
+
+impl ImageWriter {
+    /// The octets before the directories, of which there are so many.
+    pub fn new(
+        alloc: Global,
+        house: HouseNo,
+        node: Node,
+        floor: u64,
+        count: u64,
+    ) -> Result<ImageWriter, AllocError> {
+        let mut out = Vec::new(alloc);
+        put_octet(&mut out, FORMAT)?;
+        put_octet(&mut out, IMAGE)?;
+        put_octet(&mut out, house.0)?;
+        put_node(&mut out, node)?;
+        put_u64(&mut out, floor)?;
+        put_u64(&mut out, count)?;
+        Ok(ImageWriter { out })
+    }
+
+    /// The next directory, which the house holds.
+    pub fn held(
+        &mut self,
+        dir: DirId,
+        epoch: EpochNo,
+        members: &Members,
+        replica: &Replica,
+    ) -> Result<(), AllocError> {
+        put_u32(&mut self.out, dir.0)?;
+        put_held(&mut self.out, epoch, members, replica)
+    }
+
+    /// The next directory, which the house has left.
+    pub fn gone(&mut self, dir: DirId, epoch: EpochNo) -> Result<(), AllocError> {
+        put_u32(&mut self.out, dir.0)?;
+        put_gone(&mut self.out, epoch)
+    }
+
+    /// The octets of the image.
+    pub fn octets(self) -> Vec<u8> {
+        self.out
+    }
 }

@@ -20,5 +20,5 @@ pub use decoding::{decode, decode_image};
 pub use encoding::encode;
 pub use fault::RecordFault;
 pub use image::{Image, ImageDir, ImageDirs};
-pub use image_encoding::encode_image;
+pub use image_encoding::{ImageWriter, encode_image};
 pub use message::{Body, Message};

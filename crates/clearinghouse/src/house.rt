@@ -1,153 +1,386 @@
 // A clearinghouse and its calls.
-ghost use Rattle.std.specs.Prelude.{◌≡◌, ℕ, None, [], IfOk, OnErr, option_copied};
-ghost use Rattle.std.specs.FinMap as map;
-ghost use Rattle.directory.specs.Updates.{change_of};
-ghost use Rattle.cell_model.specs.Cells as model;
-ghost use Rattle.cell_model.specs.Steps.{accept};
-ghost use Rattle.cds_stamps.specs.Members.{master_of, members_of};
-ghost use Rattle.purge_rule.specs.Replicas.{replica_of};
-ghost use Rattle.cds_records.specs.declared.message.Body.TheVariants as body;
-ghost use Rattle.clearinghouse.specs.Standing.{IfRefused, IsAccepted, IsTurn, StandsHouse, founds};
-
-use crate::posted::{PostedList, post_to_others};
-use crate::states::{DirState, DirStates, Held};
-use crate::updates::{Accepted, Acceptor};
-use cds_records::{Body, Message};
-use cds_stamps::{DirId, EpochNo, Floor, HouseNo, Members, Node};
-use directory::{Table, Update};
+use crate::epochs::{EpochRefusal, EpochSet, post_leaves};
+use crate::images::{StartFault, started_dirs};
+use crate::outgoing::{Outgoing, Sender, Turn};
+use crate::posted::PostedList;
+use crate::skulks::{Begun, Skulked};
+use crate::states::{DirState, DirStates, Held, since_in};
+use crate::taking::{Taken, Took, taken, unchanged};
+use crate::updates::{Accepted, Issuer, refused};
+use cds_records::{Body, ImageWriter, Message, RecordFault, decode_image};
+use cds_stamps::{AllocOr, DirId, EpochNo, Floor, HouseNo, Members, Node, Stamp};
+use directory::{Update, UpdateRefusal};
 use purge_rule::Replica;
+use skulk_core::Skulk;
 use std::alloc::{AllocError, Global};
 
-/// A clearinghouse: who it is, the floor of its stamps, and what it has of directories.
+/// A clearinghouse: who it is, the floor of its stamps, what it has of directories, and whether it is spent.
 #[derive(Drop)]
 pub struct Clearinghouse {
     pub(crate) house: HouseNo,
     node: Node,
     floor: Floor,
     dirs: DirStates,
+    spent: bool,
 }
 
 impl Clearinghouse {
     /// A clearinghouse without directories. It takes no memory.
-    pub fn new(alloc: Global, house: HouseNo, node: Node) -> Clearinghouse
-        ensures { result ≡ record { house = house; node = node; floor = record { time = 0 }; dirs = map.empty } }
-    {
+    pub fn new(alloc: Global, house: HouseNo, node: Node) -> Clearinghouse {
         Clearinghouse {
             house,
             node,
             floor: Floor { time: 0 },
             dirs: DirStates::new(alloc),
+            spent: false,
         }
     }
 
     /// What it has of a directory, if it ever had something.
-    pub fn state(&self, dir: DirId) -> Option<&DirState>
-        ensures { option_copied result ≡ map.get self.now.dirs dir }
-    {
+    pub fn state(&self, dir: DirId) -> Option<&DirState> {
         self.dirs.get(&dir)
     }
 
     /// The floor of its stamps: no later time stands in what it has.
-    pub fn floor(&self) -> u64
-        ensures { result ≡ self.now.floor.time }
-    {
+    pub fn floor(&self) -> u64 {
         self.floor.time
     }
 
+    /// Whether a call wanted for memory. From then on each call that can answer want of memory answers it.
+    pub fn is_spent(&self) -> bool {
+        self.spent
+    }
+
+    /// The same clearinghouse once more, spent or not.
+    pub fn copy(&self, alloc: Global) -> Result<Clearinghouse, AllocError> {
+        Ok(Clearinghouse {
+            house: self.house,
+            node: self.node,
+            floor: self.floor,
+            dirs: self.dirs.copy(alloc)?,
+            spent: self.spent,
+        })
+    }
+
     /// Makes a directory of which it is the master: in epoch 1, with a replica that is empty. It posts Joins to the other
-    /// members. After want of memory nothing is changed.
+    /// members.
     pub fn create_directory(
         &mut self,
         alloc: Global,
         dir: DirId,
         members: &Members,
-    ) -> Result<PostedList, AllocError>
-        requires absent { map.get self.old.dirs dir ≡ None }
-        requires master { master_of (members_of members.now) ≡ self.old.house.0 }
-        ensures house { self.new.house ≡ self.old.house }
-        ensures node { self.new.node ≡ self.old.node }
-        ensures floor { self.new.floor ≡ self.old.floor }
-        ensures turn { (g : model.Cell) → StandsHouse self.old (g.house self.old.house.0)
-            → IfOk result (λ posted. IsTurn g (founds g dir.0 self.old.house.0 (members_of members.now)) self.new posted) }
-        ensures err { OnErr result (self.new ≡ self.old) }
-    {
-        let message = self.first_join(alloc, dir, members)?;
-        let posted = post_to_others(alloc, members, &message)?;
-        let held = first_held(alloc, members)?;
-        self.dirs.insert(dir, DirState::Held(held))?;
-        Ok(posted)
+    ) -> Result<PostedList, AllocError> {
+        let outgoing = self.found(alloc, dir, members)?;
+        self.posted(alloc, dir, Some(&outgoing))
     }
 
-    /// The Join of a new directory.
-    fn first_join(
-        &self,
+    /// Makes a directory, as `create_directory` does. What is to be posted.
+    pub fn found(
+        &mut self,
         alloc: Global,
         dir: DirId,
         members: &Members,
-    ) -> Result<Message, AllocError>
-        ensures { IfOk result
-            (λ m. m ≡ record {
-              dir = dir;
-              from = self.now.house;
-              epoch = record { 0 = 1 };
-              floor = self.now.floor.time;
-              body = body.Join members.now
-                  (replica_of [] None);
-            }) }
-    {
-        let floor = self.floor.time;
-        Ok(Message {
-            dir,
-            from: self.house,
-            epoch: EpochNo(1),
-            floor,
-            body: Body::Join(members.copy(alloc)?, first_replica(alloc)),
-        })
+    ) -> Result<Outgoing, AllocError> {
+        self.usable()?;
+        let done = self.insert_first(alloc, dir, members);
+        self.heed(done)
+    }
+
+    fn insert_first(
+        &mut self,
+        alloc: Global,
+        dir: DirId,
+        members: &Members,
+    ) -> Result<Outgoing, AllocError> {
+        let held = Held::first(alloc, members)?;
+        self.dirs.insert(dir, DirState::Held(held))?;
+        Ok(Outgoing::Join)
     }
 
     /// Takes an update of a directory, stamps it, and posts it to each other member. Or refuses it: where it holds no
-    /// replica, where it is not the master, as the table refuses it, and where no stamp is left. After a refusal or want of
-    /// memory nothing is changed.
+    /// replica, where it does not accept updates, as the table refuses it, and where no stamp is left.
     pub fn accept(
         &mut self,
         alloc: Global,
         clock: u64,
         dir: DirId,
         update: &Update,
-    ) -> Result<Accepted, AllocError>
-        ensures house { self.new.house ≡ self.old.house }
-        ensures node { self.new.node ≡ self.old.node }
-        ensures refused { IfOk result (λ a. IfRefused a (self.new ≡ self.old)) }
-        ensures turn { (g : model.Cell) → StandsHouse self.old (g.house self.old.house.0) → (g.house self.old.house.0).clock ≡ clock
-            → IfOk result (λ a. IsAccepted g (accept g self.old.house.0 dir.0 (change_of update.now) ((g.house self.old.house.0).slots dir.0)) self.new a) }
-        ensures err { OnErr result (self.new ≡ self.old) }
-    {
-        let by = Acceptor {
+    ) -> Result<Accepted, AllocError> {
+        let turn = self.accept_update(alloc, clock, dir, update)?;
+        let posted = self.posted(alloc, dir, turn.outgoing.as_ref())?;
+        match turn.answer {
+            Ok(stamp) => Ok(Accepted::Done { stamp, posted }),
+            Err(refusal) => Ok(Accepted::Refused(refusal)),
+        }
+    }
+
+    /// Takes an update, as `accept` does, or refuses it. What is to be posted.
+    pub fn accept_update(
+        &mut self,
+        alloc: Global,
+        clock: u64,
+        dir: DirId,
+        update: &Update,
+    ) -> Result<Turn<Result<Stamp, UpdateRefusal>>, AllocError> {
+        self.usable()?;
+        let by = self.issuer(clock);
+        let done = match self.dirs.held_mut(&dir) {
+            Some(held) => held.accept(alloc, by, &mut self.floor, update),
+            None => Ok(refused(UpdateRefusal::NoReplica)),
+        };
+        self.heed(done)
+    }
+
+    /// Takes a message of another house, and posts what it says to it. The floor rises to the greatest time in a message
+    /// that is taken.
+    pub fn take(&mut self, alloc: Global, message: &Message) -> Result<Took, AllocError> {
+        let turn = self.take_message(alloc, message)?;
+        let posted = self.posted(alloc, message.dir, turn.outgoing.as_ref())?;
+        Ok(Took {
+            taken: turn.answer,
+            posted,
+        })
+    }
+
+    /// Takes a message, as `take` does. What is to be posted.
+    pub fn take_message(
+        &mut self,
+        alloc: Global,
+        message: &Message,
+    ) -> Result<Turn<Taken>, AllocError> {
+        self.usable()?;
+        let done = match &message.body {
+            Body::Join(members, replica) => self.take_join(alloc, message, members, replica),
+            Body::Leave => self.take_leave(message),
+            _ => self.take_other(alloc, message),
+        };
+        self.heed(done)
+    }
+
+    /// Any message but a Join or a Leave.
+    fn take_other(&mut self, alloc: Global, message: &Message) -> Result<Turn<Taken>, AllocError> {
+        let house = self.house;
+        let Some(held) = self.dirs.held_mut(&message.dir) else {
+            return Ok(unchanged(Taken::NoReplica));
+        };
+        if let Some(answer) = held.bars(message) {
+            return Ok(unchanged(answer));
+        }
+        match held.members.place(message.from) {
+            Some(from) => {
+                let turn = held.take(alloc, house, from, message)?;
+                if turn.answer.is_taken() {
+                    self.floor.raise(message.latest_time());
+                }
+                Ok(turn)
+            }
+            None => Ok(unchanged(Taken::Foreign)),
+        }
+    }
+
+    /// A Join, by what the house has of the directory.
+    fn take_join(
+        &mut self,
+        alloc: Global,
+        message: &Message,
+        members: &Members,
+        replica: &Replica,
+    ) -> Result<Turn<Taken>, AllocError> {
+        let state = self.dirs.get(&message.dir);
+        if let Some(passed) = state.and_then(|state| state.passes_join(message.epoch)) {
+            return Ok(unchanged(Taken::Late(message.epoch, passed)));
+        }
+        let Some(since) = since_in(members, self.house) else {
+            return Ok(unchanged(Taken::Foreign));
+        };
+        if members.place(message.from).is_none() {
+            return Ok(unchanged(Taken::Foreign));
+        }
+        self.floor.raise(message.latest_time());
+        match self.dirs.held_mut(&message.dir) {
+            Some(held) if since <= held.epoch => {
+                held.join(alloc, message.epoch, members, replica)?
+            }
+            _ => self.copy_in(alloc, message, members, replica)?,
+        }
+        Ok(taken(None))
+    }
+
+    /// Has the copy that came with a Join, in the place of what it had.
+    fn copy_in(
+        &mut self,
+        alloc: Global,
+        message: &Message,
+        members: &Members,
+        replica: &Replica,
+    ) -> Result<(), AllocError> {
+        let held = Held {
+            epoch: message.epoch,
+            members: members.copy(alloc)?,
+            replica: replica.copy(alloc)?,
+            skulk: Skulk::Idle,
+        };
+        self.dirs.insert(message.dir, DirState::Held(held))?;
+        Ok(())
+    }
+
+    /// A Leave, by what the house has of the directory.
+    fn take_leave(&mut self, message: &Message) -> Result<Turn<Taken>, AllocError> {
+        match self.dirs.get(&message.dir).and_then(|state| state.passes_leave(message.epoch)) {
+            Some(passed) => Ok(unchanged(Taken::Late(message.epoch, passed))),
+            None => {
+                self.floor.raise(message.floor);
+                self.dirs.insert(message.dir, DirState::Gone(message.epoch))?;
+                Ok(taken(None))
+            }
+        }
+    }
+
+    /// Begins a skulk of a directory of which it is the master: it posts its first round. Or refuses it: where it holds no
+    /// replica, where it is not the master, and where no stamp is left.
+    pub fn start_skulk(
+        &mut self,
+        alloc: Global,
+        clock: u64,
+        dir: DirId,
+    ) -> Result<Skulked, AllocError> {
+        let turn = self.begin_skulk(clock, dir)?;
+        let posted = self.posted(alloc, dir, turn.outgoing.as_ref())?;
+        match turn.answer {
+            Ok(Begun::Started(t)) => Ok(Skulked::Started { t, posted }),
+            Ok(Begun::Complete(t)) => Ok(Skulked::Complete(t)),
+            Err(refusal) => Ok(Skulked::Refused(refusal)),
+        }
+    }
+
+    /// Begins a skulk, as `start_skulk` does. What is to be posted. It takes no memory.
+    pub fn begin_skulk(
+        &mut self,
+        clock: u64,
+        dir: DirId,
+    ) -> Result<Turn<Result<Begun, UpdateRefusal>>, AllocError> {
+        self.usable()?;
+        let by = self.issuer(clock);
+        match self.dirs.held_mut(&dir) {
+            Some(held) => Ok(held.begin_skulk(by, &mut self.floor)),
+            None => Ok(refused(UpdateRefusal::NoReplica)),
+        }
+    }
+
+    /// Takes a new epoch of a directory, of which it is to be the master, and posts Joins to the other members and Leaves to
+    /// the houses that are members no more. Or refuses it.
+    pub fn new_epoch(
+        &mut self,
+        alloc: Global,
+        dir: DirId,
+        epoch: EpochNo,
+        members: &Members,
+        leaving: &[HouseNo],
+    ) -> Result<EpochSet, AllocError> {
+        if let Err(refusal) = self.enter_epoch(alloc, dir, epoch, members)? {
+            return Ok(EpochSet::Refused(refusal));
+        }
+        let mut posted = self.posted(alloc, dir, Some(&Outgoing::Join))?;
+        let leaves = post_leaves(&mut posted, self.sender(dir), epoch, leaving);
+        self.heed(leaves)?;
+        Ok(EpochSet::Done(posted))
+    }
+
+    /// Takes a new epoch, as `new_epoch` does, or refuses it. A Join is to be posted, and Leaves.
+    pub fn enter_epoch(
+        &mut self,
+        alloc: Global,
+        dir: DirId,
+        epoch: EpochNo,
+        members: &Members,
+    ) -> Result<Result<(), EpochRefusal>, AllocError> {
+        self.usable()?;
+        let house = self.house;
+        let done = match self.dirs.held_mut(&dir) {
+            Some(held) => held.enter(alloc, house, epoch, members),
+            None => Ok(Err(EpochRefusal::NoReplica)),
+        };
+        self.heed(done)
+    }
+
+    /// The octets of what it keeps over a crash.
+    pub fn image(&self, alloc: Global) -> Result<Vec<u8>, AllocError> {
+        self.usable()?;
+        let count = self.dirs.len() as u64;
+        let mut image =
+            ImageWriter::new(alloc, self.house, self.node, self.floor.time, count)?;
+        for (dir, state) in self.dirs.iter() {
+            match state {
+                DirState::Held(held) => {
+                    image.held(*dir, held.epoch, &held.members, &held.replica)?
+                }
+                DirState::Gone(epoch) => image.gone(*dir, *epoch)?,
+            }
+        }
+        Ok(image.octets())
+    }
+
+    /// The house that kept these octets, with no skulk that runs; its floor is raised to the greatest time in them.
+    pub fn start(alloc: Global, octets: &[u8]) -> Result<Clearinghouse, AllocOr<StartFault>> {
+        let (image, length) = match decode_image(alloc, octets) {
+            Ok(decoded) => decoded,
+            Err(AllocOr::Fault(fault)) => return Err(AllocOr::Fault(StartFault::BadImage(fault))),
+            Err(AllocOr::OutOfMemory) => return Err(AllocOr::OutOfMemory),
+        };
+        if length < octets.len() {
+            return Err(AllocOr::Fault(StartFault::BadImage(RecordFault::Trailing(length + 1))));
+        }
+        let time = image.latest_time();
+        Ok(Clearinghouse {
+            house: image.house,
+            node: image.node,
+            floor: Floor { time },
+            dirs: started_dirs(alloc, image.dirs)?,
+            spent: false,
+        })
+    }
+
+    /// The messages that say this about a directory, to each receiver its own; none where nothing is to be posted.
+    fn posted(
+        &mut self,
+        alloc: Global,
+        dir: DirId,
+        outgoing: Option<&Outgoing>,
+    ) -> Result<PostedList, AllocError> {
+        let sender = self.sender(dir);
+        let posted = match (self.dirs.held(&dir), outgoing) {
+            (Some(held), Some(outgoing)) => held.posted(alloc, sender, outgoing),
+            _ => Ok(PostedList::new(alloc)),
+        };
+        self.heed(posted)
+    }
+
+    fn sender(&self, dir: DirId) -> Sender {
+        Sender {
+            house: self.house,
+            dir,
+            floor: self.floor.time,
+        }
+    }
+
+    fn issuer(&self, clock: u64) -> Issuer {
+        Issuer {
             house: self.house,
             node: self.node,
             clock,
-        };
-        self.dirs.accept(alloc, dir, by, &mut self.floor, update)
+        }
     }
-}
 
-/// What the master of a new directory holds.
-fn first_held(alloc: Global, members: &Members) -> Result<Held, AllocError>
-    ensures { IfOk result (λ h. h ≡ record { epoch = record { 0 = 1 }; members = members.now; replica = replica_of [] None }) }
-{
-    Ok(Held {
-        epoch: EpochNo(1),
-        members: members.copy(alloc)?,
-        replica: first_replica(alloc),
-    })
-}
+    /// Want of memory, where it is spent.
+    fn usable(&self) -> Result<(), AllocError> {
+        if self.spent { Err(AllocError) } else { Ok(()) }
+    }
 
-/// The replica without entries and AllUpTo.
-fn first_replica(alloc: Global) -> Replica
-    ensures { result ≡ replica_of [] None }
-{
-    Replica {
-        table: Table::new(alloc),
-        all_up_to: None,
+    /// What a part of a call gave; it is spent where that wanted for memory.
+    fn heed<T>(&mut self, done: Result<T, AllocError>) -> Result<T, AllocError> {
+        if done.is_err() {
+            self.spent = true;
+        }
+        done
     }
 }

@@ -1,13 +1,7 @@
 // Messages that a house posts.
-ghost use Rattle.std.specs.Prelude.{◌≡◌, ◌++◌, ◌∷◌, ℕ, List, [], OnOk, OnErr, IfOk};
-ghost use Rattle.cds_stamps.specs.Members.{members_of, others_of};
-ghost use Rattle.clearinghouse.specs.Posting.{posts_to};
-ghost use Rattle.clearinghouse.specs.declared.posted.Posted.{Posted};
-
 use cds_records::Message;
-use cds_stamps::{HouseNo, Members};
+use cds_stamps::HouseNo;
 use std::alloc::{AllocError, Global};
-use std::marker::Model;
 
 /// A message, and the house that it is posted to.
 #[derive(Drop)]
@@ -22,60 +16,20 @@ pub struct PostedList {
     items: Vec<Posted>,
 }
 
-impl Model for PostedList {
-    ghost use Rattle.std.specs.Prelude.{List};
-    ghost use Rattle.std.specs.Coded.{coded_list};
-    ghost use Rattle.clearinghouse.specs.PrivateCodes.{posted_code};
-    ghost use Rattle.clearinghouse.specs.declared.posted.Posted.{Posted};
-
-    ghost Value = { List Posted };
-
-    ghost coded = { coded_list posted_code };
-
-    ghost view = { λ v. v.items.items };
-}
-
 impl PostedList {
-    pub fn new(alloc: Global) -> Self
-        ensures { result ≡ [] }
-    {
+    pub fn new(alloc: Global) -> Self {
         PostedList {
             items: Vec::new(alloc),
         }
     }
 
     /// One more, behind the others.
-    pub fn push(&mut self, posted: Posted) -> Result<(), AllocError>
-        ensures ok { OnOk result (self.new ≡ self.old ++ posted ∷ []) }
-        ensures err { OnErr result (self.new ≡ self.old) }
-    {
+    pub fn push(&mut self, posted: Posted) -> Result<(), AllocError> {
         self.items.push(posted)?;
         Ok(())
     }
 
-    pub fn list(&self) -> &[Posted]
-        ensures { result.now ≡ self.now }
-    {
+    pub fn list(&self) -> &[Posted] {
         self.items.as_slice()
     }
-}
-
-/// Posts a copy of a message to each member but its sender, in ascending order of the houses.
-pub(crate) fn post_to_others(
-    alloc: Global,
-    members: &Members,
-    message: &Message,
-) -> Result<PostedList, AllocError>
-    ensures { IfOk result (λ posted. posted ≡ posts_to (others_of message.now.from.0 (members_of members.now)) message.now) }
-{
-    let mut posted = PostedList::new(alloc);
-    for member in members.list() {
-        if member.house != message.from {
-            posted.push(Posted {
-                to: member.house,
-                message: message.copy(alloc)?,
-            })?;
-        }
-    }
-    Ok(posted)
 }

@@ -1,20 +1,20 @@
 // What a house holds of directories.
-ghost use Rattle.std.specs.Prelude.{◌≡◌, IfOk, OnOk, OnErr, option_copied};
-ghost use Rattle.std.specs.FinMap as map;
-
-use cds_stamps::{DirId, EpochNo, Members};
+use cds_stamps::{DirId, EpochNo, HouseNo, MemberKind, Members};
 use purge_rule::Replica;
+use skulk_core::Skulk;
 use std::alloc::{AllocError, Global};
 use std::collections::BTreeMap;
 use std::collections::btree_map::Iter;
 use std::marker::Model;
 
-/// What a house holds of a directory that it is a member of: the epoch, the members, and its replica.
+/// What a house holds of a directory that it is a member of: the epoch, the members, its replica, and what it does about a
+/// skulk of its own.
 #[derive(Drop)]
 pub struct Held {
     pub epoch: EpochNo,
     pub members: Members,
     pub replica: Replica,
+    pub skulk: Skulk,
 }
 
 /// What a house has of a directory.
@@ -31,55 +31,92 @@ pub struct DirStates {
     pub(crate) states: BTreeMap<DirId, DirState>,
 }
 
-impl Model for DirStates {
-    ghost use Rattle.std.specs.FinMap as map;
-    ghost use Rattle.cds_records.specs.Dirs.{dir_cmp};
-    ghost use Rattle.cds_records.specs.PrivateDirCodes.{dir_code};
-    ghost use Rattle.clearinghouse.specs.PrivateCodes.{dir_state_code};
-    ghost use Rattle.clearinghouse.specs.declared.states.DirState.{DirState};
-
-    ghost Value = { map.FinMap dir_cmp DirState };
-
-    ghost coded = { map.code dir_code dir_state_code };
-
-    ghost view = { λ m. map.from_entries m.states.entries };
-}
-
 impl DirStates {
-    pub fn new(alloc: Global) -> Self
-        ensures { result ≡ map.empty }
-    {
+    pub fn new(alloc: Global) -> Self {
         DirStates {
             states: BTreeMap::new(alloc),
         }
     }
 
     /// How many directories there are.
-    pub fn len(&self) -> usize
-        ensures { result ≡ map.len self.now }
-    {
+    pub fn len(&self) -> usize {
         self.states.len()
     }
 
     /// The directories, ascending.
-    pub fn iter(&self) -> Iter<'_, DirId, DirState>
-        ensures { result ≡ map.entries self.now }
-    {
+    pub fn iter(&self) -> Iter<'_, DirId, DirState> {
         self.states.iter()
     }
 
-    pub fn get(&self, dir: &DirId) -> Option<&DirState>
-        ensures { option_copied result ≡ map.get self.now dir.now }
-    {
+    pub fn get(&self, dir: &DirId) -> Option<&DirState> {
         self.states.get(dir)
     }
 
+    /// What is held of a directory.
+    pub(crate) fn held(&self, dir: &DirId) -> Option<&Held> {
+        match self.states.get(dir) {
+            Some(DirState::Held(held)) => Some(held),
+            _ => None,
+        }
+    }
+
+    /// What is held of a directory, to be changed.
+    pub(crate) fn held_mut(&mut self, dir: &DirId) -> Option<&mut Held> {
+        match self.states.get_mut(dir) {
+            Some(DirState::Held(held)) => Some(held),
+            _ => None,
+        }
+    }
+
     /// Has this of a directory. What it had of it.
-    pub fn insert(&mut self, dir: DirId, state: DirState) -> Result<Option<DirState>, AllocError>
-        ensures before { IfOk result (λ before. before ≡ map.get self.old dir) }
-        ensures ok { OnOk result (self.new ≡ map.insert self.old dir state) }
-        ensures err { OnErr result (self.new ≡ self.old) }
-    {
+    pub fn insert(&mut self, dir: DirId, state: DirState) -> Result<Option<DirState>, AllocError> {
         Ok(self.states.insert(dir, state)?)
     }
+
+    /// The same of the same directories.
+    pub fn copy(&self, alloc: Global) -> Result<DirStates, AllocError> {
+        let mut copy = DirStates::new(alloc);
+        for (dir, state) in self.iter() {
+            copy.insert(*dir, state.copy(alloc)?)?;
+        }
+        Ok(copy)
+    }
+}
+
+impl DirState {
+    pub fn copy(&self, alloc: Global) -> Result<DirState, AllocError> {
+        match self {
+            DirState::Held(held) => Ok(DirState::Held(held.copy(alloc)?)),
+            DirState::Gone(epoch) => Ok(DirState::Gone(*epoch)),
+        }
+    }
+}
+
+impl Held {
+    pub fn copy(&self, alloc: Global) -> Result<Held, AllocError> {
+        let members = self.members.copy(alloc)?;
+        Ok(Held {
+            epoch: self.epoch,
+            members,
+            replica: self.replica.copy(alloc)?,
+            skulk: self.skulk,
+        })
+    }
+
+    /// Whether this house accepts updates by the member list.
+    pub(crate) fn accepts_from(&self, house: HouseNo) -> bool {
+        self.members.list().iter().any(|member| member.house == house
+            && member.kind == MemberKind::Master)
+    }
+
+    /// The place of this house in the member list; 0 where it is not listed, and then it runs no skulk.
+    pub(crate) fn own_place(&self, house: HouseNo) -> usize {
+        self.members.place(house).unwrap_or(0)
+    }
+}
+
+/// The epoch since which a house is a member without a break, if it is one.
+pub(crate) fn since_in(members: &Members, house: HouseNo) -> Option<EpochNo> {
+    let list = members.list();
+    list.iter().find(|member| member.house == house).map(|member| member.since)
 }

@@ -2,7 +2,9 @@
 #![tactic(auto)]
 
 mod held;
+mod latest;
 pub mod laws;
 mod replica;
 
+pub use latest::latest_in_entry;
 pub use replica::Replica;

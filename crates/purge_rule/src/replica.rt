@@ -8,6 +8,7 @@ ghost use Rattle.purge_rule.specs.Replicas.{replica_of, together, IsFragmentOf};
 ghost use Rattle.purge_rule.specs.Held.{held_in, most_held};
 
 use crate::held::held_in;
+use crate::latest::{latest_in, time_of};
 use cds_stamps::{Lattice, Stamp, later_of};
 use directory::{Fragment, Table};
 use std::alloc::{AllocError, Global};
@@ -78,5 +79,10 @@ impl Replica {
         ensures { result ≡ min (held_in self.now.table) most_held }
     {
         held_in(&self.table)
+    }
+
+    /// The greatest time in it: of its AllUpTo, and of its table.
+    pub fn latest_time(&self) -> u64 {
+        latest_in(&self.table).max(time_of(self.all_up_to))
     }
 }

@@ -1,0 +1,179 @@
+// Messages that a house takes.
+use crate::outgoing::{Outgoing, Turn};
+use crate::posted::PostedList;
+use crate::states::{DirState, Held};
+use cds_records::{Body, Message};
+use cds_stamps::{EpochNo, HouseNo, Members, Stamp};
+use purge_rule::Replica;
+use skulk_core::{Next, Skulk};
+use std::alloc::{AllocError, Global};
+
+/// What comes of a message: the answer, and what the house posts. Nothing is posted or changed but for Taken and Complete.
+#[derive(Drop)]
+pub struct Took {
+    pub taken: Taken,
+    pub posted: PostedList,
+}
+
+/// The answer to a message.
+#[derive(Clone, Copy, Debug, PartialEq, Eq)]
+pub enum Taken {
+    Taken,
+    /// The message's epoch is passed: it, and the epoch that the house holds or has left.
+    Late(EpochNo, EpochNo),
+    /// The message's epoch, and the earlier one that the house holds.
+    Early(EpochNo, EpochNo),
+    /// An answer to the skulk of the first stamp, where that of the second runs, or none.
+    Stale(Stamp, Option<Stamp>),
+    NoReplica,
+    /// The message is not from a member, or is a Join that does not list its receiver and its sender. No house sends it so.
+    Foreign,
+    /// The last answer that was missing: the skulk of this stamp is complete.
+    Complete(Stamp),
+}
+
+impl Taken {
+    /// Whether the message is taken: else it changes nothing.
+    pub fn is_taken(&self) -> bool {
+        matches!(self, Taken::Taken | Taken::Complete(_))
+    }
+}
+
+/// A message that is answered and changes nothing.
+pub(crate) fn unchanged(answer: Taken) -> Turn<Taken> {
+    Turn {
+        answer,
+        outgoing: None,
+    }
+}
+
+/// A message that is taken, and what is to be posted.
+pub(crate) fn taken(outgoing: Option<Outgoing>) -> Turn<Taken> {
+    Turn {
+        answer: Taken::Taken,
+        outgoing,
+    }
+}
+
+impl DirState {
+    /// The epoch for which a Join of this epoch comes too late: a later one that is held, or one in which the directory was
+    /// left, if that is not an earlier one.
+    pub(crate) fn passes_join(&self, epoch: EpochNo) -> Option<EpochNo> {
+        match self {
+            DirState::Held(held) if epoch < held.epoch => Some(held.epoch),
+            DirState::Gone(left) if epoch <= *left => Some(*left),
+            _ => None,
+        }
+    }
+
+    /// The epoch for which a Leave of this epoch comes too late: one that is held, or in which the directory was left, if
+    /// that is not an earlier one.
+    pub(crate) fn passes_leave(&self, epoch: EpochNo) -> Option<EpochNo> {
+        match self {
+            DirState::Held(held) if epoch <= held.epoch => Some(held.epoch),
+            DirState::Gone(left) if epoch <= *left => Some(*left),
+            _ => None,
+        }
+    }
+}
+
+impl Held {
+    /// Why a message that is neither Join nor Leave is not taken, by its epoch and its sender.
+    pub(crate) fn bars(&self, message: &Message) -> Option<Taken> {
+        if message.epoch < self.epoch {
+            return Some(Taken::Late(message.epoch, self.epoch));
+        }
+        if self.epoch < message.epoch {
+            return Some(Taken::Early(message.epoch, self.epoch));
+        }
+        None
+    }
+
+    /// Takes a message of the epoch that is held, of the member at this place.
+    pub(crate) fn take(
+        &mut self,
+        alloc: Global,
+        house: HouseNo,
+        from: usize,
+        message: &Message,
+    ) -> Result<Turn<Taken>, AllocError> {
+        match &message.body {
+            Body::Update(fragment) => {
+                self.replica.take_marks(alloc, fragment)?;
+                Ok(taken(None))
+            }
+            Body::Gather(t) => Ok(taken(Some(Outgoing::Gathered(*t, message.from)))),
+            Body::Gathered(t, replica) => self.take_gathered(alloc, house, from, *t, replica),
+            Body::Spread(t, replica) => {
+                self.replica.take(alloc, replica)?;
+                Ok(taken(Some(Outgoing::SpreadAck(*t, message.from))))
+            }
+            Body::SpreadAck(t) => Ok(self.take_ack(from, *t)),
+            Body::Advance(t) => {
+                self.replica.advance(*t);
+                Ok(taken(None))
+            }
+            Body::Join(_, _) | Body::Leave => Ok(unchanged(Taken::Foreign)),
+        }
+    }
+
+    /// Takes an answer of the first round; the last one missing begins the second.
+    fn take_gathered(
+        &mut self,
+        alloc: Global,
+        house: HouseNo,
+        from: usize,
+        t: Stamp,
+        replica: &Replica,
+    ) -> Result<Turn<Taken>, AllocError> {
+        let me = self.own_place(house);
+        let mut skulk = self.skulk;
+        match skulk.gathered(t, from, self.members.list().len(), me) {
+            Next::Stale(running) => Ok(unchanged(Taken::Stale(t, running))),
+            next => {
+                self.replica.take(alloc, replica)?;
+                self.skulk = skulk;
+                Ok(taken(second_round(next, t)))
+            }
+        }
+    }
+
+    /// Takes an answer of the second round; the last one missing completes the skulk.
+    fn take_ack(&mut self, from: usize, t: Stamp) -> Turn<Taken> {
+        match self.skulk.spread(t, from, self.members.list().len()) {
+            Next::Stale(running) => unchanged(Taken::Stale(t, running)),
+            Next::Complete(t) => {
+                self.replica.advance(t);
+                Turn {
+                    answer: Taken::Complete(t),
+                    outgoing: Some(Outgoing::Advance(t)),
+                }
+            }
+            _ => taken(None),
+        }
+    }
+
+    /// Takes a Join of its own term: the copy is joined in, and no skulk runs any more.
+    pub(crate) fn join(
+        &mut self,
+        alloc: Global,
+        epoch: EpochNo,
+        members: &Members,
+        replica: &Replica,
+    ) -> Result<(), AllocError> {
+        let members = members.copy(alloc)?;
+        self.replica.take(alloc, replica)?;
+        self.epoch = epoch;
+        self.members = members;
+        self.skulk = Skulk::Idle;
+        Ok(())
+    }
+}
+
+/// The second round, where it begins.
+fn second_round(next: Next, t: Stamp) -> Option<Outgoing> {
+    match next {
+        Next::SendSpread => Some(Outgoing::Spread(t)),
+        _ => None,
+    }
+}

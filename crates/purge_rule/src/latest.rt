@@ -1,0 +1,39 @@
+// The greatest time that stands in a table.
+use attr_sets::AttrCell;
+use cds_stamps::Stamp;
+use directory::{EntryCell, Table};
+
+/// The greatest time in a table; 0 where there is none.
+pub(crate) fn latest_in(table: &Table) -> u64 {
+    let mut time = 0;
+    for (_, entry) in table.iter() {
+        time = time.max(latest_in_entry(entry));
+    }
+    time
+}
+
+/// The greatest time in an entry: of its birth, its death, its clears, and the marks of its values.
+pub fn latest_in_entry(entry: &EntryCell) -> u64 {
+    let mut time = entry.birth.time.max(time_of(entry.death));
+    for (_, cell) in entry.attrs.iter() {
+        time = time.max(latest_in_cell(cell));
+    }
+    time
+}
+
+/// The greatest time in the cell of an attribute.
+fn latest_in_cell(cell: &AttrCell) -> u64 {
+    let mut time = time_of(cell.cleared);
+    for (_, mark) in cell.values.iter() {
+        time = time.max(mark.stamp.time);
+    }
+    time
+}
+
+/// The time of a stamp, 0 where there is none.
+pub(crate) fn time_of(stamp: Option<Stamp>) -> u64 {
+    match stamp {
+        Some(stamp) => stamp.time,
+        None => 0,
+    }
+}
