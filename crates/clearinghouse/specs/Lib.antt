@@ -1,4 +1,7 @@
 pub mod PrivateCodes
 pub mod Posting
 pub mod Standing
-pub mod PrivateTurns
+pub mod Stepping
+pub mod Refusing
+pub mod Lawful
+pub mod Imaging

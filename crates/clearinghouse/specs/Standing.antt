@@ -1,75 +1,75 @@
--- Which house of the model a clearinghouse stands for, and which step a call of it is (own, after C705, clearinghouses and replicas).
-use Rattle.std.specs.Prelude.{◌≡◌, ℕ, true, List, [], ◌++◌, Option, Some, None}
+-- Which house of the model a clearinghouse stands for (own, after C705, clearinghouses and replicas).
+use Rattle.std.specs.Prelude.{◌≡◌, ℕ, true, false, ◌||◌, ◌==◌, List, Option, Some, None, slice_get}
 use Rattle.std.specs.FinMap.{get}
-use Rattle.cds_stamps.specs.Members.{members_of}
+use Rattle.cds_stamps.specs.declared.numbers.DirId.{DirId}
+use Rattle.cds_stamps.specs.declared.mask.MemberMask.{MemberMask}
+use Rattle.cds_stamps.specs.declared.stamp.Stamp.{Stamp}
+use Rattle.cds_stamps.specs.Members.{Member, members_of, is_listed}
+use Rattle.cds_stamps.specs.Places.{has_place}
 use Rattle.directory.specs.Histories.{IsHistory}
 use Rattle.purge_rule.specs.Replicas.{replica_of}
+use Rattle.skulk_core.specs.declared.skulk.Skulk.{Skulk}
+use Rattle.skulk_core.specs.declared.skulk.Skulk.TheVariants as skulk
 use Rattle.cell_model.specs.Cells as model
-use Rattle.cell_model.specs.Commands as command
 use Rattle.cell_model.specs.Floors.{ReplicaBelow}
-use Rattle.cds_stamps.specs.Members.{Member}
-use Rattle.cell_model.specs.Steps.{Outcome, stays, founded}
+use Rattle.cell_model.specs.Sets.{has}
 use Rattle.clearinghouse.specs.declared.states.Held.{Held}
 use Rattle.clearinghouse.specs.declared.states.DirState.{DirState}
 use Rattle.clearinghouse.specs.declared.states.DirState.TheVariants as state
 use Rattle.clearinghouse.specs.declared.house.Clearinghouse.{Clearinghouse}
-use Rattle.clearinghouse.specs.declared.posted.Posted.{Posted}
-use Rattle.clearinghouse.specs.declared.updates.Accepted.{Accepted}
-use Rattle.clearinghouse.specs.declared.updates.Accepted.TheVariants as accepted
-use Rattle.clearinghouse.specs.Posting.{StandEach}
 
--- what is held of a directory stands for a replica of the model: it is the replica of that one's history. No skulk runs, and
--- no time of it is above the floor (own)
-pub record StandsHeld (floor : ℕ) (h : Held) (r : model.Replica) : Type 0 where
+-- ---- skulks
+
+-- a round of the house `me`, a member: of the members those have answered that the model names, and the house itself (own)
+pub record StandsRound (me : ℕ) (ms : List Member) (t : Stamp) (mask : MemberMask) (u : Stamp) (answered : List ℕ) : Type 0 where
+  pub listed : is_listed me ms ≡ true
+  pub stamp : t ≡ u
+  pub places : (p : ℕ) (m : Member) → slice_get ms p ≡ Some m → has_place mask p ≡ ((m.house == me) || has m.house answered)
+
+-- what a house does about its skulk stands for a phase (own)
+abbrev pub StandsPhase : (me : ℕ) → List Member → Skulk → model.Phase → Type 0
+StandsPhase me ms skulk.Idle model.Idle = Unit {0}
+StandsPhase me ms (skulk.Gathering t mask) (model.Gathering u answered) = StandsRound me ms t mask u answered
+StandsPhase me ms (skulk.Spreading t mask) (model.Spreading u answered) = StandsRound me ms t mask u answered
+StandsPhase me ms _ _ = ⊥
+
+-- ---- what is held
+
+-- what is held of a directory looks like a replica of the model: its epoch, its members and its phase (own)
+pub record LooksHeld (me : ℕ) (h : Held) (r : model.Replica) : Type 0 where
   pub epoch : r.epoch ≡ h.epoch.0
   pub members : r.members ≡ members_of h.members
+  pub phase : StandsPhase me (members_of h.members) h.skulk r.phase
+
+-- it stands for one: it is also the replica of that one's history, of which no time is above the floor (own)
+pub record StandsHeld (me floor : ℕ) (h : Held) (r : model.Replica) : Type 0 where
+  pub looks : LooksHeld me h r
   pub replica : h.replica ≡ replica_of r.history r.all_up_to
-  pub phase : r.phase ≡ model.Idle
   pub history : IsHistory r.history
   pub below : ReplicaBelow r floor
 
--- what a house has of a directory stands for a slot (own)
-abbrev pub StandsSlot : (floor : ℕ) → Option DirState → model.Slot → Type 0
-StandsSlot floor None model.Absent = Unit {0}
-StandsSlot floor (Some (state.Gone e)) (model.Gone k) = k ≡ e.0
-StandsSlot floor (Some (state.Held h)) (model.Held r) = StandsHeld floor h r
-StandsSlot floor _ _ = ⊥
+-- what a house has of a directory looks like a slot (own)
+abbrev pub LooksSlot : (me : ℕ) → Option DirState → model.Slot → Type 0
+LooksSlot me None model.Absent = Unit {0}
+LooksSlot me (Some (state.Gone e)) (model.Gone k) = k ≡ e.0
+LooksSlot me (Some (state.Held h)) (model.Held r) = LooksHeld me h r
+LooksSlot me _ _ = ⊥
 
--- a clearinghouse stands for a house that is up (own)
-pub record StandsHouse (c : Clearinghouse) (h : model.House) : Type 0 where
-  pub up : h.up ≡ true
-  pub node : h.node ≡ c.node
-  pub floor : h.floor ≡ c.floor.time
-  pub slots : (d : ℕ) → StandsSlot c.floor.time (get c.dirs (record { 0 = d })) (h.slots d)
+-- it stands for one (own)
+abbrev pub StandsSlot : (me floor : ℕ) → Option DirState → model.Slot → Type 0
+StandsSlot me floor None model.Absent = Unit {0}
+StandsSlot me floor (Some (state.Gone e)) (model.Gone k) = k ≡ e.0
+StandsSlot me floor (Some (state.Held h)) (model.Held r) = StandsHeld me floor h r
+StandsSlot me floor _ _ = ⊥
 
--- a clearinghouse after a call, and what it posted, are those of a step of the model at its house (own)
-pub record IsTurn (g : model.Cell) (o : Outcome) (c : Clearinghouse) (posted : List Posted) : Type 0 where
-  pub stands : StandsHouse c (o.cell.house c.house.0)
-  pub posts : List model.Message
-  pub bag : o.cell.bag ≡ g.bag ++ posts
-  pub each : StandEach posted posts
+-- ---- houses
 
--- what comes of an update is what the model answers (own)
-abbrev pub IsAnswer : Accepted → command.Answer → Type 0
-IsAnswer (accepted.Done s posted) (command.Stamped t ns) = s ≡ t
-IsAnswer (accepted.Refused r) (command.Refused (command.Update q)) = r ≡ q
-IsAnswer _ _ = ⊥
+-- a clearinghouse looks like a house of the model in what it has of a directory (own)
+abbrev pub LooksHouse : Clearinghouse → DirId → model.House → Type 0
+LooksHouse c dir now = LooksSlot c.house.0 (get c.dirs dir) (now.slots dir.0)
 
--- what was posted for an update (own)
-abbrev pub posted_by : Accepted → List Posted
-posted_by (accepted.Done s posted) = posted
-posted_by (accepted.Refused r) = []
-
--- a refusal changes nothing (own)
-abbrev pub IfRefused : Accepted → Type 0 → Type 0
-IfRefused (accepted.Done s posted) P = Unit {0}
-IfRefused (accepted.Refused r) P = P
-
--- an update and a clearinghouse after it are those of a step of the model (own)
-pub record IsAccepted (g : model.Cell) (o : Outcome) (c : Clearinghouse) (a : Accepted) : Type 0 where
-  pub answer : IsAnswer a o.answer
-  pub turn : IsTurn g o c (posted_by a)
-
--- a new directory at its master (own, after C705, creating a directory)
-abbrev pub founds : model.Cell → (d m : ℕ) → List Member → Outcome
-founds g d m ms = stays (founded g d m ms) command.Done
+-- a clearinghouse stands for a house of the model; whether that is up, and its clock, are the cell's (own)
+pub record StandsHouse (c : Clearinghouse) (now : model.House) : Type 0 where
+  pub node : now.node ≡ c.node
+  pub floor : now.floor ≡ c.floor.time
+  pub slots : (d : ℕ) → StandsSlot c.house.0 c.floor.time (get c.dirs (record { 0 = d })) (now.slots d)

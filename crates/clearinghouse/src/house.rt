@@ -1,4 +1,26 @@
 // A clearinghouse and its calls.
+ghost use Rattle.std.specs.Prelude.{◌≡◌, ◌≢◌, ℕ, false, [], Option, Some, None, IfOk, IfSome, OnOk, OnErr, is_err, err, max, option_copied};
+ghost use Rattle.std.specs.FinMap as map;
+ghost use Rattle.cds_stamps.specs.declared.numbers.DirId as number;
+ghost use Rattle.cds_stamps.specs.Members.{master_of, members_of};
+ghost use Rattle.cds_stamps.specs.Outcomes.{Answers};
+ghost use Rattle.cds_stamps.specs.Stamps.{next_stamp};
+ghost use Rattle.directory.specs.Updates.{change_of};
+ghost use Rattle.cds_records.specs.Latest.{latest_in_message};
+ghost use Rattle.cds_records.specs.Octets.{image_octets};
+ghost use Rattle.cds_records.specs.Validity.{IsValidMessage};
+ghost use Rattle.cell_model.specs.Cells as model;
+ghost use Rattle.cell_model.specs.Merges.{CanTake};
+ghost use Rattle.cell_model.specs.Turns.{found, accept, take, skulk, new_epoch};
+ghost use Rattle.clearinghouse.specs.Imaging.{image_of, started};
+ghost use Rattle.clearinghouse.specs.Lawful.{IsLawful};
+ghost use Rattle.clearinghouse.specs.Posting.{LooksMessage, StandsMessage, numbers_of, posts_at};
+ghost use Rattle.clearinghouse.specs.Refusing.{accept_answer, skulk_answer, epoch_refused, IsLater};
+ghost use Rattle.clearinghouse.specs.Standing.{LooksHouse, StandsHouse};
+ghost use Rattle.clearinghouse.specs.Stepping.{IsCall, IsTurn, IsStep, LooksStep, IsStampAnswer, IsAcceptAnswer, IsBegunAnswer, IsSkulkAnswer, IsTakeAnswer};
+ghost use Rattle.clearinghouse.specs.Stepping.{IsEpochAnswer, accept_result, accept_posts, skulk_result, skulk_posts, epoch_result, epoch_posts};
+ghost use Rattle.clearinghouse.specs.Stepping.{UnlessTaken, IfTaken, Enters};
+
 use crate::epochs::{EpochRefusal, EpochSet, post_leaves};
 use crate::images::{StartFault, started_dirs};
 use crate::outgoing::{Outgoing, Sender, Turn};
@@ -26,7 +48,9 @@ pub struct Clearinghouse {
 
 impl Clearinghouse {
     /// A clearinghouse without directories. It takes no memory.
-    pub fn new(alloc: Global, house: HouseNo, node: Node) -> Clearinghouse {
+    pub fn new(alloc: Global, house: HouseNo, node: Node) -> Clearinghouse
+        ensures { result ≡ record { house = house; node = node; floor = record { time = 0 }; dirs = map.empty; spent = false } }
+    {
         Clearinghouse {
             house,
             node,
@@ -37,22 +61,30 @@ impl Clearinghouse {
     }
 
     /// What it has of a directory, if it ever had something.
-    pub fn state(&self, dir: DirId) -> Option<&DirState> {
+    pub fn state(&self, dir: DirId) -> Option<&DirState>
+        ensures { option_copied result ≡ map.get self.now.dirs dir }
+    {
         self.dirs.get(&dir)
     }
 
     /// The floor of its stamps: no later time stands in what it has.
-    pub fn floor(&self) -> u64 {
+    pub fn floor(&self) -> u64
+        ensures { result ≡ self.now.floor.time }
+    {
         self.floor.time
     }
 
     /// Whether a call wanted for memory. From then on each call that can answer want of memory answers it.
-    pub fn is_spent(&self) -> bool {
+    pub fn is_spent(&self) -> bool
+        ensures { result ≡ self.now.spent }
+    {
         self.spent
     }
 
     /// The same clearinghouse once more, spent or not.
-    pub fn copy(&self, alloc: Global) -> Result<Clearinghouse, AllocError> {
+    pub fn copy(&self, alloc: Global) -> Result<Clearinghouse, AllocError>
+        ensures { IfOk result (λ c. c ≡ self.now) }
+    {
         Ok(Clearinghouse {
             house: self.house,
             node: self.node,
@@ -69,7 +101,15 @@ impl Clearinghouse {
         alloc: Global,
         dir: DirId,
         members: &Members,
-    ) -> Result<PostedList, AllocError> {
+    ) -> Result<PostedList, AllocError>
+        requires absent { map.get self.old.dirs dir ≡ None }
+        requires master { master_of (members_of members.now) ≡ self.old.house.0 }
+        ensures call { IsCall self.old self.new result }
+        ensures floor { self.new.floor ≡ self.old.floor }
+        ensures kept { IsLawful self.old → IsLawful self.new }
+        ensures step { (now : model.House) → StandsHouse self.old now
+            → IfOk result (λ posted. IsTurn (found self.old.house.0 now dir.0 (members_of members.now)) self.new posted) }
+    {
         let outgoing = self.found(alloc, dir, members)?;
         self.posted(alloc, dir, Some(&outgoing))
     }
@@ -80,7 +120,15 @@ impl Clearinghouse {
         alloc: Global,
         dir: DirId,
         members: &Members,
-    ) -> Result<Outgoing, AllocError> {
+    ) -> Result<Outgoing, AllocError>
+        requires absent { map.get self.old.dirs dir ≡ None }
+        requires master { master_of (members_of members.now) ≡ self.old.house.0 }
+        ensures call { IsCall self.old self.new result }
+        ensures floor { self.new.floor ≡ self.old.floor }
+        ensures kept { IsLawful self.old → IsLawful self.new }
+        ensures step { (now : model.House) → StandsHouse self.old now
+            → IfOk result (λ outgoing. IsTurn (found self.old.house.0 now dir.0 (members_of members.now)) self.new (posts_at self.new dir (Some outgoing))) }
+    {
         self.usable()?;
         let done = self.insert_first(alloc, dir, members);
         self.heed(done)
@@ -105,7 +153,15 @@ impl Clearinghouse {
         clock: u64,
         dir: DirId,
         update: &Update,
-    ) -> Result<Accepted, AllocError> {
+    ) -> Result<Accepted, AllocError>
+        ensures call { IsCall self.old self.new result }
+        ensures kept { IsLawful self.old → IsLawful self.new }
+        ensures answer { IfOk result (λ a. accept_result a
+            ≡ accept_answer self.old.house.0 (next_stamp clock self.old.floor.time self.old.node) (change_of update.now) (map.get self.old.dirs dir)) }
+        ensures refused { IfOk result (λ a. OnErr (accept_result a) (self.new ≡ self.old)) }
+        ensures step { (now : model.House) → StandsHouse self.old now → now.clock ≡ clock
+            → IfOk result (λ a. IsStep (IsAcceptAnswer a) (accept self.old.house.0 now dir.0 (change_of update.now)) self.old self.new (accept_posts a)) }
+    {
         let turn = self.accept_update(alloc, clock, dir, update)?;
         let posted = self.posted(alloc, dir, turn.outgoing.as_ref())?;
         match turn.answer {
@@ -121,7 +177,15 @@ impl Clearinghouse {
         clock: u64,
         dir: DirId,
         update: &Update,
-    ) -> Result<Turn<Result<Stamp, UpdateRefusal>>, AllocError> {
+    ) -> Result<Turn<Result<Stamp, UpdateRefusal>>, AllocError>
+        ensures call { IsCall self.old self.new result }
+        ensures kept { IsLawful self.old → IsLawful self.new }
+        ensures answer { IfOk result (λ turn. turn.answer
+            ≡ accept_answer self.old.house.0 (next_stamp clock self.old.floor.time self.old.node) (change_of update.now) (map.get self.old.dirs dir)) }
+        ensures refused { IfOk result (λ turn. OnErr turn.answer ((self.new ≡ self.old) × (turn.outgoing ≡ None))) }
+        ensures step { (now : model.House) → StandsHouse self.old now → now.clock ≡ clock
+            → IfOk result (λ turn. IsStep (IsStampAnswer turn.answer) (accept self.old.house.0 now dir.0 (change_of update.now)) self.old self.new (posts_at self.new dir turn.outgoing)) }
+    {
         self.usable()?;
         let by = self.issuer(clock);
         let done = match self.dirs.held_mut(&dir) {
@@ -133,7 +197,17 @@ impl Clearinghouse {
 
     /// Takes a message of another house, and posts what it says to it. The floor rises to the greatest time in a message
     /// that is taken.
-    pub fn take(&mut self, alloc: Global, message: &Message) -> Result<Took, AllocError> {
+    pub fn take(&mut self, alloc: Global, message: &Message) -> Result<Took, AllocError>
+        ensures call { IsCall self.old self.new result }
+        ensures kept { IsValidMessage message.now → IsLawful self.old → IsLawful self.new }
+        ensures same { IfOk result (λ took. UnlessTaken took.taken ((self.new ≡ self.old) × (took.posted ≡ []))) }
+        ensures floor { IfOk result (λ took. IfTaken took.taken (self.new.floor.time ≡ max self.old.floor.time (latest_in_message message.now))) }
+        ensures others { IfOk result ((dir : number.DirId) → dir ≢ message.now.dir → map.get self.new.dirs dir ≡ map.get self.old.dirs dir) }
+        ensures looks { (now : model.House) (m : model.Message) → LooksHouse self.old message.now.dir now → LooksMessage self.old.house.0 message.now m
+            → IfOk result (λ took. LooksStep (IsTakeAnswer took.taken) (take now m) message.now.dir self.new) }
+        ensures step { (now : model.House) (m : model.Message) → StandsHouse self.old now → StandsMessage self.old.house.0 message.now m → CanTake now m
+            → IfOk result (λ took. IsStep (IsTakeAnswer took.taken) (take now m) self.old self.new took.posted) }
+    {
         let turn = self.take_message(alloc, message)?;
         let posted = self.posted(alloc, message.dir, turn.outgoing.as_ref())?;
         Ok(Took {
@@ -147,7 +221,17 @@ impl Clearinghouse {
         &mut self,
         alloc: Global,
         message: &Message,
-    ) -> Result<Turn<Taken>, AllocError> {
+    ) -> Result<Turn<Taken>, AllocError>
+        ensures call { IsCall self.old self.new result }
+        ensures kept { IsValidMessage message.now → IsLawful self.old → IsLawful self.new }
+        ensures same { IfOk result (λ turn. UnlessTaken turn.answer ((self.new ≡ self.old) × (turn.outgoing ≡ None))) }
+        ensures floor { IfOk result (λ turn. IfTaken turn.answer (self.new.floor.time ≡ max self.old.floor.time (latest_in_message message.now))) }
+        ensures others { IfOk result ((dir : number.DirId) → dir ≢ message.now.dir → map.get self.new.dirs dir ≡ map.get self.old.dirs dir) }
+        ensures looks { (now : model.House) (m : model.Message) → LooksHouse self.old message.now.dir now → LooksMessage self.old.house.0 message.now m
+            → IfOk result (λ turn. LooksStep (IsTakeAnswer turn.answer) (take now m) message.now.dir self.new) }
+        ensures step { (now : model.House) (m : model.Message) → StandsHouse self.old now → StandsMessage self.old.house.0 message.now m → CanTake now m
+            → IfOk result (λ turn. IsStep (IsTakeAnswer turn.answer) (take now m) self.old self.new (posts_at self.new message.now.dir turn.outgoing)) }
+    {
         self.usable()?;
         let done = match &message.body {
             Body::Join(members, replica) => self.take_join(alloc, message, members, replica),
@@ -243,7 +327,14 @@ impl Clearinghouse {
         alloc: Global,
         clock: u64,
         dir: DirId,
-    ) -> Result<Skulked, AllocError> {
+    ) -> Result<Skulked, AllocError>
+        ensures call { IsCall self.old self.new result }
+        ensures kept { IsLawful self.old → IsLawful self.new }
+        ensures answer { IfOk result (λ s. skulk_result s ≡ skulk_answer self.old.house.0 (next_stamp clock self.old.floor.time self.old.node) (map.get self.old.dirs dir)) }
+        ensures refused { IfOk result (λ s. OnErr (skulk_result s) (self.new ≡ self.old)) }
+        ensures step { (now : model.House) → StandsHouse self.old now → now.clock ≡ clock
+            → IfOk result (λ s. IsStep (IsSkulkAnswer s) (skulk self.old.house.0 now dir.0) self.old self.new (skulk_posts s)) }
+    {
         let turn = self.begin_skulk(clock, dir)?;
         let posted = self.posted(alloc, dir, turn.outgoing.as_ref())?;
         match turn.answer {
@@ -258,7 +349,15 @@ impl Clearinghouse {
         &mut self,
         clock: u64,
         dir: DirId,
-    ) -> Result<Turn<Result<Begun, UpdateRefusal>>, AllocError> {
+    ) -> Result<Turn<Result<Begun, UpdateRefusal>>, AllocError>
+        ensures call { IsCall self.old self.new result }
+        ensures usable { is_err result ≡ self.old.spent }
+        ensures kept { IsLawful self.old → IsLawful self.new }
+        ensures answer { IfOk result (λ turn. turn.answer ≡ skulk_answer self.old.house.0 (next_stamp clock self.old.floor.time self.old.node) (map.get self.old.dirs dir)) }
+        ensures refused { IfOk result (λ turn. OnErr turn.answer ((self.new ≡ self.old) × (turn.outgoing ≡ None))) }
+        ensures step { (now : model.House) → StandsHouse self.old now → now.clock ≡ clock
+            → IfOk result (λ turn. IsStep (IsBegunAnswer turn.answer) (skulk self.old.house.0 now dir.0) self.old self.new (posts_at self.new dir turn.outgoing)) }
+    {
         self.usable()?;
         let by = self.issuer(clock);
         match self.dirs.held_mut(&dir) {
@@ -276,7 +375,17 @@ impl Clearinghouse {
         epoch: EpochNo,
         members: &Members,
         leaving: &[HouseNo],
-    ) -> Result<EpochSet, AllocError> {
+    ) -> Result<EpochSet, AllocError>
+        requires master { master_of (members_of members.now) ≡ self.old.house.0 }
+        ensures call { IsCall self.old self.new result }
+        ensures floor { self.new.floor ≡ self.old.floor }
+        ensures kept { IsLawful self.old → IsLawful self.new }
+        ensures answer { IfOk result (λ e. epoch_result e ≡ epoch_refused self.old.house.0 epoch.0 (members_of members.now) (map.get self.old.dirs dir)) }
+        ensures refused { IfOk result (λ e. IfSome (epoch_result e) (λ _. self.new ≡ self.old)) }
+        ensures step { (now : model.House) → StandsHouse self.old now → IsLater epoch.0 (map.get self.old.dirs dir)
+            → IfOk result (λ e. IsStep (IsEpochAnswer epoch.0 e)
+            (new_epoch self.old.house.0 now dir.0 epoch.0 (members_of members.now) (numbers_of leaving.now)) self.old self.new (epoch_posts e)) }
+    {
         if let Err(refusal) = self.enter_epoch(alloc, dir, epoch, members)? {
             return Ok(EpochSet::Refused(refusal));
         }
@@ -293,7 +402,15 @@ impl Clearinghouse {
         dir: DirId,
         epoch: EpochNo,
         members: &Members,
-    ) -> Result<Result<(), EpochRefusal>, AllocError> {
+    ) -> Result<Result<(), EpochRefusal>, AllocError>
+        requires master { master_of (members_of members.now) ≡ self.old.house.0 }
+        ensures call { IsCall self.old self.new result }
+        ensures floor { self.new.floor ≡ self.old.floor }
+        ensures kept { IsLawful self.old → IsLawful self.new }
+        ensures answer { IfOk result (λ e. err e ≡ epoch_refused self.old.house.0 epoch.0 (members_of members.now) (map.get self.old.dirs dir)) }
+        ensures refused { IfOk result (λ e. OnErr e (self.new ≡ self.old)) }
+        ensures held { IfOk result (λ e. OnOk e (Enters self.old self.new dir epoch members.now)) }
+    {
         self.usable()?;
         let house = self.house;
         let done = match self.dirs.held_mut(&dir) {
@@ -304,7 +421,10 @@ impl Clearinghouse {
     }
 
     /// The octets of what it keeps over a crash.
-    pub fn image(&self, alloc: Global) -> Result<Vec<u8>, AllocError> {
+    pub fn image(&self, alloc: Global) -> Result<Vec<u8>, AllocError>
+        ensures usable { IfOk result (self.now.spent ≡ false) }
+        ensures octets { IfOk result (λ v. v.items ≡ image_octets (image_of self.now)) }
+    {
         self.usable()?;
         let count = self.dirs.len() as u64;
         let mut image =
@@ -321,7 +441,10 @@ impl Clearinghouse {
     }
 
     /// The house that kept these octets, with no skulk that runs; its floor is raised to the greatest time in them.
-    pub fn start(alloc: Global, octets: &[u8]) -> Result<Clearinghouse, AllocOr<StartFault>> {
+    pub fn start(alloc: Global, octets: &[u8]) -> Result<Clearinghouse, AllocOr<StartFault>>
+        ensures answer { Answers result (started octets.now) }
+        ensures lawful { IfOk result IsLawful }
+    {
         let (image, length) = match decode_image(alloc, octets) {
             Ok(decoded) => decoded,
             Err(AllocOr::Fault(fault)) => return Err(AllocOr::Fault(StartFault::BadImage(fault))),
