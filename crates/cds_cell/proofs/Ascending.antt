@@ -8,7 +8,8 @@ use Rattle.cds_stamps.proofs.OutcomeLaws.{ok_unless-Ok, ok_unless-Err}
 use Rattle.cell_names.specs.Houses.{Houses, count_in_order, list_fault}
 use Rattle.cell_names.specs.declared.houses.HousesFault.{HousesFault}
 use Rattle.cell_names.specs.declared.houses.HousesFault.TheVariants.{BadHouses}
-use Rattle.cell_model.specs.Steps.{has, stands_twice, is_bad_list, insert_house, ascending}
+use Rattle.cell_model.specs.Sets.{has}
+use Rattle.cell_model.specs.Steps.{stands_twice, is_bad_list, insert_house, ascending}
 
 -- each number is at least the one before
 abbrev pub Rises : List ℕ → Type 0

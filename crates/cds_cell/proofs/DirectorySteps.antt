@@ -29,9 +29,10 @@ use Rattle.directory.proofs.UpdateLaws.{marks_of-together}
 use Rattle.cell_model.specs.Cells as model
 use Rattle.cell_model.specs.Cells.{House, Replica, Held, Slot, put}
 use Rattle.cell_model.specs.Commands as command
-use Rattle.cell_model.specs.Steps.{Outcome, outcome, has, unless, accept, accept_at, update_refusal, stamp_at, serials_of, to_each, refused, grown}
-use Rattle.cell_model.specs.Steps.{holding, moved, founded, first_replica, copy_of, with_directory, mkdir, root as make_root, is_missing}
-use Rattle.cell_model.specs.Steps.{is_bad_list, ascending}
+use Rattle.cell_model.specs.Sets.{has}
+use Rattle.cell_model.specs.Turns.{unless_refused, accept, accept_in, accept_at, update_refusal, stamp_at, to_each, grown, holding, first_replica, copy_of}
+use Rattle.cell_model.specs.Steps.{Outcome, outcome, at_house, serials_of, refused, moved, founded, with_directory, mkdir, root as make_root}
+use Rattle.cell_model.specs.Steps.{is_missing, is_bad_list, ascending}
 use Rattle.cds_cell.specs.declared.update.Accepted.{Accepted}
 use Rattle.cds_cell.specs.declared.update.Accepted.TheVariants as outcomes
 use Rattle.cell_script.specs.declared.answer.Answer.{Answer}
@@ -87,10 +88,10 @@ module _ (c : Cell) (g : model.Cell) (s : Stands c g) (h i k : ℕ) (house : Loc
   stands_at = let stands = s.directories d in rw at at stands
 
   -- the house holds no replica
-  pub elsewhere_step : l.master.0 ≢ h → IsAccepted (outcomes.Refused update.NoReplica) c (accept g h d u ((g.house h).slots d))
+  pub elsewhere_step : l.master.0 ≢ h → IsAccepted (outcomes.Refused update.NoReplica) c (at_house g h (accept h (g.house h) d u))
   elsewhere_step apart =
       let other : IsElsewhere h (directory_of c.directories.items d) = rw at apart in
-      let is : accept g h d u ((g.house h).slots d) ≡ refused g (command.Update update.NoReplica) = ap (accept g h d u) (s.elsewhere h d other) in
+      let is : at_house g h (accept h (g.house h) d u) ≡ refused g (command.Update update.NoReplica) = ap (λ o. at_house g h (accept_in h (g.house h) d u o)) (s.elsewhere h d other) in
       subst (IsAccepted (outcomes.Refused update.NoReplica) c) (sym is) (record { answer = refl; stands = s })
 
   module _ (here : l.master.0 ≡ h) where
@@ -107,7 +108,7 @@ module _ (c : Cell) (g : model.Cell) (s : Stands c g) (h i k : ℕ) (house : Loc
     stamp = next_stamp house.clock house.floor.time house.node
 
     abbrev due : Outcome
-    due = unless g (option_map command.Update refusal) (accept_at g h d u r stamp)
+    due = at_house g h (unless_refused refusal (accept_at h (g.house h) d u r stamp))
 
     held : (g.house h).slots d ≡ Held r
     held = ap (λ m. (g.house m).slots d) (sym here) ∙ stands_at.held
@@ -115,12 +116,12 @@ module _ (c : Cell) (g : model.Cell) (s : Stands c g) (h i k : ℕ) (house : Loc
     members : r.members ≡ alone h
     members = stands_at.members ∙ ap alone here
 
-    is_due : accept g h d u ((g.house h).slots d) ≡ due
+    is_due : at_house g h (accept h (g.house h) d u) ≡ due
     is_due = cc (accepts, tests, stamps)
       where
-        accepts : accept g h d u ((g.house h).slots d)
-            ≡ unless g (option_map command.Update (update_refusal h u r)) (accept_at g h d u r (stamp_at (g.house h)))
-        accepts = ap (accept g h d u) held
+        accepts : at_house g h (accept h (g.house h) d u)
+            ≡ at_house g h (unless_refused (update_refusal h u r) (accept_at h (g.house h) d u r (stamp_at (g.house h))))
+        accepts = ap (λ o. at_house g h (accept_in h (g.house h) d u o)) held
 
         tests : update_refusal h u r ≡ refusal
         tests = rw (members, alone_accepts h) refl
@@ -254,14 +255,14 @@ module _ (c : Cell) (g : model.Cell) (s : Stands c g) (h i k : ℕ) (house : Loc
               present = stands_at.present ∙ ap (λ (n : HouseNo). alone n.0) (sym master_same);
             })
 
-        answered : (accept_at g h d u r (Some t)).answer ≡ accepted_answer a
+        answered : (at_house g h (accept_at h (g.house h) d u r (Some t))).answer ≡ accepted_answer a
         answered =
             ap (λ others. command.Stamped t (serials_of g (to_each others d h r.epoch t.time (model.Update marks)))) (ap (others_of h) members ∙ alone_others h)
             ∙ ap accepted_answer (sym took.answer)
 
       -- the update of the table is the step of the model
       step_by : (o : Option UpdateRefusal) (st : Option Stamp) → refusal ≡ o → stamp ≡ st → Updates marks_so_far u house.floor.time o st a l'.table w.floor.time
-          → IsAccepted a c' (unless g (option_map command.Update o) (accept_at g h d u r st))
+          → IsAccepted a c' (at_house g h (unless_refused o (accept_at h (g.house h) d u r st)))
       step_by (Some q) st is issued took = record { answer = ap accepted_answer (sym took.answer); stands = unchanged took.table took.floor }
       step_by None None is issued took = record { answer = ap accepted_answer (sym took.answer); stands = unchanged took.table took.floor }
       step_by None (Some t) is issued took = record { answer = answered t is issued took; stands = grown_stands t is issued took }
@@ -272,10 +273,10 @@ module _ (c : Cell) (g : model.Cell) (s : Stands c g) (h i k : ℕ) (house : Loc
         → c'.houses.items ≡ slice_set c.houses.items k w → c'.directories.items ≡ slice_set c.directories.items i l'
         → ((marks : List Mark) → IsHistory marks → IsBelow marks house.floor.time → l.table ≡ table_of marks
         → IfOk result (λ a. Updates marks u house.floor.time (refusal_of (shown marks (changed_name u)) u) stamp a l'.table w.floor.time))
-        → IfOk result (λ a. IsAccepted a c' (accept g h d u ((g.house h).slots d)))
+        → IfOk result (λ a. IsAccepted a c' (at_house g h (accept h (g.house h) d u)))
     accepted_step result c' w l' house_same node_same clock_same master_same houses directories took =
         IfOk-weaker result (λ a. Updates marks_so_far u house.floor.time refusal stamp a l'.table w.floor.time)
-        (λ a. IsAccepted a c' (accept g h d u ((g.house h).slots d)))
+        (λ a. IsAccepted a c' (at_house g h (accept h (g.house h) d u)))
         (λ a updates. subst (IsAccepted a c') (sym is_due)
         (step_by c' a w l' house_same node_same clock_same master_same houses directories refusal stamp refl refl updates))
         (took marks_so_far stands_at.history below stands_at.table)
@@ -409,7 +410,7 @@ module _ (c : Cell) (g : model.Cell) (s : Stands c g) (h d : ℕ) (u : Change) w
 
   -- any other update comes to what the house makes of it
   pub passes : (l : LocalDirectory) → directory_of c.directories.items d ≡ Some l → (w : LocalHouse) → house_of c.houses.items h ≡ Some w
-      → outcome g (command.Accept h d u) ≡ accept g h d u ((g.house h).slots d)
+      → outcome g (command.Accept h d u) ≡ at_house g h (accept h (g.house h) d u)
   passes l is w there = rw (known_top l is, made_house w there, up_house w there) refl
 
 -- the directory at a place in range
@@ -471,13 +472,13 @@ root_of_none c g s m none missing =
 
 -- an update leaves the houses and the next number
 pub accept_keeps : (g : model.Cell) (h d : ℕ) (u : Change) (o : Slot)
-    → ((accept g h d u o).cell.made ≡ g.made) × ((accept g h d u o).cell.next_dir ≡ g.next_dir)
+    → ((at_house g h (accept_in h (g.house h) d u o)).cell.made ≡ g.made) × ((at_house g h (accept_in h (g.house h) d u o)).cell.next_dir ≡ g.next_dir)
 accept_keeps g h d u model.Absent = (refl, refl)
 accept_keeps g h d u (model.Gone e) = (refl, refl)
 accept_keeps g h d u (Held r) = go (update_refusal h u r) (stamp_at (g.house h))
   where
-    go : (q : Option UpdateRefusal) (st : Option Stamp) → ((unless g (option_map command.Update q) (accept_at g h d u r st)).cell.made ≡ g.made)
-        × ((unless g (option_map command.Update q) (accept_at g h d u r st)).cell.next_dir ≡ g.next_dir)
+    go : (q : Option UpdateRefusal) (st : Option Stamp) → ((at_house g h (unless_refused q (accept_at h (g.house h) d u r st))).cell.made ≡ g.made)
+        × ((at_house g h (unless_refused q (accept_at h (g.house h) d u r st))).cell.next_dir ≡ g.next_dir)
     go (Some q) st = (refl, refl)
     go None None = (refl, refl)
     go None (Some t) = (refl, refl)
@@ -595,6 +596,6 @@ module _ (c : Cell) (g : model.Cell) (s : Stands c g) (h d : ℕ) (n : List ℕ)
   -- any other comes to what the directory's house makes of it
   pub repoint_passes : (l : LocalDirectory) → directory_of c.directories.items d ≡ Some l → (w : LocalHouse) → house_of c.houses.items h ≡ Some w
       → is_missing g (m ∷ rs) ≡ false → is_bad_list (m ∷ rs) ≡ false
-      → outcome g (command.Repoint h d n m rs) ≡ accept g h d (changes.Repoint n m (ascending rs)) ((g.house h).slots d)
+      → outcome g (command.Repoint h d n m rs) ≡ at_house g h (accept h (g.house h) d (changes.Repoint n m (ascending rs)))
   repoint_passes l is w there all good =
       rw (known_top c g s h d some_change l is, made_house c g s h d some_change w there, all, good, up_house c g s h d some_change w there) refl

@@ -5,7 +5,7 @@ use Rattle.std.proofs.lemmas.Bool.Decides.{nat_tests}
 use Rattle.cds_stamps.specs.declared.members.MemberKind.TheVariants.{Master}
 use Rattle.cds_stamps.specs.Members.{master_of, others_of, is_accepting}
 use Rattle.cell_model.specs.Cells.{Cell, put}
-use Rattle.cell_model.specs.Steps.{has}
+use Rattle.cell_model.specs.Sets.{has}
 use Rattle.cds_cell.specs.declared.house.LocalDirectory.{LocalDirectory}
 use Rattle.cds_cell.specs.Standing.{StandsDirectory, alone}
 

@@ -8,7 +8,8 @@ use Rattle.std.proofs.lemmas.Bool.Decides.{nat_tests}
 use Rattle.cell_model.specs.Cells as model
 use Rattle.cell_model.specs.Cells.{House, put}
 use Rattle.cell_model.specs.Commands as command
-use Rattle.cell_model.specs.Steps.{Outcome, outcome, has, is_taken, is_missing, refused, stays, new_house, set_clock}
+use Rattle.cell_model.specs.Sets.{has}
+use Rattle.cell_model.specs.Steps.{Outcome, outcome, is_taken, is_missing, refused, stays, new_house, set_clock}
 use Rattle.cell_script.specs.declared.answer.Answer.TheVariants as answer
 use Rattle.cell_script.specs.declared.answer.ScriptRefusal.TheVariants as why
 use Rattle.cds_cell.specs.declared.cell.Cell.{Cell}

@@ -7,7 +7,8 @@ use Rattle.std.proofs.Math.ListN.{get_or}
 use Rattle.cell_model.specs.Cells.{Cell}
 use Rattle.std.proofs.lemmas.Bool.Decides.{nat_tests}
 use Rattle.cds_stamps.specs.Keyed.{no_value}
-use Rattle.cell_model.specs.Steps.{has, stands_twice}
+use Rattle.cell_model.specs.Sets.{has}
+use Rattle.cell_model.specs.Steps.{stands_twice}
 use Rattle.cds_cell.specs.declared.house.LocalHouse.{LocalHouse}
 use Rattle.cds_cell.specs.Standing.{numbers_of, house_of, IsPlaceOf, MaybeStandsHouse}
 

@@ -9,10 +9,10 @@ use Rattle.cds_stamps.proofs.ListMembers.{Contains-head, Contains-tail, Contains
 use Rattle.cds_stamps.specs.Members.{master_of}
 use Rattle.directory.specs.Histories.{Birth, name_in}
 use Rattle.directory.specs.Shown.{Shown, shown}
-use Rattle.cell_model.specs.Sets.{In}
 use Rattle.cell_model.specs.Cells.{Cell, Slot, Absent, Gone, Held}
 use Rattle.cell_model.specs.Commands.{Command}
-use Rattle.cell_model.specs.Steps.{replay, accepted, has}
+use Rattle.cell_model.specs.Sets.{In, has}
+use Rattle.cell_model.specs.Steps.{replay, accepted}
 use Rattle.cell_model.proofs.Bounds.{held_low}
 use Rattle.cell_model.proofs.Facts.{view}
 use Rattle.cell_model.proofs.Marks.{shown_birth}

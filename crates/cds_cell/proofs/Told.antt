@@ -11,7 +11,7 @@ use Rattle.cell_names.specs.ChildPointers.{Pointer}
 use Rattle.directory.specs.Shown.{shown, shown_in}
 use Rattle.cell_model.specs.Cells as model
 use Rattle.cell_model.specs.Cells.{Held, Absent, Replica, Slot}
-use Rattle.cell_model.specs.Steps.{has}
+use Rattle.cell_model.specs.Sets.{has}
 use Rattle.resolver.specs.declared.seen.Found.{Found}
 use Rattle.resolver.specs.Readers.{Unreachable}
 use Rattle.cds_cell.specs.declared.cell.Cell.{Cell}

@@ -3,7 +3,7 @@ use Rattle.std.specs.Prelude.{ℕ, Bool, if◌then◌else◌, ◌==◌, List, []
 use Rattle.std.specs.Option.{option_or, option_map, option_and_then}
 use Rattle.cds_stamps.specs.Members.{master_of}
 use Rattle.cell_model.specs.Cells.{Cell, Replica, Slot, Absent, Gone, Held}
-use Rattle.cell_model.specs.Steps.{has}
+use Rattle.cell_model.specs.Sets.{has}
 
 -- a replica, and the house that holds it (own)
 pub record Asked : Type 0 where

@@ -14,7 +14,8 @@ use Rattle.directory.specs.Shown.{shown, marks_of}
 use Rattle.directory.specs.Updates.{Change, changed_name}
 use Rattle.cell_model.specs.Cells as model
 use Rattle.cell_model.specs.Cells.{Replica, Held, Absent}
-use Rattle.cell_model.specs.Steps.{Outcome, has, listing, stands_twice}
+use Rattle.cell_model.specs.Sets.{has}
+use Rattle.cell_model.specs.Steps.{Outcome, listing, stands_twice}
 use Rattle.cell_model.specs.Commands as command
 use Rattle.cell_script.specs.declared.answer.Answer.{Answer}
 use Rattle.cds_cell.specs.declared.update.Accepted.{Accepted}

@@ -4,7 +4,7 @@ use Rattle.std.specs.FinMap.{keys}
 use Rattle.cds_stamps.specs.Numbers.{root_dir}
 use Rattle.cell_names.specs.ChildPointers.{Pointer}
 use Rattle.directory.specs.Shown.{shown_in}
-use Rattle.cell_model.specs.Steps.{has}
+use Rattle.cell_model.specs.Sets.{has}
 use Rattle.resolver.specs.declared.seen.Found.{Found}
 use Rattle.resolver.specs.Readers.{Reader, Sight, Unreachable, object_found}
 use Rattle.cds_cell.specs.declared.cell.Cell.{Cell}

@@ -21,7 +21,7 @@ use Rattle.directory.specs.declared.entry.Kind.{Kind}
 use Rattle.directory.specs.declared.entry.Kind.TheVariants as kind
 use Rattle.directory.specs.Entries.{Entries}
 use Rattle.directory.specs.Shown.{Shown, shown_entry, shown_in, entry_values, face_of, leads, lead_of}
-use Rattle.cell_model.specs.Steps.{has}
+use Rattle.cell_model.specs.Sets.{has}
 use Rattle.resolver.specs.declared.seen.Found.{Found}
 use Rattle.resolver.specs.Readers.{Object, Absent, Link, Unreachable, ShowsOnly, object_found}
 use Rattle.cds_cell.specs.declared.cell.Cell.{Cell}

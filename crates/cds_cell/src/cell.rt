@@ -5,7 +5,9 @@ ghost use Rattle.std.specs.FinMap as map;
 ghost use Rattle.directory.specs.Updates.{change_of};
 ghost use Rattle.cell_model.specs.Cells as model;
 ghost use Rattle.cell_model.specs.Commands as command;
-ghost use Rattle.cell_model.specs.Steps.{outcome, accept, mkdir, has};
+ghost use Rattle.cell_model.specs.Sets.{has};
+ghost use Rattle.cell_model.specs.Turns.{accept};
+ghost use Rattle.cell_model.specs.Steps.{outcome, mkdir, at_house};
 ghost use Rattle.cds_cell.specs.declared.house.LocalDirectory.{LocalDirectory};
 ghost use Rattle.std.specs.Option.{option_map};
 ghost use Rattle.std.specs.List.{list_any};
@@ -303,7 +305,7 @@ impl Cell {
         requires directory { at < length self.old.directories.items }
         ensures count { length self.new.directories.items ≡ length self.old.directories.items }
         ensures step { (g : model.Cell) (h : ℕ) → Stands self.old g → IsPlaceOf self.old.houses.items h by
-            → IfOk result (λ a. IsAccepted a self.new (accept g h (at + 1) (change_of update.now) ((g.house h).slots (at + 1)))) }
+            → IfOk result (λ a. IsAccepted a self.new (at_house g h (accept h (g.house h) (at + 1) (change_of update.now)))) }
     {
         if self.directories[at].master != self.houses[by].house {
             return Ok(Accepted::Refused(UpdateRefusal::NoReplica));
@@ -324,7 +326,7 @@ impl Cell {
         ensures count { length self.new.directories.items ≡ length self.old.directories.items }
         ensures step { (g : model.Cell) (h : ℕ) (l : LocalDirectory) → Stands self.old g → IsPlaceOf self.old.houses.items h by
             → directory_of self.old.directories.items (at + 1) ≡ Some l → l.master.0 ≡ h
-            → IfOk result (λ a. IsAccepted a self.new (accept g h (at + 1) (change_of update.now) ((g.house h).slots (at + 1)))) }
+            → IfOk result (λ a. IsAccepted a self.new (at_house g h (accept h (g.house h) (at + 1) (change_of update.now)))) }
     {
         let directory = &mut self.directories[at];
         let house = &mut self.houses[by];

@@ -3,7 +3,7 @@ ghost use Rattle.std.specs.Prelude.{◌≡◌, IfOk, if◌then◌else◌, ◌==�
 ghost use Rattle.std.specs.Option.{option_map};
 ghost use Rattle.cell_names.specs.ChildPointers.{pointer_of};
 ghost use Rattle.directory.specs.Shown.{shown_in};
-ghost use Rattle.cell_model.specs.Steps.{has};
+ghost use Rattle.cell_model.specs.Sets.{has};
 ghost use Rattle.resolver.specs.Readers.{Unreachable, sight_of};
 ghost use Rattle.cds_cell.specs.Readings.{led_sight, link_sight, child_sight, shown_sight, values_of};
 ghost use Rattle.cds_cell.specs.Telling.{told, told_objects};

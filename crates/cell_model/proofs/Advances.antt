@@ -3,10 +3,10 @@ use Rattle.std.proofs.Common.{◌≡◌, ℕ, ◌≤◌, ◌⊎◌, inl, inr, Li
 use Rattle.std.proofs.Common.{le_trans, append_assoc}
 use Rattle.cds_stamps.specs.declared.stamp.Stamp.{Stamp}
 use Rattle.directory.specs.Histories.{Mark}
-use Rattle.cell_model.specs.Sets.{In}
 use Rattle.cell_model.specs.Cells.{Replica, Message, Cell, IsHeld, empty_cell}
 use Rattle.cell_model.specs.Bodies.{up_to_in}
 use Rattle.cell_model.specs.Commands.{Command}
+use Rattle.cell_model.specs.Sets.{In}
 use Rattle.cell_model.specs.Steps.{outcome, replay}
 use Rattle.cell_model.specs.Agreement.{place_of}
 use Rattle.cell_model.specs.Skulks.{IsCompleted, AdvancesHold}

@@ -3,10 +3,11 @@ use Rattle.std.proofs.Common.{◌≡◌, ℕ, ◌≤◌, List, [], ◌∷◌, �
 use Rattle.cds_stamps.specs.declared.stamp.Stamp.{Stamp}
 use Rattle.cds_stamps.specs.Members.{Member, since_in}
 use Rattle.directory.specs.Histories.{Mark, stamp_in}
-use Rattle.cell_model.specs.Sets.{In, IsPart}
 use Rattle.cell_model.specs.Cells.{Replica, Cell, IsHeld, empty_cell}
 use Rattle.cell_model.specs.Commands.{Command, Answer, Complete, Accepted}
-use Rattle.cell_model.specs.Steps.{moved, holding, outcome, replay, accepted}
+use Rattle.cell_model.specs.Sets.{In, IsPart}
+use Rattle.cell_model.specs.Turns.{holding}
+use Rattle.cell_model.specs.Steps.{moved, outcome, replay, accepted}
 use Rattle.cell_model.specs.Agreement.{place_of, IsAgreed, Agrees, Converges}
 use Rattle.cell_model.proofs.Lists.{append_nil, up_to_trans, In-append_left}
 use Rattle.cell_model.proofs.Terms.{Listed}

@@ -4,10 +4,10 @@ use Rattle.std.proofs.lemmas.Bool.{cases_lt}
 use Rattle.cds_stamps.specs.declared.stamp.Stamp.{Stamp}
 use Rattle.cds_stamps.specs.Members.{master_of}
 use Rattle.directory.specs.Histories.{Mark, stamp_in}
-use Rattle.cell_model.specs.Sets.{In, IsUpTo}
 use Rattle.cell_model.specs.Cells.{Phase, Idle, Replica, Slot, Held, Body, Message}
 use Rattle.cell_model.specs.Commands.{Accepted}
-use Rattle.cell_model.specs.Steps.{running}
+use Rattle.cell_model.specs.Sets.{In, IsUpTo}
+use Rattle.cell_model.specs.Turns.{running}
 use Rattle.cell_model.proofs.Lists.{time_up_to, earlier_up_to}
 use Rattle.cell_model.proofs.Terms.{Listed}
 use Rattle.cell_model.proofs.Facts.{View, IsPosted, Holds, Roll, marks_in, round_of, Reached, Good, Sound, Turn, same, idle, begins, answered}

@@ -2,14 +2,16 @@
 use Rattle.std.proofs.Common.{◌≡◌, ℕ, suc, ◌<◌, ◌≤◌, ◌⊎◌, inl, inr, true, false, List, [], refl, sym, ap, ◌∙◌, subst, arith, ⊎_elim, le_refl, le_trans}
 use Rattle.std.proofs.lemmas.Bool.{cases_lt}
 use Rattle.cds_stamps.specs.Members.{Member, master_of, others_of, is_listed, since_in}
-use Rattle.cell_model.specs.Sets.{In}
 use Rattle.cell_model.specs.Cells.{Replica, Gone, Held, Join, Leave, Message, Cell, IsHeld, put, no_house}
-use Rattle.cell_model.specs.Steps.{has, to_each, listing, leaving, copy_of, first_replica, first_joins, epoch_replica, epoch_posts}
+use Rattle.cell_model.specs.Sets.{In, has}
+use Rattle.cell_model.specs.Turns.{to_each, copy_of, first_replica, first_joins, epoch_replica}
+use Rattle.cell_model.specs.Steps.{listing, leaving}
 use Rattle.cell_model.proofs.Lists.{In-append_cases}
 use Rattle.cell_model.proofs.Terms.{Listed, listed_at, since_listed, In-others_of, master_new, master_listed, since_new, listed_before, leaving_out}
 use Rattle.cell_model.proofs.Facts.{Seat, View, view, Roll, Reached, Good, Sound, Past, crowned, founded, own, New, Frame}
 use Rattle.cell_model.proofs.Bounds.{reached_held, held_low}
 use Rattle.cell_model.proofs.FirstRound.{slot_cases}
+use Rattle.cell_model.proofs.Moves.{epoch_told}
 use Rattle.cell_model.proofs.Views.{put_back, altered}
 use Rattle.cell_model.proofs.Frames.{altered_frame, new_each, held_owed}
 
@@ -82,7 +84,7 @@ module _ (roll : Roll) (g : Cell) (d m : ℕ) (rs : List ℕ) (w : Whole roll.ho
   q = first_replica ms
 
   abbrev after : View
-  after = altered v m (g.house m).floor (Held q) (first_joins g d m ms) 1 ms
+  after = altered v m (g.house m).floor (Held q) (first_joins (g.house m).floor d m ms) 1 ms
 
   vacant : (e : ℕ) → Reached e (v.house m).slot → ⊥
   vacant e up = ⊎_elim
@@ -99,7 +101,7 @@ module _ (roll : Roll) (g : Cell) (d m : ℕ) (rs : List ℕ) (w : Whole roll.ho
   -- a new directory frames the step
   pub founds_frame : Frame roll v after []
   founds_frame =
-      altered_frame roll v [] m (g.house m).floor (Held q) (first_joins g d m ms) 1 ms s
+      altered_frame roll v [] m (g.house m).floor (Held q) (first_joins (g.house m).floor d m ms) 1 ms s
       (record {
         rises = le_refl _;
         climbs = λ e up. absurd (vacant e up);
@@ -108,7 +110,7 @@ module _ (roll : Roll) (g : Cell) (d m : ℕ) (rs : List ℕ) (w : Whole roll.ho
         next = λ _ _. inl (q, refl);
         gone = λ e z. absurd (cc);
       })
-      (new_each roll v [] m (g.house m).floor (Held q) (first_joins g d m ms) 1 ms s q refl (others_of m ms) d 1 (g.house m).floor (Join ms (copy_of q)) refl
+      (new_each roll v [] m (g.house m).floor (Held q) (first_joins (g.house m).floor d m ms) 1 ms s q refl (others_of m ms) d 1 (g.house m).floor (Join ms (copy_of q)) refl
       refl (λ k i. i) (inl (λ k i. i)) (λ c e. cc)
       (λ x o. let l = listed_at ms x (In-others_of x m ms o).1 in
       (fit, (since_in ms x 0, subst (λ (z : List Member). Listed z x (since_in ms x 0)) fit l), λ k i. i)))
@@ -131,7 +133,7 @@ module _ (roll : Roll) (g : Cell) (d m k : ℕ) (rs : List ℕ) (r : Replica) (n
   q2 = epoch_replica k ms2 r
 
   abbrev after2 : View
-  after2 = altered v2 m (g.house m).floor (Held q2) (epoch_posts g d m k ms2 r) k ms2
+  after2 = altered v2 m (g.house m).floor (Held q2) (epoch_told g d m k ms2 r) k ms2
 
   low : r.epoch < k
   low = omega (arith, (s.held m r at).top, next)
@@ -147,13 +149,13 @@ module _ (roll : Roll) (g : Cell) (d m k : ℕ) (rs : List ℕ) (r : Replica) (n
       omega (arith, lb'.1, e, f, since)
 
   joins : (p : Message) → In p (to_each (others_of m ms2) d m k (g.house m).floor (Join ms2 (copy_of r))) → New roll v2 after2 [] p
-  joins p i = new_each roll v2 [] m (g.house m).floor (Held q2) (epoch_posts g d m k ms2 r) k ms2 s q2 refl (others_of m ms2) d k (g.house m).floor
+  joins p i = new_each roll v2 [] m (g.house m).floor (Held q2) (epoch_told g d m k ms2 r) k ms2 s q2 refl (others_of m ms2) d k (g.house m).floor
       (Join ms2 (copy_of r)) refl refl (λ j z. z) (inl (λ j z. z)) (λ c e. cc)
       (λ x o. let lx = listed_at ms2 x (In-others_of x m ms2 o).1 in
       (fit, (since_in ms2 x 0, subst (λ (z : List Member). Listed z x (since_in ms2 x 0)) fit lx), λ j z. z)) p i
 
   leavers : (p : Message) → In p (to_each (leaving (g.present d) ms2) d m k (g.house m).floor Leave) → New roll v2 after2 [] p
-  leavers p i = new_each roll v2 [] m (g.house m).floor (Held q2) (epoch_posts g d m k ms2 r) k ms2 s q2 refl (leaving (g.present d) ms2) d k
+  leavers p i = new_each roll v2 [] m (g.house m).floor (Held q2) (epoch_told g d m k ms2 r) k ms2 s q2 refl (leaving (g.present d) ms2) d k
       (g.house m).floor Leave refl refl (λ j z. elim z [ ]) (inr (λ j z. elim z [ ])) (λ c e. cc)
       (λ x o b lb. let out = leaving_out x (g.present d) ms2 o in let lb' : Listed ms2 x b = subst (λ (z : List Member). Listed z x b) (sym fit) lb in
       let within : is_listed x ms2 ≡ true = lb'.0 in absurd (cc)) p i
@@ -161,8 +163,8 @@ module _ (roll : Roll) (g : Cell) (d m k : ℕ) (rs : List ℕ) (r : Replica) (n
   -- so does a new epoch
   pub crowns_frame : Frame roll v2 after2 []
   crowns_frame =
-      altered_frame roll v2 [] m (g.house m).floor (Held q2) (epoch_posts g d m k ms2 r) k ms2 s
-      (held_owed roll v2 [] m (g.house m).floor (Held q2) (epoch_posts g d m k ms2 r) k ms2 s q2 refl (le_refl _)
+      altered_frame roll v2 [] m (g.house m).floor (Held q2) (epoch_told g d m k ms2 r) k ms2 s
+      (held_owed roll v2 [] m (g.house m).floor (Held q2) (epoch_told g d m k ms2 r) k ms2 s q2 refl (le_refl _)
       (λ e up. let z = reached_held e _ r at up in omega (arith, low))
       (crowned r at low (λ j i. i) cont (omega (arith, next)) refl refl mine2 refl)
       (λ j i. own r at i (omega (arith, low)) cont (λ k z. z)))

@@ -7,9 +7,9 @@ use Rattle.attr_sets.specs.Cells.{Marked}
 use Rattle.directory.specs.declared.entry.Kind.TheVariants.{Object}
 use Rattle.directory.specs.Histories.{Mark, Birth, Attr}
 use Rattle.directory.specs.Updates.{Create, MakeLink}
-use Rattle.cell_model.specs.Sets.{IsUpTo}
 use Rattle.cell_model.specs.Cells.{Gathered, Message}
 use Rattle.cell_model.specs.Commands.{Command, House, Root, Mkdir, Accept, Crash, BadMembers, Down, NoDirectory, Done, Posted, Made, Stamped, Refused}
+use Rattle.cell_model.specs.Sets.{IsUpTo}
 use Rattle.cell_model.specs.Steps.{listing, leaving, is_bad_list, answers}
 use Rattle.cell_model.specs.Agreement.{IsShown, Covers, of_absence}
 use Rattle.cell_model.specs.Rounds.{first_answer}

@@ -3,12 +3,12 @@ use Rattle.std.proofs.Common.{◌≡◌, ℕ, suc, ◌<◌, ◌≤◌, ◌⊎◌
 use Rattle.cds_stamps.specs.declared.stamp.Stamp.{Stamp}
 use Rattle.cds_stamps.specs.Members.{Member, master_of}
 use Rattle.directory.specs.Histories.{Mark, stamp_in}
-use Rattle.cell_model.specs.Sets.{In, IsPart}
 use Rattle.cell_model.specs.Cells.{Idle, Gathering, Spreading, Replica, Slot, Absent, Gone, Held, Copy, Body, Update, Gather, Gathered, Spread}
 use Rattle.cell_model.specs.Cells.{SpreadAck, Advance, Join, Leave, Message, Cell}
 pub use Rattle.cell_model.specs.Bodies.{marks_in, round_of, up_to_in, copy_in}
 use Rattle.cell_model.specs.Commands.{Accepted}
-use Rattle.cell_model.specs.Steps.{running, copy_of}
+use Rattle.cell_model.specs.Sets.{In, IsPart}
+use Rattle.cell_model.specs.Turns.{running, copy_of}
 use Rattle.cell_model.proofs.Terms.{Listed, others}
 
 -- ---- one directory

@@ -4,11 +4,11 @@ use Rattle.std.proofs.lemmas.Bool.{cases_lt}
 use Rattle.cds_stamps.specs.declared.stamp.Stamp.{Stamp}
 use Rattle.cds_stamps.specs.Members.{Member, master_of}
 use Rattle.directory.specs.Histories.{Mark, stamp_in}
-use Rattle.cell_model.specs.Sets.{In, IsPart, IsUpTo}
 use Rattle.cell_model.specs.Cells.{Phase, Idle, Gathering, Spreading, Replica, Slot, Absent, Gone, Held, Copy, Body, Gather, Gathered, Spread}
 use Rattle.cell_model.specs.Cells.{SpreadAck, Message}
 use Rattle.cell_model.specs.Commands.{Accepted}
-use Rattle.cell_model.specs.Steps.{running}
+use Rattle.cell_model.specs.Sets.{In, IsPart, IsUpTo}
+use Rattle.cell_model.specs.Turns.{running}
 use Rattle.cell_model.proofs.Lists.{time_up_to, earlier_up_to, up_to_itself}
 use Rattle.cell_model.proofs.Terms.{Listed, others, In-others, listed-others}
 use Rattle.cell_model.proofs.Facts.{View, IsPosted, Holds, Roll, marks_in, round_of, Reached, Sound, Past, grew, rose, crowned, copied, founded}

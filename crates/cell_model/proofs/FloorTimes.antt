@@ -2,10 +2,10 @@
 use Rattle.std.proofs.Common.{◌≡◌, ℕ, ◌≤◌, ◌⊎◌, inl, inr, List, [], ◌∷◌, ◌++◌, Some, refl, sym, ap, ◌∙◌, subst, arith, ⊎_elim, le_trans, append_assoc}
 use Rattle.cds_stamps.specs.declared.stamp.Stamp.{Stamp}
 use Rattle.directory.specs.Histories.{stamp_in, born_in}
-use Rattle.cell_model.specs.Sets.{In}
 use Rattle.cell_model.specs.Cells.{Replica, Copy, Body, Update, Gather, Gathered, Spread, SpreadAck, Advance, Join, Leave, Message, Cell, IsHeld, empty_cell}
 use Rattle.cell_model.specs.Bodies.{round_of, up_to_in, copy_in}
 use Rattle.cell_model.specs.Commands.{Command}
+use Rattle.cell_model.specs.Sets.{In}
 use Rattle.cell_model.specs.Steps.{outcome, replay}
 use Rattle.cell_model.specs.Floors.{FloorsHold, FloorsRise}
 use Rattle.cell_model.proofs.Lists.{append_nil, time_up_to}

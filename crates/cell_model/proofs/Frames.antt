@@ -2,10 +2,10 @@
 use Rattle.std.proofs.Common.{◌≡◌, ℕ, suc, ◌≤◌, ◌⊎◌, inl, inr, List, [], ◌∷◌, Some, refl, sym, ◌∙◌, subst, arith, ⊎_elim, le_refl}
 use Rattle.cds_stamps.specs.Members.{Member, master_of}
 use Rattle.directory.specs.Histories.{Mark}
-use Rattle.cell_model.specs.Sets.{In, IsPart}
 use Rattle.cell_model.specs.Cells.{Idle, Replica, Slot, Gone, Held, Copy, Body, Leave, Message}
 use Rattle.cell_model.specs.Commands.{Accepted}
-use Rattle.cell_model.specs.Steps.{copy_of, to_each}
+use Rattle.cell_model.specs.Sets.{In, IsPart}
+use Rattle.cell_model.specs.Turns.{copy_of, to_each}
 use Rattle.cell_model.proofs.Lists.{In-append_left, In-append_cases, In-map}
 use Rattle.cell_model.proofs.Terms.{Listed}
 use Rattle.cell_model.proofs.Facts.{Seat, View, IsPosted, Holds, Roll, marks_in, copy_in, Reached, Good, Sound, Turn, same, idle, Past, grew, Came}

@@ -5,11 +5,12 @@ use Rattle.cds_stamps.specs.declared.stamp.Stamp.{Stamp}
 use Rattle.cds_stamps.specs.Members.{Member, master_of, others_of, since_in}
 use Rattle.cds_stamps.specs.Stamps.{is_stamp}
 use Rattle.directory.specs.Histories.{Mark, stamp_in}
-use Rattle.cell_model.specs.Sets.{In}
 use Rattle.cell_model.specs.Cells.{Phase, Gathering, Replica, Copy, Body, Update, Gather, Gathered, Spread, SpreadAck, Advance, Join, Leave, Message}
 use Rattle.cell_model.specs.Cells.{Cell, IsHeld}
 use Rattle.cell_model.specs.Commands.{Command, Accepted}
-use Rattle.cell_model.specs.Steps.{running, replay, accepted}
+use Rattle.cell_model.specs.Sets.{In}
+use Rattle.cell_model.specs.Turns.{running}
+use Rattle.cell_model.specs.Steps.{replay, accepted}
 use Rattle.cell_model.specs.Provenance.{HasPassed}
 use Rattle.cell_model.specs.Rounds.{TookGather, answer_in, or_first, first_answer, InGathering, at_master, at_member, in_answer, WhileGathering, GatheringHolds}
 use Rattle.cell_model.proofs.Lists.{eq_from, eq_to, stamp_from, up_to_trans, and_left, and_right}

@@ -3,10 +3,11 @@ use Rattle.std.proofs.Common.{◌≡◌, ℕ, ◌<◌, ◌≤◌, ◌+◌, appen
 use Rattle.std.proofs.Common.{⊎_elim, le_refl, le_trans}
 use Rattle.cds_stamps.specs.declared.stamp.Stamp.{Stamp}
 use Rattle.cds_stamps.specs.Members.{others_of}
-use Rattle.cell_model.specs.Sets.{In}
 use Rattle.cell_model.specs.Cells.{Replica, Slot, Held, House, Update, Message, Cell, empty_cell}
 use Rattle.cell_model.specs.Commands.{Command, Answer, Accepted}
-use Rattle.cell_model.specs.Steps.{has, grown, to_each, moved, holding, outcome, replay_from, replay, accepted_from, accepted}
+use Rattle.cell_model.specs.Sets.{In, has}
+use Rattle.cell_model.specs.Turns.{grown, to_each, holding}
+use Rattle.cell_model.specs.Steps.{moved, outcome, replay_from, replay, accepted_from, accepted}
 use Rattle.cell_model.specs.Agreement.{place_of}
 use Rattle.cell_model.proofs.Lists.{append_nil, In-append_cases}
 use Rattle.cell_model.proofs.Marks.{stamp_next}

@@ -5,8 +5,8 @@ use Rattle.std.specs.Prelude.{slice_get}
 use Rattle.cds_stamps.specs.declared.stamp.Stamp.{Stamp}
 use Rattle.cds_stamps.specs.Stamps.{is_stamp, stamp_exact}
 use Rattle.cds_stamps.specs.Keyed.{tied}
-use Rattle.cell_model.specs.Sets.{In, IsUpTo}
-use Rattle.cell_model.specs.Steps.{has, all_answered}
+use Rattle.cell_model.specs.Sets.{In, IsUpTo, has}
+use Rattle.cell_model.specs.Turns.{all_answered}
 
 -- nothing behind a list leaves it as it is
 pub append_nil : {A : Type 0} (l : List A) → l ++ [] ≡ l

@@ -12,10 +12,10 @@ use Rattle.cds_stamps.specs.Members.{Member, since_in}
 use Rattle.attr_sets.proofs.Greatest.{Contains-head, Contains-tail}
 use Rattle.directory.specs.declared.entry.Kind.{Kind}
 use Rattle.directory.specs.Histories.{Mark, Birth, stamp_in, name_in, born_in, up_to, is_birth, IsHistory}
-use Rattle.cell_model.specs.Sets.{In, IsPart, IsUpTo}
 use Rattle.cell_model.specs.Cells.{Replica, Body, Message}
 use Rattle.cell_model.specs.Bodies.{marks_in, up_to_in}
 use Rattle.cell_model.specs.Commands.{Command, Accepted}
+use Rattle.cell_model.specs.Sets.{In, IsPart, IsUpTo}
 use Rattle.cell_model.specs.Steps.{replay, accepted}
 use Rattle.cell_model.specs.Merges.{Adds, of_update, of_gathered, of_spread, of_join, MergesHold}
 use Rattle.cell_model.specs.Skulks.{IsCompleted}

@@ -11,18 +11,21 @@ use Rattle.directory.specs.Histories.{Mark}
 use Rattle.directory.specs.Shown.{shown, marks_of}
 use Rattle.directory.specs.Updates as changes
 use Rattle.directory.specs.Updates.{Change, changed_name}
-use Rattle.cell_model.specs.Sets.{In}
 use Rattle.cell_model.specs.Cells.{Phase, Idle, Gathering, Spreading, Replica, Slot, Absent, Gone, Held, Copy, Body, Update, Gather, Gathered}
 use Rattle.cell_model.specs.Cells.{Spread, SpreadAck, Advance, Join, Leave, Message, Cell, IsHeld}
 use Rattle.cell_model.specs.Commands as commands
 use Rattle.cell_model.specs.Commands.{Command, Refusal, NoHouse, NoDirectory, BadMembers, NotMember, Down, Answer, Done, Posted, Made, Stamped}
-use Rattle.cell_model.specs.Commands.{NewEpoch, Taken, Late, Early, Stale, Foreign, Complete, Refused, Accepted}
-use Rattle.cell_model.specs.Steps.{Outcome, first_refusal, unless, has, is_missing, is_taken, is_down, is_unknown, moved, holding, grown, copy_of}
-use Rattle.cell_model.specs.Steps.{merged, to_each, serials_of, stamp_at, ascending, listing, new_house, set_clock, founded, accept_at}
-use Rattle.cell_model.specs.Steps.{update_refusal, accept, with_directory, raised, begin, skulk_at, skulk, promote, new_epoch, floor_after, reply}
-use Rattle.cell_model.specs.Steps.{to_others, all_answered, take_gathered, take_ack, take_own, take_other, copied, kept_at_join, unless_late}
-use Rattle.cell_model.specs.Steps.{take_join, take_leave, take, message_at, deliver, lose, crash, start, refusals_of, effect, outcome}
+use Rattle.cell_model.specs.Commands.{NotJoined, NewEpoch, Taken, Late, Early, Stale, Foreign, Complete, Refused, Accepted}
+use Rattle.cell_model.specs.Sets.{In, has}
+use Rattle.cell_model.specs.Turns.{HouseStep, Stays, unless_refused, turned, holding, grown, copy_of, merged, raised, to_each, stamp_at, accept_at}
+use Rattle.cell_model.specs.Turns.{update_refusal, accept_in, begin, skulk_at, skulk_in, epoch_replica, epoch_posts, new_epoch_in, floor_after, taken}
+use Rattle.cell_model.specs.Turns.{reply, to_others, all_answered, take_gathered, take_ack, take_own, take_other, copied, kept_at_join, unless_late}
+use Rattle.cell_model.specs.Turns.{take_join, take_leave, take_in}
+use Rattle.cell_model.specs.Steps.{Outcome, first_refusal, unless, is_missing, is_taken, is_down, is_unknown, moved, at_house, ascending, listing}
+use Rattle.cell_model.specs.Steps.{leaving, new_house, set_clock, noted, founded, with_directory, with_epoch, message_at, deliver, lose, crash, start}
+use Rattle.cell_model.specs.Steps.{refusals_of, effect, outcome}
 use Rattle.cell_model.specs.Agreement.{place_of}
+use Rattle.cell_model.proofs.Terms.{since_kept}
 use Rattle.cell_model.proofs.Lists.{In-from_get, or_left, or_right, not_true, eq_from, stamp_from, answered_all}
 
 -- the marks of an update
@@ -69,36 +72,36 @@ pub data Act (g : Cell) : (h d floor : ℕ) → Slot → List Message → Answer
   lone : (h d : ℕ) (r : Replica) (t : Stamp) → Issuing g h d r t → master_of r.members ≡ h → others_of h r.members ≡ []
       → Act g h d t.time (Held (record r { all_up_to = raised r.all_up_to t; phase = Idle })) [] (Complete t []) []
   updates : (m : Message) (marks : List Mark) (r : Replica) (ns : List ℕ) → Taking g m (Update marks) r
-      → Act g m.receiver m.dir (floor_after g m) (Held (grown r marks)) [] (Taken ns) []
+      → Act g m.receiver m.dir (floor_after (g.house m.receiver) m) (Held (grown r marks)) [] (Taken ns) []
   gives : (m : Message) (t : Stamp) (r : Replica) (ns : List ℕ) → Taking g m (Gather t) r
-      → Act g m.receiver m.dir (floor_after g m) (Held r) (reply g m (Gathered t (copy_of r))) (Taken ns) []
+      → Act g m.receiver m.dir (floor_after (g.house m.receiver) m) (Held r) (reply (g.house m.receiver) m (Gathered t (copy_of r))) (Taken ns) []
   gathers : (m : Message) (t : Stamp) (copy : Copy) (a : List ℕ) (r : Replica) (ns : List ℕ) → Taking g m (Gathered t copy) r → r.phase ≡ Gathering t a
-      → Act g m.receiver m.dir (floor_after g m) (Held (record (merged r copy) { phase = Gathering t (m.sender ∷ a) })) [] (Taken ns) []
+      → Act g m.receiver m.dir (floor_after (g.house m.receiver) m) (Held (record (merged r copy) { phase = Gathering t (m.sender ∷ a) })) [] (Taken ns) []
   turns : (m : Message) (t : Stamp) (copy : Copy) (a : List ℕ) (r : Replica) (ns : List ℕ) → Taking g m (Gathered t copy) r → r.phase ≡ Gathering t a
       → ((x : ℕ) → In x (others_of m.receiver r.members) → In x (m.sender ∷ a))
-      → Act g m.receiver m.dir (floor_after g m) (Held (record (merged r copy) { phase = Spreading t [] }))
-      (to_others g m r (Spread t (copy_of (merged r copy)))) (Taken ns) []
+      → Act g m.receiver m.dir (floor_after (g.house m.receiver) m) (Held (record (merged r copy) { phase = Spreading t [] }))
+      (to_others (g.house m.receiver) m r (Spread t (copy_of (merged r copy)))) (Taken ns) []
   gathers_again : (m : Message) (t : Stamp) (copy : Copy) (a : List ℕ) (r : Replica) (ns : List ℕ) → Taking g m (Gathered t copy) r → r.phase ≡ Spreading t a
-      → Act g m.receiver m.dir (floor_after g m) (Held (merged r copy)) [] (Taken ns) []
+      → Act g m.receiver m.dir (floor_after (g.house m.receiver) m) (Held (merged r copy)) [] (Taken ns) []
   spreads : (m : Message) (t : Stamp) (copy : Copy) (r : Replica) (ns : List ℕ) → Taking g m (Spread t copy) r
-      → Act g m.receiver m.dir (floor_after g m) (Held (merged r copy)) (reply g m (SpreadAck t)) (Taken ns) []
+      → Act g m.receiver m.dir (floor_after (g.house m.receiver) m) (Held (merged r copy)) (reply (g.house m.receiver) m (SpreadAck t)) (Taken ns) []
   acks_early : (m : Message) (t : Stamp) (a : List ℕ) (r : Replica) (ns : List ℕ) → Taking g m (SpreadAck t) r → r.phase ≡ Gathering t a
-      → Act g m.receiver m.dir (floor_after g m) (Held r) [] (Taken ns) []
+      → Act g m.receiver m.dir (floor_after (g.house m.receiver) m) (Held r) [] (Taken ns) []
   acks : (m : Message) (t : Stamp) (a : List ℕ) (r : Replica) (ns : List ℕ) → Taking g m (SpreadAck t) r → r.phase ≡ Spreading t a
-      → Act g m.receiver m.dir (floor_after g m) (Held (record r { phase = Spreading t (m.sender ∷ a) })) [] (Taken ns) []
+      → Act g m.receiver m.dir (floor_after (g.house m.receiver) m) (Held (record r { phase = Spreading t (m.sender ∷ a) })) [] (Taken ns) []
   completes : (m : Message) (t : Stamp) (a : List ℕ) (r : Replica) (ns : List ℕ) → Taking g m (SpreadAck t) r → r.phase ≡ Spreading t a
       → ((x : ℕ) → In x (others_of m.receiver r.members) → In x (m.sender ∷ a))
-      → Act g m.receiver m.dir (floor_after g m) (Held (record r { all_up_to = raised r.all_up_to t; phase = Idle })) (to_others g m r (Advance t))
+      → Act g m.receiver m.dir (floor_after (g.house m.receiver) m) (Held (record r { all_up_to = raised r.all_up_to t; phase = Idle })) (to_others (g.house m.receiver) m r (Advance t))
       (Complete t ns) []
   advances : (m : Message) (t : Stamp) (r : Replica) (ns : List ℕ) → Taking g m (Advance t) r
-      → Act g m.receiver m.dir (floor_after g m) (Held (record r { all_up_to = raised r.all_up_to t })) [] (Taken ns) []
+      → Act g m.receiver m.dir (floor_after (g.house m.receiver) m) (Held (record r { all_up_to = raised r.all_up_to t })) [] (Taken ns) []
   copies : (m : Message) (ms : List Member) (copy : Copy) (ns : List ℕ) → Entering g m (Join ms copy)
       → ((r : Replica) → IsHeld g m.receiver m.dir r → (r.epoch ≤ m.epoch) × (r.epoch < since_in ms m.receiver 0))
-      → Act g m.receiver m.dir (floor_after g m) (Held (copied m ms copy)) [] (Taken ns) []
+      → Act g m.receiver m.dir (floor_after (g.house m.receiver) m) (Held (copied m ms copy)) [] (Taken ns) []
   keeps : (m : Message) (ms : List Member) (copy : Copy) (r : Replica) (ns : List ℕ) → Entering g m (Join ms copy) → IsHeld g m.receiver m.dir r
-      → r.epoch ≤ m.epoch → since_in ms m.receiver 0 ≤ r.epoch → Act g m.receiver m.dir (floor_after g m) (Held (kept_at_join m ms copy r)) [] (Taken ns) []
+      → r.epoch ≤ m.epoch → since_in ms m.receiver 0 ≤ r.epoch → Act g m.receiver m.dir (floor_after (g.house m.receiver) m) (Held (kept_at_join m ms copy r)) [] (Taken ns) []
   leaves : (m : Message) (ns : List ℕ) → Entering g m Leave → ((r : Replica) → IsHeld g m.receiver m.dir r → r.epoch < m.epoch)
-      → Act g m.receiver m.dir (floor_after g m) (Gone m.epoch) [] (Taken ns) []
+      → Act g m.receiver m.dir (floor_after (g.house m.receiver) m) (Gone m.epoch) [] (Taken ns) []
 
 -- answers with no stamp that was issued and none of a skulk that completed
 abbrev pub IsQuiet : Answer → Type 0
@@ -106,6 +109,18 @@ IsQuiet (Stamped s ns) = ⊥
 IsQuiet (Made d s ns) = ⊥
 IsQuiet (Complete t ns) = ⊥
 IsQuiet _ = Unit {0}
+
+-- what the new master posts, to those that the console lists no more too
+abbrev pub epoch_told : Cell → (d m k : ℕ) → List Member → Replica → List Message
+epoch_told g d m k ms r = epoch_posts (g.house m).floor d m k ms (leaving (g.present d) ms) r
+
+-- the new master takes the epoch, and the console knows it
+abbrev pub promote : Cell → (d m k : ℕ) → List Member → Replica → Outcome
+promote g d m k ms r =
+    let o : Outcome = at_house g m
+        (turned (holding (g.house m) d (g.house m).floor (Held (epoch_replica k ms r)))
+        (epoch_told g d m k ms r) (NewEpoch k)) in
+    record o { cell = noted o.cell d k ms }
 
 -- p is the house and the directory that the command acts at
 pub data Move (g : Cell) (p : Option (ℕ × ℕ)) : Cell → Answer → List Accepted → Type 0 where
@@ -143,13 +158,21 @@ if_moves : (g : Cell) (p : Option (ℕ × ℕ)) (b : Bool) (x y : Outcome) → (
 if_moves g p true x y k l = k refl
 if_moves g p false x y k l = l refl
 
-unless_moves : (g : Cell) (p : Option (ℕ × ℕ)) (r : Option Refusal) (x : Outcome) → (r ≡ None → Moves g p x) → Moves g p (unless g r x)
-unless_moves g p None x k = k refl
-unless_moves g p (Some r) x k = stays (Refused r) tt
+-- a house's step is a move
+abbrev Turned : Cell → (h d : ℕ) → HouseStep → Type 0
+Turned g h d s = Moves g (Some (h, d)) (at_house g h s)
 
-late_moves : (g : Cell) (p : Option (ℕ × ℕ)) (m : Message) (r : Option ℕ) (x : Outcome) → (r ≡ None → Moves g p x) → Moves g p (unless_late g m r x)
-late_moves g p m None x k = k refl
-late_moves g p m (Some e) x k = stays (Late m.epoch e) tt
+if_turned : (g : Cell) (h d : ℕ) (b : Bool) (x y : HouseStep) → (b ≡ true → Turned g h d x) → (b ≡ false → Turned g h d y) → Turned g h d (cond b x y)
+if_turned g h d true x y k l = k refl
+if_turned g h d false x y k l = l refl
+
+unless_turned : (g : Cell) (h d : ℕ) (r : Option UpdateRefusal) (x : HouseStep) → (r ≡ None → Turned g h d x) → Turned g h d (unless_refused r x)
+unless_turned g h d None x k = k refl
+unless_turned g h d (Some r) x k = stays (Refused (commands.Update r)) tt
+
+late_turned : (g : Cell) (d : ℕ) (m : Message) (r : Option ℕ) (x : HouseStep) → (r ≡ None → Turned g m.receiver d x) → Turned g m.receiver d (unless_late m r x)
+late_turned g d m None x k = k refl
+late_turned g d m (Some e) x k = stays (Late m.epoch e) tt
 
 -- the first test of a list of refusals fails, and so do the others
 first_fails : (b : Bool) (r : Refusal) (ts : List (Bool × Refusal)) → cond b (Some r) (first_refusal ts) ≡ None → (b ≡ false) × (first_refusal ts ≡ None)
@@ -178,72 +201,72 @@ not_passed k e true q z = absurd (cc)
 not_passed k e false q z = lt_not k e q
 
 gathered_moves : (g : Cell) (m : Message) (t : Stamp) (copy : Copy) (r : Replica) (p : Phase) → Taking g m (Gathered t copy) r → r.phase ≡ p
-    → Moves g (Some (m.receiver, m.dir)) (take_gathered g m t copy r p)
+    → Turned g m.receiver m.dir (take_gathered (g.house m.receiver) m t copy r p)
 gathered_moves g m t copy r Idle k phase = stays _ tt
 gathered_moves g m t copy r (Gathering u a) k phase =
-    if_moves g _ (is_stamp t u) _ _
+    if_turned g _ _ (is_stamp t u) _ _
     (λ e. let k' = subst (λ (s : Stamp). Taking g m (Gathered s copy) r) (stamp_from t u e) k in
-    if_moves g _ (all_answered (others_of m.receiver r.members) (m.sender ∷ a)) _ _
-    (λ all. acts m.receiver m.dir refl (floor_after g m) _ _ _ []
+    if_turned g _ _ (all_answered (others_of m.receiver r.members) (m.sender ∷ a)) _ _
+    (λ all. acts m.receiver m.dir refl (floor_after (g.house m.receiver) m) _ _ _ []
     (turns m u copy a r _ k' phase (answered_all (others_of m.receiver r.members) (m.sender ∷ a) all)))
-    (λ _. acts m.receiver m.dir refl (floor_after g m) _ [] _ [] (gathers m u copy a r _ k' phase)))
+    (λ _. acts m.receiver m.dir refl (floor_after (g.house m.receiver) m) _ [] _ [] (gathers m u copy a r _ k' phase)))
     (λ _. stays _ tt)
 gathered_moves g m t copy r (Spreading u a) k phase =
-    if_moves g _ (is_stamp t u) _ _
-    (λ e. acts m.receiver m.dir refl (floor_after g m) _ [] _ []
+    if_turned g _ _ (is_stamp t u) _ _
+    (λ e. acts m.receiver m.dir refl (floor_after (g.house m.receiver) m) _ [] _ []
     (gathers_again m u copy a r _ (subst (λ (s : Stamp). Taking g m (Gathered s copy) r) (stamp_from t u e) k) phase))
     (λ _. stays _ tt)
 
 ack_moves : (g : Cell) (m : Message) (t : Stamp) (r : Replica) (p : Phase) → Taking g m (SpreadAck t) r → r.phase ≡ p
-    → Moves g (Some (m.receiver, m.dir)) (take_ack g m t r p)
+    → Turned g m.receiver m.dir (take_ack (g.house m.receiver) m t r p)
 ack_moves g m t r Idle k phase = stays _ tt
 ack_moves g m t r (Gathering u a) k phase =
-    if_moves g _ (is_stamp t u) _ _
-    (λ e. acts m.receiver m.dir refl (floor_after g m) _ [] _ []
+    if_turned g _ _ (is_stamp t u) _ _
+    (λ e. acts m.receiver m.dir refl (floor_after (g.house m.receiver) m) _ [] _ []
     (acks_early m u a r _ (subst (λ (s : Stamp). Taking g m (SpreadAck s) r) (stamp_from t u e) k) phase))
     (λ _. stays _ tt)
 ack_moves g m t r (Spreading u a) k phase =
-    if_moves g _ (is_stamp t u) _ _
+    if_turned g _ _ (is_stamp t u) _ _
     (λ e. let k' = subst (λ (s : Stamp). Taking g m (SpreadAck s) r) (stamp_from t u e) k in
-    if_moves g _ (all_answered (others_of m.receiver r.members) (m.sender ∷ a)) _ _
-    (λ all. acts m.receiver m.dir refl (floor_after g m) _ _ _ []
+    if_turned g _ _ (all_answered (others_of m.receiver r.members) (m.sender ∷ a)) _ _
+    (λ all. acts m.receiver m.dir refl (floor_after (g.house m.receiver) m) _ _ _ []
     (completes m u a r _ k' phase (answered_all (others_of m.receiver r.members) (m.sender ∷ a) all)))
-    (λ _. acts m.receiver m.dir refl (floor_after g m) _ [] _ [] (acks m u a r _ k' phase)))
+    (λ _. acts m.receiver m.dir refl (floor_after (g.house m.receiver) m) _ [] _ [] (acks m u a r _ k' phase)))
     (λ _. stays _ tt)
 
-own_moves : (g : Cell) (m : Message) (r : Replica) (b : Body) → Taking g m b r → Moves g (Some (m.receiver, m.dir)) (take_own g m r b)
-own_moves g m r (Update marks) k = acts m.receiver m.dir refl (floor_after g m) _ [] _ [] (updates m marks r _ k)
-own_moves g m r (Gather t) k = acts m.receiver m.dir refl (floor_after g m) _ _ _ [] (gives m t r _ k)
+own_moves : (g : Cell) (m : Message) (r : Replica) (b : Body) → Taking g m b r → Turned g m.receiver m.dir (take_own (g.house m.receiver) m r b)
+own_moves g m r (Update marks) k = acts m.receiver m.dir refl (floor_after (g.house m.receiver) m) _ [] _ [] (updates m marks r _ k)
+own_moves g m r (Gather t) k = acts m.receiver m.dir refl (floor_after (g.house m.receiver) m) _ _ _ [] (gives m t r _ k)
 own_moves g m r (Gathered t copy) k = gathered_moves g m t copy r r.phase k refl
-own_moves g m r (Spread t copy) k = acts m.receiver m.dir refl (floor_after g m) _ _ _ [] (spreads m t copy r _ k)
+own_moves g m r (Spread t copy) k = acts m.receiver m.dir refl (floor_after (g.house m.receiver) m) _ _ _ [] (spreads m t copy r _ k)
 own_moves g m r (SpreadAck t) k = ack_moves g m t r r.phase k refl
-own_moves g m r (Advance t) k = acts m.receiver m.dir refl (floor_after g m) _ [] _ [] (advances m t r _ k)
+own_moves g m r (Advance t) k = acts m.receiver m.dir refl (floor_after (g.house m.receiver) m) _ [] _ [] (advances m t r _ k)
 own_moves g m r (Join ms copy) k = stays Foreign tt
 own_moves g m r Leave k = stays Foreign tt
 
 other_moves : (g : Cell) (m : Message) (b : Body) (s : Slot) → In m g.bag → m.body ≡ b → IsUp g m.receiver → (g.house m.receiver).slots m.dir ≡ s
-    → Moves g (Some (m.receiver, m.dir)) (take_other g m b s)
+    → Turned g m.receiver m.dir (take_other (g.house m.receiver) m b s)
 other_moves g m b Absent at is up e = stays commands.NoReplica tt
 other_moves g m b (Gone d) at is up e = stays commands.NoReplica tt
 other_moves g m b (Held r) at is up e =
-    if_moves g _ (nat_lt m.epoch r.epoch) _ _ (λ _. stays _ tt)
-    (λ low. if_moves g _ (nat_lt r.epoch m.epoch) _ _ (λ _. stays _ tt)
-    (λ high. if_moves g _ (is_listed m.sender r.members) _ _
+    if_turned g _ _ (nat_lt m.epoch r.epoch) _ _ (λ _. stays _ tt)
+    (λ low. if_turned g _ _ (nat_lt r.epoch m.epoch) _ _ (λ _. stays _ tt)
+    (λ high. if_turned g _ _ (is_listed m.sender r.members) _ _
     (λ member. let p = lt_not _ _ low in let q = lt_not _ _ high in
     own_moves g m r b (record { posted = at; is = is; up = up; held = e; epoch = omega arith; member = member }))
     (λ _. stays Foreign tt)))
 
 join_moves : (g : Cell) (m : Message) (ms : List Member) (copy : Copy) (s : Slot) → In m g.bag → m.body ≡ Join ms copy → IsUp g m.receiver
-    → (g.house m.receiver).slots m.dir ≡ s → Moves g (Some (m.receiver, m.dir)) (take_join g m ms copy s)
+    → (g.house m.receiver).slots m.dir ≡ s → Turned g m.receiver m.dir (take_join (g.house m.receiver) m ms copy s)
 join_moves g m ms copy Absent at is up e =
-    if_moves g _ (is_listed m.receiver ms && is_listed m.sender ms) _ _
-    (λ _. acts m.receiver m.dir refl (floor_after g m) _ [] _ []
+    if_turned g _ _ (is_listed m.receiver ms && is_listed m.sender ms) _ _
+    (λ _. acts m.receiver m.dir refl (floor_after (g.house m.receiver) m) _ [] _ []
     (copies m ms copy _ (record { posted = at; is = is; up = up; gone = λ d q. absurd (cc) }) (λ r q. absurd (cc))))
     (λ _. stays Foreign tt)
 join_moves g m ms copy (Gone d) at is up e =
-    late_moves g _ m (cond (nat_le m.epoch d) (Some d) None) _
-    (λ late. if_moves g _ (is_listed m.receiver ms && is_listed m.sender ms) _ _
-    (λ _. acts m.receiver m.dir refl (floor_after g m) _ [] _ []
+    late_turned g _ m (cond (nat_le m.epoch d) (Some d) None) _
+    (λ late. if_turned g _ _ (is_listed m.receiver ms && is_listed m.sender ms) _ _
+    (λ _. acts m.receiver m.dir refl (floor_after (g.house m.receiver) m) _ [] _ []
     (copies m ms copy _ (record {
       posted = at;
       is = is;
@@ -253,8 +276,8 @@ join_moves g m ms copy (Gone d) at is up e =
     }) (λ r q. absurd (cc))))
     (λ _. stays Foreign tt))
 join_moves g m ms copy (Held r) at is up e =
-    late_moves g _ m (cond (nat_lt m.epoch r.epoch) (Some r.epoch) None) _
-    (λ late. if_moves g _ (is_listed m.receiver ms && is_listed m.sender ms) _ _
+    late_turned g _ m (cond (nat_lt m.epoch r.epoch) (Some r.epoch) None) _
+    (λ late. if_turned g _ _ (is_listed m.receiver ms && is_listed m.sender ms) _ _
     (λ _. by_since (nat_le (since_in ms m.receiver 0) r.epoch) refl (not_passed m.epoch r.epoch (nat_lt m.epoch r.epoch) refl late))
     (λ _. stays Foreign tt))
   where
@@ -262,27 +285,21 @@ join_moves g m ms copy (Held r) at is up e =
     en = record { posted = at; is = is; up = up; gone = λ d e'. absurd (cc) }
 
     by_since : (b : Bool) → nat_le (since_in ms m.receiver 0) r.epoch ≡ b → r.epoch ≤ m.epoch
-        → Moves g (Some (m.receiver, m.dir))
-        (record {
-          cell = moved g m.receiver (holding (g.house m.receiver) m.dir (floor_after g m) (Held (cond b (kept_at_join m ms copy r) (copied m ms copy))))
-              [];
-          answer = Taken (serials_of g []);
-          accepted = [];
-        })
-    by_since true q le = acts m.receiver m.dir refl (floor_after g m) _ [] _ [] (keeps m ms copy r _ en e le (le_from _ _ q))
+        → Turned g m.receiver m.dir (taken (g.house m.receiver) m (Held (cond b (kept_at_join m ms copy r) (copied m ms copy))) [])
+    by_since true q le = acts m.receiver m.dir refl (floor_after (g.house m.receiver) m) _ [] _ [] (keeps m ms copy r _ en e le (le_from _ _ q))
     by_since false q le =
-        acts m.receiver m.dir refl (floor_after g m) _ [] _ []
+        acts m.receiver m.dir refl (floor_after (g.house m.receiver) m) _ [] _ []
         (copies m ms copy _ en (λ r' e'. let same : r ≡ r' = cc in
         subst (λ (z : Replica). (z.epoch ≤ m.epoch) × (z.epoch < since_in ms m.receiver 0)) same (le, le_not _ _ q)))
 
 leave_moves : (g : Cell) (m : Message) (s : Slot) → In m g.bag → m.body ≡ Leave → IsUp g m.receiver → (g.house m.receiver).slots m.dir ≡ s
-    → Moves g (Some (m.receiver, m.dir)) (take_leave g m s)
+    → Turned g m.receiver m.dir (take_leave (g.house m.receiver) m s)
 leave_moves g m Absent at is up e =
-    acts m.receiver m.dir refl (floor_after g m) _ [] _ []
+    acts m.receiver m.dir refl (floor_after (g.house m.receiver) m) _ [] _ []
     (leaves m _ (record { posted = at; is = is; up = up; gone = λ d q. absurd (cc) }) (λ r q. absurd (cc)))
 leave_moves g m (Gone d) at is up e =
-    late_moves g _ m (cond (nat_le m.epoch d) (Some d) None) _
-    (λ late. acts m.receiver m.dir refl (floor_after g m) _ [] _ []
+    late_turned g _ m (cond (nat_le m.epoch d) (Some d) None) _
+    (λ late. acts m.receiver m.dir refl (floor_after (g.house m.receiver) m) _ [] _ []
     (leaves m _ (record {
       posted = at;
       is = is;
@@ -291,13 +308,13 @@ leave_moves g m (Gone d) at is up e =
           subst (λ (z : ℕ). z < m.epoch) same (not_reached m.epoch d (nat_le m.epoch d) refl late);
     }) (λ r q. absurd (cc))))
 leave_moves g m (Held r) at is up e =
-    late_moves g _ m (cond (nat_le m.epoch r.epoch) (Some r.epoch) None) _
-    (λ late. acts m.receiver m.dir refl (floor_after g m) _ [] _ []
+    late_turned g _ m (cond (nat_le m.epoch r.epoch) (Some r.epoch) None) _
+    (λ late. acts m.receiver m.dir refl (floor_after (g.house m.receiver) m) _ [] _ []
     (leaves m _ (record { posted = at; is = is; up = up; gone = λ d q. absurd (cc) }) (λ r' e'. let same : r ≡ r' = cc in
     subst (λ (z : Replica). z.epoch < m.epoch) same (not_reached m.epoch r.epoch (nat_le m.epoch r.epoch) refl late))))
 
 take_moves : (g : Cell) (m : Message) (b : Body) → In m g.bag → m.body ≡ b → IsUp g m.receiver
-    → Moves g (Some (m.receiver, m.dir)) (take g m b ((g.house m.receiver).slots m.dir))
+    → Turned g m.receiver m.dir (take_in (g.house m.receiver) m b ((g.house m.receiver).slots m.dir))
 take_moves g m (Update marks) at is up = other_moves g m (Update marks) _ at is up refl
 take_moves g m (Gather t) at is up = other_moves g m (Gather t) _ at is up refl
 take_moves g m (Gathered t copy) at is up = other_moves g m (Gathered t copy) _ at is up refl
@@ -321,75 +338,84 @@ lose_moves : (g : Cell) (n : ℕ) (o : Option Message) → Moves g None (lose g 
 lose_moves g n None = stays _ tt
 lose_moves g n (Some m) = loses n
 
-none_of : (o : Option UpdateRefusal) → option_map commands.Update o ≡ None → o ≡ None
-none_of None e = refl
-none_of (Some r) e = absurd (cc)
-
 accept_at_moves : (g : Cell) (h d : ℕ) (u : Change) (r : Replica) (o : Option Stamp) → IsUp g h → IsHeld g h d r → update_refusal h u r ≡ None
-    → stamp_at (g.house h) ≡ o → Moves g (Some (h, d)) (accept_at g h d u r o)
+    → stamp_at (g.house h) ≡ o → Turned g h d (accept_at h (g.house h) d u r o)
 accept_at_moves g h d u r None up at fine e = stays _ tt
 accept_at_moves g h d u r (Some s) up at fine e = acts h d refl s.time _ _ _ _ (accepts h d u r s _ (record { up = up; held = at; next = e }) fine)
 
-accept_moves : (g : Cell) (h d : ℕ) (u : Change) (s : Slot) → IsUp g h → (g.house h).slots d ≡ s → Moves g (Some (h, d)) (accept g h d u s)
+accept_moves : (g : Cell) (h d : ℕ) (u : Change) (s : Slot) → IsUp g h → (g.house h).slots d ≡ s → Turned g h d (accept_in h (g.house h) d u s)
 accept_moves g h d u Absent up e = stays _ tt
 accept_moves g h d u (Gone k) up e = stays _ tt
 accept_moves g h d u (Held r) up e =
-    unless_moves g _ (option_map commands.Update (update_refusal h u r)) _
-    (λ fine. accept_at_moves g h d u r (stamp_at (g.house h)) up e (none_of (update_refusal h u r) fine) refl)
+    unless_turned g _ _ (update_refusal h u r) _ (λ fine. accept_at_moves g h d u r (stamp_at (g.house h)) up e fine refl)
 
 begin_moves : (g : Cell) (h d : ℕ) (r : Replica) (t : Stamp) (os : List ℕ) → Issuing g h d r t → master_of r.members ≡ h → others_of h r.members ≡ os
-    → Moves g (Some (h, d)) (begin g h d r t os)
+    → Turned g h d (begin h (g.house h) d r t os)
 begin_moves g h d r t [] i head o = acts h d refl t.time _ [] _ [] (lone h d r t i head o)
 begin_moves g h d r t (y ∷ ys) i head o =
     subst (λ (l : List ℕ).
-    Moves g (Some (h, d))
-    (record {
-      cell = moved g h (holding (g.house h) d t.time (Held (record r { phase = Gathering t [] }))) (to_each l d h r.epoch t.time (Gather t));
-      answer =
-          Stamped t (serials_of g (to_each l d h r.epoch t.time (Gather t)));
-      accepted = [];
-    }))
+    Turned g h d
+    (turned (holding (g.house h) d t.time (Held (record r { phase = Gathering t [] }))) (to_each l d h r.epoch t.time (Gather t)) (Stamped t)))
     o (acts h d refl t.time _ _ _ [] (skulks h d r t _ i head))
 
 skulk_at_moves : (g : Cell) (h d : ℕ) (r : Replica) (o : Option Stamp) → IsUp g h → IsHeld g h d r → master_of r.members ≡ h → stamp_at (g.house h) ≡ o
-    → Moves g (Some (h, d)) (skulk_at g h d r o)
+    → Turned g h d (skulk_at h (g.house h) d r o)
 skulk_at_moves g h d r None up at head e = stays _ tt
 skulk_at_moves g h d r (Some t) up at head e = begin_moves g h d r t (others_of h r.members) (record { up = up; held = at; next = e }) head refl
 
-skulk_moves : (g : Cell) (h d : ℕ) (s : Slot) → IsUp g h → (g.house h).slots d ≡ s → Moves g (Some (h, d)) (skulk g h d s)
+skulk_moves : (g : Cell) (h d : ℕ) (s : Slot) → IsUp g h → (g.house h).slots d ≡ s → Turned g h d (skulk_in h (g.house h) d s)
 skulk_moves g h d Absent up e = stays _ tt
 skulk_moves g h d (Gone k) up e = stays _ tt
 skulk_moves g h d (Held r) up e =
-    if_moves g _ (eqb (master_of r.members) h) _ _ (λ q. skulk_at_moves g h d r (stamp_at (g.house h)) up e (eq_from _ _ q) refl) (λ _. stays _ tt)
+    if_turned g _ _ (eqb (master_of r.members) h) _ _ (λ q. skulk_at_moves g h d r (stamp_at (g.house h)) up e (eq_from _ _ q) refl) (λ _. stays _ tt)
+
+-- the console notes what its new master took
+abbrev Noted : Cell → (d m : ℕ) → List Member → HouseStep → Type 0
+Noted g d m ms s = Moves g (Some (m, d)) (with_epoch (at_house g m s) d ms (at_house g m s).answer)
 
 epoch_moves : (g : Cell) (d m : ℕ) (rs : List ℕ) (s : Slot) → IsUp g m → g.top d ≢ 0 → is_listed m (g.present d) ≡ true → (g.house m).slots d ≡ s
-    → Moves g (Some (m, d)) (new_epoch g d m rs s)
+    → Noted g d m (listing (g.present d) (g.top d + 1) m rs)
+    (new_epoch_in m (g.house m) d (g.top d + 1) (listing (g.present d) (g.top d + 1) m rs)
+    (leaving (g.present d) (listing (g.present d) (g.top d + 1) m rs)) s)
 epoch_moves g d m rs Absent up known l e = stays _ tt
 epoch_moves g d m rs (Gone k) up known l e = stays _ tt
-epoch_moves g d m rs (Held r) up known l e =
-    if_moves g _ (nat_le (since_in (g.present d) m 0) r.epoch) _ _ (λ q. crowns d m rs r up known e l (le_from _ _ q)) (λ _. stays _ tt)
+epoch_moves g d m rs (Held r) up known l e = by_since (nat_le (since_in ms m 0) r.epoch) refl
+  where
+    ms : List Member
+    ms = listing (g.present d) (g.top d + 1) m rs
 
--- the update of a parent, and then the directory
+    left : List ℕ
+    left = leaving (g.present d) ms
+
+    by_since : (b : Bool) → nat_le (since_in ms m 0) r.epoch ≡ b
+        → Noted g d m ms
+        (cond b
+        (turned (holding (g.house m) d (g.house m).floor (Held (epoch_replica (g.top d + 1) ms r)))
+        (epoch_posts (g.house m).floor d m (g.top d + 1) ms left r) (NewEpoch (g.top d + 1)))
+        (Stays (Refused (NotJoined r.epoch (since_in ms m 0)))))
+    by_since true q =
+        crowns d m rs r up known e l (subst (λ (z : ℕ). z ≤ r.epoch) (since_kept (g.present d) (g.top d + 1) m rs l) (le_from _ _ q))
+    by_since false q = stays _ tt
+
+-- the update of a parent, and then the directory of the child
+abbrev Mkdirs : Cell → (h d m : ℕ) → List ℕ → HouseStep → Type 0
+Mkdirs g h d m rs s = StepsOf g (Some (h, d)) (with_directory (at_house g h s) g.next_dir m (listing [] 1 m rs) (at_house g h s).answer)
+
 mkdir_stamp : (g : Cell) (h d m : ℕ) (u : Change) (rs : List ℕ) (r : Replica) (o : Option Stamp) → IsUp g h → IsUp g m → g.top d ≢ 0 → IsHeld g h d r
-    → update_refusal h u r ≡ None → stamp_at (g.house h) ≡ o
-    → StepsOf g (Some (h, d)) (with_directory (accept_at g h d u r o) g.next_dir m (listing [] 1 m rs) (accept_at g h d u r o).answer)
+    → update_refusal h u r ≡ None → stamp_at (g.house h) ≡ o → Mkdirs g h d m rs (accept_at h (g.house h) d u r o)
 mkdir_stamp g h d m u rs r None up up' known at fine e = one _ _ _ (stays _ tt)
 mkdir_stamp g h d m u rs r (Some s) up up' known at fine e = mkdirs h d m u rs r s _ refl (record { up = up; held = at; next = e }) fine up' known
 
-mkdir_unless : (g : Cell) (h d m : ℕ) (u : Change) (rs : List ℕ) (r : Replica) (q : Option Refusal) → IsUp g h → IsUp g m → g.top d ≢ 0 → IsHeld g h d r
-    → (q ≡ None → update_refusal h u r ≡ None)
-    → StepsOf g (Some (h, d))
-    (with_directory (unless g q (accept_at g h d u r (stamp_at (g.house h)))) g.next_dir m (listing [] 1 m rs)
-    (unless g q (accept_at g h d u r (stamp_at (g.house h)))).answer)
-mkdir_unless g h d m u rs r None up up' known at fine = mkdir_stamp g h d m u rs r (stamp_at (g.house h)) up up' known at (fine refl) refl
+mkdir_unless : (g : Cell) (h d m : ℕ) (u : Change) (rs : List ℕ) (r : Replica) (q : Option UpdateRefusal) → IsUp g h → IsUp g m → g.top d ≢ 0
+    → IsHeld g h d r → update_refusal h u r ≡ q → Mkdirs g h d m rs (unless_refused q (accept_at h (g.house h) d u r (stamp_at (g.house h))))
+mkdir_unless g h d m u rs r None up up' known at fine = mkdir_stamp g h d m u rs r (stamp_at (g.house h)) up up' known at fine refl
 mkdir_unless g h d m u rs r (Some q) up up' known at fine = one _ _ _ (stays _ tt)
 
 mkdir_steps : (g : Cell) (h d m : ℕ) (u : Change) (rs : List ℕ) (s : Slot) → IsUp g h → IsUp g m → g.top d ≢ 0 → (g.house h).slots d ≡ s
-    → StepsOf g (Some (h, d)) (with_directory (accept g h d u s) g.next_dir m (listing [] 1 m rs) (accept g h d u s).answer)
+    → Mkdirs g h d m rs (accept_in h (g.house h) d u s)
 mkdir_steps g h d m u rs Absent up up' known e = one _ _ _ (stays _ tt)
 mkdir_steps g h d m u rs (Gone k) up up' known e = one _ _ _ (stays _ tt)
-mkdir_steps g h d m u rs (Held r) up up' known e =
-    mkdir_unless g h d m u rs r (option_map commands.Update (update_refusal h u r)) up up' known e (none_of (update_refusal h u r))
+mkdir_steps g h d m u rs (Held r) up up' known e = mkdir_unless g h d m u rs r (update_refusal h u r) up up' known e refl
 
 unless_steps : (g : Cell) (p : Option (ℕ × ℕ)) (r : Option Refusal) (x : Outcome) → (r ≡ None → StepsOf g p x) → StepsOf g p (unless g r x)
 unless_steps g p None x k = k refl

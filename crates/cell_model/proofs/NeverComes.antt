@@ -1,9 +1,9 @@
 -- What never comes.
 use Rattle.std.proofs.Common.{◌≡◌, ℕ, List, [], refl, sym, ap, ◌∙◌, subst, arith}
 use Rattle.cds_stamps.specs.Members.{is_listed}
-use Rattle.cell_model.specs.Sets.{In}
 use Rattle.cell_model.specs.Cells.{Phase, Body, Message}
 use Rattle.cell_model.specs.Commands.{Command}
+use Rattle.cell_model.specs.Sets.{In}
 use Rattle.cell_model.specs.Steps.{replay, accepted}
 use Rattle.cell_model.specs.Nevers.{Nevers}
 use Rattle.cell_model.proofs.Lists.{append_nil}

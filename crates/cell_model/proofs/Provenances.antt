@@ -1,9 +1,9 @@
 -- Where messages, epochs and histories come from.
 use Rattle.std.proofs.Common.{◌≡◌, ℕ, suc, ◌<◌, ◌≤◌, ◌⊎◌, inl, inr, List, [], ◌∷◌, ◌++◌, refl, sym, ap, ◌∙◌, subst, arith, ⊎_elim, le_refl}
 use Rattle.cds_stamps.specs.Members.{Member, since_in}
-use Rattle.cell_model.specs.Sets.{IsPart}
 use Rattle.cell_model.specs.Cells.{Replica, Slot, Absent, Gone, Held, Body, Leave, Message, Cell, IsHeld}
 use Rattle.cell_model.specs.Commands.{Command, Accepted}
+use Rattle.cell_model.specs.Sets.{IsPart}
 use Rattle.cell_model.specs.Steps.{outcome, replay, accepted}
 use Rattle.cell_model.specs.Provenance.{epoch_of, IsFromSender, TakesCopy, TakesLeave, ProvenanceHolds}
 use Rattle.cell_model.proofs.Terms.{Listed}

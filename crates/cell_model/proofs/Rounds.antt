@@ -2,10 +2,10 @@
 use Rattle.std.proofs.Common.{◌≡◌, ◌≢◌, ℕ, ◌≤◌, ◌⊎◌, inl, inr, Bool, true, false, eqb, List, [], ◌∷◌, Some, refl, sym, ◌∙◌, subst, arith, ⊎_elim, le_trans}
 use Rattle.cds_stamps.specs.declared.stamp.Stamp.{Stamp}
 use Rattle.directory.specs.Histories.{Mark}
-use Rattle.cell_model.specs.Sets.{In, IsPart}
 use Rattle.cell_model.specs.Cells.{Phase, Idle, Gathering, Spreading, Replica, Copy, Gathered, Spread, SpreadAck, Message}
 use Rattle.cell_model.specs.Commands.{Accepted}
-use Rattle.cell_model.specs.Steps.{running}
+use Rattle.cell_model.specs.Sets.{In, IsPart}
+use Rattle.cell_model.specs.Turns.{running}
 use Rattle.cell_model.proofs.Lists.{eq_from}
 use Rattle.cell_model.proofs.Terms.{others}
 use Rattle.cell_model.proofs.Facts.{View, IsPosted, Holds, Roll, Reached, Sound, Turn, same, idle, begins, answered, turned, acked, Past, grew, rose}

@@ -4,10 +4,10 @@ use Rattle.std.proofs.lemmas.Bool.{cases_lt}
 use Rattle.cds_stamps.specs.declared.stamp.Stamp.{Stamp}
 use Rattle.cds_stamps.specs.Members.{Member, master_of}
 use Rattle.directory.specs.Histories.{Mark, stamp_in}
-use Rattle.cell_model.specs.Sets.{In, IsPart, IsUpTo}
 use Rattle.cell_model.specs.Cells.{Replica, Copy, Gathered, Spread, SpreadAck, Join, Message}
 use Rattle.cell_model.specs.Commands.{Accepted}
-use Rattle.cell_model.specs.Steps.{running}
+use Rattle.cell_model.specs.Sets.{In, IsPart, IsUpTo}
+use Rattle.cell_model.specs.Turns.{running}
 use Rattle.cell_model.proofs.Terms.{Listed, others, In-others}
 use Rattle.cell_model.proofs.Facts.{View, IsPosted, Holds, Roll, Reached, Sound, Past, grew, rose, crowned, copied, founded, New, Frame}
 use Rattle.cell_model.proofs.Bounds.{reached_held, held_reached, same_held, kind_at, round_at, was_member, Bounded, not_below, copied_above, bounded_kept}

@@ -4,10 +4,10 @@ use Rattle.std.proofs.Common.{◌≡◌, ℕ, suc, ◌<◌, ◌≤◌, ◌⊎◌
 use Rattle.cds_stamps.specs.declared.stamp.Stamp.{Stamp}
 use Rattle.cds_stamps.specs.Members.{Member, master_of}
 use Rattle.directory.specs.Histories.{Mark, stamp_in}
-use Rattle.cell_model.specs.Sets.{In, IsPart}
 use Rattle.cell_model.specs.Cells.{Phase, Replica, Gone, Copy, Body, Update, Gather, Gathered, Spread, SpreadAck, Advance, Join, Leave, Message}
 use Rattle.cell_model.specs.Commands.{Accepted}
-use Rattle.cell_model.specs.Steps.{running}
+use Rattle.cell_model.specs.Sets.{In, IsPart}
+use Rattle.cell_model.specs.Turns.{running}
 use Rattle.cell_model.proofs.Terms.{Listed}
 use Rattle.cell_model.proofs.Facts.{View, IsPosted, Holds, Roll, marks_in, round_of, HeldOk, Kind, Lawful, Sound, Took, Past, grew, rose, crowned}
 use Rattle.cell_model.proofs.Facts.{copied, founded, Came, own, sent, fresh, Answers, NewKind, New, Frame}

@@ -4,11 +4,12 @@ use Rattle.std.proofs.lemmas.Bool.{cases_lt}
 use Rattle.cds_stamps.specs.declared.stamp.Stamp.{Stamp}
 use Rattle.cds_stamps.specs.Members.{Member, master_of, others_of, is_listed}
 use Rattle.directory.specs.Histories.{Mark, stamp_in}
-use Rattle.cell_model.specs.Sets.{In}
 use Rattle.cell_model.specs.Cells.{Phase, Idle, Spreading, Replica, Slot, Held, Gathered, Message, Cell, IsHeld, empty_cell}
 use Rattle.cell_model.specs.Commands as commands
 use Rattle.cell_model.specs.Commands.{Command, Answer, Complete, Accepted}
-use Rattle.cell_model.specs.Steps.{has, first_refusal, refusals_of, skulk, stamp_at, moved, holding, raised, running, outcome, replay, accepted}
+use Rattle.cell_model.specs.Sets.{In, has}
+use Rattle.cell_model.specs.Turns.{skulk, stamp_at, holding, raised, running}
+use Rattle.cell_model.specs.Steps.{first_refusal, refusals_of, moved, at_house, outcome, replay, accepted}
 use Rattle.cell_model.specs.Agreement.{place_of}
 use Rattle.cell_model.specs.Provenance.{HasPassed}
 use Rattle.cell_model.specs.Rounds.{TookSpread, StartsSecond, with_last, alone, HasHeld, FromSecond, SecondHolds, HasUpTo, WhileSpreading}
@@ -111,7 +112,7 @@ module _ (all early late : List Command) (h d : ℕ) (r : Replica) (t : Stamp) (
     where
       new : stamp_at (g.house h) ≡ Some t
       new = skulk_issues g h d ((g.house h).slots d) t ns
-          (unless_complete g (first_refusal (refusals_of g c)) (skulk g h d ((g.house h).slots d)) t ns complete)
+          (unless_complete g (first_refusal (refusals_of g c)) (at_house g h (skulk h (g.house h) d)) t ns complete)
 
       low : (q : Replica) → IsHeld g h d q → running q.phase ≡ Some t → t.time ≤ (g.house h).floor
       low q at run = ((r0.sound.held h q at).phase t run).2

@@ -8,12 +8,12 @@ use Rattle.cds_stamps.specs.declared.stamp.Stamp.{Stamp}
 use Rattle.cds_stamps.specs.Stamps.{stamp_cmp, stamp_total, stamp_exact, later_stamp}
 use Rattle.cds_stamps.specs.Members.{Member, master_of, others_of}
 use Rattle.directory.specs.declared.update.UpdateRefusal.TheVariants.{NotMaster}
-use Rattle.cell_model.specs.Sets.{IsUpTo}
 use Rattle.cell_model.specs.Cells.{Phase, Idle, Replica, Slot, Absent, Gone, Held, House, Update, Message, Cell, IsHeld, empty_cell}
 use Rattle.cell_model.specs.Commands as commands
 use Rattle.cell_model.specs.Commands.{Command, Refusal, Answer, Made, Stamped, Complete, Refused, Accepted}
-use Rattle.cell_model.specs.Steps.{Outcome, first_replica, founded, listing, unless, refused, refusals_of, first_refusal, grown, to_each, moved}
-use Rattle.cell_model.specs.Steps.{holding, raised, running, stamp_at, begin, skulk_at, skulk, outcome, replay_from, replay}
+use Rattle.cell_model.specs.Sets.{IsUpTo}
+use Rattle.cell_model.specs.Turns.{first_replica, grown, to_each, holding, raised, running, stamp_at, refuses, begin, skulk_at, skulk_in, skulk}
+use Rattle.cell_model.specs.Steps.{Outcome, founded, listing, unless, refusals_of, first_refusal, moved, at_house, outcome, replay_from, replay}
 use Rattle.cell_model.specs.Agreement.{place_of}
 use Rattle.cell_model.specs.Skulks.{RaisesUpTo}
 use Rattle.cell_model.specs.Floors.{FloorsHold, IsAboveHouse, stamp_issued, Issues, IssuesAbove, IssuesOnce}
@@ -91,21 +91,24 @@ pub unless_complete : (g : Cell) (r : Option Refusal) (o : Outcome) (t : Stamp) 
 unless_complete g None o t ns e = e
 unless_complete g (Some r) o t ns e = absurd (cc)
 
-begin_issues : (g : Cell) (h d : ℕ) (r : Replica) (s t : Stamp) (ns : List ℕ) (os : List ℕ) → (begin g h d r s os).answer ≡ Complete t ns → s ≡ t
+begin_issues : (g : Cell) (h d : ℕ) (r : Replica) (s t : Stamp) (ns : List ℕ) (os : List ℕ)
+    → (at_house g h (begin h (g.house h) d r s os)).answer ≡ Complete t ns → s ≡ t
 begin_issues g h d r s t ns [] e = cc
 begin_issues g h d r s t ns (y ∷ ys) e = absurd (cc)
 
-skulk_at_issues : (g : Cell) (h d : ℕ) (r : Replica) (o : Option Stamp) (t : Stamp) (ns : List ℕ) → (skulk_at g h d r o).answer ≡ Complete t ns → o ≡ Some t
+skulk_at_issues : (g : Cell) (h d : ℕ) (r : Replica) (o : Option Stamp) (t : Stamp) (ns : List ℕ)
+    → (at_house g h (skulk_at h (g.house h) d r o)).answer ≡ Complete t ns → o ≡ Some t
 skulk_at_issues g h d r None t ns e = absurd (cc)
 skulk_at_issues g h d r (Some s) t ns e = ap Some (begin_issues g h d r s t ns (others_of h r.members) e)
 
 -- a skulk that completes at once has the stamp that its house issues
-pub skulk_issues : (g : Cell) (h d : ℕ) (o : Slot) (t : Stamp) (ns : List ℕ) → (skulk g h d o).answer ≡ Complete t ns → stamp_at (g.house h) ≡ Some t
+pub skulk_issues : (g : Cell) (h d : ℕ) (o : Slot) (t : Stamp) (ns : List ℕ) → (at_house g h (skulk_in h (g.house h) d o)).answer ≡ Complete t ns
+    → stamp_at (g.house h) ≡ Some t
 skulk_issues g h d Absent t ns e = absurd (cc)
 skulk_issues g h d (Gone k) t ns e = absurd (cc)
 skulk_issues g h d (Held r) t ns e = by_test (eqb (master_of r.members) h) e
   where
-    by_test : (b : Bool) → (cond b (skulk_at g h d r (stamp_at (g.house h))) (refused g (commands.Update NotMaster))).answer ≡ Complete t ns
+    by_test : (b : Bool) → (at_house g h (cond b (skulk_at h (g.house h) d r (stamp_at (g.house h))) (refuses NotMaster))).answer ≡ Complete t ns
         → stamp_at (g.house h) ≡ Some t
     by_test true q = skulk_at_issues g h d r (stamp_at (g.house h)) t ns q
     by_test false q = absurd (cc)
@@ -135,7 +138,7 @@ skulk_completes early h d t ns e =
     let new : (x k : ℕ) → place h d ≡ place x k → stamp_at (g.house x) ≡ Some t =
     λ x k at. subst (λ (y : ℕ). stamp_at (g.house y) ≡ Some t) (same_place h d x k at).0
     (skulk_issues g h d ((g.house h).slots d) t ns
-    (unless_complete g (first_refusal (refusals_of g (commands.Skulk h d))) (skulk g h d ((g.house h).slots d)) t ns e)) in
+    (unless_complete g (first_refusal (refusals_of g (commands.Skulk h d))) (at_house g h (skulk h (g.house h) d)) t ns e)) in
     let low : (x k : ℕ) (r : Replica) → place h d ≡ place x k → IsHeld g x k r → running r.phase ≡ Some t
     → t.time ≤ (g.house x).floor = λ x k r at held run. (((reaching_last early k).sound.held x r held).phase t run).2 in
     subst (λ (y : Cell). IssuedAt g y (Some (h, d)) t) (sym z.is)

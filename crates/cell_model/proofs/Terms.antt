@@ -3,8 +3,8 @@ use Rattle.std.proofs.Common.{◌≡◌, ◌≢◌, ℕ, ◌⊎◌, inl, inr, Bo
 use Rattle.std.proofs.Common.{⊎_elim, nat_lt}
 use Rattle.cds_stamps.specs.declared.members.MemberKind.TheVariants.{Master, ReadOnly}
 use Rattle.cds_stamps.specs.Members.{Member, is_master, master_of, others_of, is_listed, since_in}
-use Rattle.cell_model.specs.Sets.{In}
-use Rattle.cell_model.specs.Steps.{has, insert_house, ascending, listing, leaving}
+use Rattle.cell_model.specs.Sets.{In, has}
+use Rattle.cell_model.specs.Steps.{insert_house, ascending, listing, leaving}
 use Rattle.cell_model.proofs.Lists.{eq_from, eq_to, or_cases, or_true, has-from_In}
 
 -- the house is listed, since this epoch
@@ -145,6 +145,10 @@ master_listed old k m rs = listed_new old k m m rs ∙ self m rs
 -- the since that a new list has is that of the old list, or the new epoch
 pub since_new : (old : List Member) (k m x : ℕ) (rs : List ℕ) → is_listed x (listing old k m rs) ≡ true → since_in (listing old k m rs) x 0 ≡ since_in old x k
 since_new old k m x rs e = since_map old k m x (ascending (m ∷ rs)) (sym (listed_map old k m x (ascending (m ∷ rs))) ∙ e)
+
+-- the new master's since is the one that it had
+pub since_kept : (old : List Member) (k m : ℕ) (rs : List ℕ) → is_listed m old ≡ true → since_in (listing old k m rs) m 0 ≡ since_in old m 0
+since_kept old k m rs l = since_new old k m m rs (master_listed old k m rs) ∙ since_listed m k old l
 
 -- a house on a new list was on the old one with that since, or its since is the new epoch
 pub listed_before : (old : List Member) (k m x s : ℕ) (rs : List ℕ) → Listed (listing old k m rs) x s → Listed old x s ⊎ (s ≡ k)

@@ -1,9 +1,10 @@
 -- A cell as each of its directories sees it, after a change of one house.
 use Rattle.std.proofs.Common.{◌≡◌, ◌≢◌, ℕ, ◌⊎◌, inl, inr, Bool, true, false, eqb, cond, List, [], ◌∷◌, ◌++◌, refl, sym, ap, ◌∙◌, subst, arith}
 use Rattle.cds_stamps.specs.Members.{Member}
-use Rattle.cell_model.specs.Sets.{In}
 use Rattle.cell_model.specs.Cells.{Slot, House, Body, Message, Cell, put}
-use Rattle.cell_model.specs.Steps.{moved, to_each}
+use Rattle.cell_model.specs.Sets.{In}
+use Rattle.cell_model.specs.Turns.{to_each}
+use Rattle.cell_model.specs.Steps.{moved}
 use Rattle.cell_model.proofs.Lists.{eq_from, eq_to, In-map}
 use Rattle.cell_model.proofs.Facts.{Seat, View, of_dir, seat, view}
 

@@ -5,7 +5,9 @@ use Rattle.std.proofs.lemmas.Bool.{cases_lt}
 use Rattle.cds_stamps.specs.Members.{Member}
 use Rattle.cell_model.specs.Cells.{Slot, Absent, House, Message, Cell, put, no_house, empty_cell}
 use Rattle.cell_model.specs.Commands.{Answer, Accepted, Command}
-use Rattle.cell_model.specs.Steps.{has, moved, holding, founded, outcome, replay_from}
+use Rattle.cell_model.specs.Sets.{has}
+use Rattle.cell_model.specs.Turns.{holding}
+use Rattle.cell_model.specs.Steps.{moved, founded, outcome, replay_from}
 use Rattle.cell_model.specs.Agreement.{place_of}
 use Rattle.std.specs.Prelude.{Option}
 use Rattle.cell_model.proofs.Lists.{eq_from, eq_to, or_cases, or_left, or_right, or_true}

@@ -9,9 +9,9 @@ use Rattle.attr_sets.specs.Marks.{kept}
 use Rattle.attr_sets.specs.Cells.{Cleared, Marked, greatest_clear, greatest_mark}
 use Rattle.directory.specs.Histories.{Mark, Birth, Death, Attr, stamp_in, name_in, born_in, attr_history}
 use Rattle.directory.specs.Shown.{Shown, shown}
-use Rattle.cell_model.specs.Sets.{In, IsPart, IsUpTo}
 use Rattle.cell_model.specs.Cells.{Replica, Message, Cell, IsHeld}
 use Rattle.cell_model.specs.Commands.{Command, Mkdir, Repoint, Accept, Epoch, Skulk, Deliver, Complete, Accepted}
+use Rattle.cell_model.specs.Sets.{In, IsPart, IsUpTo}
 use Rattle.cell_model.specs.Steps.{message_at, outcome, replay, accepted}
 
 -- the house and the directory that a command acts at (own)

@@ -2,11 +2,12 @@
 use Rattle.std.specs.Prelude.{◌≡◌, ℕ, ◌<◌, ◌≤◌, ◌⊎◌, List, ◌∷◌, ◌++◌, Option, Some, None}
 use Rattle.cds_stamps.specs.declared.stamp.Stamp.{Stamp}
 use Rattle.directory.specs.Histories.{Mark, stamp_in, born_in}
-use Rattle.cell_model.specs.Sets.{In}
 use Rattle.cell_model.specs.Cells.{Replica, Message, Cell, IsHeld}
 use Rattle.cell_model.specs.Bodies.{marks_in, round_of, up_to_in}
 use Rattle.cell_model.specs.Commands.{Command, Skulk, Answer, Made, Stamped, Complete}
-use Rattle.cell_model.specs.Steps.{running, outcome, replay}
+use Rattle.cell_model.specs.Sets.{In}
+use Rattle.cell_model.specs.Turns.{running}
+use Rattle.cell_model.specs.Steps.{outcome, replay}
 use Rattle.cell_model.specs.Agreement.{place_of}
 
 -- the times of a mark and of its entry's birth are at most this (own)

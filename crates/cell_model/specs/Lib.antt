@@ -2,6 +2,7 @@ pub mod Sets
 pub mod Cells
 pub mod Bodies
 pub mod Commands
+pub mod Turns
 pub mod Steps
 pub mod Agreement
 pub mod Skulks

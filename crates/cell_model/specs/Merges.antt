@@ -5,9 +5,9 @@ use Rattle.cds_stamps.specs.Members.{Member, since_in}
 use Rattle.cds_stamps.specs.Semilattice.{maybe}
 use Rattle.cds_stamps.specs.Stamps.{later_stamp}
 use Rattle.directory.specs.Histories.{Mark, CanMerge}
-use Rattle.cell_model.specs.Sets.{In}
 use Rattle.cell_model.specs.Cells.{Replica, Copy, Update, Gathered, Spread, Join, Message, IsHeld}
 use Rattle.cell_model.specs.Commands.{Command}
+use Rattle.cell_model.specs.Sets.{In}
 use Rattle.cell_model.specs.Steps.{replay}
 
 -- the message adds these marks to the replica of its receiver, and up to this stamp all have all: for an update the

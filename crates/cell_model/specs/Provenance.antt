@@ -1,10 +1,10 @@
 -- Where messages, epochs and histories come from (own).
 use Rattle.std.specs.Prelude.{◌≡◌, ℕ, ◌<◌, ◌≤◌, ◌⊎◌, List, Some}
 use Rattle.cds_stamps.specs.Members.{Member, since_in}
-use Rattle.cell_model.specs.Sets.{In, IsPart}
 use Rattle.cell_model.specs.Cells.{Replica, Slot, Absent, Gone, Held, Copy, Join, Leave, Message, Cell, IsHeld}
 use Rattle.cell_model.specs.Bodies.{marks_in, copy_in}
-use Rattle.cell_model.specs.Steps.{copy_of}
+use Rattle.cell_model.specs.Sets.{In, IsPart}
+use Rattle.cell_model.specs.Turns.{copy_of}
 
 -- the epoch of a slot: that of its replica, or that in which the house left; 0 where there was nothing (own)
 abbrev pub epoch_of : Slot → ℕ

@@ -4,10 +4,10 @@ use Rattle.cds_stamps.specs.declared.stamp.Stamp.{Stamp}
 use Rattle.cds_stamps.specs.Members.{Member, others_of, is_listed, since_in}
 use Rattle.cds_stamps.specs.Stamps.{is_stamp}
 use Rattle.directory.specs.Histories.{Mark, stamp_in}
-use Rattle.cell_model.specs.Sets.{In, IsUpTo}
 use Rattle.cell_model.specs.Cells.{Gathering, Spreading, Replica, Copy, Body, Gathered, SpreadAck, Join, Message, Cell, IsHeld}
 use Rattle.cell_model.specs.Bodies.{marks_in}
 use Rattle.cell_model.specs.Commands.{Command, Skulk, Complete, Accepted}
+use Rattle.cell_model.specs.Sets.{In, IsUpTo}
 use Rattle.cell_model.specs.Steps.{outcome, replay, accepted}
 use Rattle.cell_model.specs.Agreement.{place_of}
 use Rattle.cell_model.specs.Provenance.{HasPassed}

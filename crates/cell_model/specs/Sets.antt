@@ -1,5 +1,5 @@
 -- Sets of marks: lists in which neither order nor repeats count (own).
-use Rattle.std.specs.Prelude.{◌≡◌, ◌⊎◌, true, List, [], ◌∷◌}
+use Rattle.std.specs.Prelude.{◌≡◌, ◌⊎◌, ℕ, Bool, true, false, ◌||◌, ◌==◌, List, [], ◌∷◌}
 use Rattle.cds_stamps.specs.declared.stamp.Stamp.{Stamp}
 use Rattle.cds_stamps.specs.Stamps.{is_up_to}
 
@@ -7,6 +7,11 @@ use Rattle.cds_stamps.specs.Stamps.{is_up_to}
 abbrev pub In : {A : Type 0} → A → List A → Type 0
 In x [] = ⊥
 In x (y ∷ ys) = (x ≡ y) ⊎ In x ys
+
+-- the number stands in the list (own)
+abbrev pub has : ℕ → List ℕ → Bool
+has x [] = false
+has x (y ∷ ys) = (x == y) || has x ys
 
 -- each value of a stands in b (own)
 abbrev pub IsPart : {A : Type 0} → List A → List A → Type 0

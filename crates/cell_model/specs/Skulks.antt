@@ -1,10 +1,10 @@
 -- Skulks that completed, and what AllUpTo tells (own, after C705, skulks and AllUpTo).
 use Rattle.std.specs.Prelude.{◌≡◌, ℕ, ◌≤◌, List, [], ◌∷◌, ◌++◌, Some}
 use Rattle.cds_stamps.specs.declared.stamp.Stamp.{Stamp}
-use Rattle.cell_model.specs.Sets.{In}
 use Rattle.cell_model.specs.Cells.{Replica, Message, IsHeld}
 use Rattle.cell_model.specs.Bodies.{up_to_in}
 use Rattle.cell_model.specs.Commands.{Command, Complete}
+use Rattle.cell_model.specs.Sets.{In}
 use Rattle.cell_model.specs.Steps.{outcome, replay}
 use Rattle.cell_model.specs.Agreement.{place_of}
 

@@ -6,7 +6,8 @@ use Rattle.directory.specs.declared.entry.Kind.TheVariants as kind
 use Rattle.directory.specs.Kinds.{link_target}
 use Rattle.directory.specs.Shown.{targets}
 use Rattle.cell_model.specs.Cells.{Cell}
-use Rattle.cell_model.specs.Steps.{outcome, has}
+use Rattle.cell_model.specs.Sets.{has}
+use Rattle.cell_model.specs.Steps.{outcome}
 use Rattle.resolver.specs.declared.refusal.Refusal.{Refusal}
 use Rattle.resolver.specs.declared.refusal.Refusal.TheVariants as refusal
 use Rattle.resolver.specs.declared.seen.Found.{Found}

@@ -1,7 +1,8 @@
 use Rattle.std.proofs.Common.{◌∙◌, refl, ap}
 use Rattle.directory.specs.Updates.{change_of}
 use Rattle.cell_model.specs.Commands as command
-use Rattle.cell_model.specs.Steps.{accept}
+use Rattle.cell_model.specs.Turns.{accept}
+use Rattle.cell_model.specs.Steps.{at_house}
 use Rattle.cds_cell.specs.Standing.{directory_of}
 use Rattle.cds_cell.proofs.Houses.{place_within, house_at}
 use Rattle.cds_cell.proofs.HouseSteps.{refused_step}
@@ -34,4 +35,4 @@ returns c g s =
     answered_step c.answer.result c.in_ok-accepted.accepted c.accept_at.new.self _ _ (c.in_ok-accepted.ensures.step g h s c.in-Some-position.ensures)
     c.answer.ensures
     (passes c.args.self.now g s h c.args.dir.0 u at.0 (ap (directory_of ls) c.in-Some.ensures.0 ∙ at.1) house.0 house.1
-    ∙ ap (λ d. accept g h d u ((g.house h).slots d)) c.in-Some.ensures.0)
+    ∙ ap (λ d. at_house g h (accept h (g.house h) d u)) c.in-Some.ensures.0)

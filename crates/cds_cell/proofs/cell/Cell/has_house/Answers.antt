@@ -1,5 +1,5 @@
 use Rattle.std.proofs.Common.{◌∙◌, ap}
-use Rattle.cell_model.specs.Steps.{has}
+use Rattle.cell_model.specs.Sets.{has}
 use Rattle.cds_cell.proofs.Houses.{has_number}
 use Rattle.cds_cell.proofs.cell.Cell.has_house.Goals as goal
 

@@ -4,7 +4,9 @@ use Rattle.cds_stamps.specs.declared.numbers.DirId.{DirId}
 use Rattle.directory.specs.Updates as changes
 use Rattle.directory.specs.Updates.{Change, change_of}
 use Rattle.directory.proofs.TableLaws.{table_of-nil}
-use Rattle.cell_model.specs.Steps.{Outcome, accept, mkdir, has, with_directory}
+use Rattle.cell_model.specs.Sets.{has}
+use Rattle.cell_model.specs.Turns.{accept}
+use Rattle.cell_model.specs.Steps.{Outcome, at_house, mkdir, with_directory}
 use Rattle.cell_script.specs.declared.answer.Answer.TheVariants as answer
 use Rattle.cds_cell.specs.declared.house.LocalDirectory.{LocalDirectory}
 use Rattle.cds_cell.specs.declared.update.Accepted.{Accepted}
@@ -20,10 +22,10 @@ returns-in-Stamped c g h s place made =
     let m : ℕ = c.args.master.0 in
     let number : c.in_ok-child.child.0 ≡ g.next_dir = c.in_ok-child.ensures ∙ next_number c.args.self.now g s c.args.at c.requires.directory in
     let u : Change = changes.MakeChild c.args.name (record { dir = g.next_dir; master = m; others = [] }) in
-    let o : Outcome = accept g h d u ((g.house h).slots d) in
+    let o : Outcome = at_house g h (accept h (g.house h) d u) in
     let is : IsAccepted (outcomes.Stamped t) c.accept_at.new.self o =
     subst (λ (a : Accepted). IsAccepted a c.accept_at.new.self o) c.in-Stamped.is
-    (subst (λ v. IsAccepted c.in_ok-stamp.field-0 c.accept_at.new.self (accept g h d v ((g.house h).slots d)))
+    (subst (λ v. IsAccepted c.in_ok-stamp.field-0 c.accept_at.new.self (at_house g h (accept h (g.house h) d v)))
     (child_change c.args.name c.in_ok-child.child.0 g.next_dir c.in_ok-houses.houses m number c.in_ok-houses.ensures)
     (c.in_ok-stamp.ensures.step g h s place)) in
     let new = c.in_ok-found-in-Stamped.ensures.ok in
@@ -45,10 +47,10 @@ returns c g h s place made =
     let m : ℕ = c.args.master.0 in
     let number : c.in_ok-child.child.0 ≡ g.next_dir = c.in_ok-child.ensures ∙ next_number c.args.self.now g s c.args.at c.requires.directory in
     let u : Change = changes.MakeChild c.args.name (record { dir = g.next_dir; master = m; others = [] }) in
-    let o : Outcome = accept g h d u ((g.house h).slots d) in
+    let o : Outcome = at_house g h (accept h (g.house h) d u) in
     let is : IsAccepted (outcomes.Refused c.in-Refused.refusal) c.accept_at.new.self o =
     subst (λ (a : Accepted). IsAccepted a c.accept_at.new.self o) c.in-Refused.is
-    (subst (λ v. IsAccepted c.in_ok-stamp.field-0 c.accept_at.new.self (accept g h d v ((g.house h).slots d)))
+    (subst (λ v. IsAccepted c.in_ok-stamp.field-0 c.accept_at.new.self (at_house g h (accept h (g.house h) d v)))
     (child_change c.args.name c.in_ok-child.child.0 g.next_dir c.in_ok-houses.houses m number c.in_ok-houses.ensures)
     (c.in_ok-stamp.ensures.step g h s place)) in
     no_child_step c.accept_at.new.self o c.in-Refused.refusal c.answer.result g.next_dir m is c.answer.ensures

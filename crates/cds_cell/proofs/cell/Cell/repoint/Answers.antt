@@ -2,7 +2,9 @@ use Rattle.std.proofs.Common.{◌≡◌, ◌∙◌, ◌∷◌, List, true, false
 use Rattle.directory.specs.Updates as changes
 use Rattle.directory.specs.Updates.{Change}
 use Rattle.cell_model.specs.Commands as command
-use Rattle.cell_model.specs.Steps.{accept, is_missing, ascending}
+use Rattle.cell_model.specs.Turns.{accept}
+use Rattle.cell_model.specs.Steps.{at_house}
+use Rattle.cell_model.specs.Steps.{is_missing, ascending}
 use Rattle.cell_names.specs.Houses.{Houses}
 use Rattle.cds_cell.specs.Scripted.{numbers}
 use Rattle.cds_cell.specs.Standing.{directory_of}
@@ -69,5 +71,5 @@ returns c g s =
     answered_step c.answer.result c.in_ok-accepted.accepted c.accept_at.new.self _ _ (c.in_ok-accepted.ensures.step g h s c.in-Some-position.ensures)
     c.answer.ensures
     (repoint_passes c.args.self.now g s h c.args.dir.0 n m rs at.0 (ap (directory_of ls) c.in-Some.ensures.0 ∙ at.1) house.0 house.1 all good.0
-    ∙ ap (λ d. accept g h d (changes.Repoint n m (ascending rs)) ((g.house h).slots d)) c.in-Some.ensures.0
-    ∙ ap (λ v. accept g h (c.in-Some.at + 1) v ((g.house h).slots (c.in-Some.at + 1))) change)
+    ∙ ap (λ d. at_house g h (accept h (g.house h) d (changes.Repoint n m (ascending rs)))) c.in-Some.ensures.0
+    ∙ ap (λ v. at_house g h (accept h (g.house h) (c.in-Some.at + 1) v)) change)
