@@ -5,3 +5,4 @@ pub mod Stepping
 pub mod Refusing
 pub mod Lawful
 pub mod Imaging
+pub mod PrivateTurns

@@ -2,6 +2,7 @@
 use Rattle.std.specs.Prelude.{◌≡◌, ℕ, List, [], ◌∷◌, map, Option, Some, None}
 use Rattle.std.specs.FinMap.{get}
 use Rattle.cds_stamps.specs.declared.numbers.DirId.{DirId}
+use Rattle.cds_stamps.specs.declared.numbers.EpochNo.{EpochNo}
 use Rattle.cds_stamps.specs.declared.numbers.HouseNo.{HouseNo}
 use Rattle.cds_stamps.specs.Members.{members_of, others_of}
 use Rattle.cds_records.specs.declared.message.Message.{Message}
@@ -54,11 +55,17 @@ abbrev pub receivers_of : Option ℕ → List ℕ → List ℕ
 receivers_of (Some to) others = to ∷ []
 receivers_of None others = others
 
--- the messages of a house that say this, of the epoch that it holds (own)
+-- the message of a house that says this, of the epoch that it holds (own)
+abbrev pub message_of : Sender → Held → Outgoing → Message
+message_of s h o = record { dir = s.dir; from = s.house; epoch = h.epoch; floor = s.floor; body = body_of h o }
+
+-- it goes to each receiver, in ascending order (own)
 abbrev pub posts_of : Sender → Held → Outgoing → List Posted
-posts_of s h o =
-    posts_to (receivers_of (receiver_of o) (others_of s.house.0 (members_of h.members)))
-    (record { dir = s.dir; from = s.house; epoch = h.epoch; floor = s.floor; body = body_of h o })
+posts_of s h o = posts_to (receivers_of (receiver_of o) (others_of s.house.0 (members_of h.members))) (message_of s h o)
+
+-- that a house is a member no more since this epoch (own)
+abbrev pub leave_of : Sender → EpochNo → Message
+leave_of s k = record { dir = s.dir; from = s.house; epoch = k; floor = s.floor; body = body.Leave }
 
 -- so where there is something to say about what it has of a directory (own)
 abbrev pub posts_if : Sender → Option DirState → Option Outgoing → List Posted

@@ -1,4 +1,9 @@
 // What a house has to post after a call, told by what it holds then, so that nothing is copied for it.
+ghost use Rattle.std.specs.Prelude.{◌≡◌, ◌∷◌, [], IfOk};
+ghost use Rattle.std.specs.Option.{option_map};
+ghost use Rattle.cds_stamps.specs.Members.{members_of, others_of};
+ghost use Rattle.clearinghouse.specs.Posting.{body_of, message_of, posts_of, posts_to, receiver_of};
+
 use crate::posted::{Posted, PostedList};
 use crate::states::Held;
 use cds_records::{Body, Message};
@@ -43,7 +48,9 @@ pub(crate) struct Sender {
 
 impl Outgoing {
     /// The house that alone gets it; none, where each other member does.
-    fn receiver(&self) -> Option<HouseNo> {
+    fn receiver(&self) -> Option<HouseNo>
+        ensures { option_map (λ h. h.0) result ≡ receiver_of self.now }
+    {
         match self {
             Outgoing::Gathered(_, to) | Outgoing::SpreadAck(_, to) => Some(*to),
             _ => None,
@@ -58,7 +65,9 @@ impl Held {
         alloc: Global,
         sender: Sender,
         outgoing: &Outgoing,
-    ) -> Result<PostedList, AllocError> {
+    ) -> Result<PostedList, AllocError>
+        ensures { IfOk result (λ p. p ≡ posts_of sender self.now outgoing.now) }
+    {
         match outgoing.receiver() {
             Some(to) => self.posted_to(alloc, sender, to, outgoing),
             None => self.posted_to_others(alloc, sender, outgoing),
@@ -72,7 +81,9 @@ impl Held {
         sender: Sender,
         to: HouseNo,
         outgoing: &Outgoing,
-    ) -> Result<PostedList, AllocError> {
+    ) -> Result<PostedList, AllocError>
+        ensures { IfOk result (λ p. p ≡ posts_to (to.0 ∷ []) (message_of sender self.now outgoing.now)) }
+    {
         let mut posted = PostedList::new(alloc);
         let message = self.message(alloc, sender, outgoing)?;
         posted.push(Posted { to, message })?;
@@ -85,7 +96,9 @@ impl Held {
         alloc: Global,
         sender: Sender,
         outgoing: &Outgoing,
-    ) -> Result<PostedList, AllocError> {
+    ) -> Result<PostedList, AllocError>
+        ensures { IfOk result (λ p. p ≡ posts_to (others_of sender.house.0 (members_of self.now.members)) (message_of sender self.now outgoing.now)) }
+    {
         let mut posted = PostedList::new(alloc);
         for member in self.members.list() {
             if member.house != sender.house {
@@ -105,7 +118,9 @@ impl Held {
         alloc: Global,
         sender: Sender,
         outgoing: &Outgoing,
-    ) -> Result<Message, AllocError> {
+    ) -> Result<Message, AllocError>
+        ensures { IfOk result (λ m. m ≡ message_of sender self.now outgoing.now) }
+    {
         let body = self.body(alloc, outgoing)?;
         Ok(Message {
             dir: sender.dir,
@@ -117,7 +132,9 @@ impl Held {
     }
 
     /// What a message carries that says this.
-    fn body(&self, alloc: Global, outgoing: &Outgoing) -> Result<Body, AllocError> {
+    fn body(&self, alloc: Global, outgoing: &Outgoing) -> Result<Body, AllocError>
+        ensures { IfOk result (λ b. b ≡ body_of self.now outgoing.now) }
+    {
         match outgoing {
             Outgoing::Update(fragment) => Ok(Body::Update(fragment.copy(alloc)?)),
             Outgoing::Gather(t) => Ok(Body::Gather(*t)),

@@ -1,7 +1,10 @@
 // Messages that a house posts.
+ghost use Rattle.std.specs.Prelude.{◌≡◌, ◌++◌, ◌∷◌, [], OnOk, OnErr};
+
 use cds_records::Message;
 use cds_stamps::HouseNo;
 use std::alloc::{AllocError, Global};
+use std::marker::Model;
 
 /// A message, and the house that it is posted to.
 #[derive(Drop)]
@@ -16,20 +19,40 @@ pub struct PostedList {
     items: Vec<Posted>,
 }
 
+impl Model for PostedList {
+    ghost use Rattle.std.specs.Prelude.{List};
+    ghost use Rattle.std.specs.Coded.{coded_list};
+    ghost use Rattle.clearinghouse.specs.PrivateCodes.{posted_code};
+    ghost use Rattle.clearinghouse.specs.declared.posted.Posted.{Posted};
+
+    ghost Value = { List Posted };
+
+    ghost coded = { coded_list posted_code };
+
+    ghost view = { λ v. v.items.items };
+}
+
 impl PostedList {
-    pub fn new(alloc: Global) -> Self {
+    pub fn new(alloc: Global) -> Self
+        ensures { result ≡ [] }
+    {
         PostedList {
             items: Vec::new(alloc),
         }
     }
 
     /// One more, behind the others.
-    pub fn push(&mut self, posted: Posted) -> Result<(), AllocError> {
+    pub fn push(&mut self, posted: Posted) -> Result<(), AllocError>
+        ensures ok { OnOk result (self.new ≡ self.old ++ posted ∷ []) }
+        ensures err { OnErr result (self.new ≡ self.old) }
+    {
         self.items.push(posted)?;
         Ok(())
     }
 
-    pub fn list(&self) -> &[Posted] {
+    pub fn list(&self) -> &[Posted]
+        ensures { result.now ≡ self.now }
+    {
         self.items.as_slice()
     }
 }

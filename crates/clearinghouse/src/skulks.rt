@@ -1,4 +1,15 @@
 // Skulks that a master begins.
+ghost use Rattle.std.specs.Prelude.{◌≡◌, ◌≤◌, ◌<◌, None, Some, Ok, OnErr};
+ghost use Rattle.cds_stamps.specs.declared.numbers.DirId as number;
+ghost use Rattle.cds_stamps.specs.Members.{master_of, members_of, others_of};
+ghost use Rattle.cds_stamps.specs.Stamps.{next_stamp};
+ghost use Rattle.cell_model.specs.Cells as model;
+ghost use Rattle.cell_model.specs.Turns.{skulk_in, begin};
+ghost use Rattle.clearinghouse.specs.Lawful.{IsLawfulHeld};
+ghost use Rattle.clearinghouse.specs.Refusing.{begun_among, not_master, stamp_unless};
+ghost use Rattle.clearinghouse.specs.Stepping.{IsBegunAnswer};
+ghost use Rattle.clearinghouse.specs.PrivateTurns.{HeldStep, IssuesAt};
+
 use crate::outgoing::{Outgoing, Turn};
 use crate::posted::PostedList;
 use crate::states::Held;
@@ -32,7 +43,14 @@ impl Held {
         &mut self,
         by: Issuer,
         floor: &mut Floor,
-    ) -> Turn<Result<Begun, UpdateRefusal>> {
+    ) -> Turn<Result<Begun, UpdateRefusal>>
+        ensures answer { result.answer ≡ begun_among self.old.members (stamp_unless (not_master by.house.0 self.old) (next_stamp by.clock floor.old.time by.node)) }
+        ensures refused { OnErr result.answer ((self.new ≡ self.old) × (floor.new ≡ floor.old) × (result.outgoing ≡ None)) }
+        ensures rises { floor.old.time ≤ floor.new.time }
+        ensures kept { IsLawfulHeld floor.old.time self.old → IsLawfulHeld floor.new.time self.new }
+        ensures step { (now : model.House) (dir : number.DirId) (r : model.Replica) → IssuesAt now by floor.old.time dir self.old r
+            → HeldStep (IsBegunAnswer result.answer) (skulk_in by.house.0 now dir.0 (model.Held r)) now by.house dir self.old self.new floor.new.time result.outgoing }
+    {
         if self.members.master() != by.house {
             return refused(UpdateRefusal::NotMaster);
         }
@@ -43,7 +61,13 @@ impl Held {
     }
 
     /// Begins the skulk of this stamp.
-    fn begin_with(&mut self, by: Issuer, t: Stamp) -> Turn<Result<Begun, UpdateRefusal>> {
+    fn begin_with(&mut self, by: Issuer, t: Stamp) -> Turn<Result<Begun, UpdateRefusal>>
+        requires master { master_of (members_of self.old.members) ≡ by.house.0 }
+        ensures answer { result.answer ≡ begun_among self.old.members (Ok t) }
+        ensures kept { IsLawfulHeld t.time self.old → IsLawfulHeld t.time self.new }
+        ensures step { (now : model.House) (dir : number.DirId) (r : model.Replica) → IssuesAt now by now.floor dir self.old r → now.floor < t.time
+            → HeldStep (IsBegunAnswer result.answer) (begin by.house.0 now dir.0 r t (others_of by.house.0 r.members)) now by.house dir self.old self.new t.time result.outgoing }
+    {
         let me = self.own_place(by.house);
         match self.skulk.begin(t, self.members.list().len(), me) {
             Next::Complete(t) => {

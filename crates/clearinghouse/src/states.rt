@@ -1,4 +1,10 @@
 // What a house holds of directories.
+ghost use Rattle.std.specs.Prelude.{◌≡◌, IfOk, OnOk, OnErr, option_copied, option_copied_mut};
+ghost use Rattle.std.specs.FinMap as map;
+ghost use Rattle.std.specs.Option.{option_map};
+ghost use Rattle.cds_stamps.specs.Members.{is_accepting, members_of};
+ghost use Rattle.clearinghouse.specs.PrivateTurns.{held_in};
+
 use cds_stamps::{DirId, EpochNo, HouseNo, MemberKind, Members};
 use purge_rule::Replica;
 use skulk_core::Skulk;
@@ -31,29 +37,53 @@ pub struct DirStates {
     pub(crate) states: BTreeMap<DirId, DirState>,
 }
 
+impl Model for DirStates {
+    ghost use Rattle.std.specs.FinMap as map;
+    ghost use Rattle.cds_records.specs.Dirs.{dir_cmp};
+    ghost use Rattle.cds_records.specs.PrivateDirCodes.{dir_code};
+    ghost use Rattle.clearinghouse.specs.PrivateCodes.{dir_state_code};
+    ghost use Rattle.clearinghouse.specs.declared.states.DirState.{DirState};
+
+    ghost Value = { map.FinMap dir_cmp DirState };
+
+    ghost coded = { map.code dir_code dir_state_code };
+
+    ghost view = { λ m. map.from_entries m.states.entries };
+}
+
 impl DirStates {
-    pub fn new(alloc: Global) -> Self {
+    pub fn new(alloc: Global) -> Self
+        ensures { result ≡ map.empty }
+    {
         DirStates {
             states: BTreeMap::new(alloc),
         }
     }
 
     /// How many directories there are.
-    pub fn len(&self) -> usize {
+    pub fn len(&self) -> usize
+        ensures { result ≡ map.len self.now }
+    {
         self.states.len()
     }
 
     /// The directories, ascending.
-    pub fn iter(&self) -> Iter<'_, DirId, DirState> {
+    pub fn iter(&self) -> Iter<'_, DirId, DirState>
+        ensures { result ≡ map.entries self.now }
+    {
         self.states.iter()
     }
 
-    pub fn get(&self, dir: &DirId) -> Option<&DirState> {
+    pub fn get(&self, dir: &DirId) -> Option<&DirState>
+        ensures { option_copied result ≡ map.get self.now dir.now }
+    {
         self.states.get(dir)
     }
 
     /// What is held of a directory.
-    pub(crate) fn held(&self, dir: &DirId) -> Option<&Held> {
+    pub(crate) fn held(&self, dir: &DirId) -> Option<&Held>
+        ensures { option_copied result ≡ held_in (map.get self.now dir.now) }
+    {
         match self.states.get(dir) {
             Some(DirState::Held(held)) => Some(held),
             _ => None,
@@ -61,7 +91,9 @@ impl DirStates {
     }
 
     /// What is held of a directory, to be changed.
-    pub(crate) fn held_mut(&mut self, dir: &DirId) -> Option<&mut Held> {
+    pub(crate) fn held_mut(&mut self, dir: &DirId) -> Option<&mut Held>
+        ensures value { option_copied_mut result ≡ held_in (map.get self.old dir.now) }
+    {
         match self.states.get_mut(dir) {
             Some(DirState::Held(held)) => Some(held),
             _ => None,
@@ -69,12 +101,18 @@ impl DirStates {
     }
 
     /// Has this of a directory. What it had of it.
-    pub fn insert(&mut self, dir: DirId, state: DirState) -> Result<Option<DirState>, AllocError> {
+    pub fn insert(&mut self, dir: DirId, state: DirState) -> Result<Option<DirState>, AllocError>
+        ensures before { IfOk result (λ before. before ≡ map.get self.old dir) }
+        ensures ok { OnOk result (self.new ≡ map.insert self.old dir state) }
+        ensures err { OnErr result (self.new ≡ self.old) }
+    {
         Ok(self.states.insert(dir, state)?)
     }
 
     /// The same of the same directories.
-    pub fn copy(&self, alloc: Global) -> Result<DirStates, AllocError> {
+    pub fn copy(&self, alloc: Global) -> Result<DirStates, AllocError>
+        ensures { IfOk result (λ d. d ≡ self.now) }
+    {
         let mut copy = DirStates::new(alloc);
         for (dir, state) in self.iter() {
             copy.insert(*dir, state.copy(alloc)?)?;
@@ -84,7 +122,9 @@ impl DirStates {
 }
 
 impl DirState {
-    pub fn copy(&self, alloc: Global) -> Result<DirState, AllocError> {
+    pub fn copy(&self, alloc: Global) -> Result<DirState, AllocError>
+        ensures { IfOk result (λ d. d ≡ self.now) }
+    {
         match self {
             DirState::Held(held) => Ok(DirState::Held(held.copy(alloc)?)),
             DirState::Gone(epoch) => Ok(DirState::Gone(*epoch)),
@@ -93,7 +133,9 @@ impl DirState {
 }
 
 impl Held {
-    pub fn copy(&self, alloc: Global) -> Result<Held, AllocError> {
+    pub fn copy(&self, alloc: Global) -> Result<Held, AllocError>
+        ensures { IfOk result (λ h. h ≡ self.now) }
+    {
         let members = self.members.copy(alloc)?;
         Ok(Held {
             epoch: self.epoch,
@@ -104,7 +146,9 @@ impl Held {
     }
 
     /// Whether this house accepts updates by the member list.
-    pub(crate) fn accepts_from(&self, house: HouseNo) -> bool {
+    pub(crate) fn accepts_from(&self, house: HouseNo) -> bool
+        ensures { result ≡ is_accepting house.0 (members_of self.now.members) }
+    {
         self.members.list().iter().any(|member| member.house == house
             && member.kind == MemberKind::Master)
     }

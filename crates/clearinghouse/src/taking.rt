@@ -1,4 +1,18 @@
 // Messages that a house takes.
+ghost use Rattle.std.specs.Prelude.{◌≡◌, ℕ, ◌<◌, true, None, Some, IfOk, OnOk, if◌then◌else◌, nat_lt};
+ghost use Rattle.std.specs.Option.{option_map};
+ghost use Rattle.cds_stamps.specs.Members.{members_of, place_of};
+ghost use Rattle.cds_records.specs.Latest.{MessageUpTo};
+ghost use Rattle.cds_records.specs.Validity.{IsValidMessage};
+ghost use Rattle.cell_model.specs.Cells as model;
+ghost use Rattle.cell_model.specs.Merges.{CanTake};
+ghost use Rattle.cell_model.specs.Turns.{floor_after, take_own, late_join, late_leave};
+ghost use Rattle.clearinghouse.specs.Lawful.{IsLawfulHeld};
+ghost use Rattle.clearinghouse.specs.Posting.{LooksMessage, StandsMessage};
+ghost use Rattle.clearinghouse.specs.Standing.{LooksHeld, LooksSlot, StandsHeld};
+ghost use Rattle.clearinghouse.specs.Stepping.{IsTakeAnswer, UnlessTaken};
+ghost use Rattle.clearinghouse.specs.PrivateTurns.{HeldStep, LooksAfter};
+
 use crate::outgoing::{Outgoing, Turn};
 use crate::posted::PostedList;
 use crate::states::{DirState, Held};
@@ -34,13 +48,17 @@ pub enum Taken {
 
 impl Taken {
     /// Whether the message is taken: else it changes nothing.
-    pub fn is_taken(&self) -> bool {
+    pub fn is_taken(&self) -> bool
+        ensures { result ≡ is_taken self.now }
+    {
         matches!(self, Taken::Taken | Taken::Complete(_))
     }
 }
 
 /// A message that is answered and changes nothing.
-pub(crate) fn unchanged(answer: Taken) -> Turn<Taken> {
+pub(crate) fn unchanged(answer: Taken) -> Turn<Taken>
+    ensures { result ≡ record { answer = answer; outgoing = None } }
+{
     Turn {
         answer,
         outgoing: None,
@@ -48,7 +66,9 @@ pub(crate) fn unchanged(answer: Taken) -> Turn<Taken> {
 }
 
 /// A message that is taken, and what is to be posted.
-pub(crate) fn taken(outgoing: Option<Outgoing>) -> Turn<Taken> {
+pub(crate) fn taken(outgoing: Option<Outgoing>) -> Turn<Taken>
+    ensures { result ≡ record { answer = answers.Taken; outgoing = outgoing } }
+{
     Turn {
         answer: Taken::Taken,
         outgoing,
@@ -58,7 +78,9 @@ pub(crate) fn taken(outgoing: Option<Outgoing>) -> Turn<Taken> {
 impl DirState {
     /// The epoch for which a Join of this epoch comes too late: a later one that is held, or one in which the directory was
     /// left, if that is not an earlier one.
-    pub(crate) fn passes_join(&self, epoch: EpochNo) -> Option<EpochNo> {
+    pub(crate) fn passes_join(&self, epoch: EpochNo) -> Option<EpochNo>
+        ensures { (me : ℕ) (slot : model.Slot) → LooksSlot me (Some self.now) slot → option_map (λ e. e.0) result ≡ late_join epoch.0 slot }
+    {
         match self {
             DirState::Held(held) if epoch < held.epoch => Some(held.epoch),
             DirState::Gone(left) if epoch <= *left => Some(*left),
@@ -68,7 +90,9 @@ impl DirState {
 
     /// The epoch for which a Leave of this epoch comes too late: one that is held, or in which the directory was left, if
     /// that is not an earlier one.
-    pub(crate) fn passes_leave(&self, epoch: EpochNo) -> Option<EpochNo> {
+    pub(crate) fn passes_leave(&self, epoch: EpochNo) -> Option<EpochNo>
+        ensures { (me : ℕ) (slot : model.Slot) → LooksSlot me (Some self.now) slot → option_map (λ e. e.0) result ≡ late_leave epoch.0 slot }
+    {
         match self {
             DirState::Held(held) if epoch <= held.epoch => Some(held.epoch),
             DirState::Gone(left) if epoch <= *left => Some(*left),
@@ -96,7 +120,17 @@ impl Held {
         house: HouseNo,
         from: usize,
         message: &Message,
-    ) -> Result<Turn<Taken>, AllocError> {
+    ) -> Result<Turn<Taken>, AllocError>
+        requires from { place_of message.now.from.0 (members_of self.old.members) ≡ Some from }
+        requires epoch { message.now.epoch ≡ self.old.epoch }
+        ensures same { IfOk result (λ turn. UnlessTaken turn.answer ((self.new ≡ self.old) × (turn.outgoing ≡ None))) }
+        ensures kept { (floor : ℕ) → IsValidMessage message.now → MessageUpTo floor message.now → IsLawfulHeld floor self.old → IsLawfulHeld floor self.new }
+        ensures looks { (now : model.House) (m : model.Message) (r : model.Replica) → LooksHeld house.0 self.old r → LooksMessage house.0 message.now m
+            → IfOk result (λ turn. LooksAfter (IsTakeAnswer turn.answer) (take_own now m r m.body) now house.0 m.dir self.new) }
+        ensures step { (now : model.House) (m : model.Message) (r : model.Replica) → now.slots m.dir ≡ model.Held r → StandsHeld house.0 now.floor self.old r
+            → StandsMessage house.0 message.now m → CanTake now m
+            → IfOk result (λ turn. HeldStep (IsTakeAnswer turn.answer) (take_own now m r m.body) now house message.now.dir self.old self.new (floor_after now m) turn.outgoing) }
+    {
         match &message.body {
             Body::Update(fragment) => {
                 self.replica.take_marks(alloc, fragment)?;

@@ -1,4 +1,16 @@
 // Updates of a directory at its master.
+ghost use Rattle.std.specs.Prelude.{◌≡◌, ◌≤◌, None, Err, IfOk, OnErr};
+ghost use Rattle.cds_stamps.specs.declared.numbers.DirId as number;
+ghost use Rattle.cds_stamps.specs.Stamps.{next_stamp};
+ghost use Rattle.directory.specs.Shown.{shown_in, refusal_of};
+ghost use Rattle.directory.specs.Updates.{change_of, changed_name};
+ghost use Rattle.cell_model.specs.Cells as model;
+ghost use Rattle.cell_model.specs.Turns.{accept_in, accept_at, stamp_at};
+ghost use Rattle.clearinghouse.specs.Lawful.{IsLawfulHeld};
+ghost use Rattle.clearinghouse.specs.Refusing.{held_refusal, stamp_unless};
+ghost use Rattle.clearinghouse.specs.Stepping.{IsStampAnswer};
+ghost use Rattle.clearinghouse.specs.PrivateTurns.{HeldStep, IssuesAt};
+
 use crate::outgoing::{Outgoing, Turn};
 use crate::posted::PostedList;
 use crate::states::Held;
@@ -23,7 +35,9 @@ pub(crate) struct Issuer {
 }
 
 /// An update that is refused: nothing is posted.
-pub(crate) fn refused<T>(refusal: UpdateRefusal) -> Turn<Result<T, UpdateRefusal>> {
+pub(crate) fn refused<T>(refusal: UpdateRefusal) -> Turn<Result<T, UpdateRefusal>>
+    ensures { result ≡ record { answer = Err refusal; outgoing = None } }
+{
     Turn {
         answer: Err(refusal),
         outgoing: None,
@@ -38,7 +52,16 @@ impl Held {
         by: Issuer,
         floor: &mut Floor,
         update: &Update,
-    ) -> Result<Turn<Result<Stamp, UpdateRefusal>>, AllocError> {
+    ) -> Result<Turn<Result<Stamp, UpdateRefusal>>, AllocError>
+        ensures answer { IfOk result (λ turn. turn.answer
+            ≡ stamp_unless (held_refusal by.house.0 (change_of update.now) self.old) (next_stamp by.clock floor.old.time by.node)) }
+        ensures refused { IfOk result (λ turn. OnErr turn.answer ((self.new ≡ self.old) × (floor.new ≡ floor.old) × (turn.outgoing ≡ None))) }
+        ensures rises { floor.old.time ≤ floor.new.time }
+        ensures kept { IsLawfulHeld floor.old.time self.old → IsLawfulHeld floor.new.time self.new }
+        ensures step { (now : model.House) (dir : number.DirId) (r : model.Replica) → IssuesAt now by floor.old.time dir self.old r
+            → IfOk result (λ turn. HeldStep (IsStampAnswer turn.answer) (accept_in by.house.0 now dir.0 (change_of update.now) (model.Held r))
+            now by.house dir self.old self.new floor.new.time turn.outgoing) }
+    {
         if !self.accepts_from(by.house) {
             return Ok(refused(UpdateRefusal::NotMaster));
         }
@@ -55,7 +78,16 @@ impl Held {
         by: Issuer,
         floor: &mut Floor,
         update: &Update,
-    ) -> Result<Turn<Result<Stamp, UpdateRefusal>>, AllocError> {
+    ) -> Result<Turn<Result<Stamp, UpdateRefusal>>, AllocError>
+        requires { refusal_of (shown_in self.old.replica.table (changed_name (change_of update.now))) (change_of update.now) ≡ None }
+        ensures answer { IfOk result (λ turn. turn.answer ≡ stamp_unless None (next_stamp by.clock floor.old.time by.node)) }
+        ensures refused { IfOk result (λ turn. OnErr turn.answer ((self.new ≡ self.old) × (floor.new ≡ floor.old) × (turn.outgoing ≡ None))) }
+        ensures rises { floor.old.time ≤ floor.new.time }
+        ensures kept { IsLawfulHeld floor.old.time self.old → IsLawfulHeld floor.new.time self.new }
+        ensures step { (now : model.House) (dir : number.DirId) (r : model.Replica) → IssuesAt now by floor.old.time dir self.old r
+            → IfOk result (λ turn. HeldStep (IsStampAnswer turn.answer) (accept_at by.house.0 now dir.0 (change_of update.now) r (stamp_at now))
+            now by.house dir self.old self.new floor.new.time turn.outgoing) }
+    {
         let mut raised = *floor;
         match raised.issue(by.clock, by.node) {
             Some(stamp) => {
