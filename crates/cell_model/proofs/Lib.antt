@@ -10,6 +10,7 @@ pub mod Soundness
 pub mod SecondRound
 pub mod FirstRound
 pub mod Rounds
+pub mod Rows
 pub mod Moves
 pub mod Views
 pub mod Starts

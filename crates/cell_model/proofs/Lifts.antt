@@ -16,7 +16,7 @@ use Rattle.cell_model.proofs.Lists.{eq_from, In-append_cases, In-map}
 use Rattle.cell_model.proofs.Facts.{up_to_in}
 use Rattle.cell_model.proofs.Marks.{greater_choice}
 use Rattle.cell_model.proofs.Views.{put_at, AllOf}
-use Rattle.cell_model.proofs.MoveFrames.{taken_not, act_posts, first_joins_dir_dir}
+use Rattle.cell_model.proofs.MoveFrames.{taken_not, act_posts, first_joins_dir, epoch_posts_dir}
 use Rattle.cell_model.proofs.Moves.{new_marks, Taking, Act, accepts, skulks, lone, updates, gives, gathers, turns, gathers_again, spreads}
 use Rattle.cell_model.proofs.Moves.{acks_early, acks, completes, advances, copies, keeps, leaves, Move, stays, houses, clocks, loses, crashes}
 use Rattle.cell_model.proofs.Moves.{epoch_told, starts, acts, founds, crowns, Steps, one, mkdirs}

@@ -1,32 +1,32 @@
 -- Each command is one of these moves, or two of them.
-use Rattle.std.proofs.Common.{◌≡◌, ◌≢◌, ℕ, ◌+◌, ◌-◌, ◌<◌, ◌≤◌, Bool, true, false, ◌&&◌, ◌||◌, not, eqb, cond, List, [], ◌∷◌, Option, Some, None}
-use Rattle.std.proofs.Common.{refl, subst, arith, nat_lt, nat_le}
+use Rattle.std.proofs.Common.{◌≡◌, ◌≢◌, ℕ, ◌+◌, ◌-◌, ◌<◌, ◌≤◌, Bool, true, false, ◌||◌, not, eqb, cond, List, [], ◌∷◌, Option, Some, None}
+use Rattle.std.proofs.Common.{refl, subst, arith, nat_le}
 use Rattle.std.specs.Prelude.{slice_get}
 use Rattle.std.specs.Option.{option_map}
 use Rattle.cds_stamps.specs.declared.stamp.Stamp.{Stamp}
 use Rattle.cds_stamps.specs.Members.{Member, master_of, others_of, is_listed, since_in}
-use Rattle.cds_stamps.specs.Stamps.{is_stamp}
 use Rattle.directory.specs.declared.update.UpdateRefusal.{UpdateRefusal}
 use Rattle.directory.specs.Histories.{Mark}
 use Rattle.directory.specs.Shown.{shown, marks_of}
 use Rattle.directory.specs.Updates as changes
 use Rattle.directory.specs.Updates.{Change, changed_name}
-use Rattle.cell_model.specs.Cells.{Phase, Idle, Gathering, Spreading, Replica, Slot, Absent, Gone, Held, Copy, Body, Update, Gather, Gathered}
+use Rattle.cell_model.specs.Cells.{Idle, Gathering, Spreading, Replica, Slot, Absent, Gone, Held, Copy, Body, Update, Gather, Gathered}
 use Rattle.cell_model.specs.Cells.{Spread, SpreadAck, Advance, Join, Leave, Message, Cell, IsHeld}
 use Rattle.cell_model.specs.Commands as commands
 use Rattle.cell_model.specs.Commands.{Command, Refusal, NoHouse, NoDirectory, BadMembers, NotMember, Down, Answer, Done, Posted, Made, Stamped}
 use Rattle.cell_model.specs.Commands.{NotJoined, NewEpoch, Taken, Late, Early, Stale, Foreign, Complete, Refused, Accepted}
 use Rattle.cell_model.specs.Sets.{In, has}
 use Rattle.cell_model.specs.Turns.{HouseStep, Stays, unless_refused, turned, holding, grown, copy_of, merged, raised, to_each, stamp_at, accept_at}
-use Rattle.cell_model.specs.Turns.{update_refusal, accept_in, begin, skulk_at, skulk_in, epoch_replica, epoch_posts, new_epoch_in, floor_after, taken}
-use Rattle.cell_model.specs.Turns.{reply, to_others, all_answered, take_gathered, take_ack, take_own, take_other, copied, kept_at_join, unless_late}
-use Rattle.cell_model.specs.Turns.{take_join, take_leave, take_in}
+use Rattle.cell_model.specs.Turns.{update_refusal, accept_in, begin, skulk_at, skulk_in, epoch_replica, epoch_posts, new_epoch_in, floor_after, reply}
+use Rattle.cell_model.specs.Turns.{to_others, copied, kept_at_join, take}
 use Rattle.cell_model.specs.Steps.{Outcome, first_refusal, unless, is_missing, is_taken, is_down, is_unknown, moved, at_house, ascending, listing}
 use Rattle.cell_model.specs.Steps.{leaving, new_house, set_clock, noted, founded, with_directory, with_epoch, message_at, deliver, lose, crash, start}
 use Rattle.cell_model.specs.Steps.{refusals_of, effect, outcome}
 use Rattle.cell_model.specs.Agreement.{place_of}
+use Rattle.cell_model.proofs.Rows as rows
+use Rattle.cell_model.proofs.Rows.{le_from}
 use Rattle.cell_model.proofs.Terms.{since_kept}
-use Rattle.cell_model.proofs.Lists.{In-from_get, or_left, or_right, not_true, eq_from, stamp_from, answered_all}
+use Rattle.cell_model.proofs.Lists.{In-from_get, or_left, or_right, not_true, eq_from}
 
 -- the marks of an update
 abbrev pub new_marks : Replica → Change → Stamp → List Mark
@@ -118,8 +118,8 @@ epoch_told g d m k ms r = epoch_posts (g.house m).floor d m k ms (leaving (g.pre
 abbrev pub promote : Cell → (d m k : ℕ) → List Member → Replica → Outcome
 promote g d m k ms r =
     let o : Outcome = at_house g m
-        (turned (holding (g.house m) d (g.house m).floor (Held (epoch_replica k ms r)))
-        (epoch_told g d m k ms r) (NewEpoch k)) in
+    (turned (holding (g.house m) d (g.house m).floor (Held (epoch_replica k ms r)))
+    (epoch_told g d m k ms r) (NewEpoch k)) in
     record o { cell = noted o.cell d k ms }
 
 -- p is the house and the directory that the command acts at
@@ -170,159 +170,61 @@ unless_turned : (g : Cell) (h d : ℕ) (r : Option UpdateRefusal) (x : HouseStep
 unless_turned g h d None x k = k refl
 unless_turned g h d (Some r) x k = stays (Refused (commands.Update r)) tt
 
-late_turned : (g : Cell) (d : ℕ) (m : Message) (r : Option ℕ) (x : HouseStep) → (r ≡ None → Turned g m.receiver d x) → Turned g m.receiver d (unless_late m r x)
-late_turned g d m None x k = k refl
-late_turned g d m (Some e) x k = stays (Late m.epoch e) tt
-
 -- the first test of a list of refusals fails, and so do the others
 first_fails : (b : Bool) (r : Refusal) (ts : List (Bool × Refusal)) → cond b (Some r) (first_refusal ts) ≡ None → (b ≡ false) × (first_refusal ts ≡ None)
 first_fails true r ts e = absurd (cc)
 first_fails false r ts e = (refl, e)
 
-le_from : (a b : ℕ) → nat_le a b ≡ true → a ≤ b
-le_from a b e = grind arith
+-- a message that is taken, of the epoch that is held
+taking : (g : Cell) (m : Message) (b : Body) (r : Replica) → In m g.bag → IsUp g m.receiver → rows.Own (g.house m.receiver) m b r → Taking g m b r
+taking g m b r at up k = record { posted = at; is = k.is; up = up; held = k.held; epoch = k.epoch; member = k.member }
 
-lt_from : (a b : ℕ) → nat_lt a b ≡ true → a < b
-lt_from a b e = grind arith
+-- a Join or a Leave that is taken
+entering : (g : Cell) (m : Message) (b : Body) → In m g.bag → IsUp g m.receiver → rows.Timely (g.house m.receiver) m b → Entering g m b
+entering g m b at up k = record { posted = at; is = k.is; up = up; gone = k.gone }
 
-le_not : (a b : ℕ) → nat_le a b ≡ false → b < a
-le_not a b e = grind arith
+passed_quiet : (a : Answer) → rows.IsPassed a → IsQuiet a
+passed_quiet (Late k e) q = tt
+passed_quiet (Early k e) q = tt
+passed_quiet (Stale t r) q = tt
+passed_quiet commands.NoReplica q = tt
+passed_quiet Done q = tt
+passed_quiet (Posted ns) q = tt
+passed_quiet (Made d s ns) q = q
+passed_quiet (Stamped s ns) q = q
+passed_quiet (NewEpoch e ns) q = tt
+passed_quiet (Taken ns) q = tt
+passed_quiet Foreign q = tt
+passed_quiet (Complete t ns) q = q
+passed_quiet (Refused r) q = tt
 
-lt_not : (a b : ℕ) → nat_lt a b ≡ false → b ≤ a
-lt_not a b e = grind arith
+-- each row of a message is a move
+module _ (g : Cell) (m : Message) (at : In m g.bag) (up : IsUp g m.receiver) where
+  abbrev floor : ℕ
+  floor = floor_after (g.house m.receiver) m
 
--- a message that is not late is of a later epoch, or of the same
-not_reached : (k e : ℕ) (b : Bool) → nat_le k e ≡ b → cond b (Some e) None ≡ None → e < k
-not_reached k e true q z = absurd (cc)
-not_reached k e false q z = le_not k e q
+  row_moves : (s : HouseStep) → rows.Row (g.house m.receiver) m s → Turned g m.receiver m.dir s
+  row_moves s (rows.passes a q) = stays a (passed_quiet a q)
+  row_moves s (rows.unlisted r held epoch out) = stays Foreign tt
+  row_moves s (rows.outside ms copy is out) = stays Foreign tt
+  row_moves s (rows.updates marks r k) = acts m.receiver m.dir refl floor _ [] _ [] (updates m marks r _ (taking g m _ r at up k))
+  row_moves s (rows.gives t r k) = acts m.receiver m.dir refl floor _ _ _ [] (gives m t r _ (taking g m _ r at up k))
+  row_moves s (rows.gathers t copy a r k run) = acts m.receiver m.dir refl floor _ [] _ [] (gathers m t copy a r _ (taking g m _ r at up k) run)
+  row_moves s (rows.turns t copy a r k run all) = acts m.receiver m.dir refl floor _ _ _ [] (turns m t copy a r _ (taking g m _ r at up k) run all)
+  row_moves s (rows.gathers_again t copy a r k run) =
+      acts m.receiver m.dir refl floor _ [] _ [] (gathers_again m t copy a r _ (taking g m _ r at up k) run)
+  row_moves s (rows.spreads t copy r k) = acts m.receiver m.dir refl floor _ _ _ [] (spreads m t copy r _ (taking g m _ r at up k))
+  row_moves s (rows.acks_early t a r k run) = acts m.receiver m.dir refl floor _ [] _ [] (acks_early m t a r _ (taking g m _ r at up k) run)
+  row_moves s (rows.acks t a r k run) = acts m.receiver m.dir refl floor _ [] _ [] (acks m t a r _ (taking g m _ r at up k) run)
+  row_moves s (rows.completes t a r k run all) = acts m.receiver m.dir refl floor _ _ _ [] (completes m t a r _ (taking g m _ r at up k) run all)
+  row_moves s (rows.advances t r k) = acts m.receiver m.dir refl floor _ [] _ [] (advances m t r _ (taking g m _ r at up k))
+  row_moves s (rows.copies ms copy k low) = acts m.receiver m.dir refl floor _ [] _ [] (copies m ms copy _ (entering g m _ at up k) low)
+  row_moves s (rows.keeps ms copy r k held le since) =
+      acts m.receiver m.dir refl floor _ [] _ [] (keeps m ms copy r _ (entering g m _ at up k) held le since)
+  row_moves s (rows.leaves k low) = acts m.receiver m.dir refl floor _ [] _ [] (leaves m _ (entering g m _ at up k) low)
 
-not_passed : (k e : ℕ) (b : Bool) → nat_lt k e ≡ b → cond b (Some e) None ≡ None → e ≤ k
-not_passed k e true q z = absurd (cc)
-not_passed k e false q z = lt_not k e q
-
-gathered_moves : (g : Cell) (m : Message) (t : Stamp) (copy : Copy) (r : Replica) (p : Phase) → Taking g m (Gathered t copy) r → r.phase ≡ p
-    → Turned g m.receiver m.dir (take_gathered (g.house m.receiver) m t copy r p)
-gathered_moves g m t copy r Idle k phase = stays _ tt
-gathered_moves g m t copy r (Gathering u a) k phase =
-    if_turned g _ _ (is_stamp t u) _ _
-    (λ e. let k' = subst (λ (s : Stamp). Taking g m (Gathered s copy) r) (stamp_from t u e) k in
-    if_turned g _ _ (all_answered (others_of m.receiver r.members) (m.sender ∷ a)) _ _
-    (λ all. acts m.receiver m.dir refl (floor_after (g.house m.receiver) m) _ _ _ []
-    (turns m u copy a r _ k' phase (answered_all (others_of m.receiver r.members) (m.sender ∷ a) all)))
-    (λ _. acts m.receiver m.dir refl (floor_after (g.house m.receiver) m) _ [] _ [] (gathers m u copy a r _ k' phase)))
-    (λ _. stays _ tt)
-gathered_moves g m t copy r (Spreading u a) k phase =
-    if_turned g _ _ (is_stamp t u) _ _
-    (λ e. acts m.receiver m.dir refl (floor_after (g.house m.receiver) m) _ [] _ []
-    (gathers_again m u copy a r _ (subst (λ (s : Stamp). Taking g m (Gathered s copy) r) (stamp_from t u e) k) phase))
-    (λ _. stays _ tt)
-
-ack_moves : (g : Cell) (m : Message) (t : Stamp) (r : Replica) (p : Phase) → Taking g m (SpreadAck t) r → r.phase ≡ p
-    → Turned g m.receiver m.dir (take_ack (g.house m.receiver) m t r p)
-ack_moves g m t r Idle k phase = stays _ tt
-ack_moves g m t r (Gathering u a) k phase =
-    if_turned g _ _ (is_stamp t u) _ _
-    (λ e. acts m.receiver m.dir refl (floor_after (g.house m.receiver) m) _ [] _ []
-    (acks_early m u a r _ (subst (λ (s : Stamp). Taking g m (SpreadAck s) r) (stamp_from t u e) k) phase))
-    (λ _. stays _ tt)
-ack_moves g m t r (Spreading u a) k phase =
-    if_turned g _ _ (is_stamp t u) _ _
-    (λ e. let k' = subst (λ (s : Stamp). Taking g m (SpreadAck s) r) (stamp_from t u e) k in
-    if_turned g _ _ (all_answered (others_of m.receiver r.members) (m.sender ∷ a)) _ _
-    (λ all. acts m.receiver m.dir refl (floor_after (g.house m.receiver) m) _ _ _ []
-    (completes m u a r _ k' phase (answered_all (others_of m.receiver r.members) (m.sender ∷ a) all)))
-    (λ _. acts m.receiver m.dir refl (floor_after (g.house m.receiver) m) _ [] _ [] (acks m u a r _ k' phase)))
-    (λ _. stays _ tt)
-
-own_moves : (g : Cell) (m : Message) (r : Replica) (b : Body) → Taking g m b r → Turned g m.receiver m.dir (take_own (g.house m.receiver) m r b)
-own_moves g m r (Update marks) k = acts m.receiver m.dir refl (floor_after (g.house m.receiver) m) _ [] _ [] (updates m marks r _ k)
-own_moves g m r (Gather t) k = acts m.receiver m.dir refl (floor_after (g.house m.receiver) m) _ _ _ [] (gives m t r _ k)
-own_moves g m r (Gathered t copy) k = gathered_moves g m t copy r r.phase k refl
-own_moves g m r (Spread t copy) k = acts m.receiver m.dir refl (floor_after (g.house m.receiver) m) _ _ _ [] (spreads m t copy r _ k)
-own_moves g m r (SpreadAck t) k = ack_moves g m t r r.phase k refl
-own_moves g m r (Advance t) k = acts m.receiver m.dir refl (floor_after (g.house m.receiver) m) _ [] _ [] (advances m t r _ k)
-own_moves g m r (Join ms copy) k = stays Foreign tt
-own_moves g m r Leave k = stays Foreign tt
-
-other_moves : (g : Cell) (m : Message) (b : Body) (s : Slot) → In m g.bag → m.body ≡ b → IsUp g m.receiver → (g.house m.receiver).slots m.dir ≡ s
-    → Turned g m.receiver m.dir (take_other (g.house m.receiver) m b s)
-other_moves g m b Absent at is up e = stays commands.NoReplica tt
-other_moves g m b (Gone d) at is up e = stays commands.NoReplica tt
-other_moves g m b (Held r) at is up e =
-    if_turned g _ _ (nat_lt m.epoch r.epoch) _ _ (λ _. stays _ tt)
-    (λ low. if_turned g _ _ (nat_lt r.epoch m.epoch) _ _ (λ _. stays _ tt)
-    (λ high. if_turned g _ _ (is_listed m.sender r.members) _ _
-    (λ member. let p = lt_not _ _ low in let q = lt_not _ _ high in
-    own_moves g m r b (record { posted = at; is = is; up = up; held = e; epoch = omega arith; member = member }))
-    (λ _. stays Foreign tt)))
-
-join_moves : (g : Cell) (m : Message) (ms : List Member) (copy : Copy) (s : Slot) → In m g.bag → m.body ≡ Join ms copy → IsUp g m.receiver
-    → (g.house m.receiver).slots m.dir ≡ s → Turned g m.receiver m.dir (take_join (g.house m.receiver) m ms copy s)
-join_moves g m ms copy Absent at is up e =
-    if_turned g _ _ (is_listed m.receiver ms && is_listed m.sender ms) _ _
-    (λ _. acts m.receiver m.dir refl (floor_after (g.house m.receiver) m) _ [] _ []
-    (copies m ms copy _ (record { posted = at; is = is; up = up; gone = λ d q. absurd (cc) }) (λ r q. absurd (cc))))
-    (λ _. stays Foreign tt)
-join_moves g m ms copy (Gone d) at is up e =
-    late_turned g _ m (cond (nat_le m.epoch d) (Some d) None) _
-    (λ late. if_turned g _ _ (is_listed m.receiver ms && is_listed m.sender ms) _ _
-    (λ _. acts m.receiver m.dir refl (floor_after (g.house m.receiver) m) _ [] _ []
-    (copies m ms copy _ (record {
-      posted = at;
-      is = is;
-      up = up;
-      gone = λ d' e'. let same : d ≡ d' = cc in
-          subst (λ (z : ℕ). z < m.epoch) same (not_reached m.epoch d (nat_le m.epoch d) refl late);
-    }) (λ r q. absurd (cc))))
-    (λ _. stays Foreign tt))
-join_moves g m ms copy (Held r) at is up e =
-    late_turned g _ m (cond (nat_lt m.epoch r.epoch) (Some r.epoch) None) _
-    (λ late. if_turned g _ _ (is_listed m.receiver ms && is_listed m.sender ms) _ _
-    (λ _. by_since (nat_le (since_in ms m.receiver 0) r.epoch) refl (not_passed m.epoch r.epoch (nat_lt m.epoch r.epoch) refl late))
-    (λ _. stays Foreign tt))
-  where
-    en : Entering g m (Join ms copy)
-    en = record { posted = at; is = is; up = up; gone = λ d e'. absurd (cc) }
-
-    by_since : (b : Bool) → nat_le (since_in ms m.receiver 0) r.epoch ≡ b → r.epoch ≤ m.epoch
-        → Turned g m.receiver m.dir (taken (g.house m.receiver) m (Held (cond b (kept_at_join m ms copy r) (copied m ms copy))) [])
-    by_since true q le = acts m.receiver m.dir refl (floor_after (g.house m.receiver) m) _ [] _ [] (keeps m ms copy r _ en e le (le_from _ _ q))
-    by_since false q le =
-        acts m.receiver m.dir refl (floor_after (g.house m.receiver) m) _ [] _ []
-        (copies m ms copy _ en (λ r' e'. let same : r ≡ r' = cc in
-        subst (λ (z : Replica). (z.epoch ≤ m.epoch) × (z.epoch < since_in ms m.receiver 0)) same (le, le_not _ _ q)))
-
-leave_moves : (g : Cell) (m : Message) (s : Slot) → In m g.bag → m.body ≡ Leave → IsUp g m.receiver → (g.house m.receiver).slots m.dir ≡ s
-    → Turned g m.receiver m.dir (take_leave (g.house m.receiver) m s)
-leave_moves g m Absent at is up e =
-    acts m.receiver m.dir refl (floor_after (g.house m.receiver) m) _ [] _ []
-    (leaves m _ (record { posted = at; is = is; up = up; gone = λ d q. absurd (cc) }) (λ r q. absurd (cc)))
-leave_moves g m (Gone d) at is up e =
-    late_turned g _ m (cond (nat_le m.epoch d) (Some d) None) _
-    (λ late. acts m.receiver m.dir refl (floor_after (g.house m.receiver) m) _ [] _ []
-    (leaves m _ (record {
-      posted = at;
-      is = is;
-      up = up;
-      gone = λ d' e'. let same : d ≡ d' = cc in
-          subst (λ (z : ℕ). z < m.epoch) same (not_reached m.epoch d (nat_le m.epoch d) refl late);
-    }) (λ r q. absurd (cc))))
-leave_moves g m (Held r) at is up e =
-    late_turned g _ m (cond (nat_le m.epoch r.epoch) (Some r.epoch) None) _
-    (λ late. acts m.receiver m.dir refl (floor_after (g.house m.receiver) m) _ [] _ []
-    (leaves m _ (record { posted = at; is = is; up = up; gone = λ d q. absurd (cc) }) (λ r' e'. let same : r ≡ r' = cc in
-    subst (λ (z : Replica). z.epoch < m.epoch) same (not_reached m.epoch r.epoch (nat_le m.epoch r.epoch) refl late))))
-
-take_moves : (g : Cell) (m : Message) (b : Body) → In m g.bag → m.body ≡ b → IsUp g m.receiver
-    → Turned g m.receiver m.dir (take_in (g.house m.receiver) m b ((g.house m.receiver).slots m.dir))
-take_moves g m (Update marks) at is up = other_moves g m (Update marks) _ at is up refl
-take_moves g m (Gather t) at is up = other_moves g m (Gather t) _ at is up refl
-take_moves g m (Gathered t copy) at is up = other_moves g m (Gathered t copy) _ at is up refl
-take_moves g m (Spread t copy) at is up = other_moves g m (Spread t copy) _ at is up refl
-take_moves g m (SpreadAck t) at is up = other_moves g m (SpreadAck t) _ at is up refl
-take_moves g m (Advance t) at is up = other_moves g m (Advance t) _ at is up refl
-take_moves g m (Join ms copy) at is up = join_moves g m ms copy _ at is up refl
-take_moves g m Leave at is up = leave_moves g m _ at is up refl
+  take_moves : Turned g m.receiver m.dir (take (g.house m.receiver) m)
+  take_moves = row_moves (take (g.house m.receiver) m) (rows.take_row (g.house m.receiver) m)
 
 message_posted : (g : Cell) (n : ℕ) (b : Bool) (m : Message) → cond b None (slice_get g.bag (n - 1)) ≡ Some m → In m g.bag
 message_posted g n true m e = absurd (cc)
@@ -332,7 +234,7 @@ deliver_moves : (g : Cell) (n : ℕ) (o : Option Message) → message_at g n ≡
 deliver_moves g n None e = stays _ tt
 deliver_moves g n (Some m) e =
     if_moves g _ (is_down g m.receiver) _ _ (λ _. stays _ tt)
-    (λ up. take_moves g m m.body (message_posted g n ((eqb n 0) || has n g.lost) m e) refl (not_true _ up))
+    (λ up. take_moves g m (message_posted g n ((eqb n 0) || has n g.lost) m e) (not_true _ up))
 
 lose_moves : (g : Cell) (n : ℕ) (o : Option Message) → Moves g None (lose g n o)
 lose_moves g n None = stays _ tt

@@ -1,6 +1,6 @@
 -- What a house does at each call, by what it has and what it is given: no other house counts, and no message but the one that it takes
 -- (own, after C705, updates, skulks and new epochs).
-use Rattle.std.specs.Prelude.{ℕ, max, Bool, true, false, ◌&&◌, not, ◌==◌, nat_lt, nat_le, if◌then◌else◌, List, [], ◌∷◌, ◌++◌, map, Option, Some, None}
+use Rattle.std.specs.Prelude.{ℕ, max, Bool, true, false, ◌&&◌, ◌==◌, nat_lt, nat_le, if◌then◌else◌, List, [], ◌∷◌, ◌++◌, map, Option, Some, None}
 use Rattle.std.specs.List.{list_all}
 use Rattle.cds_stamps.specs.declared.stamp.Stamp.{Stamp}
 use Rattle.cds_stamps.specs.Members.{Member, master_of, others_of, is_listed, is_accepting, since_in}
