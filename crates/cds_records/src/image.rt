@@ -116,24 +116,3 @@ impl ImageDir {
         }
     }
 }
-
-impl Image {
-    /// The greatest time in it: its floor, and those of its replicas.
-    pub fn latest_time(&self) -> u64 {
-        let mut time = self.floor;
-        for (_, kept) in self.dirs.iter() {
-            time = time.max(kept.latest_time());
-        }
-        time
-    }
-}
-
-impl ImageDir {
-    /// The greatest time in the replica that is kept; 0 where there is none.
-    fn latest_time(&self) -> u64 {
-        match self {
-            ImageDir::Held(_, _, replica) => replica.latest_time(),
-            ImageDir::Gone(_) => 0,
-        }
-    }
-}

@@ -4,7 +4,7 @@ ghost use Rattle.cds_records.specs.Records.{tag_of};
 
 use cds_stamps::{DirId, EpochNo, HouseNo, Members, Stamp};
 use directory::Fragment;
-use purge_rule::{Replica, latest_in_entry};
+use purge_rule::Replica;
 use std::alloc::{AllocError, Global};
 
 /// A message of one house to another about a directory.
@@ -55,27 +55,7 @@ impl Message {
     }
 }
 
-impl Message {
-    /// The greatest time in it: its floor, that of the stamp that it carries, and those of its entry or its replica.
-    pub fn latest_time(&self) -> u64 {
-        self.floor.max(self.body.latest_time())
-    }
-}
-
 impl Body {
-    /// The greatest time that it carries; 0 where there is none.
-    fn latest_time(&self) -> u64 {
-        match self {
-            Body::Update(fragment) => latest_in_entry(&fragment.entry),
-            Body::Gather(t) | Body::SpreadAck(t) | Body::Advance(t) => t.time,
-            Body::Gathered(t, replica) | Body::Spread(t, replica) => {
-                t.time.max(replica.latest_time())
-            }
-            Body::Join(_, replica) => replica.latest_time(),
-            Body::Leave => 0,
-        }
-    }
-
     /// The tag of a message that carries this.
     pub fn tag(&self) -> u8
         ensures { result ≡ tag_of self.now }

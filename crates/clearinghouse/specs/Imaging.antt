@@ -3,7 +3,6 @@ use Rattle.std.specs.Prelude.{◌≡◌, ℕ, ◌+◌, ◌==◌, if◌then◌els
 use Rattle.std.specs.FinMap.{FinMap, entries, from_entries}
 use Rattle.cds_records.specs.Decoding.{decoding}
 use Rattle.cds_records.specs.Images.{image}
-use Rattle.cds_records.specs.Latest.{latest_in_image}
 use Rattle.cds_records.specs.declared.fault.RecordFault.{RecordFault}
 use Rattle.cds_records.specs.declared.fault.RecordFault.TheVariants.{Trailing}
 use Rattle.cds_records.specs.declared.image.Image.{Image}
@@ -14,6 +13,7 @@ use Rattle.clearinghouse.specs.declared.images.StartFault.{StartFault}
 use Rattle.clearinghouse.specs.declared.images.StartFault.TheVariants.{BadImage}
 use Rattle.clearinghouse.specs.declared.states.DirState.{DirState}
 use Rattle.clearinghouse.specs.declared.states.DirState.TheVariants as state
+use Rattle.clearinghouse.specs.Times.{latest_in_image}
 use Rattle.clearinghouse.specs.declared.house.Clearinghouse.{Clearinghouse}
 
 -- what is kept of what a house has of a directory: all but its skulk (own)

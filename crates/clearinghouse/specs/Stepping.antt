@@ -1,5 +1,5 @@
 -- That a call of a clearinghouse is a step of the house of the model for which it stands (own, after C705, clearinghouses and replicas).
-use Rattle.std.specs.Prelude.{◌≡◌, ℕ, false, List, [], Option, Some, None, Result, Ok, Err, IfOk, is_err}
+use Rattle.std.specs.Prelude.{◌≡◌, ℕ, Bool, true, false, List, [], Option, Some, None, Result, Ok, Err, IfOk, is_err}
 use Rattle.std.specs.FinMap.{get, insert}
 use Rattle.std.specs.declared.alloc.AllocError.{AllocError}
 use Rattle.cds_stamps.specs.declared.members.Member as declared
@@ -110,6 +110,16 @@ pub record IsCall {T : Type 0} (old new : Clearinghouse) (result : Result T Allo
   pub node : new.node ≡ old.node
   pub spent : new.spent ≡ is_err result
   pub usable : IfOk result (λ _. old.spent ≡ false)
+
+-- the message is taken (own)
+abbrev pub is_taken : Taken → Bool
+is_taken taken.Taken = true
+is_taken (taken.Complete t) = true
+is_taken (taken.Late a b) = false
+is_taken (taken.Early a b) = false
+is_taken (taken.Stale a b) = false
+is_taken taken.NoReplica = false
+is_taken taken.Foreign = false
 
 -- where a message was taken (own)
 abbrev pub IfTaken : Taken → Type 0 → Type 0

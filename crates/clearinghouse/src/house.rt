@@ -6,7 +6,6 @@ ghost use Rattle.cds_stamps.specs.Members.{master_of, members_of};
 ghost use Rattle.cds_stamps.specs.Outcomes.{Answers};
 ghost use Rattle.cds_stamps.specs.Stamps.{next_stamp};
 ghost use Rattle.directory.specs.Updates.{change_of};
-ghost use Rattle.cds_records.specs.Latest.{latest_in_message};
 ghost use Rattle.cds_records.specs.Octets.{image_octets};
 ghost use Rattle.cds_records.specs.Validity.{IsValidMessage};
 ghost use Rattle.cell_model.specs.Cells as model;
@@ -19,6 +18,7 @@ ghost use Rattle.clearinghouse.specs.Refusing.{accept_answer, skulk_answer, epoc
 ghost use Rattle.clearinghouse.specs.Standing.{LooksHouse, StandsHouse};
 ghost use Rattle.clearinghouse.specs.Stepping.{IsCall, IsTurn, IsStep, LooksStep, IsStampAnswer, IsAcceptAnswer, IsBegunAnswer, IsSkulkAnswer, IsTakeAnswer};
 ghost use Rattle.clearinghouse.specs.Stepping.{IsEpochAnswer, accept_result, accept_posts, skulk_result, skulk_posts, epoch_result, epoch_posts};
+ghost use Rattle.clearinghouse.specs.Times.{latest_in_message};
 ghost use Rattle.clearinghouse.specs.Stepping.{UnlessTaken, IfTaken, Enters};
 
 use crate::epochs::{EpochRefusal, EpochSet, post_leaves};
@@ -28,6 +28,7 @@ use crate::posted::PostedList;
 use crate::skulks::{Begun, Skulked};
 use crate::states::{DirState, DirStates, Held, since_in};
 use crate::taking::{Taken, Took, taken, unchanged};
+use crate::times::{latest_in_image, latest_in_message};
 use crate::updates::{Accepted, Issuer, refused};
 use cds_records::{Body, ImageWriter, Message, RecordFault, decode_image};
 use cds_stamps::{AllocOr, DirId, EpochNo, Floor, HouseNo, Members, Node, Stamp};
@@ -254,7 +255,7 @@ impl Clearinghouse {
             Some(from) => {
                 let turn = held.take(alloc, house, from, message)?;
                 if turn.answer.is_taken() {
-                    self.floor.raise(message.latest_time());
+                    self.floor.raise(latest_in_message(message));
                 }
                 Ok(turn)
             }
@@ -280,7 +281,7 @@ impl Clearinghouse {
         if members.place(message.from).is_none() {
             return Ok(unchanged(Taken::Foreign));
         }
-        self.floor.raise(message.latest_time());
+        self.floor.raise(latest_in_message(message));
         match self.dirs.held_mut(&message.dir) {
             Some(held) if since <= held.epoch => {
                 held.join(alloc, message.epoch, members, replica)?
@@ -453,7 +454,7 @@ impl Clearinghouse {
         if length < octets.len() {
             return Err(AllocOr::Fault(StartFault::BadImage(RecordFault::Trailing(length + 1))));
         }
-        let time = image.latest_time();
+        let time = latest_in_image(&image);
         Ok(Clearinghouse {
             house: image.house,
             node: image.node,

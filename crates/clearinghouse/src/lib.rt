@@ -9,6 +9,7 @@ mod posted;
 mod skulks;
 mod states;
 mod taking;
+mod times;
 mod updates;
 
 pub use epochs::{EpochRefusal, EpochSet};

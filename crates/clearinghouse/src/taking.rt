@@ -2,7 +2,7 @@
 ghost use Rattle.std.specs.Prelude.{◌≡◌, ℕ, ◌<◌, true, None, Some, IfOk, OnOk, if◌then◌else◌, nat_lt};
 ghost use Rattle.std.specs.Option.{option_map};
 ghost use Rattle.cds_stamps.specs.Members.{members_of, place_of};
-ghost use Rattle.cds_records.specs.Latest.{MessageUpTo};
+ghost use Rattle.clearinghouse.specs.Times.{BodyUpTo};
 ghost use Rattle.cds_records.specs.Validity.{IsValidMessage};
 ghost use Rattle.cell_model.specs.Cells as model;
 ghost use Rattle.cell_model.specs.Merges.{CanTake};
@@ -10,7 +10,8 @@ ghost use Rattle.cell_model.specs.Turns.{floor_after, take_own, late_join, late_
 ghost use Rattle.clearinghouse.specs.Lawful.{IsLawfulHeld};
 ghost use Rattle.clearinghouse.specs.Posting.{LooksMessage, StandsMessage};
 ghost use Rattle.clearinghouse.specs.Standing.{LooksHeld, LooksSlot, StandsHeld};
-ghost use Rattle.clearinghouse.specs.Stepping.{IsTakeAnswer, UnlessTaken};
+ghost use Rattle.clearinghouse.specs.Stepping.{IsTakeAnswer, UnlessTaken, is_taken};
+ghost use Rattle.clearinghouse.specs.declared.taking.Taken.TheVariants as answers;
 ghost use Rattle.clearinghouse.specs.PrivateTurns.{HeldStep, LooksAfter};
 
 use crate::outgoing::{Outgoing, Turn};
@@ -103,7 +104,10 @@ impl DirState {
 
 impl Held {
     /// Why a message that is neither Join nor Leave is not taken, by its epoch and its sender.
-    pub(crate) fn bars(&self, message: &Message) -> Option<Taken> {
+    pub(crate) fn bars(&self, message: &Message) -> Option<Taken>
+        ensures { result ≡ (if nat_lt message.now.epoch.0 self.now.epoch.0 then Some (answers.Late message.now.epoch self.now.epoch)
+            else (if nat_lt self.now.epoch.0 message.now.epoch.0 then Some (answers.Early message.now.epoch self.now.epoch) else None)) }
+    {
         if message.epoch < self.epoch {
             return Some(Taken::Late(message.epoch, self.epoch));
         }
@@ -124,7 +128,7 @@ impl Held {
         requires from { place_of message.now.from.0 (members_of self.old.members) ≡ Some from }
         requires epoch { message.now.epoch ≡ self.old.epoch }
         ensures same { IfOk result (λ turn. UnlessTaken turn.answer ((self.new ≡ self.old) × (turn.outgoing ≡ None))) }
-        ensures kept { (floor : ℕ) → IsValidMessage message.now → MessageUpTo floor message.now → IsLawfulHeld floor self.old → IsLawfulHeld floor self.new }
+        ensures kept { (floor : ℕ) → IsValidMessage message.now → BodyUpTo floor message.now.body → IsLawfulHeld floor self.old → IsLawfulHeld floor self.new }
         ensures looks { (now : model.House) (m : model.Message) (r : model.Replica) → LooksHeld house.0 self.old r → LooksMessage house.0 message.now m
             → IfOk result (λ turn. LooksAfter (IsTakeAnswer turn.answer) (take_own now m r m.body) now house.0 m.dir self.new) }
         ensures step { (now : model.House) (m : model.Message) (r : model.Replica) → now.slots m.dir ≡ model.Held r → StandsHeld house.0 now.floor self.old r
@@ -159,7 +163,13 @@ impl Held {
         from: usize,
         t: Stamp,
         replica: &Replica,
-    ) -> Result<Turn<Taken>, AllocError> {
+    ) -> Result<Turn<Taken>, AllocError>
+        requires from { from < length self.old.members }
+        ensures same { IfOk result (λ turn. UnlessTaken turn.answer ((self.new ≡ self.old) × (turn.outgoing ≡ None))) }
+        ensures kept { (floor : ℕ) → IsValidTable replica.now.table → ReplicaUpTo floor replica.now → IsLawfulHeld floor self.old → IsLawfulHeld floor self.new }
+        ensures looks { (now : model.House) (m : model.Message) (c : model.Copy) (r : model.Replica) → LooksHeld house.0 self.old r → place_of m.sender (members_of self.old.members) ≡ Some from
+            → IfOk result (λ turn. LooksAfter (IsTakeAnswer turn.answer) (take_gathered now m t c r r.phase) now house.0 m.dir self.new) }
+    {
         let me = self.own_place(house);
         let mut skulk = self.skulk;
         match skulk.gathered(t, from, self.members.list().len(), me) {
@@ -173,7 +183,13 @@ impl Held {
     }
 
     /// Takes an answer of the second round; the last one missing completes the skulk.
-    fn take_ack(&mut self, from: usize, t: Stamp) -> Turn<Taken> {
+    fn take_ack(&mut self, from: usize, t: Stamp) -> Turn<Taken>
+        requires from { from < length self.old.members }
+        ensures same { UnlessTaken result.answer ((self.new ≡ self.old) × (result.outgoing ≡ None)) }
+        ensures kept { (floor : ℕ) → t.time ≤ floor → IsLawfulHeld floor self.old → IsLawfulHeld floor self.new }
+        ensures looks { (now : model.House) (m : model.Message) (r : model.Replica) → LooksHeld house.0 self.old r → place_of m.sender (members_of self.old.members) ≡ Some from
+            → LooksAfter (IsTakeAnswer result.answer) (take_ack now m t r r.phase) now house.0 m.dir self.new }
+    {
         match self.skulk.spread(t, from, self.members.list().len()) {
             Next::Stale(running) => unchanged(Taken::Stale(t, running)),
             Next::Complete(t) => {
@@ -194,7 +210,10 @@ impl Held {
         epoch: EpochNo,
         members: &Members,
         replica: &Replica,
-    ) -> Result<(), AllocError> {
+    ) -> Result<(), AllocError>
+        ensures members { OnOk result ((self.new.epoch ≡ epoch) × (self.new.members ≡ members.now) × (self.new.skulk ≡ skulk.Idle)) }
+        ensures replica { OnOk result (TakesReplica self.old.replica replica.now self.new.replica) }
+    {
         let members = members.copy(alloc)?;
         self.replica.take(alloc, replica)?;
         self.epoch = epoch;
@@ -205,7 +224,9 @@ impl Held {
 }
 
 /// The second round, where it begins.
-fn second_round(next: Next, t: Stamp) -> Option<Outgoing> {
+fn second_round(next: Next, t: Stamp) -> Option<Outgoing>
+    ensures { result ≡ second_round next t }
+{
     match next {
         Next::SendSpread => Some(Outgoing::Spread(t)),
         _ => None,
