@@ -1,2 +1,3 @@
 pub mod Replicas
 pub mod Held
+pub mod Latest

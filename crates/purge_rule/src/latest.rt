@@ -1,10 +1,15 @@
 // The greatest time that stands in a table.
+ghost use Rattle.std.specs.Prelude.{◌≡◌};
+ghost use Rattle.purge_rule.specs.Latest.{latest_in, latest_in_entry, latest_in_cell, time_of};
+
 use attr_sets::AttrCell;
 use cds_stamps::Stamp;
 use directory::{EntryCell, Table};
 
 /// The greatest time in a table; 0 where there is none.
-pub(crate) fn latest_in(table: &Table) -> u64 {
+pub(crate) fn latest_in(table: &Table) -> u64
+    ensures { result ≡ latest_in table.now }
+{
     let mut time = 0;
     for (_, entry) in table.iter() {
         time = time.max(latest_in_entry(entry));
@@ -13,7 +18,9 @@ pub(crate) fn latest_in(table: &Table) -> u64 {
 }
 
 /// The greatest time in an entry: of its birth, its death, its clears, and the marks of its values.
-pub fn latest_in_entry(entry: &EntryCell) -> u64 {
+pub fn latest_in_entry(entry: &EntryCell) -> u64
+    ensures { result ≡ latest_in_entry entry.now }
+{
     let mut time = entry.birth.time.max(time_of(entry.death));
     for (_, cell) in entry.attrs.iter() {
         time = time.max(latest_in_cell(cell));
@@ -22,7 +29,9 @@ pub fn latest_in_entry(entry: &EntryCell) -> u64 {
 }
 
 /// The greatest time in the cell of an attribute.
-fn latest_in_cell(cell: &AttrCell) -> u64 {
+fn latest_in_cell(cell: &AttrCell) -> u64
+    ensures { result ≡ latest_in_cell cell.now }
+{
     let mut time = time_of(cell.cleared);
     for (_, mark) in cell.values.iter() {
         time = time.max(mark.stamp.time);
@@ -31,7 +40,9 @@ fn latest_in_cell(cell: &AttrCell) -> u64 {
 }
 
 /// The time of a stamp, 0 where there is none.
-pub(crate) fn time_of(stamp: Option<Stamp>) -> u64 {
+pub(crate) fn time_of(stamp: Option<Stamp>) -> u64
+    ensures { result ≡ time_of stamp }
+{
     match stamp {
         Some(stamp) => stamp.time,
         None => 0,

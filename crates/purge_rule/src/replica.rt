@@ -6,6 +6,7 @@ ghost use Rattle.directory.specs.Entries.{join_entries, join_tables, IsValidEntr
 ghost use Rattle.directory.specs.Histories.{Mark, CanMerge};
 ghost use Rattle.purge_rule.specs.Replicas.{replica_of, together, IsFragmentOf};
 ghost use Rattle.purge_rule.specs.Held.{held_in, most_held};
+ghost use Rattle.purge_rule.specs.Latest.{latest_time};
 
 use crate::held::held_in;
 use crate::latest::{latest_in, time_of};
@@ -82,7 +83,9 @@ impl Replica {
     }
 
     /// The greatest time in it: of its AllUpTo, and of its table.
-    pub fn latest_time(&self) -> u64 {
+    pub fn latest_time(&self) -> u64
+        ensures { result ≡ latest_time self.now }
+    {
         latest_in(&self.table).max(time_of(self.all_up_to))
     }
 }
