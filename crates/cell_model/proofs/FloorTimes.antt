@@ -79,12 +79,14 @@ floors_lem commands = record {
       let here = reaching_last commands m.dir in
       let l = lawful commands m i in
       record {
-        marks = λ k ik.
-            let w = here.known.only_m m (In-of_dir m.dir (replay commands).bag m i refl) k ik in
-            let born = time_up_to (born_in k) (stamp_in k) ((here.known.well w.by w.logged w.dir).ordered k w.has) in
-            (l.bound k ik, le_trans born (l.bound k ik));
-        all_up_to = λ t e. up_tos_run [] commands (λ m t i. elim i [ ]) m t i e;
-        round = λ t e. (l.round t e).0;
+        times = record {
+          marks = λ k ik.
+              let w = here.known.only_m m (In-of_dir m.dir (replay commands).bag m i refl) k ik in
+              let born = time_up_to (born_in k) (stamp_in k) ((here.known.well w.by w.logged w.dir).ordered k w.has) in
+              (l.bound k ik, le_trans born (l.bound k ik));
+          all_up_to = λ t e. up_tos_run [] commands (λ m t i. elim i [ ]) m t i e;
+          round = λ t e. (l.round t e).0;
+        };
         sender = l.floor;
       };
 }

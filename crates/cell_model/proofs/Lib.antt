@@ -35,3 +35,5 @@ pub mod SpreadingRuns
 pub mod Merging
 pub mod FloorTimes
 pub mod Stamping
+pub mod Standing
+pub mod Numbers

@@ -20,11 +20,15 @@ pub record ReplicaBelow (r : Replica) (floor : ℕ) : Type 0 where
   pub all_up_to : (t : Stamp) → r.all_up_to ≡ Some t → t.time ≤ floor
   pub phase : (t : Stamp) → running r.phase ≡ Some t → t.time ≤ floor
 
--- no time of a message's body is above its floor, and this is at most its sender's (own)
-pub record MessageBelow (g : Cell) (m : Message) : Type 0 where
+-- no time of a message's body is above its floor (own)
+pub record TimesBelow (m : Message) : Type 0 where
   pub marks : (k : Mark) → In k (marks_in m.body) → IsBelow k m.floor
   pub all_up_to : (t : Stamp) → up_to_in m.body ≡ Some t → t.time ≤ m.floor
   pub round : (t : Stamp) → round_of m.body ≡ Some t → t.time ≤ m.floor
+
+-- and this is at most its sender's (own)
+pub record MessageBelow (g : Cell) (m : Message) : Type 0 where
+  pub times : TimesBelow m
   pub sender : m.floor ≤ (g.house m.sender).floor
 
 -- so it is at each house and of each message (own)

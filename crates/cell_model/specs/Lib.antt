@@ -4,6 +4,7 @@ pub mod Bodies
 pub mod Commands
 pub mod Turns
 pub mod Steps
+pub mod Reached
 pub mod Agreement
 pub mod Skulks
 pub mod Merges
@@ -11,3 +12,6 @@ pub mod Nevers
 pub mod Floors
 pub mod Provenance
 pub mod Rounds
+pub mod Holdings
+pub mod Completions
+pub mod Taking

@@ -1,14 +1,19 @@
 // What holds of every run of the model. A law is a function without parameters and with an empty body: its contract is
 // the theorem, for every list of commands.
 ghost use Rattle.std.specs.Prelude.{List};
+ghost use Rattle.cell_model.specs.Cells.{Message, Cell};
 ghost use Rattle.cell_model.specs.Commands.{Command};
+ghost use Rattle.cell_model.specs.Sets.{In};
 ghost use Rattle.cell_model.specs.Steps.{outcome, replay};
+ghost use Rattle.cell_model.specs.Reached.{IsReached, ReachedHolds};
 ghost use Rattle.cell_model.specs.Agreement.{Converges};
 ghost use Rattle.cell_model.specs.Skulks.{AdvancesHold, RaisesUpTo};
 ghost use Rattle.cell_model.specs.Merges.{MergesHold};
 ghost use Rattle.cell_model.specs.Nevers.{Nevers};
 ghost use Rattle.cell_model.specs.Floors.{FloorsHold, FloorsRise, IssuesAbove, IssuesOnce};
 ghost use Rattle.cell_model.specs.Provenance.{ProvenanceHolds};
+ghost use Rattle.cell_model.specs.Holdings.{HistoriesHold, MembersHold, NumbersHold};
+ghost use Rattle.cell_model.specs.Taking.{CanTake};
 ghost use Rattle.cell_model.specs.Rounds.{GatheringHolds, SecondHolds, SpreadingHolds, CompletedHolds, CompletedAtOnce};
 
 /// From each completed skulk on, the replicas of its epoch and of later ones agree up to its stamp.
@@ -50,4 +55,21 @@ pub fn invariant()
     ensures completed { (commands : List Command) → CompletedHolds commands }
     ensures at_once { (commands : List Command) → CompletedAtOnce commands }
     ensures advances { (commands : List Command) → AdvancesHold commands }
+{}
+
+/// Which cells are reached: the empty one, and each after a command.
+pub fn reached()
+    ensures { ReachedHolds }
+{}
+
+/// What holds in every cell that is reached, of histories, of members, and of the numbers of houses and directories.
+pub fn holdings()
+    ensures histories { (g : Cell) → IsReached g → HistoriesHold g }
+    ensures members { (g : Cell) → IsReached g → MembersHold g }
+    ensures numbers { (g : Cell) → IsReached g → NumbersHold g }
+{}
+
+/// A house can take each message that was posted to it.
+pub fn taking()
+    ensures { (g : Cell) (m : Message) → IsReached g → In m g.bag → CanTake (g.house m.receiver) m }
 {}

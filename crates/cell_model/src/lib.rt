@@ -3,4 +3,6 @@
 
 mod laws;
 
-pub use laws::{absences, completion, convergence, floors, invariant, merges};
+pub use laws::{
+    absences, completion, convergence, floors, holdings, invariant, merges, reached, taking,
+};
