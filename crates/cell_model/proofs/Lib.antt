@@ -37,3 +37,4 @@ pub mod FloorTimes
 pub mod Stamping
 pub mod Standing
 pub mod Numbers
+pub mod Completing

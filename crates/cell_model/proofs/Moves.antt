@@ -226,7 +226,8 @@ module _ (g : Cell) (m : Message) (at : In m g.bag) (up : IsUp g m.receiver) whe
   take_moves : Turned g m.receiver m.dir (take (g.house m.receiver) m)
   take_moves = row_moves (take (g.house m.receiver) m) (rows.take_row (g.house m.receiver) m)
 
-message_posted : (g : Cell) (n : ℕ) (b : Bool) (m : Message) → cond b None (slice_get g.bag (n - 1)) ≡ Some m → In m g.bag
+-- a message of a serial was posted
+pub message_posted : (g : Cell) (n : ℕ) (b : Bool) (m : Message) → cond b None (slice_get g.bag (n - 1)) ≡ Some m → In m g.bag
 message_posted g n true m e = absurd (cc)
 message_posted g n false m e = In-from_get m g.bag (n - 1) e
 

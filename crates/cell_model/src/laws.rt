@@ -14,6 +14,7 @@ ghost use Rattle.cell_model.specs.Floors.{FloorsHold, FloorsRise, IssuesAbove, I
 ghost use Rattle.cell_model.specs.Provenance.{ProvenanceHolds};
 ghost use Rattle.cell_model.specs.Holdings.{HistoriesHold, MembersHold, NumbersHold};
 ghost use Rattle.cell_model.specs.Taking.{CanTake};
+ghost use Rattle.cell_model.specs.Completions.{AnswersHold};
 ghost use Rattle.cell_model.specs.Rounds.{GatheringHolds, SecondHolds, SpreadingHolds, CompletedHolds, CompletedAtOnce};
 
 /// From each completed skulk on, the replicas of its epoch and of later ones agree up to its stamp.
@@ -72,4 +73,9 @@ pub fn holdings()
 /// A house can take each message that was posted to it.
 pub fn taking()
     ensures { (g : Cell) (m : Message) → IsReached g → In m g.bag → CanTake (g.house m.receiver) m }
+{}
+
+/// No answer says that a sender is no member, and a skulk completes at its last answer, or at once where its master is alone.
+pub fn answers()
+    ensures { (g : Cell) (c : Command) → IsReached g → AnswersHold g c }
 {}

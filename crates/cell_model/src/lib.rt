@@ -4,5 +4,6 @@
 mod laws;
 
 pub use laws::{
-    absences, completion, convergence, floors, holdings, invariant, merges, reached, taking,
+    absences, answers, completion, convergence, floors, holdings, invariant, merges, reached,
+    taking,
 };
