@@ -1,2 +1,4 @@
 mod Counts
+mod MapValues
 pub mod ReplicaLaws
+pub mod Times

@@ -1,9 +1,12 @@
 //! Laws of the definitions: functions that do nothing, whose contracts are proved.
-ghost use Rattle.std.specs.Prelude.{◌≡◌, ◌++◌, List, Option};
+ghost use Rattle.std.specs.Prelude.{◌≡◌, ◌≤◌, ◌↔◌, ℕ, List, Option};
 ghost use Rattle.cds_stamps.specs.declared.stamp.Stamp.{Stamp};
-ghost use Rattle.directory.specs.Entries.{IsValidTable};
+ghost use Rattle.directory.specs.declared.entry.EntryCell.{EntryCell};
+ghost use Rattle.directory.specs.Entries.{Entries, IsValidTable};
 ghost use Rattle.directory.specs.Histories.{Mark, SameMarks};
 ghost use Rattle.purge_rule.specs.Replicas.{replica_of};
+ghost use Rattle.purge_rule.specs.declared.replica.Replica.{Replica};
+ghost use Rattle.purge_rule.specs.Latest.{EntryUpTo, TableUpTo, ReplicaUpTo, latest_in, latest_in_entry, latest_time};
 
 /// The table of a replica of a history is valid.
 pub fn replicas_are_valid()
@@ -13,4 +16,11 @@ pub fn replicas_are_valid()
 /// Neither the order nor repeats of marks count in a replica.
 pub fn same_marks_make_one_replica()
     ensures { (g h : List Mark) (t : Option Stamp) → SameMarks g h → replica_of g t ≡ replica_of h t }
+{}
+
+/// The greatest time is at most n exactly where no time is later than n.
+pub fn greatest_times_are_the_latest()
+    ensures entry { (e : EntryCell) (n : ℕ) → (latest_in_entry e ≤ n) ↔ EntryUpTo n e }
+    ensures table { (t : Entries) (n : ℕ) → (latest_in t ≤ n) ↔ TableUpTo n t }
+    ensures replica { (r : Replica) (n : ℕ) → (latest_time r ≤ n) ↔ ReplicaUpTo n r }
 {}
