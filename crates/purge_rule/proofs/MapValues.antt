@@ -1,5 +1,5 @@
 -- What holds of each value of a map holds of its entries, and the greatest of what they have.
-use Rattle.std.proofs.Common.{◌≡◌, ℕ, ◌≤◌, max, Bool, true, false, cond, List, [], ◌∷◌, Option, Some, None, refl, sym, ap, subst, ◌↔◌, arith, is_eq}
+use Rattle.std.proofs.Common.{◌≡◌, ℕ, ◌≤◌, Bool, true, false, cond, List, [], ◌∷◌, Some, refl, sym, subst, ◌↔◌, arith, is_eq}
 use Rattle.std.specs.Prelude.{◌&&◌, T, IfSome}
 use Rattle.std.specs.declared.cmp.Ordering.{Ordering}
 use Rattle.std.specs.Ordering.{is_lt, eq_by_cmp}
@@ -64,9 +64,9 @@ module _ {K X : Type 0} {R : K → K → Ordering} (o : IsTotalOrder R) (same : 
 pub greatest_of-≤ : {A : Type 0} (f : A → ℕ) (n : ℕ) (xs : List A) → (greatest_of f xs ≤ n) ↔ AllByRecursion (λ x. f x ≤ n) xs
 greatest_of-≤ f n [] = (λ h. tt, λ h. omega arith)
 greatest_of-≤ f n (x ∷ xs) = let rest = greatest_of-≤ f n xs in (
-    λ h. (omega (arith, h), rest.0 (omega (arith, h))),
-    λ h. let here = h.0 in let there = rest.1 h.1 in omega (arith, here, there),
-  )
+  λ h. (omega (arith, h), rest.0 (omega (arith, h))),
+  λ h. let here = h.0 in let there = rest.1 h.1 in omega (arith, here, there),
+)
 
 -- so it is for the values of a map
 pub greatest_value-≤ : {K X : Type 0} {R : K → K → Ordering} → IsTotalOrder R → IsAntisymmetric R → (f : X → ℕ) (n : ℕ) (U : X → Type 0)

@@ -1,16 +1,16 @@
 -- Times that are no later than n: in what is joined, and in the table of marks.
-use Rattle.std.proofs.Common.{◌≡◌, ℕ, ◌≤◌, max, Bool, true, false, List, [], ◌∷◌, Option, Some, None, refl, sym, ap, subst, ◌∙◌, ◌↔◌, arith}
+use Rattle.std.proofs.Common.{◌≡◌, ℕ, ◌≤◌, Bool, true, false, List, [], ◌∷◌, Option, Some, None, sym, subst, ◌↔◌, arith}
 use Rattle.std.specs.Prelude.{IfSome, if◌then◌else◌}
 use Rattle.std.specs.declared.cmp.Ordering.{Ordering}
 use Rattle.std.specs.declared.cmp.Ordering.TheVariants.{Less, Equal, Greater}
 use Rattle.std.specs.Ordering.{is_lt, flip_args}
 use Rattle.std.specs.Cmp.Lexicographic.{nat_list_cmp_total}
 use Rattle.std.specs.FinMap.{FinMap, get, empty, get-empty}
-use Rattle.std.specs.List.{AllByRecursion, filter_map, cons_option}
+use Rattle.std.specs.List.{AllByRecursion, cons_option}
 use Rattle.std.specs.Option.{option_map}
 use Rattle.cds_stamps.specs.declared.stamp.Stamp.{Stamp}
 use Rattle.cds_stamps.specs.Semilattice.{maybe, greater, join_of}
-use Rattle.cds_stamps.specs.Stamps.{stamp_cmp, later_stamp, earlier_stamp, is_earlier, is_stamp}
+use Rattle.cds_stamps.specs.Stamps.{stamp_cmp, later_stamp, earlier_stamp, is_earlier}
 use Rattle.cds_stamps.specs.Octets.{octets_cmp, octets_exact, is_octets}
 use Rattle.cds_stamps.specs.Joins.{EachValue, join_maps, get-join_maps}
 use Rattle.cds_stamps.specs.Undos.{RaisesAt}
@@ -22,11 +22,12 @@ use Rattle.attr_sets.specs.CellLawProofs.{get-cell_of, get-join_cells}
 use Rattle.directory.specs.declared.entry.EntryCell.{EntryCell}
 use Rattle.directory.specs.Entries.{Entries, join_tied, join_entries, join_tables}
 use Rattle.directory.specs.Histories.{Mark, Birth, Death, Attr, Born, birth_in, death_in, attr_mark_in, birth_cmp}
-use Rattle.directory.specs.Histories.{birth_of, death_of, attr_history, attrs_of, cell_of_some, entry_at, entry_of, table_of}
+use Rattle.directory.specs.Histories.{birth_of, attr_history, cell_of_some, entry_at, entry_of, table_of}
 use Rattle.directory.proofs.HistoryLaws.{get-table_of, get-attrs_of}
 use Rattle.purge_rule.specs.declared.replica.Replica.{Replica}
+use Rattle.purge_rule.specs.Replicas.{together}
 use Rattle.purge_rule.specs.Latest.{StampUpTo, CellUpTo, EntryUpTo, TableUpTo, ReplicaUpTo, MarkUpTo}
-use Rattle.purge_rule.specs.Latest.{greatest_of, time_of, latest_in_cell, latest_in_entry, latest_in, latest_time}
+use Rattle.purge_rule.specs.Latest.{time_of, latest_in_cell, latest_in_entry, latest_in, latest_time}
 use Rattle.purge_rule.proofs.MapValues.{greatest_value-≤}
 
 -- ---- the greatest time is at most n exactly where no time is later than n
@@ -107,9 +108,13 @@ module _ (n : ℕ) where
   abbrev IsMarkUpTo : ValueMark → Type 0
   IsMarkUpTo m = m.stamp.time ≤ n
 
+  -- the later of two stamps that may be missing
+  pub together-up_to : (a b : Option Stamp) → StampUpTo n a → StampUpTo n b → StampUpTo n (together a b)
+  together-up_to = maybe-holds IsUpTo later_stamp (greater-holds IsUpTo stamp_cmp)
+
   pub join_cells-up_to : (a b : AttrCell) → CellUpTo n a → CellUpTo n b → CellUpTo n (join_cells a b)
   join_cells-up_to a b p q = record {
-    cleared = maybe-holds IsUpTo later_stamp (greater-holds IsUpTo stamp_cmp) a.cleared b.cleared p.cleared q.cleared;
+    cleared = together-up_to a.cleared b.cleared p.cleared q.cleared;
     values =
         λ v. subst (λ x. IfSome x IsMarkUpTo) (sym (get-join_cells a b v)) (kept-up_to n (join_cells a b).cleared
         (maybe later (get a.values v) (get b.values v))
@@ -146,6 +151,14 @@ module _ (n : ℕ) where
       by_case : (b : Bool) → IfSome (if b then Some e else None) (EntryUpTo n)
       by_case true = q
       by_case false = tt
+
+  -- and so it is for replicas that are merged
+  pub merged-up_to : (old other new : Replica) → new.table ≡ join_tables old.table other.table → new.all_up_to ≡ together old.all_up_to other.all_up_to
+      → ReplicaUpTo n old → ReplicaUpTo n other → ReplicaUpTo n new
+  merged-up_to old other new joins later p q = record {
+    table = subst (TableUpTo n) (sym joins) (join_tables-up_to old.table other.table p.table q.table);
+    all_up_to = subst (StampUpTo n) (sym later) (together-up_to old.all_up_to other.all_up_to p.all_up_to q.all_up_to);
+  }
 
   -- no time stands in the empty table
   pub empty-up_to : TableUpTo n empty

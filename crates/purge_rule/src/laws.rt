@@ -4,6 +4,7 @@ ghost use Rattle.cds_stamps.specs.declared.stamp.Stamp.{Stamp};
 ghost use Rattle.directory.specs.declared.entry.EntryCell.{EntryCell};
 ghost use Rattle.directory.specs.Entries.{Entries, IsValidTable};
 ghost use Rattle.directory.specs.Histories.{Mark, SameMarks};
+ghost use Rattle.directory.specs.Shown.{shown, shown_in};
 ghost use Rattle.purge_rule.specs.Replicas.{replica_of};
 ghost use Rattle.purge_rule.specs.declared.replica.Replica.{Replica};
 ghost use Rattle.purge_rule.specs.Latest.{EntryUpTo, TableUpTo, ReplicaUpTo, latest_in, latest_in_entry, latest_time};
@@ -16,6 +17,11 @@ pub fn replicas_are_valid()
 /// Neither the order nor repeats of marks count in a replica.
 pub fn same_marks_make_one_replica()
     ensures { (g h : List Mark) (t : Option Stamp) → SameMarks g h → replica_of g t ≡ replica_of h t }
+{}
+
+/// A reader sees in a replica's table what the history shows.
+pub fn replicas_show_histories()
+    ensures { (h : List Mark) (t : Option Stamp) (n : List ℕ) → shown_in (replica_of h t).table n ≡ shown h n }
 {}
 
 /// The greatest time is at most n exactly where no time is later than n.

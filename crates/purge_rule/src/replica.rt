@@ -1,12 +1,12 @@
 // A replica of a directory.
-ghost use Rattle.std.specs.Prelude.{◌≡◌, ◌≢◌, ◌++◌, ℕ, List, Option, Some, IfOk, OnOk, OnErr, IfSome, min};
+ghost use Rattle.std.specs.Prelude.{◌≡◌, ◌≢◌, ◌≤◌, ◌++◌, ℕ, List, Option, Some, IfOk, OnOk, OnErr, IfSome, min};
 ghost use Rattle.cds_stamps.specs.Undos.{RaisesAt};
 ghost use Rattle.std.specs.FinMap as map;
 ghost use Rattle.directory.specs.Entries.{join_entries, join_tables, IsValidEntry, IsValidTable};
 ghost use Rattle.directory.specs.Histories.{Mark, CanMerge};
 ghost use Rattle.purge_rule.specs.Replicas.{replica_of, together, IsFragmentOf};
 ghost use Rattle.purge_rule.specs.Held.{held_in, most_held};
-ghost use Rattle.purge_rule.specs.Latest.{latest_time};
+ghost use Rattle.purge_rule.specs.Latest.{EntryUpTo, ReplicaUpTo, latest_time};
 
 use crate::held::held_in;
 use crate::latest::{latest_in, time_of};
@@ -42,6 +42,8 @@ impl Replica {
             IsValidTable self.old.table → IsValidTable other.now.table → self.new.table ≡ join_tables self.old.table other.now.table) }
         ensures all_up_to { OnOk result (self.new.all_up_to ≡ together self.old.all_up_to other.now.all_up_to) }
         ensures valid { OnOk result (IsValidTable self.old.table → IsValidTable other.now.table → IsValidTable self.new.table) }
+        ensures times { OnOk result ((n : ℕ) → IsValidTable self.old.table → IsValidTable other.now.table →
+            ReplicaUpTo n self.old → ReplicaUpTo n other.now → ReplicaUpTo n self.new) }
         ensures err { OnErr result (self.new ≡ self.old) }
     {
         self.table.join(alloc, &other.table)?;
@@ -60,6 +62,9 @@ impl Replica {
         ensures others { OnOk result ((q : List ℕ) → q ≢ fragment.now.name → map.get self.new.table q ≡ map.get self.old.table q) }
         ensures all_up_to { self.new.all_up_to ≡ self.old.all_up_to }
         ensures valid { OnOk result (IsValidTable self.old.table → IsValidEntry fragment.now.entry → IsValidTable self.new.table) }
+        ensures times { OnOk result (let f = fragment.now in
+            (n : ℕ) → IfSome (map.get self.old.table f.name) IsValidEntry → IsValidEntry f.entry →
+            ReplicaUpTo n self.old → EntryUpTo n f.entry → ReplicaUpTo n self.new) }
         ensures err { OnErr result (self.new ≡ self.old) }
     {
         self.table.join_entry(alloc, fragment)?;
@@ -71,6 +76,7 @@ impl Replica {
         ensures merged { (h : List Mark) → self.old ≡ replica_of h self.old.all_up_to → self.new ≡ replica_of h (together self.old.all_up_to (Some t)) }
         ensures all_up_to { self.new.all_up_to ≡ together self.old.all_up_to (Some t) }
         ensures valid { IsValidTable self.old.table → IsValidTable self.new.table }
+        ensures times { (n : ℕ) → ReplicaUpTo n self.old → t.time ≤ n → ReplicaUpTo n self.new }
     {
         self.all_up_to = later_of(self.all_up_to, Some(t));
     }
