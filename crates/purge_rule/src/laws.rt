@@ -1,13 +1,15 @@
 //! Laws of the definitions: functions that do nothing, whose contracts are proved.
-ghost use Rattle.std.specs.Prelude.{◌≡◌, ◌≤◌, ◌↔◌, ℕ, List, Option};
+ghost use Rattle.std.specs.Prelude.{◌≡◌, ◌≤◌, ◌↔◌, ℕ, List, Option, IfSome};
+ghost use Rattle.std.specs.FinMap as map;
+ghost use Rattle.std.specs.List.{AllByRecursion};
 ghost use Rattle.cds_stamps.specs.declared.stamp.Stamp.{Stamp};
 ghost use Rattle.directory.specs.declared.entry.EntryCell.{EntryCell};
 ghost use Rattle.directory.specs.Entries.{Entries, IsValidTable};
-ghost use Rattle.directory.specs.Histories.{Mark, SameMarks};
+ghost use Rattle.directory.specs.Histories.{Mark, entry_of, table_of, SameMarks};
 ghost use Rattle.directory.specs.Shown.{shown, shown_in};
 ghost use Rattle.purge_rule.specs.Replicas.{replica_of};
 ghost use Rattle.purge_rule.specs.declared.replica.Replica.{Replica};
-ghost use Rattle.purge_rule.specs.Latest.{EntryUpTo, TableUpTo, ReplicaUpTo, latest_in, latest_in_entry, latest_time};
+ghost use Rattle.purge_rule.specs.Latest.{EntryUpTo, TableUpTo, ReplicaUpTo, MarkUpTo, latest_in, latest_in_entry, latest_time};
 
 /// The table of a replica of a history is valid.
 pub fn replicas_are_valid()
@@ -29,4 +31,11 @@ pub fn greatest_times_are_the_latest()
     ensures entry { (e : EntryCell) (n : ℕ) → (latest_in_entry e ≤ n) ↔ EntryUpTo n e }
     ensures table { (t : Entries) (n : ℕ) → (latest_in t ≤ n) ↔ TableUpTo n t }
     ensures replica { (r : Replica) (n : ℕ) → (latest_time r ≤ n) ↔ ReplicaUpTo n r }
+{}
+
+/// The table of marks, and the entry of a name among them, have no later time than the marks, and the empty table has none.
+pub fn marks_make_no_later_time()
+    ensures entry { (h : List Mark) (name : List ℕ) (n : ℕ) → AllByRecursion (MarkUpTo n) h → IfSome (entry_of h name) (EntryUpTo n) }
+    ensures table { (h : List Mark) (n : ℕ) → AllByRecursion (MarkUpTo n) h → TableUpTo n (table_of h) }
+    ensures empty { (n : ℕ) → TableUpTo n map.empty }
 {}
