@@ -1,23 +1,21 @@
 -- Which answers come, and where a skulk completes.
-use Rattle.std.proofs.Common.{◌≡◌, ℕ, ◌+◌, Bool, true, false, ◌&&◌, ◌||◌, eqb, cond, List, [], ◌∷◌, ◌++◌, Option, Some, None, refl, sym, ap, ◌∙◌, subst}
-use Rattle.std.proofs.Common.{⊎_elim, append_assoc, nat_le}
+use Rattle.std.proofs.Common.{◌≡◌, ℕ, Bool, true, false, ◌&&◌, ◌||◌, eqb, cond, List, [], ◌∷◌, ◌++◌, Option, Some, None, refl, sym, ap, ◌∙◌, subst}
+use Rattle.std.proofs.Common.{⊎_elim, append_assoc}
 use Rattle.cds_stamps.specs.declared.stamp.Stamp.{Stamp}
-use Rattle.cds_stamps.specs.Members.{Member, master_of, others_of, is_listed, since_in}
-use Rattle.directory.specs.declared.update.UpdateRefusal.{UpdateRefusal}
+use Rattle.cds_stamps.specs.Members.{master_of, others_of, is_listed}
 use Rattle.directory.specs.declared.update.UpdateRefusal.TheVariants.{NotMaster}
-use Rattle.directory.specs.Updates as changes
-use Rattle.directory.specs.Updates.{Change}
 use Rattle.cell_model.specs.Cells.{Spreading, Replica, Slot, Absent, Gone, Held, House, SpreadAck, Message, Cell}
 use Rattle.cell_model.specs.Cells.{empty_cell}
 use Rattle.cell_model.specs.Commands as command
 use Rattle.cell_model.specs.Commands.{Command, Refusal, Answer, Foreign, Complete, Accepted}
 use Rattle.cell_model.specs.Sets.{In, has}
-use Rattle.cell_model.specs.Turns.{HouseStep, refuses, unless_refused, accept_at, update_refusal, accept_in, stamp_at, begin, skulk_at, skulk_in, new_epoch_in, take}
-use Rattle.cell_model.specs.Steps.{Outcome, refused, at_house, unless, with_directory, with_epoch, lose, deliver, message_at, is_down, refusals_of, first_refusal, ascending, listing, leaving}
+use Rattle.cell_model.specs.Turns.{HouseStep, refuses, stamp_at, begin, skulk_at, skulk_in, take}
+use Rattle.cell_model.specs.Steps.{refused, at_house, deliver, message_at, is_down, refusals_of, first_refusal}
 use Rattle.cell_model.specs.Steps.{effect, outcome, replay}
 use Rattle.cell_model.specs.Rounds.{TookSpread}
 use Rattle.cell_model.specs.Completions.{IsLastAck, IsLone, with_last, at_once, AnswersHold}
 use Rattle.cell_model.proofs.Lists.{append_nil}
+use Rattle.cell_model.proofs.Answering.{IsPlain, IsBegun, said}
 use Rattle.cell_model.proofs.Rows as rows
 use Rattle.cell_model.proofs.Facts.{View, view, Holds, Roll, Turn, same, idle, begins, answered, turned, acked, Past, grew, rose, crowned, copied}
 use Rattle.cell_model.proofs.Facts.{founded, Frame}
@@ -80,61 +78,6 @@ acks_run d all early (c ∷ mid) late e v =
 acks_lem : (d : ℕ) (commands : List Command) → Acks (view d (replay commands))
 acks_lem d commands = acks_run d commands [] commands [] (append_nil commands) (λ x r t a at. absurd (cc))
 
--- ---- answers that a house does not give
-
--- neither that a sender is no member, nor that a skulk completes
-abbrev IsPlain : Answer → Type 0
-IsPlain Foreign = ⊥
-IsPlain (Complete t ns) = ⊥
-IsPlain _ = Unit {0}
-
-accept_plain : (g : Cell) (h d : ℕ) (u : Change) (r : Replica) (q : Option UpdateRefusal) (o : Option Stamp)
-    → IsPlain (at_house g h (unless_refused q (accept_at h (g.house h) d u r o))).answer
-accept_plain g h d u r (Some q) o = tt
-accept_plain g h d u r None None = tt
-accept_plain g h d u r None (Some s) = tt
-
-slot_plain : (g : Cell) (h d : ℕ) (u : Change) (s : Slot) → IsPlain (at_house g h (accept_in h (g.house h) d u s)).answer
-slot_plain g h d u Absent = tt
-slot_plain g h d u (Gone e) = tt
-slot_plain g h d u (Held r) = accept_plain g h d u r (update_refusal h u r) (stamp_at (g.house h))
-
-made_plain : (g : Cell) (h d m : ℕ) (ms : List Member) (u : Change) (r : Replica) (q : Option UpdateRefusal) (o : Option Stamp)
-    → IsPlain (with_directory (at_house g h (unless_refused q (accept_at h (g.house h) d u r o))) g.next_dir m ms
-    (at_house g h (unless_refused q (accept_at h (g.house h) d u r o))).answer).answer
-made_plain g h d m ms u r (Some q) o = tt
-made_plain g h d m ms u r None None = tt
-made_plain g h d m ms u r None (Some s) = tt
-
-mkdir_plain : (g : Cell) (h d m : ℕ) (ms : List Member) (u : Change) (s : Slot)
-    → IsPlain (with_directory (at_house g h (accept_in h (g.house h) d u s)) g.next_dir m ms (at_house g h (accept_in h (g.house h) d u s)).answer).answer
-mkdir_plain g h d m ms u Absent = tt
-mkdir_plain g h d m ms u (Gone e) = tt
-mkdir_plain g h d m ms u (Held r) = made_plain g h d m ms u r (update_refusal h u r) (stamp_at (g.house h))
-
--- the answer to a new epoch, when the console has noted it
-abbrev epoch_answer : (g : Cell) (d m : ℕ) → List Member → HouseStep → Answer
-epoch_answer g d m ms s = (with_epoch (at_house g m s) d ms (at_house g m s).answer).answer
-
-epoch_by : (g : Cell) (d m : ℕ) (ms : List Member) (b : Bool) (x y : HouseStep) → IsPlain (epoch_answer g d m ms x) → IsPlain (epoch_answer g d m ms y)
-    → IsPlain (epoch_answer g d m ms (cond b x y))
-epoch_by g d m ms true x y p q = p
-epoch_by g d m ms false x y p q = q
-
-epoch_plain : (g : Cell) (d m k : ℕ) (ms : List Member) (left : List ℕ) (s : Slot)
-    → IsPlain (epoch_answer g d m ms (new_epoch_in m (g.house m) d k ms left s))
-epoch_plain g d m k ms left Absent = tt
-epoch_plain g d m k ms left (Gone e) = tt
-epoch_plain g d m k ms left (Held r) = epoch_by g d m ms (nat_le (since_in ms m 0) r.epoch) _ _ tt tt
-
-lose_plain : (g : Cell) (n : ℕ) (o : Option Message) → IsPlain (lose g n o).answer
-lose_plain g n None = tt
-lose_plain g n (Some m) = tt
-
-unless_plain : (g : Cell) (r : Option Refusal) (o : Outcome) → IsPlain o.answer → IsPlain (unless g r o).answer
-unless_plain g None o p = p
-unless_plain g (Some r) o p = tt
-
 -- ---- skulks
 
 begin_lone : (g : Cell) (h d : ℕ) (r : Replica) (s t : Stamp) (ns os : List ℕ) → (at_house g h (begin h (g.house h) d r s os)).answer ≡ Complete t ns
@@ -142,18 +85,10 @@ begin_lone : (g : Cell) (h d : ℕ) (r : Replica) (s t : Stamp) (ns os : List �
 begin_lone g h d r s t ns [] e = refl
 begin_lone g h d r s t ns (y ∷ ys) e = absurd (cc)
 
-begin_known : (g : Cell) (h d : ℕ) (r : Replica) (s : Stamp) (os : List ℕ) → (at_house g h (begin h (g.house h) d r s os)).answer ≡ Foreign → ⊥
-begin_known g h d r s [] e = absurd (cc)
-begin_known g h d r s (y ∷ ys) e = absurd (cc)
-
 stamped_lone : (g : Cell) (h d : ℕ) (r : Replica) (o : Option Stamp) (t : Stamp) (ns : List ℕ)
     → (at_house g h (skulk_at h (g.house h) d r o)).answer ≡ Complete t ns → others_of h r.members ≡ []
 stamped_lone g h d r None t ns e = absurd (cc)
 stamped_lone g h d r (Some s) t ns e = begin_lone g h d r s t ns (others_of h r.members) e
-
-stamped_known : (g : Cell) (h d : ℕ) (r : Replica) (o : Option Stamp) → (at_house g h (skulk_at h (g.house h) d r o)).answer ≡ Foreign → ⊥
-stamped_known g h d r None e = absurd (cc)
-stamped_known g h d r (Some s) e = begin_known g h d r s (others_of h r.members) e
 
 skulk_lone : (g : Cell) (h d : ℕ) (o : Slot) (t : Stamp) (ns : List ℕ) → (g.house h).slots d ≡ o
     → (at_house g h (skulk_in h (g.house h) d o)).answer ≡ Complete t ns → IsLone g h d
@@ -164,19 +99,6 @@ skulk_lone g h d (Held r) t ns at e = by_test (eqb (master_of r.members) h) e
     by_test : (b : Bool) → (at_house g h (cond b (skulk_at h (g.house h) d r (stamp_at (g.house h))) (refuses NotMaster))).answer ≡ Complete t ns → IsLone g h d
     by_test true q = record { replica = r; held = at; none = stamped_lone g h d r (stamp_at (g.house h)) t ns q }
     by_test false q = absurd (cc)
-
-skulk_known : (g : Cell) (h d : ℕ) (o : Slot) → (at_house g h (skulk_in h (g.house h) d o)).answer ≡ Foreign → ⊥
-skulk_known g h d Absent e = absurd (cc)
-skulk_known g h d (Gone k) e = absurd (cc)
-skulk_known g h d (Held r) e = by_test (eqb (master_of r.members) h) e
-  where
-    by_test : (b : Bool) → (at_house g h (cond b (skulk_at h (g.house h) d r (stamp_at (g.house h))) (refuses NotMaster))).answer ≡ Foreign → ⊥
-    by_test true q = stamped_known g h d r (stamp_at (g.house h)) q
-    by_test false q = absurd (cc)
-
-unless_known : (g : Cell) (r : Option Refusal) (o : Outcome) → (o.answer ≡ Foreign → ⊥) → (unless g r o).answer ≡ Foreign → ⊥
-unless_known g None o k e = k e
-unless_known g (Some r) o k e = absurd (cc)
 
 -- ---- messages
 
@@ -248,42 +170,31 @@ deliver_completes commands n (Some m) t ns at e = by_down (is_down (replay comma
 
 -- ---- all commands
 
--- a command whose effect is answered otherwise
-plain_of : (g : Cell) (c : Command) → IsPlain (effect g c).answer → AnswersHold g c
-plain_of g c p = by_plain (unless_plain g (first_refusal (refusals_of g c)) (effect g c) p)
-  where
-    by_plain : IsPlain (outcome g c).answer → AnswersHold g c
-    by_plain q = record { not_foreign = λ e. subst IsPlain e q; completes = λ t ns e. elim (subst IsPlain e q) [ ] }
+-- a command that is answered otherwise
+plain_holds : (g : Cell) (c : Command) → IsPlain (outcome g c).answer → AnswersHold g c
+plain_holds g c p = record { not_foreign = λ e. subst IsPlain e p; completes = λ t ns e. elim (subst IsPlain e p) [ ] }
 
 -- which answers come, of each command
 pub answers_lem : (commands : List Command) (c : Command) → AnswersHold (replay commands) c
-answers_lem commands (command.House h node) = plain_of (replay commands) (command.House h node) tt
-answers_lem commands (command.Clock h time) = plain_of (replay commands) (command.Clock h time) tt
-answers_lem commands (command.Root m rs) = plain_of (replay commands) (command.Root m rs) tt
-answers_lem commands (command.Mkdir h d n m rs) =
-    let u : Change = changes.MakeChild n (record { dir = (replay commands).next_dir; master = m; others = ascending rs }) in
-    plain_of (replay commands) (command.Mkdir h d n m rs)
-    (mkdir_plain (replay commands) h d m (listing [] 1 m rs) u (((replay commands).house h).slots d))
-answers_lem commands (command.Repoint h d n m rs) =
-    plain_of (replay commands) (command.Repoint h d n m rs)
-    (slot_plain (replay commands) h d (changes.Repoint n m (ascending rs)) (((replay commands).house h).slots d))
-answers_lem commands (command.Accept h d u) =
-    plain_of (replay commands) (command.Accept h d u) (slot_plain (replay commands) h d u (((replay commands).house h).slots d))
-answers_lem commands (command.Epoch d m rs) =
-    let ms : List Member = listing ((replay commands).present d) ((replay commands).top d + 1) m rs in
-    plain_of (replay commands) (command.Epoch d m rs)
-    (epoch_plain (replay commands) d m ((replay commands).top d + 1) ms (leaving ((replay commands).present d) ms) (((replay commands).house m).slots d))
 answers_lem commands (command.Skulk h d) = record {
-  not_foreign = unless_known (replay commands) (first_refusal (refusals_of (replay commands) (command.Skulk h d))) _
-      (skulk_known (replay commands) h d (((replay commands).house h).slots d));
+  not_foreign = λ e. subst IsBegun e (said (replay commands) (command.Skulk h d));
   completes = λ t ns e. at_once h d (skulk_lone (replay commands) h d (((replay commands).house h).slots d) t ns refl
-      (unless_complete (replay commands) (first_refusal (refusals_of (replay commands) (command.Skulk h d))) _ t ns e));
+      (unless_complete (replay commands) (first_refusal (refusals_of (replay commands) (command.Skulk h d)))
+      (effect (replay commands) (command.Skulk h d)) t ns e));
 }
 answers_lem commands (command.Deliver n) = record {
   not_foreign = deliver_known commands n (message_at (replay commands) n) refl;
   completes = λ t ns e. with_last n (deliver_completes commands n (message_at (replay commands) n) t ns refl e);
 }
-answers_lem commands (command.Lose n) =
-    plain_of (replay commands) (command.Lose n) (lose_plain (replay commands) n (message_at (replay commands) n))
-answers_lem commands (command.Crash h) = plain_of (replay commands) (command.Crash h) tt
-answers_lem commands (command.Start h) = plain_of (replay commands) (command.Start h) tt
+answers_lem commands (command.House h node) = plain_holds (replay commands) (command.House h node) (said (replay commands) (command.House h node))
+answers_lem commands (command.Clock h time) = plain_holds (replay commands) (command.Clock h time) (said (replay commands) (command.Clock h time))
+answers_lem commands (command.Root m rs) = plain_holds (replay commands) (command.Root m rs) (said (replay commands) (command.Root m rs))
+answers_lem commands (command.Mkdir h d n m rs) =
+    plain_holds (replay commands) (command.Mkdir h d n m rs) (said (replay commands) (command.Mkdir h d n m rs))
+answers_lem commands (command.Repoint h d n m rs) =
+    plain_holds (replay commands) (command.Repoint h d n m rs) (said (replay commands) (command.Repoint h d n m rs))
+answers_lem commands (command.Accept h d u) = plain_holds (replay commands) (command.Accept h d u) (said (replay commands) (command.Accept h d u))
+answers_lem commands (command.Epoch d m rs) = plain_holds (replay commands) (command.Epoch d m rs) (said (replay commands) (command.Epoch d m rs))
+answers_lem commands (command.Lose n) = plain_holds (replay commands) (command.Lose n) (said (replay commands) (command.Lose n))
+answers_lem commands (command.Crash h) = plain_holds (replay commands) (command.Crash h) (said (replay commands) (command.Crash h))
+answers_lem commands (command.Start h) = plain_holds (replay commands) (command.Start h) (said (replay commands) (command.Start h))

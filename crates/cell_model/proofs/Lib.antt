@@ -12,6 +12,8 @@ pub mod FirstRound
 pub mod Rounds
 pub mod Rows
 pub mod Moves
+pub mod Answering
+pub mod Fates
 pub mod Views
 pub mod Starts
 pub mod Marks

@@ -1,5 +1,5 @@
 -- The second round of a skulk, from its start on, at every moment of a run.
-use Rattle.std.proofs.Common.{◌≡◌, ℕ, ◌<◌, ◌≤◌, true, List, [], ◌∷◌, ◌++◌, Some, refl, sym, ap, ◌∙◌, subst, arith, ⊎_elim, le_refl, append_assoc}
+use Rattle.std.proofs.Common.{◌≡◌, ℕ, ◌<◌, ◌≤◌, true, List, [], ◌∷◌, ◌++◌, Some, refl, sym, ap, ◌∙◌, subst, arith, ⊎_elim, le_refl, le_trans, append_assoc}
 use Rattle.std.proofs.lemmas.Bool.{cases_lt}
 use Rattle.cds_stamps.specs.declared.stamp.Stamp.{Stamp}
 use Rattle.cds_stamps.specs.Members.{Member, master_of, others_of, is_listed}
@@ -9,7 +9,7 @@ use Rattle.cell_model.specs.Commands as commands
 use Rattle.cell_model.specs.Commands.{Command, Answer, Complete, Accepted}
 use Rattle.cell_model.specs.Sets.{In, has}
 use Rattle.cell_model.specs.Turns.{skulk, stamp_at, holding, raised, running}
-use Rattle.cell_model.specs.Steps.{first_refusal, refusals_of, moved, at_house, outcome, replay, accepted}
+use Rattle.cell_model.specs.Steps.{first_refusal, refusals_of, moved, at_house, outcome, replay_from, replay, accepted}
 use Rattle.cell_model.specs.Agreement.{place_of}
 use Rattle.cell_model.specs.Provenance.{HasPassed}
 use Rattle.cell_model.specs.Rounds.{TookSpread, StartsSecond, with_last, alone, HasHeld, FromSecond, SecondHolds, HasUpTo, WhileSpreading}
@@ -25,12 +25,12 @@ use Rattle.cell_model.proofs.Starts.{Acked, Covering, Started, started_kept, sta
 use Rattle.cell_model.proofs.Marks.{stamp_next}
 use Rattle.cell_model.proofs.Views.{In-of_dir, In-from_dir}
 use Rattle.cell_model.proofs.Moves.{Issuing, Act, lone, completes, Steps, outcome_steps}
-use Rattle.cell_model.proofs.Wholes.{Plain, up_made}
+use Rattle.cell_model.proofs.Wholes.{Plain, up_made, run_onward, empty_plain}
 use Rattle.cell_model.proofs.Passages.{whole_at, Passage, whole, halves, PostedBy, passage_posts, Reaching, Completing, completing, act_completed}
 use Rattle.cell_model.proofs.Runs.{replay-append, roll_of, fit_at, step_passage, reaching_at}
 use Rattle.cell_model.proofs.Agreeing.{Finished, finished, done_run}
 use Rattle.cell_model.proofs.Advances.{same_place}
-use Rattle.cell_model.proofs.NeverComes.{reaching_last}
+use Rattle.cell_model.proofs.NeverComes.{reaching_last, lawful}
 use Rattle.cell_model.proofs.Provenances.{reached_passed}
 use Rattle.cell_model.proofs.Stamping.{skulk_issues, unless_complete}
 use Rattle.cell_model.proofs.GatheringRuns.{own_updates}
@@ -292,6 +292,25 @@ module _ (all early late : List Command) (c : Command) (h d : ℕ) (r : Replica)
       subst (λ (l : List Command). HasHeld l y d r.epoch) begun_is (held_on (early ++ c ∷ []) late y d r.epoch held))
       (listed_or y h r.members l)
 
+  -- the floors of houses do not fall from the start on
+  rises : (y : ℕ) → ((replay (early ++ c ∷ [])).house y).floor ≤ ((replay all).house y).floor
+  rises y =
+      let cell : replay_from (replay (early ++ c ∷ [])) late ≡ replay all = sym (replay-append (early ++ c ∷ []) late empty_cell) ∙ ap replay begun_is in
+      subst (λ (z : Cell). ((replay (early ++ c ∷ [])).house y).floor ≤ (z.house y).floor) cell
+      ((run_onward late (replay (early ++ c ∷ [])) (run_onward (early ++ c ∷ []) empty_cell empty_plain).plain).rises y)
+
+  -- each member has a floor of at least the time of t
+  high : (y : ℕ) → is_listed y r.members ≡ true → t.time ≤ ((replay all).house y).floor
+  high y l = ⊎_elim
+      (λ (e : y ≡ h). subst (λ (z : ℕ). t.time ≤ ((replay all).house z).floor) (sym e) now.low)
+      (λ o.
+      let w = at_start.answers y o in
+      let i = In-from_dir d (replay (early ++ c ∷ [])).bag w.0 w.2 in
+      let said = lawful (early ++ c ∷ []) w.0 i.0 in
+      let low = (said.round t (round_at w.0 (Gathered t w.1) t w.4 refl)).0 in
+      subst (λ (z : ℕ). t.time ≤ ((replay all).house z).floor) w.3 (le_trans low (le_trans said.floor (rises (w.0).sender))))
+      (listed_or y h r.members l)
+
   from_second : FromSecond all d r t
   from_second = record {
     sentences = record {
@@ -305,6 +324,7 @@ module _ (all early late : List Command) (c : Command) (h d : ℕ) (r : Replica)
       later_messages = λ m i dir lt. now.bounded.sent m (In-of_dir d (replay all).bag m i dir) lt;
     };
     floors = λ x q hq le. now.bounded.floors x q hq le;
+    answered = high;
     members = has_held;
   }
 

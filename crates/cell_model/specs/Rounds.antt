@@ -93,10 +93,12 @@ pub record HasHeld (commands : List Command) (y d k : ℕ) : Type 0 where
   pub held : IsHeld (replay early) y d replica
   pub epoch : replica.epoch ≡ k
 
--- from that start on, for good: the sentences with what the master had then, the floors, and each member held the epoch (own)
+-- from that start on, for good: the sentences with what the master had then; the floors of those at its epoch and later ones,
+-- and of each of its members, also of one that has left since; and each member held the epoch (own)
 pub record FromSecond (commands : List Command) (d : ℕ) (r : Replica) (t : Stamp) : Type 0 where
   pub sentences : Sentences commands d r.epoch t (λ j. In j r.history)
   pub floors : (x : ℕ) (q : Replica) → IsHeld (replay commands) x d q → r.epoch ≤ q.epoch → t.time ≤ ((replay commands).house x).floor
+  pub answered : (y : ℕ) → is_listed y r.members ≡ true → t.time ≤ ((replay commands).house y).floor
   pub members : (y : ℕ) → is_listed y r.members ≡ true → HasHeld commands y d r.epoch
 
 -- at each moment from the start of a second round on (own)

@@ -49,7 +49,7 @@ pub fn completion()
 /// The convergence invariant, part by part: where messages, epochs and histories come from; the first round; the second
 /// from its start on; what spreading brings about, and a completed skulk leaves; and what each AllUpTo tells.
 pub fn invariant()
-    ensures provenance { (commands : List Command) (c : Command) → ProvenanceHolds (replay commands) (outcome (replay commands) c).cell }
+    ensures provenance { (commands : List Command) (c : Command) → ProvenanceHolds (replay commands) c (outcome (replay commands) c).cell }
     ensures gathering { (commands : List Command) → GatheringHolds commands }
     ensures second { (commands : List Command) → SecondHolds commands }
     ensures spreading { (commands : List Command) → SpreadingHolds commands }
