@@ -9,7 +9,7 @@ use Rattle.cell_model.specs.Cells.{Idle, Gathering, Spreading, Replica, Slot, Go
 use Rattle.cell_model.specs.Cells.{Advance, Join, Leave, Message, Cell, IsHeld}
 use Rattle.cell_model.specs.Commands.{Accepted}
 use Rattle.cell_model.specs.Sets.{In, IsPart}
-use Rattle.cell_model.specs.Turns.{grown, copy_of, merged, to_each, raised, floor_after, reply, to_others, copied as copied_at, kept_at_join}
+use Rattle.cell_model.specs.Turns.{grown, copy_of, merged, to_each, raised, copied as copied_at, kept_at_join}
 use Rattle.cell_model.proofs.Lists.{In-append_left, In-append_right, In-append_cases, In-map}
 use Rattle.cell_model.proofs.Terms.{Listed, listed_once}
 use Rattle.cell_model.proofs.Facts.{View, view, IsPosted, Holds, Roll, marks_in, round_of, Reached, Kind, Sound, Turn, same, idle, begins, answered}
@@ -18,7 +18,7 @@ use Rattle.cell_model.proofs.Bounds.{reached_held}
 use Rattle.cell_model.proofs.FirstRound.{slot_cases}
 use Rattle.cell_model.proofs.Marks.{marks_fit, stamp_next}
 use Rattle.cell_model.proofs.Views.{In-of_dir, altered}
-use Rattle.cell_model.proofs.Moves.{new_marks, Taking, Entering, Issuing, accepting}
+use Rattle.cell_model.proofs.Moves.{floor_at, reply_at, others_at, new_marks, Taking, Entering, Issuing, accepting}
 use Rattle.cell_model.proofs.Frames.{altered_frame, new_post, new_each, one_post, held_owed, grown_owed}
 
 -- ---- a message is taken
@@ -28,18 +28,18 @@ module _ (roll : Roll) (g : Cell) (m : Message) (s : Sound roll (view m.dir g)) 
   v = view m.dir g
 
   abbrev left : Slot → List Message → View
-  left slot posts = altered v m.receiver (floor_after (g.house m.receiver) m) slot posts v.top v.present
+  left slot posts = altered v m.receiver (floor_at g m) slot posts v.top v.present
 
   at_dir : In m g.bag → IsPosted v m
   at_dir i = In-of_dir m.dir g.bag m i refl
 
   -- one of the receiver's epoch
   taken_frame : (b : Body) (r q : Replica) (posts : List Message) → Taking g m b r → r.epoch ≡ q.epoch → q.members ≡ r.members → IsPart r.history q.history
-      → Turn roll v m.receiver (floor_after (g.house m.receiver) m) r q → ((k : Mark) → In k q.history → In k r.history ⊎ In k (marks_in b)) → IsPart (marks_in b) q.history
+      → Turn roll v m.receiver (floor_at g m) r q → ((k : Mark) → In k q.history → In k r.history ⊎ In k (marks_in b)) → IsPart (marks_in b) q.history
       → ((p : Message) → In p posts → New roll v (left (Held q) posts) [] p) → Frame roll v (left (Held q) posts) []
   taken_frame b r q posts k e mem sub turn come adds post =
-      altered_frame roll v [] m.receiver (floor_after (g.house m.receiver) m) (Held q) posts v.top v.present s
-      (grown_owed roll v [] m.receiver (floor_after (g.house m.receiver) m) (Held q) posts v.top v.present s r q refl k.held (omega arith) e mem sub turn
+      altered_frame roll v [] m.receiver (floor_at g m) (Held q) posts v.top v.present s
+      (grown_owed roll v [] m.receiver (floor_at g m) (Held q) posts v.top v.present s r q refl k.held (omega arith) e mem sub turn
       (λ j i. ⊎_elim (λ l. inl l)
       (λ n. inr (sent m (at_dir k.posted) (k.epoch ∙ e) (subst (λ (z : Body). In j (marks_in z)) (sym k.is) n) (omega arith)
       (subst (λ (z : Body). IsPart (marks_in z) q.history) (sym k.is) adds))) (come j i)))
@@ -71,11 +71,11 @@ module _ (roll : Roll) (g : Cell) (m : Message) (s : Sound roll (view m.dir g)) 
       (λ j i. In-append_right j r.history marks i) (nothing _)
 
   -- so does a Gather that is answered
-  pub gives_frame : (t : Stamp) (r : Replica) → Taking g m (Gather t) r → Frame roll v (left (Held r) (reply (g.house m.receiver) m (Gathered t (copy_of r)))) []
+  pub gives_frame : (t : Stamp) (r : Replica) → Taking g m (Gather t) r → Frame roll v (left (Held r) (reply_at g m (Gathered t (copy_of r)))) []
   gives_frame t r k =
-      taken_frame (Gather t) r r (reply (g.house m.receiver) m (Gathered t (copy_of r))) k refl refl (λ j i. i) (same refl) (λ j i. inl i) (λ j i. elim i [ ])
-      (one_post roll v [] m.receiver (floor_after (g.house m.receiver) m) (Held r) _ v.top v.present s _
-      (new_post roll v [] m.receiver (floor_after (g.house m.receiver) m) (Held r) _ v.top v.present s r refl m.dir m.sender m.epoch (floor_after (g.house m.receiver) m) (Gathered t (copy_of r))
+      taken_frame (Gather t) r r (reply_at g m (Gathered t (copy_of r))) k refl refl (λ j i. i) (same refl) (λ j i. inl i) (λ j i. elim i [ ])
+      (one_post roll v [] m.receiver (floor_at g m) (Held r) _ v.top v.present s _
+      (new_post roll v [] m.receiver (floor_at g m) (Held r) _ v.top v.present s r refl m.dir m.sender m.epoch (floor_at g m) (Gathered t (copy_of r))
       (sym k.epoch) refl (λ j i. i) (inl (λ j i. i)) (λ c e. cc)
       (answer (Gather t) r _ k refl refl (omega arith), λ j i. i)))
 
@@ -91,15 +91,15 @@ module _ (roll : Roll) (g : Cell) (m : Message) (s : Sound roll (view m.dir g)) 
   -- the last answer in the first round, with which the second begins
   pub turns_frame : (t : Stamp) (copy : Copy) (a : List ℕ) (r : Replica) → Taking g m (Gathered t copy) r → r.phase ≡ Gathering t a
       → ((x : ℕ) → In x (others_of m.receiver r.members) → In x (m.sender ∷ a))
-      → Frame roll v (left (Held (record (merged r copy) { phase = Spreading t [] })) (to_others (g.house m.receiver) m r (Spread t (copy_of (merged r copy))))) []
+      → Frame roll v (left (Held (record (merged r copy) { phase = Spreading t [] })) (others_at g m r (Spread t (copy_of (merged r copy))))) []
   turns_frame t copy a r k run all =
       let q : Replica = record (merged r copy) { phase = Spreading t [] } in
       let head : master_of r.members ≡ m.receiver = ((s.held m.receiver r k.held).phase t (cc)).0 in
-      taken_frame (Gathered t copy) r q (to_others (g.house m.receiver) m r (Spread t (copy_of (merged r copy)))) k refl refl (grows r copy.history)
+      taken_frame (Gathered t copy) r q (others_at g m r (Spread t (copy_of (merged r copy)))) k refl refl (grows r copy.history)
       (turned t a m copy run refl (at_dir k.posted) k.is (λ j i. In-append_right j r.history copy.history i)
       (λ y o. all y (subst (λ (z : ℕ). In y (others_of z r.members)) head o)))
       (λ j i. In-append_cases j r.history copy.history i) (λ j i. In-append_right j r.history copy.history i)
-      (new_each roll v [] m.receiver (floor_after (g.house m.receiver) m) (Held q) _ v.top v.present s q refl (others_of m.receiver r.members) m.dir r.epoch (floor_after (g.house m.receiver) m)
+      (new_each roll v [] m.receiver (floor_at g m) (Held q) _ v.top v.present s q refl (others_of m.receiver r.members) m.dir r.epoch (floor_at g m)
       (Spread t (copy_of (merged r copy))) refl refl (λ j i. i) (inl (λ j i. i)) (λ c e. cc) (λ _ _. (refl, λ j i. i)))
 
   -- an answer of the first round that comes in the second
@@ -110,12 +110,12 @@ module _ (roll : Roll) (g : Cell) (m : Message) (s : Sound roll (view m.dir g)) 
 
   -- a Spread that is taken and answered
   pub spreads_frame : (t : Stamp) (copy : Copy) (r : Replica) → Taking g m (Spread t copy) r
-      → Frame roll v (left (Held (merged r copy)) (reply (g.house m.receiver) m (SpreadAck t))) []
+      → Frame roll v (left (Held (merged r copy)) (reply_at g m (SpreadAck t))) []
   spreads_frame t copy r k =
-      taken_frame (Spread t copy) r (merged r copy) (reply (g.house m.receiver) m (SpreadAck t)) k refl refl (grows r copy.history) (same refl)
+      taken_frame (Spread t copy) r (merged r copy) (reply_at g m (SpreadAck t)) k refl refl (grows r copy.history) (same refl)
       (λ j i. In-append_cases j r.history copy.history i) (λ j i. In-append_right j r.history copy.history i)
-      (one_post roll v [] m.receiver (floor_after (g.house m.receiver) m) (Held (merged r copy)) _ v.top v.present s _
-      (new_post roll v [] m.receiver (floor_after (g.house m.receiver) m) (Held (merged r copy)) _ v.top v.present s (merged r copy) refl m.dir m.sender m.epoch (floor_after (g.house m.receiver) m)
+      (one_post roll v [] m.receiver (floor_at g m) (Held (merged r copy)) _ v.top v.present s _
+      (new_post roll v [] m.receiver (floor_at g m) (Held (merged r copy)) _ v.top v.present s (merged r copy) refl m.dir m.sender m.epoch (floor_at g m)
       (SpreadAck t) (sym k.epoch) refl (λ j i. elim i [ ]) (inr (λ j i. elim i [ ])) (λ c e. cc)
       (copy, answer (Spread t copy) r _ k refl refl (omega arith), λ j i. In-append_right j r.history copy.history i)))
 
@@ -132,11 +132,11 @@ module _ (roll : Roll) (g : Cell) (m : Message) (s : Sound roll (view m.dir g)) 
 
   -- the last answer in the second round, with which the skulk completes
   pub completes_frame : (t : Stamp) (r : Replica) → Taking g m (SpreadAck t) r
-      → Frame roll v (left (Held (record r { all_up_to = raised r.all_up_to t; phase = Idle })) (to_others (g.house m.receiver) m r (Advance t))) []
+      → Frame roll v (left (Held (record r { all_up_to = raised r.all_up_to t; phase = Idle })) (others_at g m r (Advance t))) []
   completes_frame t r k =
       let q : Replica = record r { all_up_to = raised r.all_up_to t; phase = Idle } in
-      taken_frame (SpreadAck t) r q (to_others (g.house m.receiver) m r (Advance t)) k refl refl (λ j i. i) (idle refl) (λ j i. inl i) (λ j i. elim i [ ])
-      (new_each roll v [] m.receiver (floor_after (g.house m.receiver) m) (Held q) _ v.top v.present s q refl (others_of m.receiver r.members) m.dir r.epoch (floor_after (g.house m.receiver) m)
+      taken_frame (SpreadAck t) r q (others_at g m r (Advance t)) k refl refl (λ j i. i) (idle refl) (λ j i. inl i) (λ j i. elim i [ ])
+      (new_each roll v [] m.receiver (floor_at g m) (Held q) _ v.top v.present s q refl (others_of m.receiver r.members) m.dir r.epoch (floor_at g m)
       (Advance t) refl refl (λ j i. elim i [ ]) (inr (λ j i. elim i [ ])) (λ c e. cc)
       (λ _ _. (m, at_dir k.posted, k.is, k.epoch, omega arith)))
 
@@ -148,11 +148,11 @@ module _ (roll : Roll) (g : Cell) (m : Message) (s : Sound roll (view m.dir g)) 
 
   -- a Join
   entered_frame : (ms : List Member) (copy : Copy) (q : Replica) → ((e : ℕ) → Reached e (v.house m.receiver).slot → e ≤ q.epoch)
-      → Past roll v (left (Held q) []) m.receiver (floor_after (g.house m.receiver) m) q
-      → ((k : Mark) → In k q.history → Came roll v (left (Held q) []) [] m.receiver (floor_after (g.house m.receiver) m) q k) → Frame roll v (left (Held q) []) []
+      → Past roll v (left (Held q) []) m.receiver (floor_at g m) q
+      → ((k : Mark) → In k q.history → Came roll v (left (Held q) []) [] m.receiver (floor_at g m) q k) → Frame roll v (left (Held q) []) []
   entered_frame ms copy q up past come =
-      altered_frame roll v [] m.receiver (floor_after (g.house m.receiver) m) (Held q) [] v.top v.present s
-      (held_owed roll v [] m.receiver (floor_after (g.house m.receiver) m) (Held q) [] v.top v.present s q refl (omega arith) up past come)
+      altered_frame roll v [] m.receiver (floor_at g m) (Held q) [] v.top v.present s
+      (held_owed roll v [] m.receiver (floor_at g m) (Held q) [] v.top v.present s q refl (omega arith) up past come)
       (nothing q) (le_refl _) s.good s.present (λ e z. inl z)
 
   -- the list of a Join, and the since of the receiver in it
@@ -164,11 +164,11 @@ module _ (roll : Roll) (g : Cell) (m : Message) (s : Sound roll (view m.dir g)) 
       (k.0, (k.1.1.0, ap (λ (z : List Member). since_in z m.receiver 0) (sym k.0)))
 
   took_join : (ms : List Member) (copy : Copy) (q : Replica) → Entering g m (Join ms copy) → m.epoch ≡ q.epoch → q.members ≡ ms
-      → IsPart copy.history q.history → q.phase ≡ Idle → Took v m ms copy q (floor_after (g.house m.receiver) m)
+      → IsPart copy.history q.history → q.phase ≡ Idle → Took v m ms copy q (floor_at g m)
   took_join ms copy q en e mem sub i = record { posted = at_dir en.posted; is = en.is; epoch = e; members = mem; marks = sub; raised = omega arith; idle = i }
 
   came_by : (ms : List Member) (copy : Copy) (q : Replica) (k : Mark) → Entering g m (Join ms copy) → m.epoch ≡ q.epoch → IsPart copy.history q.history
-      → In k copy.history → Came roll v (left (Held q) []) [] m.receiver (floor_after (g.house m.receiver) m) q k
+      → In k copy.history → Came roll v (left (Held q) []) [] m.receiver (floor_at g m) q k
   came_by ms copy q k en e adds i =
       sent m (at_dir en.posted) e (subst (λ (b : Body). In k (marks_in b)) (sym en.is) i) (omega arith)
       (subst (λ (b : Body). IsPart (marks_in b) q.history) (sym en.is) adds)
@@ -216,13 +216,13 @@ module _ (roll : Roll) (g : Cell) (m : Message) (s : Sound roll (view m.dir g)) 
       cont : (b : ℕ) → Listed (roll.list m.epoch) m.receiver b → b ≤ r.epoch
       cont b l = let w = listed_once (roll.list m.epoch) m.receiver b (since_in ms m.receiver 0) l j.1 in omega arith
 
-      took : Took v m ms copy (kept_at_join m ms copy r) (floor_after (g.house m.receiver) m)
+      took : Took v m ms copy (kept_at_join m ms copy r) (floor_at g m)
       took = took_join ms copy (kept_at_join m ms copy r) en refl refl (λ k i. In-append_right k r.history copy.history i) refl
 
   -- a Leave
   pub leaves_frame : Entering g m Leave → ((r : Replica) → IsHeld g m.receiver m.dir r → r.epoch < m.epoch) → Frame roll v (left (Gone m.epoch) []) []
   leaves_frame en low =
-      altered_frame roll v [] m.receiver (floor_after (g.house m.receiver) m) (Gone m.epoch) [] v.top v.present s
+      altered_frame roll v [] m.receiver (floor_at g m) (Gone m.epoch) [] v.top v.present s
       (record {
         rises = omega arith;
         climbs = λ e up. ⊎_elim

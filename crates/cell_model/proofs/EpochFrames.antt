@@ -4,14 +4,14 @@ use Rattle.std.proofs.lemmas.Bool.{cases_lt}
 use Rattle.cds_stamps.specs.Members.{Member, master_of, others_of, is_listed, since_in}
 use Rattle.cell_model.specs.Cells.{Replica, Gone, Held, Join, Leave, Message, Cell, IsHeld, put, no_house}
 use Rattle.cell_model.specs.Sets.{In, has}
-use Rattle.cell_model.specs.Turns.{to_each, copy_of, first_replica, first_joins, epoch_replica}
+use Rattle.cell_model.specs.Turns.{to_each, copy_of, first_replica, epoch_replica}
 use Rattle.cell_model.specs.Steps.{listing, leaving}
 use Rattle.cell_model.proofs.Lists.{In-append_cases}
 use Rattle.cell_model.proofs.Terms.{Listed, listed_at, since_listed, In-others_of, master_new, master_listed, since_new, listed_before, leaving_out}
 use Rattle.cell_model.proofs.Facts.{Seat, View, view, Roll, Reached, Good, Sound, Past, crowned, founded, own, New, Frame}
 use Rattle.cell_model.proofs.Bounds.{reached_held, held_low}
 use Rattle.cell_model.proofs.FirstRound.{slot_cases}
-use Rattle.cell_model.proofs.Moves.{epoch_told}
+use Rattle.cell_model.proofs.Moves.{first_told, epoch_told}
 use Rattle.cell_model.proofs.Views.{put_back, altered}
 use Rattle.cell_model.proofs.Frames.{altered_frame, new_each, held_owed}
 
@@ -84,7 +84,7 @@ module _ (roll : Roll) (g : Cell) (d m : ℕ) (rs : List ℕ) (w : Whole roll.ho
   q = first_replica ms
 
   abbrev after : View
-  after = altered v m (g.house m).floor (Held q) (first_joins (g.house m).floor d m ms) 1 ms
+  after = altered v m (g.house m).floor (Held q) (first_told g d m ms) 1 ms
 
   vacant : (e : ℕ) → Reached e (v.house m).slot → ⊥
   vacant e up = ⊎_elim
@@ -101,7 +101,7 @@ module _ (roll : Roll) (g : Cell) (d m : ℕ) (rs : List ℕ) (w : Whole roll.ho
   -- a new directory frames the step
   pub founds_frame : Frame roll v after []
   founds_frame =
-      altered_frame roll v [] m (g.house m).floor (Held q) (first_joins (g.house m).floor d m ms) 1 ms s
+      altered_frame roll v [] m (g.house m).floor (Held q) (first_told g d m ms) 1 ms s
       (record {
         rises = le_refl _;
         climbs = λ e up. absurd (vacant e up);
@@ -110,7 +110,7 @@ module _ (roll : Roll) (g : Cell) (d m : ℕ) (rs : List ℕ) (w : Whole roll.ho
         next = λ _ _. inl (q, refl);
         gone = λ e z. absurd (cc);
       })
-      (new_each roll v [] m (g.house m).floor (Held q) (first_joins (g.house m).floor d m ms) 1 ms s q refl (others_of m ms) d 1 (g.house m).floor (Join ms (copy_of q)) refl
+      (new_each roll v [] m (g.house m).floor (Held q) (first_told g d m ms) 1 ms s q refl (others_of m ms) d 1 (g.house m).floor (Join ms (copy_of q)) refl
       refl (λ k i. i) (inl (λ k i. i)) (λ c e. cc)
       (λ x o. let l = listed_at ms x (In-others_of x m ms o).1 in
       (fit, (since_in ms x 0, subst (λ (z : List Member). Listed z x (since_in ms x 0)) fit l), λ k i. i)))

@@ -9,7 +9,7 @@ use Rattle.cell_model.specs.Cells.{Idle, Gathering, Spreading, Replica, Slot, Ab
 use Rattle.cell_model.specs.Cells.{Advance, Join, Leave, Message, Cell, IsHeld, put, no_house}
 use Rattle.cell_model.specs.Commands.{Answer, Complete, Stamped, Accepted}
 use Rattle.cell_model.specs.Sets.{In, has}
-use Rattle.cell_model.specs.Turns.{grown, copy_of, merged, holding, to_each, raised, epoch_replica, first_replica, first_joins}
+use Rattle.cell_model.specs.Turns.{grown, copy_of, merged, holding, to_each, raised, epoch_replica, first_replica}
 use Rattle.cell_model.specs.Turns.{crashed, copied, kept_at_join}
 use Rattle.cell_model.specs.Steps.{moved, listing, leaving, founded}
 use Rattle.cell_model.proofs.Lists.{eq_from, In-append_cases, In-map}
@@ -17,7 +17,7 @@ use Rattle.cell_model.proofs.Facts.{up_to_in}
 use Rattle.cell_model.proofs.Marks.{greater_choice}
 use Rattle.cell_model.proofs.Views.{put_at, AllOf}
 use Rattle.cell_model.proofs.MoveFrames.{taken_not, act_posts, first_joins_dir, epoch_posts_dir}
-use Rattle.cell_model.proofs.Moves.{new_marks, Taking, Act, accepts, skulks, lone, updates, gives, gathers, turns, gathers_again, spreads}
+use Rattle.cell_model.proofs.Moves.{first_told, new_marks, Taking, Act, accepts, skulks, lone, updates, gives, gathers, turns, gathers_again, spreads}
 use Rattle.cell_model.proofs.Moves.{acks_early, acks, completes, advances, copies, keeps, leaves, Move, stays, houses, clocks, loses, crashes}
 use Rattle.cell_model.proofs.Moves.{epoch_told, starts, acts, founds, crowns, Steps, one, mkdirs}
 
@@ -205,7 +205,7 @@ same_slots g h now same d =
     put_at (λ x v. (r : Replica) → v.slots d ≡ Held r → (q : Replica) × IsHeld g x d q × (q.all_up_to ≡ r.all_up_to) × (q.epoch ≡ r.epoch)) g.house h now
     (λ r e. (r, sym (same d) ∙ e, refl, refl)) (λ x _ r e. (r, e, refl, refl))
 
-first_owing : (g : Cell) (a : Answer) (p : Option (ℕ × ℕ)) (d m : ℕ) (ms : List Member) → Owing g a p m d (Held (first_replica ms)) (first_joins (g.house m).floor d m ms)
+first_owing : (g : Cell) (a : Answer) (p : Option (ℕ × ℕ)) (d m : ℕ) (ms : List Member) → Owing g a p m d (Held (first_replica ms)) (first_told g d m ms)
 first_owing g a p d m ms = record {
   held = slot_is g a p m d (first_replica ms) (λ t e. absurd (cc));
   sent = plain_posts g a p m d _ d m _ _ _ refl;
@@ -268,7 +268,7 @@ founded_back g d m ms nd e x r t at u =
     by_slot true q z w = let is : first_replica ms ≡ q = cc in let none : None ≡ Some t = ap (λ (y : Replica). y.all_up_to) is ∙ w in absurd (cc)
     by_slot false q z w = z
 
-founded_bag : (g : Cell) (d m : ℕ) (ms : List Member) (q : Message) (t : Stamp) → In q (g.bag ++ first_joins (g.house m).floor d m ms) → up_to_in q.body ≡ Some t → In q g.bag
+founded_bag : (g : Cell) (d m : ℕ) (ms : List Member) (q : Message) (t : Stamp) → In q (g.bag ++ first_told g d m ms) → up_to_in q.body ≡ Some t → In q g.bag
 founded_bag g d m ms q t i e = ⊎_elim (λ z. z)
     (λ n. let w = In-map (λ (x : ℕ). record {
       receiver = x;
@@ -280,7 +280,7 @@ founded_bag g d m ms q t i e = ⊎_elim (λ z. z)
           Join ms (copy_of (first_replica ms));
     }) q (others_of m ms) n in
     let none : None ≡ Some t = ap (λ (z : Message). up_to_in z.body) (sym w.2) ∙ e in absurd (cc))
-    (In-append_cases q g.bag (first_joins (g.house m).floor d m ms) i)
+    (In-append_cases q g.bag (first_told g d m ms) i)
 
 -- what a step does to a cell lifts an AllUpTo only so
 pub steps_lifts : (g g' : Cell) (p : Option (ℕ × ℕ)) (a : Answer) (n : List Accepted) (d : ℕ)

@@ -8,14 +8,14 @@ use Rattle.cds_stamps.specs.Members.{Member, others_of, is_listed, since_in}
 use Rattle.cell_model.specs.Cells.{Idle, Replica, Slot, Absent, Gone, Held, House, Message, Cell, IsHeld, put}
 use Rattle.cell_model.specs.Commands.{Answer, Accepted}
 use Rattle.cell_model.specs.Sets.{In, has}
-use Rattle.cell_model.specs.Turns.{holding, first_replica, first_joins, epoch_replica, crashed}
+use Rattle.cell_model.specs.Turns.{holding, first_replica, epoch_replica, crashed}
 use Rattle.cell_model.specs.Steps.{moved, listing, leaving, founded as founded_at}
 use Rattle.cell_model.proofs.Lists.{append_nil, In-append_cases, eq_from, or_left, or_right, or_cases}
 use Rattle.cell_model.proofs.Terms.{flip_eq}
 use Rattle.cell_model.proofs.Facts.{Seat, View, of_dir, seat, view, Roll, Sound, same, grew, own, Frame}
 use Rattle.cell_model.proofs.Marks.{stamp_next}
 use Rattle.cell_model.proofs.Views.{put_at, put_same, put_other, of_dir-all, of_dir-none, AllOf, to_each-dir, altered, same_view, seat_put, view_moved}
-use Rattle.cell_model.proofs.Moves.{IsUp, Issuing, Act, accepts, skulks, lone, updates, gives, gathers, turns, gathers_again, spreads, acks_early}
+use Rattle.cell_model.proofs.Moves.{first_told, IsUp, Issuing, Act, accepts, skulks, lone, updates, gives, gathers, turns, gathers_again, spreads, acks_early}
 use Rattle.cell_model.proofs.Moves.{acks, completes, advances, copies, keeps, leaves, Move, stays, houses, clocks, loses, crashes, starts, acts}
 use Rattle.cell_model.proofs.Moves.{founds, crowns, epoch_told, promote}
 use Rattle.cell_model.proofs.Frames.{risen_frame, crash_frame}
@@ -172,7 +172,7 @@ taken_not g h node (y ∷ ys) e =
 -- ---- a move, seen from any directory
 
 -- the Joins of a new directory are about it
-pub first_joins_dir : (g : Cell) (d m : ℕ) (ms : List Member) → AllOf d (first_joins (g.house m).floor d m ms)
+pub first_joins_dir : (g : Cell) (d m : ℕ) (ms : List Member) → AllOf d (first_told g d m ms)
 first_joins_dir g d m ms = to_each-dir _ d m _ _ _
 
 -- what a new epoch posts is about its directory
@@ -200,14 +200,14 @@ founding_frame roll g d m rs nd w none d' s fit =
     → Frame roll (view z g) (view z (record (founded_at g d m ms) { next_dir = nd })) []) d d'
     (λ s' fit'.
     let is : view d (record (founded_at g d m ms) { next_dir = nd })
-    ≡ altered (view d g) m (g.house m).floor (Held (first_replica ms)) (first_joins (g.house m).floor d m ms) 1 ms =
-    view_in g m d (g.house m).floor (Held (first_replica ms)) (first_joins (g.house m).floor d m ms) (put g.top d 1) (put g.present d ms) (first_joins_dir g d m ms)
-    ∙ ap (λ (z : ℕ). altered (view d g) m (g.house m).floor (Held (first_replica ms)) (first_joins (g.house m).floor d m ms) z (put g.present d ms d)) (put_same g.top d 1)
-    ∙ ap (λ (z : List Member). altered (view d g) m (g.house m).floor (Held (first_replica ms)) (first_joins (g.house m).floor d m ms) 1 z) (put_same g.present d ms) in
+    ≡ altered (view d g) m (g.house m).floor (Held (first_replica ms)) (first_told g d m ms) 1 ms =
+    view_in g m d (g.house m).floor (Held (first_replica ms)) (first_told g d m ms) (put g.top d 1) (put g.present d ms) (first_joins_dir g d m ms)
+    ∙ ap (λ (z : ℕ). altered (view d g) m (g.house m).floor (Held (first_replica ms)) (first_told g d m ms) z (put g.present d ms d)) (put_same g.top d 1)
+    ∙ ap (λ (z : List Member). altered (view d g) m (g.house m).floor (Held (first_replica ms)) (first_told g d m ms) 1 z) (put_same g.present d ms) in
     subst (λ (z : View). Frame roll (view d g) z []) (sym is) (founds_frame roll g d m rs w s' none (fit_set roll g.top g.present d 1 ms fit')))
     (λ n s' _.
     subst (λ (z : View). Frame roll (view d' g) z [])
-    (sym (view_out g m d (g.house m).floor (Held (first_replica ms)) (first_joins (g.house m).floor d m ms) (put g.top d 1) (put g.present d ms) d' n
+    (sym (view_out g m d (g.house m).floor (Held (first_replica ms)) (first_told g d m ms) (put g.top d 1) (put g.present d ms) d' n
     (first_joins_dir g d m ms) ∙ fit_kept (view d' g) m (g.house m).floor g.top g.present d 1 ms d' n))
     (risen_frame roll (view d' g) s' m (g.house m).floor (le_refl _) []))
     s fit
@@ -222,7 +222,7 @@ put_itself f m = put_at (λ x v. v ≡ f x) f m (f m) refl (λ x _. refl)
 -- a new directory is no other one's matter
 pub founded_view : (g : Cell) (d m : ℕ) (ms : List Member) (nd d' : ℕ) → d' ≢ d → view d' (record (founded_at g d m ms) { next_dir = nd }) ≡ view d' g
 founded_view g d m ms nd d' n =
-    view_out g m d (g.house m).floor (Held (first_replica ms)) (first_joins (g.house m).floor d m ms) (put g.top d 1) (put g.present d ms) d' n (first_joins_dir g d m ms)
+    view_out g m d (g.house m).floor (Held (first_replica ms)) (first_told g d m ms) (put g.top d 1) (put g.present d ms) d' n (first_joins_dir g d m ms)
     ∙ fit_kept (view d' g) m (g.house m).floor g.top g.present d 1 ms d' n
     ∙ same_view _ _ (put_itself (seat d' g) m) (append_nil (of_dir d' g.bag)) refl refl
 

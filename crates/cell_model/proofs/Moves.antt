@@ -17,8 +17,8 @@ use Rattle.cell_model.specs.Commands.{Command, Refusal, NoHouse, NoDirectory, Ba
 use Rattle.cell_model.specs.Commands.{NotJoined, NewEpoch, Taken, Late, Early, Stale, Foreign, Complete, Refused, Accepted}
 use Rattle.cell_model.specs.Sets.{In, has}
 use Rattle.cell_model.specs.Turns.{HouseStep, Stays, unless_refused, turned, holding, grown, copy_of, merged, raised, to_each, stamp_at, accept_at}
-use Rattle.cell_model.specs.Turns.{update_refusal, accept_in, begin, skulk_at, skulk_in, epoch_replica, epoch_posts, new_epoch_in, floor_after, reply}
-use Rattle.cell_model.specs.Turns.{to_others, copied, kept_at_join, take}
+use Rattle.cell_model.specs.Turns.{update_refusal, accept_in, begin, skulk_at, skulk_in, epoch_replica, epoch_posts, first_joins, new_epoch_in}
+use Rattle.cell_model.specs.Turns.{floor_after, reply, to_others, copied, kept_at_join, take}
 use Rattle.cell_model.specs.Steps.{Outcome, first_refusal, unless, is_missing, is_taken, is_down, is_unknown, moved, at_house, ascending, listing}
 use Rattle.cell_model.specs.Steps.{leaving, new_house, set_clock, noted, founded, with_directory, with_epoch, message_at, deliver, lose, crash, start}
 use Rattle.cell_model.specs.Steps.{refusals_of, effect, outcome}
@@ -62,6 +62,18 @@ pub record Issuing (g : Cell) (h d : ℕ) (r : Replica) (s : Stamp) : Type 0 whe
 abbrev pub accepting : (h d : ℕ) → Change → Replica → Stamp → Accepted
 accepting h d u r s = record { by = h; dir = d; epoch = r.epoch; since = since_in r.members h 0; stamp = s; marks = new_marks r u s }
 
+-- the floor that a message leaves at its receiver
+abbrev pub floor_at : Cell → Message → ℕ
+floor_at g m = floor_after (g.house m.receiver) m
+
+-- what its receiver answers to the sender
+abbrev pub reply_at : Cell → Message → Body → List Message
+reply_at g m body = reply (g.house m.receiver) m body
+
+-- and what it posts to each other member
+abbrev pub others_at : Cell → Message → Replica → Body → List Message
+others_at g m r body = to_others (g.house m.receiver) m r body
+
 -- what a house does in one directory: its new floor and slot, what it posts, the answer, and what it accepted
 pub data Act (g : Cell) : (h d floor : ℕ) → Slot → List Message → Answer → List Accepted → Type 0 where
   accepts : (h d : ℕ) (u : Change) (r : Replica) (s : Stamp) (ns : List ℕ) → Issuing g h d r s → update_refusal h u r ≡ None
@@ -72,36 +84,36 @@ pub data Act (g : Cell) : (h d floor : ℕ) → Slot → List Message → Answer
   lone : (h d : ℕ) (r : Replica) (t : Stamp) → Issuing g h d r t → master_of r.members ≡ h → others_of h r.members ≡ []
       → Act g h d t.time (Held (record r { all_up_to = raised r.all_up_to t; phase = Idle })) [] (Complete t []) []
   updates : (m : Message) (marks : List Mark) (r : Replica) (ns : List ℕ) → Taking g m (Update marks) r
-      → Act g m.receiver m.dir (floor_after (g.house m.receiver) m) (Held (grown r marks)) [] (Taken ns) []
+      → Act g m.receiver m.dir (floor_at g m) (Held (grown r marks)) [] (Taken ns) []
   gives : (m : Message) (t : Stamp) (r : Replica) (ns : List ℕ) → Taking g m (Gather t) r
-      → Act g m.receiver m.dir (floor_after (g.house m.receiver) m) (Held r) (reply (g.house m.receiver) m (Gathered t (copy_of r))) (Taken ns) []
+      → Act g m.receiver m.dir (floor_at g m) (Held r) (reply_at g m (Gathered t (copy_of r))) (Taken ns) []
   gathers : (m : Message) (t : Stamp) (copy : Copy) (a : List ℕ) (r : Replica) (ns : List ℕ) → Taking g m (Gathered t copy) r → r.phase ≡ Gathering t a
-      → Act g m.receiver m.dir (floor_after (g.house m.receiver) m) (Held (record (merged r copy) { phase = Gathering t (m.sender ∷ a) })) [] (Taken ns) []
+      → Act g m.receiver m.dir (floor_at g m) (Held (record (merged r copy) { phase = Gathering t (m.sender ∷ a) })) [] (Taken ns) []
   turns : (m : Message) (t : Stamp) (copy : Copy) (a : List ℕ) (r : Replica) (ns : List ℕ) → Taking g m (Gathered t copy) r → r.phase ≡ Gathering t a
       → ((x : ℕ) → In x (others_of m.receiver r.members) → In x (m.sender ∷ a))
-      → Act g m.receiver m.dir (floor_after (g.house m.receiver) m) (Held (record (merged r copy) { phase = Spreading t [] }))
-      (to_others (g.house m.receiver) m r (Spread t (copy_of (merged r copy)))) (Taken ns) []
+      → Act g m.receiver m.dir (floor_at g m) (Held (record (merged r copy) { phase = Spreading t [] }))
+      (others_at g m r (Spread t (copy_of (merged r copy)))) (Taken ns) []
   gathers_again : (m : Message) (t : Stamp) (copy : Copy) (a : List ℕ) (r : Replica) (ns : List ℕ) → Taking g m (Gathered t copy) r → r.phase ≡ Spreading t a
-      → Act g m.receiver m.dir (floor_after (g.house m.receiver) m) (Held (merged r copy)) [] (Taken ns) []
+      → Act g m.receiver m.dir (floor_at g m) (Held (merged r copy)) [] (Taken ns) []
   spreads : (m : Message) (t : Stamp) (copy : Copy) (r : Replica) (ns : List ℕ) → Taking g m (Spread t copy) r
-      → Act g m.receiver m.dir (floor_after (g.house m.receiver) m) (Held (merged r copy)) (reply (g.house m.receiver) m (SpreadAck t)) (Taken ns) []
+      → Act g m.receiver m.dir (floor_at g m) (Held (merged r copy)) (reply_at g m (SpreadAck t)) (Taken ns) []
   acks_early : (m : Message) (t : Stamp) (a : List ℕ) (r : Replica) (ns : List ℕ) → Taking g m (SpreadAck t) r → r.phase ≡ Gathering t a
-      → Act g m.receiver m.dir (floor_after (g.house m.receiver) m) (Held r) [] (Taken ns) []
+      → Act g m.receiver m.dir (floor_at g m) (Held r) [] (Taken ns) []
   acks : (m : Message) (t : Stamp) (a : List ℕ) (r : Replica) (ns : List ℕ) → Taking g m (SpreadAck t) r → r.phase ≡ Spreading t a
-      → Act g m.receiver m.dir (floor_after (g.house m.receiver) m) (Held (record r { phase = Spreading t (m.sender ∷ a) })) [] (Taken ns) []
+      → Act g m.receiver m.dir (floor_at g m) (Held (record r { phase = Spreading t (m.sender ∷ a) })) [] (Taken ns) []
   completes : (m : Message) (t : Stamp) (a : List ℕ) (r : Replica) (ns : List ℕ) → Taking g m (SpreadAck t) r → r.phase ≡ Spreading t a
       → ((x : ℕ) → In x (others_of m.receiver r.members) → In x (m.sender ∷ a))
-      → Act g m.receiver m.dir (floor_after (g.house m.receiver) m) (Held (record r { all_up_to = raised r.all_up_to t; phase = Idle })) (to_others (g.house m.receiver) m r (Advance t))
+      → Act g m.receiver m.dir (floor_at g m) (Held (record r { all_up_to = raised r.all_up_to t; phase = Idle })) (others_at g m r (Advance t))
       (Complete t ns) []
   advances : (m : Message) (t : Stamp) (r : Replica) (ns : List ℕ) → Taking g m (Advance t) r
-      → Act g m.receiver m.dir (floor_after (g.house m.receiver) m) (Held (record r { all_up_to = raised r.all_up_to t })) [] (Taken ns) []
+      → Act g m.receiver m.dir (floor_at g m) (Held (record r { all_up_to = raised r.all_up_to t })) [] (Taken ns) []
   copies : (m : Message) (ms : List Member) (copy : Copy) (ns : List ℕ) → Entering g m (Join ms copy)
       → ((r : Replica) → IsHeld g m.receiver m.dir r → (r.epoch ≤ m.epoch) × (r.epoch < since_in ms m.receiver 0))
-      → Act g m.receiver m.dir (floor_after (g.house m.receiver) m) (Held (copied m ms copy)) [] (Taken ns) []
+      → Act g m.receiver m.dir (floor_at g m) (Held (copied m ms copy)) [] (Taken ns) []
   keeps : (m : Message) (ms : List Member) (copy : Copy) (r : Replica) (ns : List ℕ) → Entering g m (Join ms copy) → IsHeld g m.receiver m.dir r
-      → r.epoch ≤ m.epoch → since_in ms m.receiver 0 ≤ r.epoch → Act g m.receiver m.dir (floor_after (g.house m.receiver) m) (Held (kept_at_join m ms copy r)) [] (Taken ns) []
+      → r.epoch ≤ m.epoch → since_in ms m.receiver 0 ≤ r.epoch → Act g m.receiver m.dir (floor_at g m) (Held (kept_at_join m ms copy r)) [] (Taken ns) []
   leaves : (m : Message) (ns : List ℕ) → Entering g m Leave → ((r : Replica) → IsHeld g m.receiver m.dir r → r.epoch < m.epoch)
-      → Act g m.receiver m.dir (floor_after (g.house m.receiver) m) (Gone m.epoch) [] (Taken ns) []
+      → Act g m.receiver m.dir (floor_at g m) (Gone m.epoch) [] (Taken ns) []
 
 -- answers with no stamp that was issued and none of a skulk that completed
 abbrev pub IsQuiet : Answer → Type 0
@@ -109,6 +121,10 @@ IsQuiet (Stamped s ns) = ⊥
 IsQuiet (Made d s ns) = ⊥
 IsQuiet (Complete t ns) = ⊥
 IsQuiet _ = Unit {0}
+
+-- what the master of a new directory posts
+abbrev pub first_told : Cell → (d m : ℕ) → List Member → List Message
+first_told g d m ms = first_joins (g.house m).floor d m ms
 
 -- what the new master posts, to those that the console lists no more too
 abbrev pub epoch_told : Cell → (d m k : ℕ) → List Member → Replica → List Message
@@ -201,7 +217,7 @@ passed_quiet (Refused r) q = tt
 -- each row of a message is a move
 module _ (g : Cell) (m : Message) (at : In m g.bag) (up : IsUp g m.receiver) where
   abbrev floor : ℕ
-  floor = floor_after (g.house m.receiver) m
+  floor = floor_at g m
 
   row_moves : (s : HouseStep) → rows.Row (g.house m.receiver) m s → Turned g m.receiver m.dir s
   row_moves s (rows.passes a q) = stays a (passed_quiet a q)

@@ -10,7 +10,7 @@ use Rattle.directory.specs.Updates.{Change, changed_name}
 use Rattle.cell_model.specs.Cells.{Phase, Idle, Spreading, Replica, Slot, Held, House, Update, SpreadAck, Copy, Message, Cell, IsHeld, put}
 use Rattle.cell_model.specs.Commands.{Answer, Complete, Accepted}
 use Rattle.cell_model.specs.Sets.{In, IsPart, has}
-use Rattle.cell_model.specs.Turns.{grown, holding, to_each, running, update_refusal, first_replica, copy_of, raised, floor_after}
+use Rattle.cell_model.specs.Turns.{grown, holding, to_each, running, update_refusal, first_replica, copy_of, raised}
 use Rattle.cell_model.specs.Steps.{moved, founded, listing}
 use Rattle.cell_model.proofs.Lists.{append_nil, eq_from, In-append_right, earlier_up_to}
 use Rattle.cell_model.proofs.Facts.{View, view, IsPosted, Holds, Roll, marks_in, copy_in, Sound, New, Frame}
@@ -21,7 +21,7 @@ use Rattle.cell_model.proofs.Soundness.{sound_kept}
 use Rattle.cell_model.proofs.Rounds.{Round, Rounds, rounds_kept, round_acked}
 use Rattle.cell_model.proofs.Marks.{shown_birth, marks_made, stamp_next}
 use Rattle.cell_model.proofs.Views.{put_at, put_same, put_back, In-of_dir}
-use Rattle.cell_model.proofs.Moves.{new_marks, IsUp, Issuing, Taking, accepting, Act, accepts, lone, completes, Move, stays, acts, Steps, one, mkdirs}
+use Rattle.cell_model.proofs.Moves.{floor_at, new_marks, IsUp, Issuing, Taking, accepting, Act, accepts, lone, completes, Move, stays, acts, Steps, one, mkdirs}
 use Rattle.cell_model.proofs.EpochFrames.{Whole}
 use Rattle.cell_model.proofs.MoveFrames.{home_of_up, act_rises, founding_frame, founded_view, acting_frame, move_frame}
 use Rattle.cell_model.proofs.Wholes.{Plain, whole_of, up_made, moved_onward}
@@ -256,15 +256,15 @@ module _ (roll : Roll) (g : Cell) (w : Whole roll.home g) (s : Sound roll (view 
   last_completed : (m : Message) (t : Stamp) (a : List ℕ) (r : Replica) → m.dir ≡ roll.dir → Taking g m (SpreadAck t) r → r.phase ≡ Spreading t a
       → ((x : ℕ) → In x (others_of m.receiver r.members) → In x (m.sender ∷ a)) → (posts : List Message) (v' : View)
       → v' ≡ view roll.dir
-      (moved g m.receiver (holding (g.house m.receiver) m.dir (floor_after (g.house m.receiver) m) (Held (record r { all_up_to = raised r.all_up_to t; phase = Idle }))) posts)
+      (moved g m.receiver (holding (g.house m.receiver) m.dir (floor_at g m) (Held (record r { all_up_to = raised r.all_up_to t; phase = Idle }))) posts)
       → Sound roll v' → Frame roll v v' [] → Completed roll v' m.receiver (Held (record r { all_up_to = raised r.all_up_to t; phase = Idle })) t
   last_completed m t a r dir k run all posts v' is s' f =
       let q : Replica = record r { all_up_to = raised r.all_up_to t; phase = Idle } in
       let at : Holds v m.receiver r = subst (λ (z : ℕ). (g.house m.receiver).slots z ≡ Held r) dir k.held in
       let at' : Holds v' m.receiver q =
       subst (λ (z : View). Holds z m.receiver q) (sym is)
-      (subst (λ (z : ℕ). ((moved g m.receiver (holding (g.house m.receiver) m.dir (floor_after (g.house m.receiver) m) (Held q)) posts).house m.receiver).slots z ≡ Held q) dir
-      (slot_after g m.receiver m.dir (floor_after (g.house m.receiver) m) (Held q))) in
+      (subst (λ (z : ℕ). ((moved g m.receiver (holding (g.house m.receiver) m.dir (floor_at g m) (Held q)) posts).house m.receiver).slots z ≡ Held q) dir
+      (slot_after g m.receiver m.dir (floor_at g m) (Held q))) in
       let runs : running r.phase ≡ Some t = subst (λ (z : Phase). running z ≡ Some t) (sym run) refl in
       let ok = (s.held m.receiver r at).phase t runs in
       let round = subst (λ (z : Phase). Round roll v m.receiver r z) run (rounds m.receiver r at) in
