@@ -39,7 +39,8 @@ time_of-≤ n (Some s) = (λ h. h, λ h. h)
 pub latest_in_cell-≤ : (n : ℕ) (c : AttrCell) → (latest_in_cell c ≤ n) ↔ CellUpTo n c
 latest_in_cell-≤ n c =
     let clear = time_of-≤ n c.cleared in
-    let marks = greatest_value-≤ nat_list_cmp_total octets_exact (λ (m : ValueMark). m.stamp.time) n (λ m. m.stamp.time ≤ n) (λ m. (λ h. h, λ h. h)) c.values in (
+    let time : ValueMark → ℕ = λ m. m.stamp.time in
+    let marks = greatest_value-≤ nat_list_cmp_total octets_exact time n (λ m. time m ≤ n) (λ m. (λ h. h, λ h. h)) c.values in (
       λ h. record { cleared = clear.0 (omega (arith, h)); values = marks.0 (omega (arith, h)) },
       λ h. let a = clear.1 h.cleared in let b = marks.1 h.values in omega (arith, a, b),
     )

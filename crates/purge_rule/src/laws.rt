@@ -35,7 +35,8 @@ pub fn greatest_times_are_the_latest()
 
 /// The table of marks, and the entry of a name among them, have no later time than the marks, and the empty table has none.
 pub fn marks_make_no_later_time()
-    ensures entry { (h : List Mark) (name : List ℕ) (n : ℕ) → AllByRecursion (MarkUpTo n) h → IfSome (entry_of h name) (EntryUpTo n) }
+    ensures entry { (h : List Mark) (name : List ℕ) (n : ℕ) → AllByRecursion (MarkUpTo n) h →
+        IfSome (entry_of h name) (EntryUpTo n) }
     ensures table { (h : List Mark) (n : ℕ) → AllByRecursion (MarkUpTo n) h → TableUpTo n (table_of h) }
     ensures empty { (n : ℕ) → TableUpTo n map.empty }
 {}
