@@ -40,3 +40,5 @@ pub mod Stamping
 pub mod Standing
 pub mod Numbers
 pub mod Completing
+pub mod Downs
+pub mod AtHouses

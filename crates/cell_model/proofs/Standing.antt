@@ -10,6 +10,7 @@ use Rattle.cell_model.specs.Holdings.{HistoriesHold, MembersHold}
 use Rattle.cell_model.specs.Taking.{CanTake}
 use Rattle.cell_model.proofs.Views.{In-of_dir}
 use Rattle.cell_model.proofs.Runs.{replay-append}
+use Rattle.cell_model.proofs.Downs.{still_lem}
 use Rattle.cell_model.proofs.Issues.{logged_at}
 use Rattle.cell_model.proofs.NeverComes.{reaching_last}
 use Rattle.cell_model.proofs.Merging.{closed_history, merges_lem}
@@ -50,6 +51,7 @@ module _ (commands : List Command) where
   members_lem = record {
     listed = λ x d r at. let ok = (reaching_last commands d).sound.held x r at in ap (is_listed x) ok.members ∙ ok.listed.1.0;
     master = λ x d r t at run. (((reaching_last commands d).sound.held x r at).phase t run).0;
+    idle = λ x d r at down. still_lem commands x down d r at;
   }
 
   -- a receiver can take what was posted to it

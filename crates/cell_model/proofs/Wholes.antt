@@ -123,7 +123,8 @@ founded_onward g d m ms nd p made none lt le =
     (set_bare g.top g.present d 1 ms (omega arith) p.bare)
     (set_ends g.top g.present d 1 ms (omega arith))
 
-act_up : (g : Cell) (h d floor : ℕ) (o : Slot) (posts : List Message) (a : Answer) (n : List Accepted) → Act g h d floor o posts a n → IsUp g h
+-- an act is that of a house that is up
+pub act_up : (g : Cell) (h d floor : ℕ) (o : Slot) (posts : List Message) (a : Answer) (n : List Accepted) → Act g h d floor o posts a n → IsUp g h
 act_up g h d floor o posts a n (accepts _ _ c r s ns i fine) = i.up
 act_up g h d floor o posts a n (skulks _ _ r t ns i head) = i.up
 act_up g h d floor o posts a n (lone _ _ r t i head alone) = i.up

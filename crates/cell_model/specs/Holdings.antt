@@ -4,7 +4,7 @@ use Rattle.cds_stamps.specs.declared.stamp.Stamp.{Stamp}
 use Rattle.cds_stamps.specs.Members.{master_of, is_listed}
 use Rattle.directory.specs.Histories.{IsHistory}
 use Rattle.cell_model.specs.Sets.{In, has}
-use Rattle.cell_model.specs.Cells.{Replica, Absent, Message, Cell, IsHeld, no_house}
+use Rattle.cell_model.specs.Cells.{Idle, Replica, Absent, Message, Cell, IsHeld, no_house}
 use Rattle.cell_model.specs.Bodies.{marks_in}
 use Rattle.cell_model.specs.Turns.{running}
 
@@ -13,10 +13,12 @@ pub record HistoriesHold (g : Cell) : Type 0 where
   pub houses : (x d : ℕ) (r : Replica) → IsHeld g x d r → IsHistory r.history
   pub messages : (m : Message) → In m g.bag → IsHistory (marks_in m.body)
 
--- who holds a directory is a member by the list that it holds, and a skulk runs at the master of that list alone (own)
+-- who holds a directory is a member by the list that it holds; a skulk runs at the master of that list alone, and at no house that is
+-- down (own)
 pub record MembersHold (g : Cell) : Type 0 where
   pub listed : (x d : ℕ) (r : Replica) → IsHeld g x d r → is_listed x r.members ≡ true
   pub master : (x d : ℕ) (r : Replica) (t : Stamp) → IsHeld g x d r → running r.phase ≡ Some t → master_of r.members ≡ x
+  pub idle : (x d : ℕ) (r : Replica) → IsHeld g x d r → (g.house x).up ≡ false → r.phase ≡ Idle
 
 -- no `root` or `mkdir` gave the directory's number: it has no epoch and no list, no house ever had it, and no message is about it (own)
 pub record IsUnknown (g : Cell) (d : ℕ) : Type 0 where
