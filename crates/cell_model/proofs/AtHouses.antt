@@ -3,7 +3,7 @@ use Rattle.std.proofs.Common.{◌≡◌, ◌≢◌, ℕ, List, [], ◌++◌, ref
 use Rattle.cell_model.specs.Cells.{House, Message, Cell}
 use Rattle.cell_model.specs.Commands.{Answer, Accepted}
 use Rattle.cell_model.specs.Turns.{HouseStep, Stays, Turns}
-use Rattle.cell_model.specs.Steps.{moved, serials_of, at_house}
+use Rattle.cell_model.specs.Steps.{serials_of, at_house}
 use Rattle.cell_model.proofs.Lists.{append_nil}
 use Rattle.cell_model.proofs.Views.{put_same, put_other}
 

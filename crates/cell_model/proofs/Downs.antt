@@ -1,8 +1,7 @@
 -- A house that is down runs no skulk.
 use Rattle.std.proofs.Common.{◌≡◌, ℕ, ◌+◌, true, false, List, [], ◌∷◌, refl, sym, ap, ◌∙◌, Option}
-use Rattle.cell_model.specs.Cells.{Idle, Replica, Slot, Absent, Gone, Held, House, Cell, IsHeld, empty_cell, put, no_house}
+use Rattle.cell_model.specs.Cells.{Idle, Replica, Slot, Absent, Gone, Held, House, Cell, empty_cell, put}
 use Rattle.cell_model.specs.Commands.{Command, Answer, Accepted}
-use Rattle.cell_model.specs.Sets.{has}
 use Rattle.cell_model.specs.Turns.{holding, grown, first_replica, epoch_replica, crashed, crashed_house, started_house}
 use Rattle.cell_model.specs.Steps.{listing, outcome, replay_from, replay}
 use Rattle.cell_model.specs.Agreement.{place_of}

@@ -42,3 +42,4 @@ pub mod Numbers
 pub mod Completing
 pub mod Downs
 pub mod AtHouses
+pub mod Fine

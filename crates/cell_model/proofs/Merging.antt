@@ -50,7 +50,8 @@ premise roll g k t all m x q j s d at le h b l cont i up =
     (cases_lt q.epoch k) in
     d.kept x q j h high (d.bounded.within_m m j at le i up) up
 
-In-filter : (t : Stamp) (h : List Mark) (k : Mark) → In k (filter (λ m. is_up_to t (stamp_in m)) h) → In k h × IsUpTo (stamp_in k) t
+-- a mark of those up to t
+pub In-filter : (t : Stamp) (h : List Mark) (k : Mark) → In k (filter (λ m. is_up_to t (stamp_in m)) h) → In k h × IsUpTo (stamp_in k) t
 In-filter t [] k i = elim i [ ]
 In-filter t (m ∷ h) k i = go (is_up_to t (stamp_in m)) refl i (In-filter t h k)
   where
@@ -80,7 +81,11 @@ contains_at [] k n lt e = absurd (omega arith)
 contains_at (m ∷ h) k zero lt e = inl (sym e)
 contains_at (m ∷ h) k (suc n) lt e = inr (contains_at h k n (omega arith) e)
 
-in_contains : (h : List Mark) (k : Mark) → In k h → Contains h k
+-- a mark that stands in a list
+pub contains_in : (h : List Mark) (k : Mark) → Contains h k → In k h
+contains_in h k c = contains_at h k c.0 c.1 c.2
+
+pub in_contains : (h : List Mark) (k : Mark) → In k h → Contains h k
 in_contains [] k i = elim i [ ]
 in_contains (m ∷ h) k (inl is) = subst (Contains (m ∷ h)) (sym is) (Contains-head m h)
 in_contains (m ∷ h) k (inr i) = Contains-tail m h k (in_contains h k i)
@@ -95,7 +100,7 @@ is_history h births order kinds = record {
       any_of (is_birth (name_in k) (born_in k)) h (Birth (name_in k) b.0 (born_in k)) b.1
       (both_true (is_octets (name_in k) (name_in k)) (is_stamp (born_in k) (born_in k)) (same_octets (name_in k)) (same_stamp (born_in k))));
   ordered = all_of (λ k. IsTrue (is_up_to (stamp_in k) (born_in k))) h (λ k i. order k i);
-  kinds = λ n c j k a b. kinds n c j k (contains_at h (Birth n j c) a.0 a.1 a.2) (contains_at h (Birth n k c) b.0 b.1 b.2);
+  kinds = λ n c j k a b. kinds n c j k (contains_in h (Birth n j c) a) (contains_in h (Birth n k c) b);
 }
 
 -- marks of accepted updates, each whole, are a history
@@ -173,7 +178,7 @@ adds_term roll v m r marks t s i at (of_join ms copy is le since) =
 -- so it is at each moment of a run
 pub merges_lem : (commands : List Command) → MergesHold commands
 merges_lem commands m r marks t i at a = record {
-  covered = λ k c. in_contains r.history k (cover t refl k (contains_at (up_to marks t) k c.0 c.1 c.2));
+  covered = λ k c. in_contains r.history k (cover t refl k (contains_in (up_to marks t) k c));
   mine = closed_history m.dir (accepted commands) here.known.well once r.history mine (here.known.origin m.receiver r at);
   theirs = closed_history m.dir (accepted commands) here.known.well once marks theirs its;
   both = closed_history m.dir (accepted commands) here.known.well once (r.history ++ marks)

@@ -33,7 +33,8 @@ use Rattle.cell_model.proofs.Known.{Known, known_kept, Accepting, AllAccepting}
 pub slot_after : (g : Cell) (h d floor : ℕ) (o : Slot) → (put g.house h (holding (g.house h) d floor o) h).slots d ≡ o
 slot_after g h d floor o = put_back (λ (v : House). v.slots d ≡ o) g.house h (holding (g.house h) d floor o) (put_same (g.house h).slots d o)
 
-not_refused : (h : ℕ) (u : Change) (r : Replica) → update_refusal h u r ≡ None → refusal_of (shown r.history (changed_name u)) u ≡ None
+-- what a house that accepts updates does not refuse
+pub not_refused : (h : ℕ) (u : Change) (r : Replica) → update_refusal h u r ≡ None → refusal_of (shown r.history (changed_name u)) u ≡ None
 not_refused h u r e = go (is_accepting h r.members) e
   where
     go : (b : Bool) → cond b (refusal_of (shown r.history (changed_name u)) u) (Some NotMaster) ≡ None → refusal_of (shown r.history (changed_name u)) u ≡ None
