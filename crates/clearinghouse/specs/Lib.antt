@@ -5,5 +5,7 @@ pub mod Stepping
 pub mod Refusing
 pub mod Times
 pub mod Lawful
-pub mod Imaging
 pub mod PrivateTurns
+pub mod PrivateTaking
+pub mod PrivateLending
+pub mod Imaging

@@ -1,5 +1,5 @@
 -- Messages that houses post, and which messages of the model they stand for (own, after C705, updates, skulks and new epochs).
-use Rattle.std.specs.Prelude.{◌≡◌, ℕ, List, [], ◌∷◌, map, Option, Some, None}
+use Rattle.std.specs.Prelude.{◌≡◌, ℕ, List, [], ◌∷◌, ◌++◌, map, Option, Some, None}
 use Rattle.std.specs.FinMap.{get}
 use Rattle.cds_stamps.specs.declared.numbers.DirId.{DirId}
 use Rattle.cds_stamps.specs.declared.numbers.EpochNo.{EpochNo}
@@ -11,6 +11,7 @@ use Rattle.cds_records.specs.declared.message.Body.TheVariants as body
 use Rattle.purge_rule.specs.declared.replica.Replica.{Replica}
 use Rattle.purge_rule.specs.Replicas.{replica_of, IsFragmentOf}
 use Rattle.cell_model.specs.Cells as model
+use Rattle.clearinghouse.specs.declared.epochs.EpochRefusal.{EpochRefusal}
 use Rattle.clearinghouse.specs.declared.posted.Posted.{Posted}
 use Rattle.clearinghouse.specs.declared.outgoing.Outgoing.{Outgoing}
 use Rattle.clearinghouse.specs.declared.outgoing.Outgoing.TheVariants as out
@@ -80,6 +81,11 @@ sender_of c dir = record { house = c.house; dir = dir; floor = c.floor.time }
 abbrev pub posts_at : Clearinghouse → DirId → Option Outgoing → List Posted
 posts_at c dir o = posts_if (sender_of c dir) (get c.dirs dir) o
 
+-- what the master of a new epoch has to post: the Joins, and then a Leave to each house that is a member no more; nothing where it refused (own)
+abbrev pub epoch_posts_at : Clearinghouse → DirId → EpochNo → List HouseNo → Option EpochRefusal → List Posted
+epoch_posts_at c dir k leaving None = posts_at c dir (Some out.Join) ++ posts_to (numbers_of leaving) (leave_of (sender_of c dir) k)
+epoch_posts_at c dir k leaving (Some r) = []
+
 -- ---- what it stands for
 
 -- a replica is that of a copy's history (own)
@@ -111,21 +117,21 @@ LooksBody body.Leave model.Leave = Unit {0}
 LooksBody _ _ = ⊥
 
 -- a message to a house has the head of one of the model (own)
-pub record StandsHead (receiver : ℕ) (m : Message) (n : model.Message) : Type 0 where
-  pub receiver : n.receiver ≡ receiver
+pub record StandsHead (to : ℕ) (m : Message) (n : model.Message) : Type 0 where
+  pub receiver : n.receiver ≡ to
   pub dir : n.dir ≡ m.dir.0
   pub sender : n.sender ≡ m.from.0
   pub epoch : n.epoch ≡ m.epoch.0
   pub floor : n.floor ≡ m.floor
 
 -- a message to a house stands for one of the model (own)
-pub record StandsMessage (receiver : ℕ) (m : Message) (n : model.Message) : Type 0 where
-  pub head : StandsHead receiver m n
+pub record StandsMessage (to : ℕ) (m : Message) (n : model.Message) : Type 0 where
+  pub head : StandsHead to m n
   pub body : StandsBody m.body n.body
 
 -- it looks like one (own)
-pub record LooksMessage (receiver : ℕ) (m : Message) (n : model.Message) : Type 0 where
-  pub head : StandsHead receiver m n
+pub record LooksMessage (to : ℕ) (m : Message) (n : model.Message) : Type 0 where
+  pub head : StandsHead to m n
   pub body : LooksBody m.body n.body
 
 -- posted messages stand for messages of the model, one by one (own)

@@ -12,17 +12,45 @@ use Rattle.purge_rule.specs.declared.replica.Replica.{Replica}
 use Rattle.cds_records.specs.declared.message.Body.{Body}
 use Rattle.cds_records.specs.declared.message.Body.TheVariants.{Update, Gather, Gathered, Spread, SpreadAck, Advance, Join, Leave}
 use Rattle.cds_records.specs.PrivateDirCodes.{member_code, replica_code}
+use Rattle.skulk_core.specs.declared.skulk.Skulk.{Skulk}
+use Rattle.skulk_core.specs.declared.skulk.Skulk.TheVariants.{Idle, Gathering, Spreading}
 use Rattle.clearinghouse.specs.declared.posted.Posted.{Posted}
 use Rattle.clearinghouse.specs.declared.states.DirState.{DirState}
 use Rattle.clearinghouse.specs.declared.states.DirState.TheVariants.{Held, Gone}
 
+-- the parts of a phase: a number where no skulk runs; and what has these parts (own)
+abbrev pub SkulkParts : Type 0
+SkulkParts = ℕ ⊎ ((Stamp × ℕ) ⊎ (Stamp × ℕ))
+
+abbrev pub skulk_parts : Skulk → SkulkParts
+skulk_parts Idle = inl 0
+skulk_parts (Gathering t mask) = inr (inl (t, mask.0))
+skulk_parts (Spreading t mask) = inr (inr (t, mask.0))
+
+abbrev pub of_skulk_parts : SkulkParts → Skulk
+of_skulk_parts (inl n) = Idle
+of_skulk_parts (inr (inl p)) = Gathering p.0 (record { 0 = p.1 })
+of_skulk_parts (inr (inr p)) = Spreading p.0 (record { 0 = p.1 })
+
+pub skulk_parts_back : (s : Skulk) → of_skulk_parts (skulk_parts s) ≡ s
+skulk_parts_back Idle = refl
+skulk_parts_back (Gathering t mask) = refl
+skulk_parts_back (Spreading t mask) = refl
+
+-- a phase, by its parts (own)
+abbrev pub skulk_code : Coded Skulk
+skulk_code = code_by SkulkParts (coded⊎ coded_ℕ (coded⊎ (coded× stamp_code coded_ℕ) (coded× stamp_code coded_ℕ))) skulk_parts of_skulk_parts skulk_parts_back
+
 -- the parts of what a house has of a directory, and what has these parts (own)
-abbrev pub parts : DirState → (ℕ × (List Member × Replica)) ⊎ ℕ
-parts (Held h) = inl (h.epoch.0, (h.members, h.replica))
+abbrev pub Parts : Type 0
+Parts = (ℕ × (List Member × (Replica × Skulk))) ⊎ ℕ
+
+abbrev pub parts : DirState → Parts
+parts (Held h) = inl (h.epoch.0, (h.members, (h.replica, h.skulk)))
 parts (Gone e) = inr e.0
 
-abbrev pub of_parts : (ℕ × (List Member × Replica)) ⊎ ℕ → DirState
-of_parts (inl p) = Held (record { epoch = record { 0 = p.0 }; members = p.1.0; replica = p.1.1 })
+abbrev pub of_parts : Parts → DirState
+of_parts (inl p) = Held (record { epoch = record { 0 = p.0 }; members = p.1.0; replica = p.1.1.0; skulk = p.1.1.1 })
 of_parts (inr n) = Gone (record { 0 = n })
 
 pub parts_back : (d : DirState) → of_parts (parts d) ≡ d
@@ -31,8 +59,7 @@ parts_back (Gone e) = refl
 
 -- what a house has of a directory, by its parts (own)
 abbrev pub dir_state_code : Coded DirState
-dir_state_code =
-    code_by ((ℕ × (List Member × Replica)) ⊎ ℕ) (coded⊎ (coded× coded_ℕ (coded× (coded_list member_code) replica_code)) coded_ℕ) parts of_parts parts_back
+dir_state_code = code_by Parts (coded⊎ (coded× coded_ℕ (coded× (coded_list member_code) (coded× replica_code skulk_code))) coded_ℕ) parts of_parts parts_back
 
 -- ---- posted messages
 

@@ -80,11 +80,11 @@ abbrev pub epoch_result : EpochSet → Option EpochRefusal
 epoch_result (epoch_set.Done posted) = None
 epoch_result (epoch_set.Refused r) = Some r
 
--- a new epoch k that a house takes or refuses, but for one that is not later than the one that it holds, is what the model answers (own)
-abbrev pub IsEpochAnswer : (k : ℕ) → EpochSet → command.Answer → Type 0
-IsEpochAnswer k (epoch_set.Done posted) (command.NewEpoch e ns) = k ≡ e
-IsEpochAnswer k (epoch_set.Refused epoch_refusal.NoReplica) (command.Refused (command.Update why.NoReplica)) = Unit {0}
-IsEpochAnswer k (epoch_set.Refused (epoch_refusal.NotJoined held since)) (command.Refused (command.NotJoined e s)) = (held.0 ≡ e) × (since.0 ≡ s)
+-- a new epoch k that a house takes, or refuses for this reason, is what the model answers; one that is not later than the held one is not asked of the model (own)
+abbrev pub IsEpochAnswer : (k : ℕ) → Option EpochRefusal → command.Answer → Type 0
+IsEpochAnswer k None (command.NewEpoch e ns) = k ≡ e
+IsEpochAnswer k (Some epoch_refusal.NoReplica) (command.Refused (command.Update why.NoReplica)) = Unit {0}
+IsEpochAnswer k (Some (epoch_refusal.NotJoined held since)) (command.Refused (command.NotJoined e s)) = (held.0 ≡ e) × (since.0 ≡ s)
 IsEpochAnswer k _ _ = ⊥
 
 -- ---- steps

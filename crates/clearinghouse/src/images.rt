@@ -1,7 +1,15 @@
 // What a house keeps over a crash, and how it starts of that.
+ghost use Rattle.std.specs.Prelude.{◌≡◌, false, IfOk};
+ghost use Rattle.cds_stamps.specs.Outcomes.{Answers};
+ghost use Rattle.cds_records.specs.Octets.{image_octets};
+ghost use Rattle.clearinghouse.specs.Imaging.{image_of, started};
+ghost use Rattle.clearinghouse.specs.Lawful.{IsLawful};
+
+use crate::house::Clearinghouse;
 use crate::states::{DirState, DirStates, Held};
-use cds_records::{ImageDir, ImageDirs, RecordFault};
-use cds_stamps::DirId;
+use crate::times::latest_in_image;
+use cds_records::{ImageDir, ImageDirs, ImageWriter, RecordFault, decode_image};
+use cds_stamps::{AllocOr, DirId, Floor};
 use skulk_core::Skulk;
 use std::alloc::{AllocError, Global};
 use thiserror::Error;
@@ -33,4 +41,49 @@ pub(crate) fn started_dirs(alloc: Global, kept: ImageDirs) -> Result<DirStates, 
         dirs.insert(dir, started(state))?;
     }
     Ok(dirs)
+}
+
+impl Clearinghouse {
+    /// The octets of what it keeps over a crash.
+    pub fn image(&self, alloc: Global) -> Result<Vec<u8>, AllocError>
+        ensures usable { IfOk result (self.now.spent ≡ false) }
+        ensures octets { IfOk result (λ v. v.items ≡ image_octets (image_of self.now)) }
+    {
+        self.usable()?;
+        let count = self.dirs.len() as u64;
+        let mut image =
+            ImageWriter::new(alloc, self.house, self.node, self.floor.time, count)?;
+        for (dir, state) in self.dirs.iter() {
+            match state {
+                DirState::Held(held) => {
+                    image.held(*dir, held.epoch, &held.members, &held.replica)?
+                }
+                DirState::Gone(epoch) => image.gone(*dir, *epoch)?,
+            }
+        }
+        Ok(image.octets())
+    }
+
+    /// The house that kept these octets, with no skulk that runs; its floor is raised to the greatest time in them.
+    pub fn start(alloc: Global, octets: &[u8]) -> Result<Clearinghouse, AllocOr<StartFault>>
+        ensures answer { Answers result (started octets.now) }
+        ensures lawful { IfOk result IsLawful }
+    {
+        let (image, length) = match decode_image(alloc, octets) {
+            Ok(decoded) => decoded,
+            Err(AllocOr::Fault(fault)) => return Err(AllocOr::Fault(StartFault::BadImage(fault))),
+            Err(AllocOr::OutOfMemory) => return Err(AllocOr::OutOfMemory),
+        };
+        if length < octets.len() {
+            return Err(AllocOr::Fault(StartFault::BadImage(RecordFault::Trailing(length + 1))));
+        }
+        let time = latest_in_image(&image);
+        Ok(Clearinghouse {
+            house: image.house,
+            node: image.node,
+            floor: Floor { time },
+            dirs: started_dirs(alloc, image.dirs)?,
+            spent: false,
+        })
+    }
 }

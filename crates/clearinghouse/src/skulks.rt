@@ -55,31 +55,32 @@ impl Held {
             return refused(UpdateRefusal::NotMaster);
         }
         match floor.issue(by.clock, by.node) {
-            Some(t) => self.begin_with(by, t),
+            Some(t) => self.begin_with(by, &t),
             None => refused(UpdateRefusal::StampsSpent),
         }
     }
 
     /// Begins the skulk of this stamp.
-    fn begin_with(&mut self, by: Issuer, t: Stamp) -> Turn<Result<Begun, UpdateRefusal>>
+    fn begin_with(&mut self, by: Issuer, t: &Stamp) -> Turn<Result<Begun, UpdateRefusal>>
         requires master { master_of (members_of self.old.members) ≡ by.house.0 }
-        ensures answer { result.answer ≡ begun_among self.old.members (Ok t) }
-        ensures kept { IsLawfulHeld t.time self.old → IsLawfulHeld t.time self.new }
-        ensures step { (now : model.House) (dir : number.DirId) (r : model.Replica) → IssuesAt now by now.floor dir self.old r → now.floor < t.time
-            → HeldStep (IsBegunAnswer result.answer) (begin by.house.0 now dir.0 r t (others_of by.house.0 r.members)) now by.house dir self.old self.new t.time result.outgoing }
+        ensures answer { result.answer ≡ begun_among self.old.members (Ok t.now) }
+        ensures kept { IsLawfulHeld t.now.time self.old → IsLawfulHeld t.now.time self.new }
+        ensures step { (now : model.House) (dir : number.DirId) (r : model.Replica) → IssuesAt now by now.floor dir self.old r → now.floor < t.now.time
+            → HeldStep (IsBegunAnswer result.answer) (begin by.house.0 now dir.0 r t.now (others_of by.house.0 r.members)) now by.house dir self.old self.new t.now.time result.outgoing }
     {
         let me = self.own_place(by.house);
-        match self.skulk.begin(t, self.members.list().len(), me) {
-            Next::Complete(t) => {
-                self.replica.advance(t);
+        let count = self.count();
+        match self.skulk.begin(*t, count, me) {
+            Next::Complete(_) => {
+                self.replica.advance(*t);
                 Turn {
-                    answer: Ok(Begun::Complete(t)),
+                    answer: Ok(Begun::Complete(*t)),
                     outgoing: None,
                 }
             }
             _ => Turn {
-                answer: Ok(Begun::Started(t)),
-                outgoing: Some(Outgoing::Gather(t)),
+                answer: Ok(Begun::Started(*t)),
+                outgoing: Some(Outgoing::Gather(*t)),
             },
         }
     }

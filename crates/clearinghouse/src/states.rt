@@ -1,9 +1,9 @@
 // What a house holds of directories.
-ghost use Rattle.std.specs.Prelude.{◌≡◌, IfOk, OnOk, OnErr, option_copied, option_copied_mut};
+ghost use Rattle.std.specs.Prelude.{◌≡◌, ℕ, ◌<◌, ◌≤◌, length, IfOk, IfSome, OnOk, OnErr, is_some, option_copied};
 ghost use Rattle.std.specs.FinMap as map;
-ghost use Rattle.std.specs.Option.{option_map};
-ghost use Rattle.cds_stamps.specs.Members.{is_accepting, members_of};
-ghost use Rattle.clearinghouse.specs.PrivateTurns.{held_in};
+ghost use Rattle.std.specs.Option.{option_copied_mut};
+ghost use Rattle.cds_stamps.specs.Members.{is_accepting, is_listed, members_of, most_members, since_in};
+ghost use Rattle.clearinghouse.specs.PrivateTurns.{held_in, held_of, place_in};
 
 use cds_stamps::{DirId, EpochNo, HouseNo, MemberKind, Members};
 use purge_rule::Replica;
@@ -52,6 +52,9 @@ impl Model for DirStates {
 }
 
 impl DirStates {
+    ghost use Rattle.std.specs.Borrow.{sem};
+    ghost use Rattle.clearinghouse.specs.PrivateLending.{LendsHeldIn};
+
     pub fn new(alloc: Global) -> Self
         ensures { result ≡ map.empty }
     {
@@ -84,19 +87,20 @@ impl DirStates {
     pub(crate) fn held(&self, dir: &DirId) -> Option<&Held>
         ensures { option_copied result ≡ held_in (map.get self.now dir.now) }
     {
-        match self.states.get(dir) {
-            Some(DirState::Held(held)) => Some(held),
-            _ => None,
+        match self.get(dir) {
+            Some(state) => state.held(),
+            None => None,
         }
     }
 
     /// What is held of a directory, to be changed.
-    pub(crate) fn held_mut(&mut self, dir: &DirId) -> Option<&mut Held>
-        ensures value { option_copied_mut result ≡ held_in (map.get self.old dir.now) }
+    pub(crate) fn held_mut(&mut self, dir: DirId) -> Option<&mut Held>
+        ensures* writes_back { sem 𝓛 (LendsHeldIn self.entry dir result) }
+        ensures value { option_copied_mut result ≡ held_in (map.get self.old dir) }
     {
-        match self.states.get_mut(dir) {
-            Some(DirState::Held(held)) => Some(held),
-            _ => None,
+        match self.states.get_mut(&dir) {
+            Some(state) => state.held_mut(),
+            None => None,
         }
     }
 
@@ -122,6 +126,30 @@ impl DirStates {
 }
 
 impl DirState {
+    ghost use Rattle.std.specs.Borrow.{sem};
+    ghost use Rattle.clearinghouse.specs.PrivateLending.{LendsHeld};
+
+    /// What is held of the directory.
+    fn held(&self) -> Option<&Held>
+        ensures { option_copied result ≡ held_of self.now }
+    {
+        match self {
+            DirState::Held(held) => Some(held),
+            DirState::Gone(_) => None,
+        }
+    }
+
+    /// What is held of the directory, to be changed.
+    fn held_mut(&mut self) -> Option<&mut Held>
+        ensures* writes_back { sem 𝓛 (LendsHeld self.entry result) }
+        ensures value { option_copied_mut result ≡ held_of self.old }
+    {
+        match self {
+            DirState::Held(held) => Some(held),
+            DirState::Gone(_) => None,
+        }
+    }
+
     pub fn copy(&self, alloc: Global) -> Result<DirState, AllocError>
         ensures { IfOk result (λ d. d ≡ self.now) }
     {
@@ -154,13 +182,27 @@ impl Held {
     }
 
     /// The place of this house in the member list; 0 where it is not listed, and then it runs no skulk.
-    pub(crate) fn own_place(&self, house: HouseNo) -> usize {
+    pub(crate) fn own_place(&self, house: HouseNo) -> usize
+        ensures place { result ≡ place_in house self.now.members }
+        ensures within { result < length self.now.members }
+    {
         self.members.place(house).unwrap_or(0)
+    }
+
+    /// How many members there are.
+    pub(crate) fn count(&self) -> usize
+        ensures count { result ≡ length self.now.members }
+        ensures few { result ≤ most_members }
+    {
+        self.members.list().len()
     }
 }
 
 /// The epoch since which a house is a member without a break, if it is one.
-pub(crate) fn since_in(members: &Members, house: HouseNo) -> Option<EpochNo> {
+pub(crate) fn since_in(members: &Members, house: HouseNo) -> Option<EpochNo>
+    ensures listed { is_some result ≡ is_listed house.0 (members_of members.now) }
+    ensures since { IfSome result (λ e. (d : ℕ) → since_in (members_of members.now) house.0 d ≡ e.0) }
+{
     let list = members.list();
     list.iter().find(|member| member.house == house).map(|member| member.since)
 }

@@ -1,22 +1,27 @@
 // Messages that a house takes.
-ghost use Rattle.std.specs.Prelude.{◌≡◌, ℕ, ◌<◌, true, None, Some, IfOk, OnOk, if◌then◌else◌, nat_lt};
-ghost use Rattle.std.specs.Option.{option_map};
+ghost use Rattle.std.specs.Prelude.{◌≡◌, ◌≢◌, ◌<◌, length, [], None, Some, IfOk, OnOk, OnErr, if◌then◌else◌, max};
+ghost use Rattle.std.specs.FinMap as map;
+ghost use Rattle.cds_stamps.specs.declared.numbers.DirId as number;
 ghost use Rattle.cds_stamps.specs.Members.{members_of, place_of};
-ghost use Rattle.clearinghouse.specs.Times.{BodyUpTo};
 ghost use Rattle.cds_records.specs.Validity.{IsValidMessage};
 ghost use Rattle.cell_model.specs.Cells as model;
-ghost use Rattle.cell_model.specs.Merges.{CanTake};
-ghost use Rattle.cell_model.specs.Turns.{floor_after, take_own, late_join, late_leave};
-ghost use Rattle.clearinghouse.specs.Lawful.{IsLawfulHeld};
-ghost use Rattle.clearinghouse.specs.Posting.{LooksMessage, StandsMessage};
-ghost use Rattle.clearinghouse.specs.Standing.{LooksHeld, LooksSlot, StandsHeld};
-ghost use Rattle.clearinghouse.specs.Stepping.{IsTakeAnswer, UnlessTaken, is_taken};
+ghost use Rattle.cell_model.specs.Taking.{CanTake};
+ghost use Rattle.cell_model.specs.Turns.{take};
+ghost use Rattle.clearinghouse.specs.Lawful.{IsLawful};
+ghost use Rattle.clearinghouse.specs.Posting.{LooksMessage, StandsMessage, posts_at};
+ghost use Rattle.clearinghouse.specs.Standing.{LooksHouse, StandsHouse};
+ghost use Rattle.clearinghouse.specs.Stepping.{IsCall, IsStep, IsTakeAnswer, LooksStep, UnlessTaken, IfTaken, is_taken};
+ghost use Rattle.clearinghouse.specs.Times.{latest_in_message};
+ghost use Rattle.clearinghouse.specs.PrivateTurns.{JoinsCopy, TakesFirst, TakesOwn, TakesSecond, copy_of, second_round_of};
+ghost use Rattle.clearinghouse.specs.PrivateTaking.{HasCopy, TakesHere, TakesJoin, TakesLeave, TakesOther, join_bar, join_passed, leave_passed};
 ghost use Rattle.clearinghouse.specs.declared.taking.Taken.TheVariants as answers;
-ghost use Rattle.clearinghouse.specs.PrivateTurns.{HeldStep, LooksAfter};
+ghost use Rattle.clearinghouse.specs.declared.states.DirState.TheVariants as state;
 
+use crate::house::Clearinghouse;
 use crate::outgoing::{Outgoing, Turn};
 use crate::posted::PostedList;
-use crate::states::{DirState, Held};
+use crate::states::{DirState, Held, since_in};
+use crate::times::latest_in_message;
 use cds_records::{Body, Message};
 use cds_stamps::{EpochNo, HouseNo, Members, Stamp};
 use purge_rule::Replica;
@@ -57,7 +62,7 @@ impl Taken {
 }
 
 /// A message that is answered and changes nothing.
-pub(crate) fn unchanged(answer: Taken) -> Turn<Taken>
+fn unchanged(answer: Taken) -> Turn<Taken>
     ensures { result ≡ record { answer = answer; outgoing = None } }
 {
     Turn {
@@ -67,7 +72,7 @@ pub(crate) fn unchanged(answer: Taken) -> Turn<Taken>
 }
 
 /// A message that is taken, and what is to be posted.
-pub(crate) fn taken(outgoing: Option<Outgoing>) -> Turn<Taken>
+fn taken_with(outgoing: Option<Outgoing>) -> Turn<Taken>
     ensures { result ≡ record { answer = answers.Taken; outgoing = outgoing } }
 {
     Turn {
@@ -79,8 +84,8 @@ pub(crate) fn taken(outgoing: Option<Outgoing>) -> Turn<Taken>
 impl DirState {
     /// The epoch for which a Join of this epoch comes too late: a later one that is held, or one in which the directory was
     /// left, if that is not an earlier one.
-    pub(crate) fn passes_join(&self, epoch: EpochNo) -> Option<EpochNo>
-        ensures { (me : ℕ) (slot : model.Slot) → LooksSlot me (Some self.now) slot → option_map (λ e. e.0) result ≡ late_join epoch.0 slot }
+    fn passes_join(&self, epoch: EpochNo) -> Option<EpochNo>
+        ensures { result ≡ join_passed epoch (Some self.now) }
     {
         match self {
             DirState::Held(held) if epoch < held.epoch => Some(held.epoch),
@@ -91,8 +96,8 @@ impl DirState {
 
     /// The epoch for which a Leave of this epoch comes too late: one that is held, or in which the directory was left, if
     /// that is not an earlier one.
-    pub(crate) fn passes_leave(&self, epoch: EpochNo) -> Option<EpochNo>
-        ensures { (me : ℕ) (slot : model.Slot) → LooksSlot me (Some self.now) slot → option_map (λ e. e.0) result ≡ late_leave epoch.0 slot }
+    fn passes_leave(&self, epoch: EpochNo) -> Option<EpochNo>
+        ensures { result ≡ leave_passed epoch (Some self.now) }
     {
         match self {
             DirState::Held(held) if epoch <= held.epoch => Some(held.epoch),
@@ -103,22 +108,30 @@ impl DirState {
 }
 
 impl Held {
-    /// Why a message that is neither Join nor Leave is not taken, by its epoch and its sender.
-    pub(crate) fn bars(&self, message: &Message) -> Option<Taken>
-        ensures { result ≡ (if nat_lt message.now.epoch.0 self.now.epoch.0 then Some (answers.Late message.now.epoch self.now.epoch)
-            else (if nat_lt self.now.epoch.0 message.now.epoch.0 then Some (answers.Early message.now.epoch self.now.epoch) else None)) }
+    /// Takes a message that is neither Join nor Leave, where it is of the epoch that is held and of a member.
+    fn take_here(
+        &mut self,
+        alloc: Global,
+        house: HouseNo,
+        message: &Message,
+    ) -> Result<Turn<Taken>, AllocError>
+        ensures ok { IfOk result (λ turn. TakesHere house message.now self.old self.new turn.answer turn.outgoing) }
+        ensures err { OnErr result (self.new ≡ self.old) }
     {
         if message.epoch < self.epoch {
-            return Some(Taken::Late(message.epoch, self.epoch));
+            return Ok(unchanged(Taken::Late(message.epoch, self.epoch)));
         }
         if self.epoch < message.epoch {
-            return Some(Taken::Early(message.epoch, self.epoch));
+            return Ok(unchanged(Taken::Early(message.epoch, self.epoch)));
         }
-        None
+        match self.members.place(message.from) {
+            Some(from) => self.take(alloc, house, from, message),
+            None => Ok(unchanged(Taken::Foreign)),
+        }
     }
 
     /// Takes a message of the epoch that is held, of the member at this place.
-    pub(crate) fn take(
+    fn take(
         &mut self,
         alloc: Global,
         house: HouseNo,
@@ -126,30 +139,24 @@ impl Held {
         message: &Message,
     ) -> Result<Turn<Taken>, AllocError>
         requires from { place_of message.now.from.0 (members_of self.old.members) ≡ Some from }
-        requires epoch { message.now.epoch ≡ self.old.epoch }
-        ensures same { IfOk result (λ turn. UnlessTaken turn.answer ((self.new ≡ self.old) × (turn.outgoing ≡ None))) }
-        ensures kept { (floor : ℕ) → IsValidMessage message.now → BodyUpTo floor message.now.body → IsLawfulHeld floor self.old → IsLawfulHeld floor self.new }
-        ensures looks { (now : model.House) (m : model.Message) (r : model.Replica) → LooksHeld house.0 self.old r → LooksMessage house.0 message.now m
-            → IfOk result (λ turn. LooksAfter (IsTakeAnswer turn.answer) (take_own now m r m.body) now house.0 m.dir self.new) }
-        ensures step { (now : model.House) (m : model.Message) (r : model.Replica) → now.slots m.dir ≡ model.Held r → StandsHeld house.0 now.floor self.old r
-            → StandsMessage house.0 message.now m → CanTake now m
-            → IfOk result (λ turn. HeldStep (IsTakeAnswer turn.answer) (take_own now m r m.body) now house message.now.dir self.old self.new (floor_after now m) turn.outgoing) }
+        ensures ok { IfOk result (λ turn. TakesOwn house from message.now.from message.now.body self.old self.new turn.answer turn.outgoing) }
+        ensures err { OnErr result (self.new ≡ self.old) }
     {
         match &message.body {
             Body::Update(fragment) => {
                 self.replica.take_marks(alloc, fragment)?;
-                Ok(taken(None))
+                Ok(taken_with(None))
             }
-            Body::Gather(t) => Ok(taken(Some(Outgoing::Gathered(*t, message.from)))),
-            Body::Gathered(t, replica) => self.take_gathered(alloc, house, from, *t, replica),
+            Body::Gather(t) => Ok(taken_with(Some(Outgoing::Gathered(*t, message.from)))),
+            Body::Gathered(t, replica) => self.take_gathered(alloc, house, from, t, replica),
             Body::Spread(t, replica) => {
                 self.replica.take(alloc, replica)?;
-                Ok(taken(Some(Outgoing::SpreadAck(*t, message.from))))
+                Ok(taken_with(Some(Outgoing::SpreadAck(*t, message.from))))
             }
-            Body::SpreadAck(t) => Ok(self.take_ack(from, *t)),
+            Body::SpreadAck(t) => Ok(self.take_ack(from, t)),
             Body::Advance(t) => {
                 self.replica.advance(*t);
-                Ok(taken(None))
+                Ok(taken_with(None))
             }
             Body::Join(_, _) | Body::Leave => Ok(unchanged(Taken::Foreign)),
         }
@@ -161,58 +168,55 @@ impl Held {
         alloc: Global,
         house: HouseNo,
         from: usize,
-        t: Stamp,
+        t: &Stamp,
         replica: &Replica,
     ) -> Result<Turn<Taken>, AllocError>
         requires from { from < length self.old.members }
-        ensures same { IfOk result (λ turn. UnlessTaken turn.answer ((self.new ≡ self.old) × (turn.outgoing ≡ None))) }
-        ensures kept { (floor : ℕ) → IsValidTable replica.now.table → ReplicaUpTo floor replica.now → IsLawfulHeld floor self.old → IsLawfulHeld floor self.new }
-        ensures looks { (now : model.House) (m : model.Message) (c : model.Copy) (r : model.Replica) → LooksHeld house.0 self.old r → place_of m.sender (members_of self.old.members) ≡ Some from
-            → IfOk result (λ turn. LooksAfter (IsTakeAnswer turn.answer) (take_gathered now m t c r r.phase) now house.0 m.dir self.new) }
+        ensures ok { IfOk result (λ turn. TakesFirst house from t.now replica.now self.old self.new turn.answer turn.outgoing) }
+        ensures err { OnErr result (self.new ≡ self.old) }
     {
         let me = self.own_place(house);
+        let count = self.count();
         let mut skulk = self.skulk;
-        match skulk.gathered(t, from, self.members.list().len(), me) {
-            Next::Stale(running) => Ok(unchanged(Taken::Stale(t, running))),
+        match skulk.gathered(*t, from, count, me) {
+            Next::Stale(running) => Ok(unchanged(Taken::Stale(*t, running))),
             next => {
                 self.replica.take(alloc, replica)?;
                 self.skulk = skulk;
-                Ok(taken(second_round(next, t)))
+                Ok(taken_with(second_round(next, t)))
             }
         }
     }
 
     /// Takes an answer of the second round; the last one missing completes the skulk.
-    fn take_ack(&mut self, from: usize, t: Stamp) -> Turn<Taken>
+    fn take_ack(&mut self, from: usize, t: &Stamp) -> Turn<Taken>
         requires from { from < length self.old.members }
-        ensures same { UnlessTaken result.answer ((self.new ≡ self.old) × (result.outgoing ≡ None)) }
-        ensures kept { (floor : ℕ) → t.time ≤ floor → IsLawfulHeld floor self.old → IsLawfulHeld floor self.new }
-        ensures looks { (now : model.House) (m : model.Message) (r : model.Replica) → LooksHeld house.0 self.old r → place_of m.sender (members_of self.old.members) ≡ Some from
-            → LooksAfter (IsTakeAnswer result.answer) (take_ack now m t r r.phase) now house.0 m.dir self.new }
+        ensures { TakesSecond from t.now self.old self.new result.answer result.outgoing }
     {
-        match self.skulk.spread(t, from, self.members.list().len()) {
-            Next::Stale(running) => unchanged(Taken::Stale(t, running)),
-            Next::Complete(t) => {
-                self.replica.advance(t);
+        let count = self.count();
+        match self.skulk.spread(*t, from, count) {
+            Next::Stale(running) => unchanged(Taken::Stale(*t, running)),
+            Next::Complete(_) => {
+                self.replica.advance(*t);
                 Turn {
-                    answer: Taken::Complete(t),
-                    outgoing: Some(Outgoing::Advance(t)),
+                    answer: Taken::Complete(*t),
+                    outgoing: Some(Outgoing::Advance(*t)),
                 }
             }
-            _ => taken(None),
+            _ => taken_with(None),
         }
     }
 
     /// Takes a Join of its own term: the copy is joined in, and no skulk runs any more.
-    pub(crate) fn join(
+    fn join(
         &mut self,
         alloc: Global,
         epoch: EpochNo,
         members: &Members,
         replica: &Replica,
     ) -> Result<(), AllocError>
-        ensures members { OnOk result ((self.new.epoch ≡ epoch) × (self.new.members ≡ members.now) × (self.new.skulk ≡ skulk.Idle)) }
-        ensures replica { OnOk result (TakesReplica self.old.replica replica.now self.new.replica) }
+        ensures ok { OnOk result (JoinsCopy epoch members.now replica.now self.old self.new) }
+        ensures err { OnErr result (self.new ≡ self.old) }
     {
         let members = members.copy(alloc)?;
         self.replica.take(alloc, replica)?;
@@ -224,11 +228,194 @@ impl Held {
 }
 
 /// The second round, where it begins.
-fn second_round(next: Next, t: Stamp) -> Option<Outgoing>
-    ensures { result ≡ second_round next t }
+fn second_round(next: Next, t: &Stamp) -> Option<Outgoing>
+    ensures { result ≡ second_round_of next t.now }
 {
     match next {
-        Next::SendSpread => Some(Outgoing::Spread(t)),
+        Next::SendSpread => Some(Outgoing::Spread(*t)),
         _ => None,
+    }
+}
+
+impl Clearinghouse {
+    /// Takes a message of another house, and posts what it says to it. The floor rises to the greatest time in a message
+    /// that is taken.
+    pub fn take(&mut self, alloc: Global, message: &Message) -> Result<Took, AllocError>
+        ensures call { IsCall self.old self.new result }
+        ensures kept { IsValidMessage message.now → IsLawful self.old → IsLawful self.new }
+        ensures same { IfOk result (λ took. UnlessTaken took.taken ((self.new ≡ self.old) × (took.posted ≡ []))) }
+        ensures floor { IfOk result (λ took. IfTaken took.taken (self.new.floor.time ≡ max self.old.floor.time (latest_in_message message.now))) }
+        ensures others { OnOk result ((dir : number.DirId) → dir ≢ message.now.dir → map.get self.new.dirs dir ≡ map.get self.old.dirs dir) }
+        ensures looks { (now : model.House) (m : model.Message) → LooksHouse self.old message.now.dir now → LooksMessage self.old.house.0 message.now m
+            → IfOk result (λ took. LooksStep (IsTakeAnswer took.taken) (take now m) message.now.dir self.new) }
+        ensures step { (now : model.House) (m : model.Message) → StandsHouse self.old now → StandsMessage self.old.house.0 message.now m → CanTake now m
+            → IfOk result (λ took. IsStep (IsTakeAnswer took.taken) (take now m) self.old self.new took.posted) }
+    {
+        let turn = self.take_message(alloc, message)?;
+        let posted = self.posted(alloc, message.dir, turn.outgoing.as_ref())?;
+        Ok(Took {
+            taken: turn.answer,
+            posted,
+        })
+    }
+
+    /// Takes a message, as `take` does. What is to be posted.
+    pub fn take_message(
+        &mut self,
+        alloc: Global,
+        message: &Message,
+    ) -> Result<Turn<Taken>, AllocError>
+        ensures call { IsCall self.old self.new result }
+        ensures kept { IsValidMessage message.now → IsLawful self.old → IsLawful self.new }
+        ensures same { IfOk result (λ turn. UnlessTaken turn.answer ((self.new ≡ self.old) × (turn.outgoing ≡ None))) }
+        ensures floor { IfOk result (λ turn. IfTaken turn.answer (self.new.floor.time ≡ max self.old.floor.time (latest_in_message message.now))) }
+        ensures others { OnOk result ((dir : number.DirId) → dir ≢ message.now.dir → map.get self.new.dirs dir ≡ map.get self.old.dirs dir) }
+        ensures looks { (now : model.House) (m : model.Message) → LooksHouse self.old message.now.dir now → LooksMessage self.old.house.0 message.now m
+            → IfOk result (λ turn. LooksStep (IsTakeAnswer turn.answer) (take now m) message.now.dir self.new) }
+        ensures step { (now : model.House) (m : model.Message) → StandsHouse self.old now → StandsMessage self.old.house.0 message.now m → CanTake now m
+            → IfOk result (λ turn. IsStep (IsTakeAnswer turn.answer) (take now m) self.old self.new (posts_at self.new message.now.dir turn.outgoing)) }
+    {
+        self.usable()?;
+        let done = match &message.body {
+            Body::Join(members, replica) => self.take_join(alloc, message, members, replica),
+            Body::Leave => self.take_leave(message),
+            _ => self.take_other(alloc, message),
+        };
+        self.heed(done)
+    }
+
+    /// Any message but a Join or a Leave.
+    fn take_other(&mut self, alloc: Global, message: &Message) -> Result<Turn<Taken>, AllocError>
+        ensures ok { IfOk result (λ turn. TakesOther message.now self.old self.new turn.answer turn.outgoing) }
+        ensures err { OnErr result (self.new ≡ self.old) }
+    {
+        let house = self.house;
+        match self.dirs.held_mut(message.dir) {
+            Some(held) => {
+                let turn = held.take_here(alloc, house, message)?;
+                self.floor.raise(time_taken(&turn.answer, message));
+                Ok(turn)
+            }
+            None => Ok(unchanged(Taken::NoReplica)),
+        }
+    }
+
+    /// A Join, by what the house has of the directory.
+    fn take_join(
+        &mut self,
+        alloc: Global,
+        message: &Message,
+        members: &Members,
+        replica: &Replica,
+    ) -> Result<Turn<Taken>, AllocError>
+        ensures ok { IfOk result (λ turn. TakesJoin message.now members.now replica.now self.old self.new turn.answer turn.outgoing) }
+        ensures err { OnErr result (self.new ≡ self.old) }
+    {
+        if let Some(answer) = self.bars_join(message, members) {
+            return Ok(unchanged(answer));
+        }
+        self.take_copy(alloc, message, members, replica)?;
+        self.floor.raise(latest_in_message(message));
+        Ok(taken_with(None))
+    }
+
+    /// Why a Join with these members is not taken.
+    fn bars_join(&self, message: &Message, members: &Members) -> Option<Taken>
+        ensures { result ≡ join_bar self.now.house.0 message.now (members_of members.now) (map.get self.now.dirs message.now.dir) }
+    {
+        if let Some(passed) = self.passes_join(message) {
+            return Some(Taken::Late(message.epoch, passed));
+        }
+        if members.place(self.house).is_none() || members.place(message.from).is_none() {
+            return Some(Taken::Foreign);
+        }
+        None
+    }
+
+    /// The epoch for which a Join comes too late, if it does.
+    fn passes_join(&self, message: &Message) -> Option<EpochNo>
+        ensures { result ≡ join_passed message.now.epoch (map.get self.now.dirs message.now.dir) }
+    {
+        match self.dirs.get(&message.dir) {
+            Some(state) => state.passes_join(message.epoch),
+            None => None,
+        }
+    }
+
+    /// Merges the copy in that came with a Join, where the house held the directory in its present term, or else has that copy
+    /// in the place of what it had.
+    fn take_copy(
+        &mut self,
+        alloc: Global,
+        message: &Message,
+        members: &Members,
+        replica: &Replica,
+    ) -> Result<(), AllocError>
+        ensures ok { OnOk result (HasCopy message.now members.now replica.now self.old self.new) }
+        ensures err { OnErr result (self.new ≡ self.old) }
+    {
+        let since = since_in(members, self.house).unwrap_or(EpochNo(0));
+        match self.dirs.held_mut(message.dir) {
+            Some(held) if since <= held.epoch => {
+                held.join(alloc, message.epoch, members, replica)
+            }
+            _ => self.copy_in(alloc, message, members, replica),
+        }
+    }
+
+    /// Has the copy that came with a Join, in the place of what it had.
+    fn copy_in(
+        &mut self,
+        alloc: Global,
+        message: &Message,
+        members: &Members,
+        replica: &Replica,
+    ) -> Result<(), AllocError>
+        ensures ok { OnOk result (self.new ≡ record self.old {
+            dirs = map.insert self.old.dirs message.now.dir (state.Held (copy_of message.now.epoch members.now replica.now)) }) }
+        ensures err { OnErr result (self.new ≡ self.old) }
+    {
+        let held = Held {
+            epoch: message.epoch,
+            members: members.copy(alloc)?,
+            replica: replica.copy(alloc)?,
+            skulk: Skulk::Idle,
+        };
+        self.dirs.insert(message.dir, DirState::Held(held))?;
+        Ok(())
+    }
+
+    /// A Leave, by what the house has of the directory.
+    fn take_leave(&mut self, message: &Message) -> Result<Turn<Taken>, AllocError>
+        ensures ok { IfOk result (λ turn. TakesLeave message.now self.old self.new turn.answer turn.outgoing) }
+        ensures err { OnErr result (self.new ≡ self.old) }
+    {
+        if let Some(passed) = self.passes_leave(message) {
+            return Ok(unchanged(Taken::Late(message.epoch, passed)));
+        }
+        self.dirs.insert(message.dir, DirState::Gone(message.epoch))?;
+        self.floor.raise(message.floor);
+        Ok(taken_with(None))
+    }
+
+    /// The epoch for which a Leave comes too late, if it does.
+    fn passes_leave(&self, message: &Message) -> Option<EpochNo>
+        ensures { result ≡ leave_passed message.now.epoch (map.get self.now.dirs message.now.dir) }
+    {
+        match self.dirs.get(&message.dir) {
+            Some(state) => state.passes_leave(message.epoch),
+            None => None,
+        }
+    }
+}
+
+/// The greatest time in a message that is taken; 0 of another.
+fn time_taken(answer: &Taken, message: &Message) -> u64
+    ensures { result ≡ (if is_taken answer.now then latest_in_message message.now else 0) }
+{
+    if answer.is_taken() {
+        latest_in_message(message)
+    } else {
+        0
     }
 }

@@ -1,5 +1,5 @@
 // Updates of a directory at its master.
-ghost use Rattle.std.specs.Prelude.{◌≡◌, ◌≤◌, None, Err, IfOk, OnErr};
+ghost use Rattle.std.specs.Prelude.{◌≡◌, ◌≤◌, ◌<◌, ℕ, None, Err, IfOk, OnErr};
 ghost use Rattle.cds_stamps.specs.declared.numbers.DirId as number;
 ghost use Rattle.cds_stamps.specs.Stamps.{next_stamp};
 ghost use Rattle.directory.specs.Shown.{shown_in, refusal_of};
@@ -9,13 +9,14 @@ ghost use Rattle.cell_model.specs.Turns.{accept_in, accept_at, stamp_at};
 ghost use Rattle.clearinghouse.specs.Lawful.{IsLawfulHeld};
 ghost use Rattle.clearinghouse.specs.Refusing.{held_refusal, stamp_unless};
 ghost use Rattle.clearinghouse.specs.Stepping.{IsStampAnswer};
-ghost use Rattle.clearinghouse.specs.PrivateTurns.{HeldStep, IssuesAt};
+ghost use Rattle.clearinghouse.specs.PrivateTurns.{AddsMarks, HeldStep, IssuesAt};
+ghost use Rattle.clearinghouse.specs.Standing.{StandsHeld};
 
 use crate::outgoing::{Outgoing, Turn};
 use crate::posted::PostedList;
 use crate::states::Held;
 use cds_stamps::{Floor, HouseNo, Node, Stamp};
-use directory::{Update, UpdateRefusal};
+use directory::{Fragment, Update, UpdateRefusal};
 use std::alloc::{AllocError, Global};
 
 /// What comes of an update.
@@ -91,8 +92,7 @@ impl Held {
         let mut raised = *floor;
         match raised.issue(by.clock, by.node) {
             Some(stamp) => {
-                let fragment = self.replica.table.fragment(alloc, update, stamp)?;
-                self.replica.take_marks(alloc, &fragment)?;
+                let fragment = self.add_marks(alloc, &stamp, update)?;
                 *floor = raised;
                 Ok(Turn {
                     answer: Ok(stamp),
@@ -101,5 +101,23 @@ impl Held {
             }
             None => Ok(refused(UpdateRefusal::StampsSpent)),
         }
+    }
+
+    /// Takes the marks of an update with this stamp, which are to be posted.
+    fn add_marks(
+        &mut self,
+        alloc: Global,
+        stamp: &Stamp,
+        update: &Update,
+    ) -> Result<Fragment, AllocError>
+        requires { refusal_of (shown_in self.old.replica.table (changed_name (change_of update.now))) (change_of update.now) ≡ None }
+        ensures adds { (r : model.Replica) (floor : ℕ) (me : ℕ) → StandsHeld me floor self.old r → floor < stamp.now.time
+            → IfOk result (λ f. AddsMarks me r (change_of update.now) stamp.now self.new f) }
+        ensures kept { (floor : ℕ) → IsLawfulHeld floor self.old → floor < stamp.now.time → IsLawfulHeld stamp.now.time self.new }
+        ensures err { OnErr result (self.new ≡ self.old) }
+    {
+        let fragment = self.replica.table.fragment(alloc, update, *stamp)?;
+        self.replica.take_marks(alloc, &fragment)?;
+        Ok(fragment)
     }
 }

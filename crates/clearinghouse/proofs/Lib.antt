@@ -1,0 +1,4 @@
+mod MemberLists
+mod Maps
+mod Posts
+mod Phases
