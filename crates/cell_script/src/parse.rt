@@ -2,7 +2,8 @@
 ghost use Rattle.std.specs.Prelude.{◌≡◌, ◌∷◌, Ok, None};
 ghost use Rattle.cds_stamps.specs.Outcomes.{Answers};
 ghost use Rattle.cell_script.specs.Words.{words_of};
-ghost use Rattle.cell_script.specs.Commands.{is_later, said_by, said_in};
+ghost use Rattle.cell_script.specs.Commands.{is_later, said_in};
+ghost use Rattle.cell_script.specs.RowWords.{made_by, updated_by, asked_by};
 
 use crate::command::ScriptLine;
 use crate::commands;
@@ -21,10 +22,10 @@ fn comes_later(word: &[u8]) -> bool
     LATER.split(|b| *b == b' ').any(|later| later == word)
 }
 
-// What the words behind the first one say.
-#[tactic(auto, unfolding(crate::specs::Commands::said_by))]
+// What the words behind the first one say: of a command that makes houses or directories, or of another.
+#[tactic(auto, unfolding(crate::specs::RowWords::made_by))]
 fn said(alloc: Global, word: &[u8], words: &mut Words<'_>) -> Parsed<ScriptLine>
-    ensures { Answers result (said_by word.now words.old) }
+    ensures { Answers result (made_by word.now words.old) }
 {
     if word == b"house".as_slice() {
         return commands::house(words);
@@ -41,6 +42,14 @@ fn said(alloc: Global, word: &[u8], words: &mut Words<'_>) -> Parsed<ScriptLine>
     if word == b"repoint".as_slice() {
         return commands::repoint(alloc, words);
     }
+    updated(alloc, word, words)
+}
+
+// The same of an update of an entry, or of a question.
+#[tactic(auto, unfolding(crate::specs::RowWords::updated_by))]
+fn updated(alloc: Global, word: &[u8], words: &mut Words<'_>) -> Parsed<ScriptLine>
+    ensures { Answers result (updated_by word.now words.old) }
+{
     if word == b"create".as_slice() {
         return commands::create(alloc, words);
     }
@@ -62,6 +71,14 @@ fn said(alloc: Global, word: &[u8], words: &mut Words<'_>) -> Parsed<ScriptLine>
     if word == b"clear".as_slice() {
         return commands::clear(alloc, words);
     }
+    asked(alloc, word, words)
+}
+
+// The same of a question, or the fault of a word of no command.
+#[tactic(auto, unfolding(crate::specs::RowWords::asked_by))]
+fn asked(alloc: Global, word: &[u8], words: &mut Words<'_>) -> Parsed<ScriptLine>
+    ensures { Answers result (asked_by word.now words.old) }
+{
     if word == b"read".as_slice() {
         return commands::read(alloc, words);
     }
@@ -92,7 +109,7 @@ pub fn parse_line(alloc: Global, line: &[u8]) -> Result<Option<ScriptLine>, Allo
 }
 
 // What a line of this first word says.
-#[tactic(auto, using(crate::proofs::Reading::some_line_says))]
+#[tactic(auto, using(crate::proofs::Families::made_by_is, crate::proofs::Reading::some_line_says))]
 fn said_behind(alloc: Global, word: &[u8], words: &mut Words<'_>) -> Parsed<Option<ScriptLine>>
     requires { words.old.read ≡ 1 }
     ensures answer { Answers result (said_in (word.now ∷ words.old.rest)) }

@@ -13,6 +13,12 @@ const LOW: &[u8] = b"low";
 
 const HIGH: &[u8] = b"high";
 
+// The greatest number of a house.
+const MOST_HOUSE: u64 = 255;
+
+// The greatest number of a directory.
+const MOST_DIRECTORY: u64 = 4_294_967_295;
+
 // The most digits of a value.
 const MOST_DIGITS: usize = 2048;
 
@@ -57,7 +63,7 @@ fn number_up_to(word: &[u8], most: u64) -> Option<u64>
 pub(crate) fn house(word: &[u8]) -> Option<HouseNo>
     ensures { result ≡ house_of word.now }
 {
-    match number_up_to(word, 255) {
+    match number_up_to(word, MOST_HOUSE) {
         Some(number) => Some(HouseNo(number as u8)),
         None => None,
     }
@@ -67,7 +73,7 @@ pub(crate) fn house(word: &[u8]) -> Option<HouseNo>
 pub(crate) fn directory(word: &[u8]) -> Option<DirId>
     ensures { result ≡ directory_of word.now }
 {
-    match number_up_to(word, 4_294_967_295) {
+    match number_up_to(word, MOST_DIRECTORY) {
         Some(number) => Some(DirId(number as u32)),
         None => None,
     }

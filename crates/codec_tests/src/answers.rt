@@ -3,8 +3,8 @@ use attr_sets::Value;
 use cds_stamps::{DirId, Node, Stamp};
 use cell_names::FullName;
 use cell_script::{
-    Answer, Command, ParseFault, ScriptLine, ScriptRefusal, Serials, Values, parse_line,
-    print_answer, print_fault, print_parse_fault,
+    Answer, Command, ParseFault, ScriptLine, ScriptRefusal, Serials, Values, append_answer,
+    parse_line, print_fault, print_parse_fault,
 };
 use std::alloc::Global;
 use std::test::Fail;
@@ -22,10 +22,14 @@ fn stamp() -> Result<Stamp, Fail> {
     Ok(Stamp { time: 100, node })
 }
 
-// Whether the answer to line 7 is this text.
+// The text that an answer is put behind.
+const BEFORE: &[u8] = b"6 ok\n";
+
+// Whether the answer to line 7 is this text, behind what stood before.
 fn is_told(alloc: Global, answer: Answer, text: &str) -> Result<bool, Fail> {
-    let line = print_answer(alloc, 7, &answer)?;
-    Ok(line.as_slice() == text.as_bytes())
+    let mut lines = BEFORE.to_vec(alloc)?;
+    append_answer(alloc, &mut lines, 7, &answer)?;
+    Ok(lines.strip_prefix(BEFORE) == Some(text.as_bytes()))
 }
 
 #[test]
