@@ -22,14 +22,11 @@ fn stamp() -> Result<Stamp, Fail> {
     Ok(Stamp { time: 100, node })
 }
 
-// The text that an answer is put behind.
-const BEFORE: &[u8] = b"6 ok\n";
-
-// Whether the answer to line 7 is this text, behind what stood before.
+// Whether the answer to line 7 is this text.
 fn is_told(alloc: Global, answer: Answer, text: &str) -> Result<bool, Fail> {
-    let mut lines = BEFORE.to_vec(alloc)?;
-    append_answer(alloc, &mut lines, 7, &answer)?;
-    Ok(lines.strip_prefix(BEFORE) == Some(text.as_bytes()))
+    let mut line = Vec::new(alloc);
+    append_answer(alloc, &mut line, 7, &answer)?;
+    Ok(line.as_slice() == text.as_bytes())
 }
 
 #[test]
