@@ -49,12 +49,17 @@ making_rows =
     ∷ []
 
 -- the updates of an entry (own)
-abbrev pub update_rows : List Row
-update_rows =
+abbrev pub entry_rows : List Row
+entry_rows =
     step (codes "create") (House ∷ Directory ∷ SimpleName ∷ []) command.Create
     ∷ step (codes "link") (House ∷ Directory ∷ SimpleName ∷ FullName ∷ []) command.Link
     ∷ step (codes "delete") (House ∷ Directory ∷ SimpleName ∷ []) command.Delete
-    ∷ step (codes "add") (House ∷ Directory ∷ SimpleName ∷ AttrName ∷ Value ∷ []) command.Add
+    ∷ []
+
+-- the changes of an entry's values (own)
+abbrev pub value_rows : List Row
+value_rows =
+    step (codes "add") (House ∷ Directory ∷ SimpleName ∷ AttrName ∷ Value ∷ []) command.Add
     ∷ step (codes "remove") (House ∷ Directory ∷ SimpleName ∷ AttrName ∷ Value ∷ []) command.Remove
     ∷ step (codes "put") (House ∷ Directory ∷ SimpleName ∷ AttrName ∷ Value ∷ []) command.Put
     ∷ step (codes "clear") (House ∷ Directory ∷ SimpleName ∷ AttrName ∷ []) command.Clear
@@ -70,7 +75,7 @@ question_rows =
 
 -- the commands (own)
 abbrev pub rows : List Row
-rows = making_rows ++ (update_rows ++ question_rows)
+rows = making_rows ++ (entry_rows ++ (value_rows ++ question_rows))
 
 -- the commands that are not built yet (own)
 abbrev pub later_commands : List (List ℕ)

@@ -1,11 +1,11 @@
-// The commands: under the word of each, how many words follow it, and what they are.
-#![tactic(auto, unfolding(crate::specs::RowWords::made_by, crate::specs::RowWords::updated_by, crate::specs::RowWords::asked_by))]
+// The commands that make houses and directories: under the word of each, how many words follow it, and what they are.
+#![tactic(auto, unfolding(crate::specs::RowWords::made_by))]
 
 ghost use Rattle.std.specs.Prelude.{codes};
 ghost use Rattle.cds_stamps.specs.Outcomes.{Answers};
-ghost use Rattle.cell_script.specs.RowWords.{made_by, updated_by, asked_by};
+ghost use Rattle.cell_script.specs.RowWords.{made_by};
 
-use crate::command::{Command, Question, ScriptLine};
+use crate::command::{Command, ScriptLine};
 use crate::words::{Parsed, Words};
 use std::alloc::Global;
 
@@ -54,119 +54,4 @@ pub(crate) fn repoint(alloc: Global, words: &mut Words<'_>) -> Parsed<ScriptLine
         words.house()?,
         words.houses(alloc)?,
     )))
-}
-
-pub(crate) fn create(alloc: Global, words: &mut Words<'_>) -> Parsed<ScriptLine>
-    ensures { Answers result (updated_by (codes "create") words.old) }
-{
-    words.exactly(3)?;
-    Ok(ScriptLine::Cell(Command::Create(
-        words.house()?,
-        words.directory()?,
-        words.simple_name(alloc)?,
-    )))
-}
-
-pub(crate) fn link(alloc: Global, words: &mut Words<'_>) -> Parsed<ScriptLine>
-    ensures { Answers result (updated_by (codes "link") words.old) }
-{
-    words.exactly(4)?;
-    Ok(ScriptLine::Cell(Command::Link(
-        words.house()?,
-        words.directory()?,
-        words.simple_name(alloc)?,
-        words.full_name(alloc)?,
-    )))
-}
-
-pub(crate) fn delete(alloc: Global, words: &mut Words<'_>) -> Parsed<ScriptLine>
-    ensures { Answers result (updated_by (codes "delete") words.old) }
-{
-    words.exactly(3)?;
-    Ok(ScriptLine::Cell(Command::Delete(
-        words.house()?,
-        words.directory()?,
-        words.simple_name(alloc)?,
-    )))
-}
-
-pub(crate) fn add(alloc: Global, words: &mut Words<'_>) -> Parsed<ScriptLine>
-    ensures { Answers result (updated_by (codes "add") words.old) }
-{
-    words.exactly(5)?;
-    Ok(ScriptLine::Cell(Command::Add(
-        words.house()?,
-        words.directory()?,
-        words.simple_name(alloc)?,
-        words.attr_name(alloc)?,
-        words.value(alloc)?,
-    )))
-}
-
-pub(crate) fn remove(alloc: Global, words: &mut Words<'_>) -> Parsed<ScriptLine>
-    ensures { Answers result (updated_by (codes "remove") words.old) }
-{
-    words.exactly(5)?;
-    Ok(ScriptLine::Cell(Command::Remove(
-        words.house()?,
-        words.directory()?,
-        words.simple_name(alloc)?,
-        words.attr_name(alloc)?,
-        words.value(alloc)?,
-    )))
-}
-
-pub(crate) fn put(alloc: Global, words: &mut Words<'_>) -> Parsed<ScriptLine>
-    ensures { Answers result (updated_by (codes "put") words.old) }
-{
-    words.exactly(5)?;
-    Ok(ScriptLine::Cell(Command::Put(
-        words.house()?,
-        words.directory()?,
-        words.simple_name(alloc)?,
-        words.attr_name(alloc)?,
-        words.value(alloc)?,
-    )))
-}
-
-pub(crate) fn clear(alloc: Global, words: &mut Words<'_>) -> Parsed<ScriptLine>
-    ensures { Answers result (updated_by (codes "clear") words.old) }
-{
-    words.exactly(4)?;
-    Ok(ScriptLine::Cell(Command::Clear(
-        words.house()?,
-        words.directory()?,
-        words.simple_name(alloc)?,
-        words.attr_name(alloc)?,
-    )))
-}
-
-pub(crate) fn read(alloc: Global, words: &mut Words<'_>) -> Parsed<ScriptLine>
-    ensures { Answers result (asked_by (codes "read") words.old) }
-{
-    words.exactly(4)?;
-    Ok(ScriptLine::Question(Question::Read(
-        words.house()?,
-        words.confidence()?,
-        words.full_name(alloc)?,
-        words.attr_name(alloc)?,
-    )))
-}
-
-pub(crate) fn readlink(alloc: Global, words: &mut Words<'_>) -> Parsed<ScriptLine>
-    ensures { Answers result (asked_by (codes "readlink") words.old) }
-{
-    words.exactly(3)?;
-    Ok(ScriptLine::Question(Question::Readlink(
-        words.house()?,
-        words.confidence()?,
-        words.full_name(alloc)?,
-    )))
-}
-
-pub(crate) fn decode(alloc: Global, words: &mut Words<'_>) -> Parsed<ScriptLine>
-    ensures { Answers result (asked_by (codes "decode") words.old) }
-{
-    words.exactly(1)?;
-    Ok(ScriptLine::Question(Question::Decode(words.octets(alloc)?)))
 }

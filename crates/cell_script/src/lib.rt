@@ -8,6 +8,8 @@ mod fault;
 mod lists;
 mod parse;
 mod print;
+mod questions;
+mod updates;
 mod word;
 mod words;
 

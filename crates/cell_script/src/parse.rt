@@ -3,12 +3,12 @@ ghost use Rattle.std.specs.Prelude.{◌≡◌, ◌∷◌, Ok, None};
 ghost use Rattle.cds_stamps.specs.Outcomes.{Answers};
 ghost use Rattle.cell_script.specs.Words.{words_of};
 ghost use Rattle.cell_script.specs.Commands.{is_later, said_in};
-ghost use Rattle.cell_script.specs.RowWords.{made_by, updated_by, asked_by};
+ghost use Rattle.cell_script.specs.RowWords.{made_by, updated_by, changed_by, asked_by};
 
 use crate::command::ScriptLine;
-use crate::commands;
 use crate::fault::ParseFault;
 use crate::words::{Parsed, Words};
+use crate::{commands, questions, updates};
 use cds_stamps::AllocOr;
 use std::alloc::Global;
 
@@ -45,31 +45,39 @@ fn said(alloc: Global, word: &[u8], words: &mut Words<'_>) -> Parsed<ScriptLine>
     updated(alloc, word, words)
 }
 
-// The same of an update of an entry, or of a question.
+// The same of an update of an entry, or of its values, or of a question.
 #[tactic(auto, unfolding(crate::specs::RowWords::updated_by))]
 fn updated(alloc: Global, word: &[u8], words: &mut Words<'_>) -> Parsed<ScriptLine>
     ensures { Answers result (updated_by word.now words.old) }
 {
     if word == b"create".as_slice() {
-        return commands::create(alloc, words);
+        return updates::create(alloc, words);
     }
     if word == b"link".as_slice() {
-        return commands::link(alloc, words);
+        return updates::link(alloc, words);
     }
     if word == b"delete".as_slice() {
-        return commands::delete(alloc, words);
+        return updates::delete(alloc, words);
     }
+    changed(alloc, word, words)
+}
+
+// The same of a change of an entry's values, or of a question.
+#[tactic(auto, unfolding(crate::specs::RowWords::changed_by))]
+fn changed(alloc: Global, word: &[u8], words: &mut Words<'_>) -> Parsed<ScriptLine>
+    ensures { Answers result (changed_by word.now words.old) }
+{
     if word == b"add".as_slice() {
-        return commands::add(alloc, words);
+        return updates::add(alloc, words);
     }
     if word == b"remove".as_slice() {
-        return commands::remove(alloc, words);
+        return updates::remove(alloc, words);
     }
     if word == b"put".as_slice() {
-        return commands::put(alloc, words);
+        return updates::put(alloc, words);
     }
     if word == b"clear".as_slice() {
-        return commands::clear(alloc, words);
+        return updates::clear(alloc, words);
     }
     asked(alloc, word, words)
 }
@@ -80,13 +88,13 @@ fn asked(alloc: Global, word: &[u8], words: &mut Words<'_>) -> Parsed<ScriptLine
     ensures { Answers result (asked_by word.now words.old) }
 {
     if word == b"read".as_slice() {
-        return commands::read(alloc, words);
+        return questions::read(alloc, words);
     }
     if word == b"readlink".as_slice() {
-        return commands::readlink(alloc, words);
+        return questions::readlink(alloc, words);
     }
     if word == b"decode".as_slice() {
-        return commands::decode(alloc, words);
+        return questions::decode(alloc, words);
     }
     if comes_later(word) {
         return Err(AllocOr::Fault(ParseFault::NotBuilt(1)));

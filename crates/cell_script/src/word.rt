@@ -1,5 +1,5 @@
 // What a single word says.
-ghost use Rattle.std.specs.Prelude.{◌≡◌, ◌*◌, ◌%◌, ◌≤◌, ◌∷◌, length, IfOk};
+ghost use Rattle.std.specs.Prelude.{◌≡◌, ◌≢◌, ◌*◌, ◌%◌, ◌≤◌, ℕ, List, ◌∷◌, true, false, length, None, IfOk};
 ghost use Rattle.std.specs.Int.{from_be_bytes, w64};
 ghost use Rattle.cell_script.specs.Words.{number_of, number_to, house_of, directory_of, node_of, octets_value_of, octets_of, confidence_of};
 
@@ -25,12 +25,21 @@ const MOST_DIGITS: usize = 2048;
 // The most digits for which little room is made.
 const USUAL_DIGITS: usize = 32;
 
+// Whether a zero stands in front of further octets.
+#[tactic(auto, unfolding(crate::specs::Words::number_of))]
+fn has_leading_zero(word: &[u8]) -> bool
+    ensures none { result ≡ true → number_of word.now ≡ None }
+    ensures other { result ≡ false → (c : ℕ) (cs : List ℕ) → word.now ≢ 48 ∷ c ∷ cs }
+{
+    word.len() > 1 && word[0] == b'0'
+}
+
 /// A decimal number of 64 bits, with no sign and no leading zero.
 #[tactic(auto, unfolding(crate::specs::Words::number_of))]
 pub(crate) fn number(word: &[u8]) -> Option<u64>
     ensures { result ≡ number_of word.now }
 {
-    if word.is_empty() || (word[0] == b'0' && word.len() > 1) {
+    if word.is_empty() || has_leading_zero(word) {
         return None;
     }
     let mut value: u64 = 0;
