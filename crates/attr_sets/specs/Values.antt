@@ -3,6 +3,10 @@ use Rattle.std.specs.Prelude.{ℕ, ◌||◌, ◌==◌, nat_lt, List, length, Opt
 use Rattle.attr_sets.specs.declared.value.ValueFault.{ValueFault}
 use Rattle.attr_sets.specs.declared.value.ValueFault.TheVariants.{BadSize}
 
--- octets that are not 1 to 1,024 are no value (own)
+-- the most octets of a value (own)
+abbrev pub longest_value : ℕ
+longest_value = 1024
+
+-- octets that are none, or too many, are no value (own)
 abbrev pub value_fault : List ℕ → Option ValueFault
-value_fault octets = if (length octets == 0) || nat_lt 1024 (length octets) then Some BadSize else None
+value_fault octets = if (length octets == 0) || nat_lt longest_value (length octets) then Some BadSize else None

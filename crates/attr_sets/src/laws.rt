@@ -9,6 +9,8 @@ ghost use Rattle.attr_sets.specs.CellPurges.{is_empty_cell};
 ghost use Rattle.attr_sets.specs.Marks.{present_at, absent_at};
 ghost use Rattle.attr_sets.specs.Cells.{AttrMark, Cleared, Marked, cell_of, empty_cell, join_cells, shown_values, IsValidCell};
 ghost use Rattle.attr_sets.specs.ShownValues.{IsBefore, IsShown};
+ghost use Rattle.attr_sets.specs.Values.{longest_value};
+ghost use Rattle.attr_sets.specs.declared.value.TheConstants.{LONGEST_VALUE};
 
 /// The join of the cells of two histories is the cell of both together.
 pub fn joins_are_unions()
@@ -46,4 +48,9 @@ pub fn later_updates_show()
     ensures put { (h : List AttrMark) (v : List ℕ) (s : Stamp) → IsBefore h s →
         (w : List ℕ) → Contains (shown_values (h ++ Cleared s ∷ Marked v (present_at s) ∷ [])) w ↔ (w ≡ v) }
     ensures cleared { (h : List AttrMark) (s : Stamp) → IsBefore h s → (w : List ℕ) → ¬ Contains (shown_values (h ++ Cleared s ∷ [])) w }
+{}
+
+/// The limit that the code names is that of the definition.
+pub fn named_limit_is_that_of_the_definition()
+    ensures { LONGEST_VALUE ≡ longest_value }
 {}

@@ -14,10 +14,10 @@ pub use cell::AttrCell;
 pub use change::CellChange;
 pub use laws::{
     cells_are_valid, empty_cells_are_one, joins_are_unions, later_updates_show,
-    shown_values_are_present, shown_values_ascend,
+    named_limit_is_that_of_the_definition, shown_values_are_present, shown_values_ascend,
 };
 pub use mark::ValueMark;
 pub use order::{all_in_order, in_order};
 pub use undo::CellUndo;
-pub use value::{Value, ValueFault};
+pub use value::{LONGEST_VALUE, Value, ValueFault};
 pub use value_map::{MarkLog, ValueMap};

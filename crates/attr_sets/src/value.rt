@@ -9,6 +9,9 @@ use std::alloc::{AllocError, Global};
 use std::marker::Model;
 use thiserror::Error;
 
+/// The most octets of a value.
+pub const LONGEST_VALUE: usize = 1024;
+
 /// Why octets are no value.
 #[derive(Clone, Copy, Debug, PartialEq, Eq, Drop, Error)]
 pub enum ValueFault {
@@ -24,18 +27,16 @@ pub struct Value {
 
 impl Model for Value {
     ghost use Rattle.std.specs.Prelude.{ℕ, List, ◌≤◌, ◌<◌, length};
+    ghost use Rattle.attr_sets.specs.Values.{longest_value};
 
     ghost Value = { List ℕ };
 
     ghost view = { λ v. v.octets };
 
-    ghost invariant = { λ v. (0 < length v.octets) × (length v.octets ≤ 1024) };
+    ghost invariant = { λ v. (0 < length v.octets) × (length v.octets ≤ longest_value) };
 
     ghost inverse = { λ xs. record { octets = xs } };
 }
-
-/// The most octets that a value has.
-const MAX_OCTETS: usize = 1024;
 
 impl Value {
     /// The value of these octets. No memory is asked for where they are none.
@@ -43,7 +44,7 @@ impl Value {
         ensures answer { Answers result (ok_unless (value_fault octets.now) octets.now) }
         ensures faulty { IfSome (value_fault octets.now) (λ fault. result ≡ Err (Fault fault)) }
     {
-        if octets.is_empty() || octets.len() > MAX_OCTETS {
+        if octets.is_empty() || octets.len() > LONGEST_VALUE {
             return Err(AllocOr::Fault(ValueFault::BadSize));
         }
         Ok(Value {

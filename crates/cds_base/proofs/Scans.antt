@@ -1,8 +1,9 @@
 -- What the printable front of some octets says of the line there.
-use Rattle.std.proofs.Common.{◌≡◌, ◌≢◌, ◌⊎◌, inl, inr, ℕ, zero, suc, ◌+◌, ◌-◌, ◌≤◌, ◌<◌, true, false, List, [], ◌∷◌, ◌++◌, length, take, drop, get_or}
+use Rattle.std.proofs.Common.{◌≡◌, ◌≢◌, ◌⊎◌, inl, inr, ℕ, zero, suc, ◌+◌, ◌-◌, ◌≤◌, ◌<◌, Bool, ◌&&◌, true, false, List, [], ◌∷◌, ◌++◌, length, take, drop, get_or}
 use Rattle.std.proofs.Common.{refl, sym, ◌∙◌, ap, subst, arith, take-append-drop}
-use Rattle.std.specs.Prelude.{None, Some}
+use Rattle.std.specs.Prelude.{◌↔◌, None, Some}
 use Rattle.std.specs.List.{prefix_len}
+use Rattle.std.proofs.lemmas.Bool.{and_parts}
 use Rattle.std.proofs.lemmas.Bool.Decides.{nat_tests}
 use Rattle.std.proofs.lemmas.List.{drop_more, length-take-le}
 use Rattle.std.proofs.lemmas.List.Sums.{prefix_len_passes, prefix_len_stops, prefix_len-le-length}
@@ -85,6 +86,19 @@ front_goes_on xs k front within passes =
           absurd (cc (passes, fails))
       | inr some ↦ omega arith
     ]
+
+-- whether the printable front goes on so far, and one octet further
+pub front_goes_on_by : (xs : List ℕ) (k : ℕ) (all here : Bool) → here ≡ is_printable (get_or xs k 0) → (all ≡ true) ↔ (k ≤ prefix_len is_printable xs)
+    → k < length xs → ((all && here) ≡ true) ↔ (k + 1 ≤ prefix_len is_printable xs)
+front_goes_on_by xs k all here is front within = (
+  λ both.
+      let parts = and_parts all here both in
+      front_goes_on xs k (front.0 parts.0) within (sym is ∙ parts.1),
+  λ more. both_true (front.1 (omega arith)) (is ∙ prefix_len_passes is_printable xs k 0 (omega arith)),
+)
+  where
+    both_true : {a b : Bool} → a ≡ true → b ≡ true → (a && b) ≡ true
+    both_true h i = cc
 
 -- clean octets in front end before the printable ones do
 pub front_ends : (xs : List ℕ) (k : ℕ) → k ≤ prefix_len is_printable xs → is_printable (get_or xs k 0) ≡ false → k ≡ prefix_len is_printable xs

@@ -1,7 +1,8 @@
 // The faults of lines, and the search for the end of a line.
-ghost use Rattle.std.specs.Prelude.{◌≡◌, ◌<◌, ◌≤◌, length};
+ghost use Rattle.std.specs.Prelude.{◌≡◌, ◌+◌, ◌<◌, ◌≤◌, ◌↔◌, length, IsTrue};
 ghost use Rattle.std.specs.List.{prefix_len};
 ghost use Rattle.cds_base.specs.LineFaults.{Sees, is_printable};
+ghost use Rattle.cds_base.specs.declared.scan.TheConstants.{STRIDE};
 
 use thiserror::Error;
 
@@ -10,6 +11,9 @@ pub const LONGEST_LINE: usize = 4096;
 
 /// The number of the last line that is read.
 pub const MOST_LINES: u32 = 16_777_216;
+
+// Octets that are looked at together.
+const STRIDE: usize = 16;
 
 /// Why there is no next line: the number of the line that is at fault, and the place of the octet at
 /// fault in it, both counted from 1.
@@ -47,13 +51,30 @@ fn may_stand(octet: u8) -> bool
     matches!(octet, b' '..=b'~')
 }
 
+// Whether the printable octets in front go on through the next STRIDE ones. No octet ends the loop, so several are looked at
+// together.
+fn goes_on(octets: &[u8], len: usize) -> bool
+    requires front { len ≤ prefix_len is_printable octets.now }
+    requires room { len + STRIDE ≤ length octets.now }
+    ensures { IsTrue result ↔ (len + STRIDE ≤ prefix_len is_printable octets.now) }
+{
+    let mut all = true;
+    for i in 0..STRIDE {
+        all &= may_stand(octets[len + i]);
+    }
+    all
+}
+
 /// How many printable octets stand in front. The first `known` of them are not looked at again.
 pub(crate) fn printable_len(octets: &[u8], known: usize) -> usize
     requires { known ≤ prefix_len is_printable octets.now }
     ensures { result ≡ prefix_len is_printable octets.now }
 {
     let mut len = known;
-    while len < octets.len() && may_stand(octets[len]) {
+    'strides: while octets.len() - len >= STRIDE && goes_on(octets, len) {
+        len += STRIDE;
+    }
+    'singles: while len < octets.len() && may_stand(octets[len]) {
         len += 1;
     }
     len

@@ -13,7 +13,6 @@ use Rattle.std.specs.declared.alloc.AllocError.{AllocError}
 use Rattle.std.proofs.lemmas.Result.{IfOk-weaker}
 use Rattle.cds_stamps.specs.declared.numbers.HouseNo.{HouseNo}
 use Rattle.cds_stamps.specs.declared.numbers.DirId.{DirId}
-use Rattle.cell_names.specs.Houses.{Houses}
 use Rattle.cds_stamps.specs.declared.stamp.Stamp.{Stamp}
 use Rattle.cds_stamps.specs.Stamps.{next_stamp}
 use Rattle.cds_stamps.specs.Members.{Member, others_of}
@@ -554,13 +553,6 @@ dir_id n = record { 0 = n }
 -- the number of the next directory
 pub next_number : (c : Cell) (g : model.Cell) → Stands c g → (i : ℕ) → i < length c.directories.items → length c.directories.items + 1 ≡ g.next_dir
 next_number c g s i less = let next = s.next in grind (arith, less, next)
-
--- the child that is made, as the model has it
-pub child_change : (n : List ℕ) (d e : ℕ) (h : Houses) (m : ℕ) → d ≡ e → h ≡ record { master = m; others = [] }
-    → changes.MakeChild n (record { dir = d; master = h.master; others = h.others }) ≡ changes.MakeChild n (record { dir = e; master = m; others = [] })
-child_change n d e h m number is =
-    ap (λ k. changes.MakeChild n (record { dir = k; master = h.master; others = h.others })) number
-    ∙ ap (λ (x : Houses). changes.MakeChild n (record { dir = e; master = x.master; others = x.others })) is
 
 -- ---- other houses of a child
 

@@ -2,7 +2,7 @@
 ghost use Rattle.std.specs.Prelude.{option_copied, is_some, not, ℕ, ◌+◌, ◌++◌, ◌∷◌, OnOk, None, Some, ◌≡◌, ◌<◌, [], length, IfOk, MatchOption};
 ghost use Rattle.std.specs.Prelude.{IsSomeAnd, slice_get, true, false};
 ghost use Rattle.std.specs.FinMap as map;
-ghost use Rattle.directory.specs.Updates.{change_of};
+ghost use Rattle.directory.specs.Updates.{MakeChild, Repoint, change_of};
 ghost use Rattle.cell_model.specs.Cells as model;
 ghost use Rattle.cell_model.specs.Commands as command;
 ghost use Rattle.cell_model.specs.Sets.{has};
@@ -196,8 +196,26 @@ impl Cell {
         let Some(houses) = house_list(alloc, master, others)? else {
             return Ok(Answer::Refused(ScriptRefusal::BadMembers));
         };
-        let accepted = self.accept_at(alloc, by, at, &Update::Repoint(name, houses))?;
+        let accepted = self.accept_houses(alloc, by, at, name, houses)?;
         Ok(accepted.answer(alloc))
+    }
+
+    // An update that gives a child's directory these houses, by the places of the house and the directory.
+    fn accept_houses(
+        &mut self,
+        alloc: Global,
+        by: usize,
+        at: usize,
+        name: SimpleName,
+        houses: HouseList,
+    ) -> Result<Accepted, AllocError>
+        requires house { by < length self.old.houses.items }
+        requires directory { at < length self.old.directories.items }
+        ensures { (g : model.Cell) (h : ℕ) → Stands self.old g → IsPlaceOf self.old.houses.items h by
+            → IfOk result (λ a. IsAccepted a self.new (at_house g h (accept h (g.house h) (at + 1)
+            (Repoint name houses.master houses.others)))) }
+    {
+        self.accept_at(alloc, by, at, &Update::Repoint(name, houses))
     }
 
     // Whether one of these houses was not made.
@@ -251,15 +269,35 @@ impl Cell {
             → IfOk result (λ a. IsStep a self.new (mkdir g h (at + 1) name master.0 [])) }
     {
         let child = self.next_directory()?;
-        let houses = HouseList::alone(alloc, master)?;
-        let update = Update::MakeChild(name, ChildPointer { dir: child, houses });
-        match self.accept_at(alloc, by, at, &update)? {
+        match self.accept_child(alloc, by, at, name, child, master)? {
             Accepted::Stamped(stamp) => {
                 self.found(alloc, master)?;
                 Ok(Answer::Made(child, stamp, Serials::new(alloc)))
             }
             Accepted::Refused(refusal) => Ok(Accepted::Refused(refusal).answer(alloc)),
         }
+    }
+
+    // An update that makes a child, whose directory has this number and stands at this master.
+    fn accept_child(
+        &mut self,
+        alloc: Global,
+        by: usize,
+        at: usize,
+        name: SimpleName,
+        child: DirId,
+        master: HouseNo,
+    ) -> Result<Accepted, AllocError>
+        requires house { by < length self.old.houses.items }
+        requires directory { at < length self.old.directories.items }
+        ensures count { length self.new.directories.items ≡ length self.old.directories.items }
+        ensures step { (g : model.Cell) (h : ℕ) → Stands self.old g → IsPlaceOf self.old.houses.items h by
+            → IfOk result (λ a. IsAccepted a self.new (at_house g h (accept h (g.house h) (at + 1)
+            (MakeChild name (record { dir = child.0; master = master.0; others = [] }))))) }
+    {
+        let houses = HouseList::alone(alloc, master)?;
+        let update = Update::MakeChild(name, ChildPointer { dir: child, houses });
+        self.accept_at(alloc, by, at, &update)
     }
 
     // The number of the next directory. That no number is left is told as want of memory: so many directories don't fit.

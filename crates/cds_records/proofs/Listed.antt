@@ -8,7 +8,7 @@ use Rattle.cds_stamps.specs.declared.alloc_or.AllocOr.{AllocOr}
 use Rattle.cds_stamps.specs.declared.alloc_or.AllocOr.TheVariants.{Fault, OutOfMemory}
 use Rattle.cds_stamps.specs.declared.members.Member.{Member}
 use Rattle.cds_stamps.specs.Members.{Member as listed_member}
-use Rattle.cds_stamps.specs.Members.{is_master, member_of, members_of, members_fault, first_unordered, masters_in}
+use Rattle.cds_stamps.specs.Members.{is_master, member_of, members_of, members_fault, first_unordered, masters_in, most_members}
 use Rattle.cds_records.specs.declared.fault.Broken.{Broken}
 use Rattle.cds_records.specs.Layouts.{next, done}
 use Rattle.cds_records.specs.Reading.{◌>>=◌, read}
@@ -156,12 +156,12 @@ list_lawful (suc n) before master x ms y e =
     })
 
 -- a list of 1 to 64 members that was read is a member list
-pub listed_lawful : (n : ℕ) (x : List ℕ) (ms : List Member) (y : List ℕ) → 1 ≤ n → n ≤ 64 → read (listed n None false) x ≡ Ok (ms, y)
+pub listed_lawful : (n : ℕ) (x : List ℕ) (ms : List Member) (y : List ℕ) → 1 ≤ n → n ≤ most_members → read (listed n None false) x ≡ Ok (ms, y)
     → members_fault (members_of ms) ≡ None
 listed_lawful n x ms y some few e =
     let h = list_lawful n None false x ms y e in
     let len : length (members_of ms) ≡ n = length-map ms member_of ∙ h.len in
     let filled : (n == 0) ≡ false = grind arith in
-    let count : ((length (members_of ms) == 0) || nat_lt 64 (length (members_of ms))) ≡ false = grind (arith, len) in
+    let count : ((length (members_of ms) == 0) || nat_lt most_members (length (members_of ms))) ≡ false = grind (arith, len) in
     let masters : masters_in (members_of ms) ≡ 1 = (let k : masters_in (members_of ms) + 0 ≡ 1 = h.masters (rw filled refl) in omega arith) in
     rw (count, h.order 1, masters) refl

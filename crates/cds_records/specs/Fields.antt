@@ -5,8 +5,9 @@ use Rattle.std.specs.Int.{Width, byte_len, w16, w32, w64, from_be_bytes, to_be_b
 use Rattle.std.specs.Ordering.{is_lt}
 use Rattle.cds_stamps.specs.declared.stamp.Stamp.{Stamp}
 use Rattle.cds_stamps.specs.Stamps.{is_earlier}
-use Rattle.cds_stamps.specs.Names.{is_name_octet, is_attr_octet}
+use Rattle.cds_stamps.specs.Names.{is_name_octet, is_attr_octet, longest_component, longest_attr}
 use Rattle.cds_stamps.specs.Octets.{octets_cmp}
+use Rattle.attr_sets.specs.Values.{longest_value}
 use Rattle.cds_records.specs.declared.fault.Rule.{Rule}
 use Rattle.cds_records.specs.declared.fault.Rule.TheVariants.{BadLength, BadName, OutOfOrder, BadFlag}
 use Rattle.cds_records.specs.Layouts.{Layout, done, field, next, choose}
@@ -86,12 +87,12 @@ octets_of size rule = field size (λ o. o) rule
 
 -- a simple name above the one before it, behind its length in 1 octet (own)
 unfoldable pub simple_name : Option (List ℕ) → Layout (List ℕ)
-simple_name before = next (octet (outside BadLength 1 254)) (λ n. octets_of n (name_rule is_name_octet before))
+simple_name before = next (octet (outside BadLength 1 longest_component)) (λ n. octets_of n (name_rule is_name_octet before))
 
 -- an attribute's name, in the same way (own)
 unfoldable pub attr_name : Option (List ℕ) → Layout (List ℕ)
-attr_name before = next (octet (outside BadLength 1 31)) (λ n. octets_of n (name_rule is_attr_octet before))
+attr_name before = next (octet (outside BadLength 1 longest_attr)) (λ n. octets_of n (name_rule is_attr_octet before))
 
 -- a value above the one before it, behind its length in 2 octets (own)
 unfoldable pub value : Option (List ℕ) → Layout (List ℕ)
-value before = next (number w16 (outside BadLength 1 1024)) (λ n. octets_of n (octets_order before))
+value before = next (number w16 (outside BadLength 1 longest_value)) (λ n. octets_of n (octets_order before))

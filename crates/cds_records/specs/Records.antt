@@ -6,7 +6,7 @@ use Rattle.std.specs.declared.cmp.Ordering.{Ordering}
 use Rattle.cds_stamps.specs.declared.stamp.Stamp.{Stamp}
 use Rattle.cds_stamps.specs.declared.members.Member.{Member}
 use Rattle.cds_stamps.specs.declared.members.MemberKind.{MemberKind}
-use Rattle.cds_stamps.specs.Members.{is_master}
+use Rattle.cds_stamps.specs.Members.{is_master, most_members}
 use Rattle.attr_sets.specs.declared.mark.ValueMark.{ValueMark}
 use Rattle.attr_sets.specs.declared.cell.AttrCell.{AttrCell}
 use Rattle.directory.specs.declared.entry.Kind.{Kind}
@@ -100,7 +100,7 @@ listed (suc n) before master = next (member n before master) (λ m. next (listed
 
 -- 1 to 64 members, of which one is master (own)
 unfoldable pub members : Layout (List Member)
-members = next (octet (outside BadLength 1 64)) (λ n. listed n None false)
+members = next (octet (outside BadLength 1 most_members)) (λ n. listed n None false)
 
 -- ---- messages
 

@@ -12,7 +12,10 @@ ghost use Rattle.cds_records.specs.Fields.{octets_of, simple_name, attr_name, va
 ghost use Rattle.cds_records.specs.declared.fault.Rule.TheVariants.{Short, OutOfOrder};
 
 use crate::fault::{Broken, ReadError, Rule};
-use cds_stamps::{AllocOr, Node, Stamp, is_attr_octet, is_name_octet};
+use attr_sets::LONGEST_VALUE;
+use cds_stamps::{
+    AllocOr, LONGEST_ATTR, LONGEST_COMPONENT, Node, Stamp, is_attr_octet, is_name_octet,
+};
 use std::marker::Model;
 
 /// Octets that are still to be read.
@@ -277,7 +280,7 @@ impl<'a> Reader<'a> {
         ensures read { Reads (λ x. x.now) (simple_name (option_map (λ b. b.now) before.entry)) self.old self.new result }
         ensures lawful { IfOk result (λ x. simple_name_fault x.now ≡ None) }
     {
-        let size = self.octet_within(Rule::BadLength, 1, 254)?;
+        let size = self.octet_within(Rule::BadLength, 1, LONGEST_COMPONENT as u8)?;
         let own = self.name_octets(usize::from(size), before)?;
         Ok(own)
     }
@@ -288,7 +291,7 @@ impl<'a> Reader<'a> {
         ensures read { Reads (λ x. x.now) (attr_name (option_map (λ b. b.now) before.entry)) self.old self.new result }
         ensures lawful { IfOk result (λ x. attr_fault x.now ≡ None) }
     {
-        let size = self.octet_within(Rule::BadLength, 1, 31)?;
+        let size = self.octet_within(Rule::BadLength, 1, LONGEST_ATTR as u8)?;
         let own = self.attr_octets(usize::from(size), before)?;
         Ok(own)
     }
@@ -299,7 +302,7 @@ impl<'a> Reader<'a> {
         ensures read { Reads (λ x. x.now) (value (option_map (λ b. b.now) before.entry)) self.old self.new result }
         ensures lawful { IfOk result (λ x. value_fault x.now ≡ None) }
     {
-        let size = self.u16_within(Rule::BadLength, 1, 1024)?;
+        let size = self.u16_within(Rule::BadLength, 1, LONGEST_VALUE as u16)?;
         self.value_octets(usize::from(size), before)
     }
 }

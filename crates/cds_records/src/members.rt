@@ -9,7 +9,7 @@ ghost use Rattle.cds_records.specs.declared.fault.Rule.TheVariants.{OutOfOrder, 
 
 use crate::fault::{ReadError, Rule};
 use crate::fields::{Reader, broken};
-use cds_stamps::{EpochNo, HouseNo, Member, MemberKind, Members};
+use cds_stamps::{EpochNo, HouseNo, MOST_MEMBERS, Member, MemberKind, Members};
 use std::alloc::Global;
 
 impl<'a> Reader<'a> {
@@ -80,7 +80,7 @@ impl<'a> Reader<'a> {
     pub(crate) fn members(&mut self, alloc: Global) -> Result<Members, ReadError>
         ensures { Reads (λ x. x) members self.old self.new result }
     {
-        let count = self.octet_within(Rule::BadLength, 1, 64)?;
+        let count = self.octet_within(Rule::BadLength, 1, MOST_MEMBERS as u8)?;
         let list = self.listed(alloc, count)?;
         let members = Members::known(alloc, list.as_slice())?;
         Ok(members)

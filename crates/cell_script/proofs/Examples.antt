@@ -11,7 +11,7 @@ use Rattle.cell_script.specs.declared.answer.Answer.TheVariants as answer
 use Rattle.cell_script.specs.declared.answer.ScriptRefusal.TheVariants as why
 use Rattle.cell_script.specs.declared.fault.ParseFault.{ParseFault}
 use Rattle.cell_script.specs.declared.fault.ParseFault.TheVariants.{UnknownCommand, WrongCount, BadWord, NotBuilt}
-use Rattle.cell_script.specs.Words.{words_of, number_of, number_to}
+use Rattle.cell_script.specs.Words.{words_of, number_of, number_to, most_house}
 use Rattle.cell_script.specs.Forms.{counted, taken}
 use Rattle.cell_script.specs.Commands.{said_in, said_by, is_later}
 use Rattle.cell_script.specs.Texts.{answer_text, line_text, parse_fault_text}
@@ -37,7 +37,7 @@ too_great : number_of (codes "18446744073709551616") ≡ None
 unfolding number_of
 too_great = refl
 
-no_house : number_to 255 (codes "256") ≡ None
+no_house : number_to most_house (codes "256") ≡ None
 unfolding number_of
 no_house = refl
 

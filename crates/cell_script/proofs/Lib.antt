@@ -1,5 +1,6 @@
 pub mod Numbers
 pub mod Splitting
 pub mod Reading
+pub mod Families
 pub mod Printing
 mod Examples

@@ -7,22 +7,22 @@ use Rattle.std.specs.Char.{is_ascii_digit}
 use Rattle.std.proofs.lemmas.Bool.Decides.{nat_tests}
 use Rattle.std.proofs.Math.Nat.{one-le-pow, mul_comm, le_trans}
 use native.Mathlib.Numerals.{unary_clauses}
-use Rattle.cell_script.specs.Words.{value_of, number_of}
+use Rattle.cell_script.specs.Words.{value_of, number_end, number_of}
 
--- the number, if it is below 2^64
+-- the number, if it is one of a script
 abbrev pub below : Bool → ℕ → Option ℕ
-below all t = if all && nat_lt t 18446744073709551616 then Some t else None
+below all t = if all && nat_lt t number_end then Some t else None
 
 -- the number that further digits make of value
 pub number_on : ℕ → List ℕ → Option ℕ
 number_on value cs = below (list_all is_ascii_digit cs) (value * 10 ^ length cs + value_of cs)
 
-too_great : (all : Bool) (t : ℕ) → 18446744073709551616 ≤ t → below all t ≡ None
-too_great true t great = let over : nat_lt t 18446744073709551616 ≡ false = grind (arith, nat_tests) in rw over refl
+too_great : (all : Bool) (t : ℕ) → number_end ≤ t → below all t ≡ None
+too_great true t great = let over : nat_lt t number_end ≡ false = grind (arith, nat_tests) in rw over refl
 too_great false t great = refl
 
-not_great : (t : ℕ) → t < 18446744073709551616 → below true t ≡ Some t
-not_great t few = let under : nat_lt t 18446744073709551616 ≡ true = grind (arith, nat_tests) in rw under refl
+not_great : (t : ℕ) → t < number_end → below true t ≡ Some t
+not_great t few = let under : nat_lt t number_end ≡ true = grind (arith, nat_tests) in rw under refl
 
 next_power : (n : ℕ) → 10 ^ suc n ≡ 10 * 10 ^ n
 next_power n = simp unary_clauses (mul_comm (10 ^ n) 10)
@@ -48,15 +48,15 @@ unfolding number_on
 number_on_other value c cs other = rw other refl
 
 -- a digit with which the number grows too great
-pub number_on_great : (value c : ℕ) (cs : List ℕ) → 18446744073709551616 ≤ 10 * value + (c - 48) → number_on value (c ∷ cs) ≡ None
+pub number_on_great : (value c : ℕ) (cs : List ℕ) → number_end ≤ 10 * value + (c - 48) → number_on value (c ∷ cs) ≡ None
 unfolding number_on
 number_on_great value c cs great =
     let least = at_least (10 * value + (c - 48)) (10 ^ length cs) (value_of cs) (one-le-pow (length cs) 10 (omega arith)) in
     too_great (list_all is_ascii_digit (c ∷ cs)) (value * 10 ^ length (c ∷ cs) + value_of (c ∷ cs))
-    (subst (λ (t : ℕ). 18446744073709551616 ≤ t) (sym (more value c cs)) (le_trans great least))
+    (subst (λ (t : ℕ). number_end ≤ t) (sym (more value c cs)) (le_trans great least))
 
 -- no more digits
-pub number_on_end : (value : ℕ) → value < 18446744073709551616 → number_on value [] ≡ Some value
+pub number_on_end : (value : ℕ) → value < number_end → number_on value [] ≡ Some value
 unfolding number_on
 number_on_end value few =
     let same : value * 10 ^ 0 + 0 ≡ value = grind (arith) in

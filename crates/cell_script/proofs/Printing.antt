@@ -11,10 +11,6 @@ still_begins a x b c grown begun =
     sym (take-append-drop (length b) c) ∙ ap (λ (l : List ℕ). l ++ drop (length b) c) (begun ∙ grown) ∙ append_assoc a x (drop (length b) c) in
     ap (take (length a)) whole ∙ take-append_seam a (x ++ drop (length b) c)
 
--- a text that grew twice
-pub grown_twice : (a x b y c : List ℕ) → b ≡ a ++ x → c ≡ b ++ y → c ≡ a ++ (x ++ y)
-grown_twice a x b y c one two = two ∙ ap (λ (l : List ℕ). l ++ y) one ∙ append_assoc a x y
-
 -- what holds holds after an error
 pub on_err : {T E P : Type 0} (r : Result T E) → P → OnErr r P
 on_err (Ok x) p = tt

@@ -1,5 +1,6 @@
 -- What a line of the script says: the table of its commands (own).
-use Rattle.std.specs.Prelude.{ℕ, Bool, if◌then◌else◌, List, [], ◌∷◌, nat_eq, ◌==◌, Some, None, Option, Ok, Err, Result, codes}
+use Rattle.std.specs.Prelude.{ℕ, Bool, if◌then◌else◌, List, [], ◌∷◌, ◌++◌, nat_eq, ◌==◌, Some, None, Option, Ok, Err}
+use Rattle.std.specs.Prelude.{Result, codes}
 use Rattle.std.specs.List.{list_any, slice_split, starts_with}
 use Rattle.std.specs.Str.{bytes_eq}
 use Rattle.cell_script.specs.declared.command.Command.{Command}
@@ -13,11 +14,22 @@ use Rattle.cell_script.specs.declared.fault.ParseFault.TheVariants.{UnknownComma
 use Rattle.cell_script.specs.Forms.{◌>>=◌, Form, House, Directory, Time, Node, SimpleName, FullName, AttrName, Value, Octets, Confidence, Houses, NoHouses}
 use Rattle.cell_script.specs.Forms.{Words, Builds, followed_by, read_as}
 
--- a command: its first word, the forms of the words behind it, and what a line of them says (own)
-pub record Row : Type 0 where
+-- a command of any type of line: its first word, the forms of the words behind it, and what a line of them says (own)
+pub record RowOf (Line : Type 0) : Type 0 where
   pub word : List ℕ
   pub forms : List Form
-  pub says : Builds forms ScriptLine
+  pub says : Builds forms Line
+
+-- what the words behind the first one say, by the row of the first one, or where no row has it (own)
+abbrev pub said_among : {Line : Type 0} → List (RowOf Line) → Result Line ParseFault → List ℕ → Words → Result Line ParseFault
+said_among [] other word s = other
+said_among (row ∷ rows) other word s =
+    if bytes_eq word row.word then read_as row.forms row.says s else said_among rows other word s
+
+-- ---- the script
+
+abbrev pub Row : Type 0
+Row = RowOf ScriptLine
 
 -- a step of the cell, and a question that changes nothing (own)
 abbrev pub step : List ℕ → (forms : List Form) → Builds forms Command → Row
@@ -26,25 +38,44 @@ step word forms build = record { word = word; forms = forms; says = followed_by 
 abbrev pub asks : List ℕ → (forms : List Form) → Builds forms Question → Row
 asks word forms build = record { word = word; forms = forms; says = followed_by line.Question forms build }
 
--- the commands (own)
-abbrev pub rows : List Row
-rows =
+-- the commands that make houses and directories (own)
+abbrev pub making_rows : List Row
+making_rows =
     step (codes "house") (House ∷ Node ∷ []) command.House
     ∷ step (codes "clock") (House ∷ Time ∷ []) command.Clock
     ∷ step (codes "root") (House ∷ NoHouses ∷ []) command.Root
     ∷ step (codes "mkdir") (House ∷ Directory ∷ SimpleName ∷ House ∷ NoHouses ∷ []) command.Mkdir
     ∷ step (codes "repoint") (House ∷ Directory ∷ SimpleName ∷ House ∷ Houses ∷ []) command.Repoint
-    ∷ step (codes "create") (House ∷ Directory ∷ SimpleName ∷ []) command.Create
+    ∷ []
+
+-- the updates of an entry (own)
+abbrev pub entry_rows : List Row
+entry_rows =
+    step (codes "create") (House ∷ Directory ∷ SimpleName ∷ []) command.Create
     ∷ step (codes "link") (House ∷ Directory ∷ SimpleName ∷ FullName ∷ []) command.Link
     ∷ step (codes "delete") (House ∷ Directory ∷ SimpleName ∷ []) command.Delete
-    ∷ step (codes "add") (House ∷ Directory ∷ SimpleName ∷ AttrName ∷ Value ∷ []) command.Add
+    ∷ []
+
+-- the changes of an entry's values (own)
+abbrev pub value_rows : List Row
+value_rows =
+    step (codes "add") (House ∷ Directory ∷ SimpleName ∷ AttrName ∷ Value ∷ []) command.Add
     ∷ step (codes "remove") (House ∷ Directory ∷ SimpleName ∷ AttrName ∷ Value ∷ []) command.Remove
     ∷ step (codes "put") (House ∷ Directory ∷ SimpleName ∷ AttrName ∷ Value ∷ []) command.Put
     ∷ step (codes "clear") (House ∷ Directory ∷ SimpleName ∷ AttrName ∷ []) command.Clear
-    ∷ asks (codes "read") (House ∷ Confidence ∷ FullName ∷ AttrName ∷ []) question.Read
+    ∷ []
+
+-- the questions (own)
+abbrev pub question_rows : List Row
+question_rows =
+    asks (codes "read") (House ∷ Confidence ∷ FullName ∷ AttrName ∷ []) question.Read
     ∷ asks (codes "readlink") (House ∷ Confidence ∷ FullName ∷ []) question.Readlink
     ∷ asks (codes "decode") (Octets ∷ []) question.Decode
     ∷ []
+
+-- the commands (own)
+abbrev pub rows : List Row
+rows = making_rows ++ (entry_rows ++ (value_rows ++ question_rows))
 
 -- the commands that are not built yet (own)
 abbrev pub later_commands : List (List ℕ)
@@ -53,10 +84,12 @@ later_commands = slice_split (λ b. b == 32) (codes "epoch skulk deliver lose cr
 unfoldable pub is_later : List ℕ → Bool
 is_later name = list_any (bytes_eq name) later_commands
 
--- what the words behind the first one say, by the row of the first one (own)
+-- the fault of a first word that no row has (own)
+abbrev pub no_command : {Line : Type 0} → List ℕ → Result Line ParseFault
+no_command word = if is_later word then Err (NotBuilt 1) else Err (UnknownCommand 1)
+
 abbrev pub said_in_row : List Row → List ℕ → Words → Result ScriptLine ParseFault
-said_in_row [] word s = if is_later word then Err (NotBuilt 1) else Err (UnknownCommand 1)
-said_in_row (row ∷ rows) word s = if bytes_eq word row.word then read_as row.forms row.says s else said_in_row rows word s
+said_in_row rows word s = said_among rows (no_command word) word s
 
 unfoldable pub said_by : List ℕ → Words → Result ScriptLine ParseFault
 said_by = said_in_row rows

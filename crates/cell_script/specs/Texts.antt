@@ -34,6 +34,10 @@ abbrev pub posted_text : List ℕ → List ℕ
 posted_text [] = []
 posted_text (n ∷ ns) = codes " posted" ++ spaced (n ∷ ns)
 
+-- the stamp of an update, and the messages that it posted (own)
+abbrev pub stamped_text : Stamp → List ℕ → List ℕ
+stamped_text s ns = stamp_text s ++ posted_text ns
+
 -- the values of an attribute: how many, and each in hexadecimal digits (own)
 abbrev pub values_text : List (List ℕ) → List ℕ
 values_text vs = decimal (length vs) ++ flat_map (λ v. 32 ∷ encode_lower v) vs
@@ -102,8 +106,8 @@ message_name tag =
 abbrev pub answer_text : Answer → List ℕ
 answer_text answer.Done = codes "ok"
 answer_text (answer.Posted ns) = codes "ok" ++ posted_text ns
-answer_text (answer.Made d s ns) = codes "ok " ++ (decimal d.0 ++ (32 ∷ (stamp_text s ++ posted_text ns)))
-answer_text (answer.Stamped s ns) = codes "ok " ++ (stamp_text s ++ posted_text ns)
+answer_text (answer.Made d s ns) = codes "ok " ++ (decimal d.0 ++ (32 ∷ stamped_text s ns))
+answer_text (answer.Stamped s ns) = codes "ok " ++ stamped_text s ns
 answer_text (answer.Values vs) = codes "ok " ++ values_text vs
 answer_text (answer.Target components) = codes "ok " ++ spelling components
 answer_text (answer.Decoded tag used) = codes "ok " ++ (message_name tag ++ (32 ∷ decimal used))

@@ -32,9 +32,13 @@ is_decimal [] = false
 is_decimal (c ∷ []) = is_ascii_digit c
 is_decimal (c ∷ d ∷ cs) = not (c == 48) && list_all is_ascii_digit (c ∷ d ∷ cs)
 
--- a decimal number of 64 bits (own)
+-- the numbers of a script have 64 bits, and are below this (own)
+abbrev pub number_end : ℕ
+number_end = 18446744073709551616
+
+-- a decimal number (own)
 unfoldable pub number_of : List ℕ → Option ℕ
-number_of w = if is_decimal w && nat_lt (value_of w) 18446744073709551616 then Some (value_of w) else None
+number_of w = if is_decimal w && nat_lt (value_of w) number_end then Some (value_of w) else None
 
 -- a number from 1 to this most (own)
 abbrev pub number_to : ℕ → List ℕ → Option ℕ
@@ -42,13 +46,20 @@ number_to most w = option_and_then (λ n. if nat_le 1 n && nat_le n most then So
 
 -- ---- what a word of each form says
 
--- the number of a house, 1 to 255 (own)
-abbrev pub house_of : List ℕ → Option HouseNo
-house_of w = option_map (λ n. record { 0 = n }) (number_to 255 w)
+-- the greatest number of a house, which has an octet, and of a directory, which has 32 bits (own)
+abbrev pub most_house : ℕ
+most_house = 255
 
--- the number of a directory, 1 to 4,294,967,295 (own)
+abbrev pub most_directory : ℕ
+most_directory = 4294967295
+
+-- the number of a house (own)
+abbrev pub house_of : List ℕ → Option HouseNo
+house_of w = option_map (λ n. record { 0 = n }) (number_to most_house w)
+
+-- the number of a directory (own)
 abbrev pub directory_of : List ℕ → Option DirId
-directory_of w = option_map (λ n. record { 0 = n }) (number_to 4294967295 w)
+directory_of w = option_map (λ n. record { 0 = n }) (number_to most_directory w)
 
 -- a node of 48 bits, in twelve hexadecimal digits of either case (own)
 abbrev pub node_of : List ℕ → Option ℕ

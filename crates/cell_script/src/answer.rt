@@ -4,7 +4,7 @@ use cds_stamps::{DirId, Stamp};
 use cell_names::FullName;
 
 /// What the cell answers to a line.
-#[derive(Debug, Drop)]
+#[derive(Drop)]
 pub enum Answer {
     /// Nothing but that it is done.
     Done,
@@ -24,7 +24,7 @@ pub enum Answer {
 }
 
 /// Why a command is refused.
-#[derive(Debug, Drop)]
+#[derive(Drop)]
 pub enum ScriptRefusal {
     HouseExists,
     NoHouse,

@@ -6,7 +6,7 @@ use cell_names::FullName;
 
 /// A command that is a step of the cell. Its fields stand in the order of its words, and all further houses of a
 /// replica set are one list.
-#[derive(Debug, Drop)]
+#[derive(Drop)]
 pub enum Command {
     House(HouseNo, Node),
     Clock(HouseNo, u64),
@@ -23,7 +23,7 @@ pub enum Command {
 }
 
 /// A command that asks and changes nothing. The `bool` is the confidence, true for high.
-#[derive(Debug, Drop)]
+#[derive(Drop)]
 pub enum Question {
     Read(HouseNo, bool, FullName, AttrName),
     Readlink(HouseNo, bool, FullName),
@@ -32,7 +32,7 @@ pub enum Question {
 }
 
 /// What a line says.
-#[derive(Debug, Drop)]
+#[derive(Drop)]
 pub enum ScriptLine {
     Cell(Command),
     Question(Question),

@@ -8,6 +8,8 @@ mod fault;
 mod lists;
 mod parse;
 mod print;
+mod questions;
+mod updates;
 mod word;
 mod words;
 
@@ -16,4 +18,4 @@ pub use command::{Command, Question, ScriptLine};
 pub use fault::ParseFault;
 pub use lists::{HouseNos, Octets, Serials, Values};
 pub use parse::parse_line;
-pub use print::{append_answer, print_answer, print_fault, print_parse_fault};
+pub use print::{append_answer, print_fault, print_parse_fault};

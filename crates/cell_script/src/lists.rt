@@ -7,7 +7,7 @@ use std::alloc::{AllocError, Global};
 use std::marker::Model;
 
 /// Numbers of houses.
-#[derive(Debug, Drop)]
+#[derive(Drop)]
 pub struct HouseNos {
     items: Vec<HouseNo>,
 }
@@ -46,7 +46,7 @@ impl HouseNos {
 }
 
 /// Serial numbers of messages.
-#[derive(Debug, Drop)]
+#[derive(Drop)]
 pub struct Serials {
     items: Vec<u64>,
 }
@@ -84,7 +84,7 @@ impl Serials {
 }
 
 /// Values of an attribute.
-#[derive(Debug, Drop)]
+#[derive(Drop)]
 pub struct Values {
     items: Vec<Value>,
 }
@@ -129,7 +129,7 @@ impl Values {
 }
 
 /// Octets that are asked about.
-#[derive(Debug, Drop)]
+#[derive(Drop)]
 pub struct Octets {
     items: Vec<u8>,
 }

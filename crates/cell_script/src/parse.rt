@@ -2,12 +2,13 @@
 ghost use Rattle.std.specs.Prelude.{◌≡◌, ◌∷◌, Ok, None};
 ghost use Rattle.cds_stamps.specs.Outcomes.{Answers};
 ghost use Rattle.cell_script.specs.Words.{words_of};
-ghost use Rattle.cell_script.specs.Commands.{is_later, said_by, said_in};
+ghost use Rattle.cell_script.specs.Commands.{is_later, said_in};
+ghost use Rattle.cell_script.specs.RowWords.{made_by, updated_by, changed_by, asked_by};
 
 use crate::command::ScriptLine;
-use crate::commands;
 use crate::fault::ParseFault;
 use crate::words::{Parsed, Words};
+use crate::{commands, questions, updates};
 use cds_stamps::AllocOr;
 use std::alloc::Global;
 
@@ -21,10 +22,10 @@ fn comes_later(word: &[u8]) -> bool
     LATER.split(|b| *b == b' ').any(|later| later == word)
 }
 
-// What the words behind the first one say.
-#[tactic(auto, unfolding(crate::specs::Commands::said_by))]
+// What the words behind the first one say: of a command that makes houses or directories, or of another.
+#[tactic(auto, unfolding(crate::specs::RowWords::made_by))]
 fn said(alloc: Global, word: &[u8], words: &mut Words<'_>) -> Parsed<ScriptLine>
-    ensures { Answers result (said_by word.now words.old) }
+    ensures { Answers result (made_by word.now words.old) }
 {
     if word == b"house".as_slice() {
         return commands::house(words);
@@ -41,35 +42,59 @@ fn said(alloc: Global, word: &[u8], words: &mut Words<'_>) -> Parsed<ScriptLine>
     if word == b"repoint".as_slice() {
         return commands::repoint(alloc, words);
     }
+    updated(alloc, word, words)
+}
+
+// The same of an update of an entry, or of its values, or of a question.
+#[tactic(auto, unfolding(crate::specs::RowWords::updated_by))]
+fn updated(alloc: Global, word: &[u8], words: &mut Words<'_>) -> Parsed<ScriptLine>
+    ensures { Answers result (updated_by word.now words.old) }
+{
     if word == b"create".as_slice() {
-        return commands::create(alloc, words);
+        return updates::create(alloc, words);
     }
     if word == b"link".as_slice() {
-        return commands::link(alloc, words);
+        return updates::link(alloc, words);
     }
     if word == b"delete".as_slice() {
-        return commands::delete(alloc, words);
+        return updates::delete(alloc, words);
     }
+    changed(alloc, word, words)
+}
+
+// The same of a change of an entry's values, or of a question.
+#[tactic(auto, unfolding(crate::specs::RowWords::changed_by))]
+fn changed(alloc: Global, word: &[u8], words: &mut Words<'_>) -> Parsed<ScriptLine>
+    ensures { Answers result (changed_by word.now words.old) }
+{
     if word == b"add".as_slice() {
-        return commands::add(alloc, words);
+        return updates::add(alloc, words);
     }
     if word == b"remove".as_slice() {
-        return commands::remove(alloc, words);
+        return updates::remove(alloc, words);
     }
     if word == b"put".as_slice() {
-        return commands::put(alloc, words);
+        return updates::put(alloc, words);
     }
     if word == b"clear".as_slice() {
-        return commands::clear(alloc, words);
+        return updates::clear(alloc, words);
     }
+    asked(alloc, word, words)
+}
+
+// The same of a question, or the fault of a word of no command.
+#[tactic(auto, unfolding(crate::specs::RowWords::asked_by))]
+fn asked(alloc: Global, word: &[u8], words: &mut Words<'_>) -> Parsed<ScriptLine>
+    ensures { Answers result (asked_by word.now words.old) }
+{
     if word == b"read".as_slice() {
-        return commands::read(alloc, words);
+        return questions::read(alloc, words);
     }
     if word == b"readlink".as_slice() {
-        return commands::readlink(alloc, words);
+        return questions::readlink(alloc, words);
     }
     if word == b"decode".as_slice() {
-        return commands::decode(alloc, words);
+        return questions::decode(alloc, words);
     }
     if comes_later(word) {
         return Err(AllocOr::Fault(ParseFault::NotBuilt(1)));
@@ -92,7 +117,7 @@ pub fn parse_line(alloc: Global, line: &[u8]) -> Result<Option<ScriptLine>, Allo
 }
 
 // What a line of this first word says.
-#[tactic(auto, using(crate::proofs::Reading::some_line_says))]
+#[tactic(auto, using(crate::proofs::Families::made_by_is, crate::proofs::Reading::some_line_says))]
 fn said_behind(alloc: Global, word: &[u8], words: &mut Words<'_>) -> Parsed<Option<ScriptLine>>
     requires { words.old.read ≡ 1 }
     ensures answer { Answers result (said_in (word.now ∷ words.old.rest)) }

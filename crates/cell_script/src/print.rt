@@ -3,16 +3,16 @@ ghost use Rattle.std.specs.Prelude.{◌≡◌, ◌++◌, ◌∷◌, length, take
 ghost use Rattle.hex.specs.Hex.{encode_lower};
 ghost use Rattle.cell_names.specs.FullNames.{spelling};
 ghost use Rattle.cell_script.specs.Texts.{line_text, spaced, stamp_text, posted_text, values_text, accepted_text, refusal_name, refusal_numbers};
-ghost use Rattle.cell_script.specs.Texts.{message_name, answer_text, fault_text, parse_fault_text};
+ghost use Rattle.cell_script.specs.Texts.{stamped_text, message_name, answer_text, fault_text, parse_fault_text};
 
 use crate::answer::{Answer, ScriptRefusal};
 use crate::fault::ParseFault;
 use attr_sets::Value;
-use cds_stamps::Stamp;
+use cds_stamps::{DirId, Stamp};
 use itoa::Buffer;
 use std::alloc::{AllocError, Global};
 
-// Room for the line of an answer with few numbers.
+// Room for the line of a fault.
 const USUAL_LINE: usize = 80;
 
 // A number, in decimal digits.
@@ -170,6 +170,48 @@ fn message_of(tag: u8) -> &'static [u8]
     }
 }
 
+// The stamp of an update, and the messages that were posted.
+fn push_stamped(line: &mut Vec<u8>, stamp: &Stamp, serials: &[u64]) -> Result<(), AllocError>
+    ensures ok { OnOk result (line.new.items ≡ line.old.items ++ stamped_text stamp.now serials.now) }
+    ensures err { OnErr result (take (length line.old.items) line.new.items ≡ line.old.items) }
+{
+    push_stamp(line, stamp)?;
+    push_posted(line, serials)
+}
+
+// The name of a message by its tag, and how many octets it has.
+fn push_message(line: &mut Vec<u8>, tag: u8, used: usize) -> Result<(), AllocError>
+    ensures ok { OnOk result (line.new.items ≡ line.old.items ++ (message_name tag ++ 32 ∷ decimal used)) }
+    ensures err { OnErr result (take (length line.old.items) line.new.items ≡ line.old.items) }
+{
+    line.extend_from_slice(message_of(tag))?;
+    push_spaced(line, used as u64)
+}
+
+// The name of a refusal, and its numbers.
+fn push_refusal(line: &mut Vec<u8>, refusal: &ScriptRefusal) -> Result<(), AllocError>
+    ensures ok { OnOk result (line.new.items ≡ line.old.items ++ (refusal_name refusal.now ++ refusal_numbers refusal.now)) }
+    ensures err { OnErr result (take (length line.old.items) line.new.items ≡ line.old.items) }
+{
+    line.extend_from_slice(name_of(refusal))?;
+    push_numbers(line, refusal)
+}
+
+// The number of a new directory, the stamp of its entry, and the messages that were posted.
+fn push_made(
+    line: &mut Vec<u8>,
+    dir: DirId,
+    stamp: &Stamp,
+    serials: &[u64],
+) -> Result<(), AllocError>
+    ensures ok { OnOk result (line.new.items ≡ line.old.items ++ (decimal dir.0 ++ 32 ∷ stamped_text stamp.now serials.now)) }
+    ensures err { OnErr result (take (length line.old.items) line.new.items ≡ line.old.items) }
+{
+    push_number(line, u64::from(dir.0))?;
+    line.push(b' ')?;
+    push_stamped(line, stamp, serials)
+}
+
 // What an answer says.
 fn push_answer(alloc: Global, line: &mut Vec<u8>, answer: &Answer) -> Result<(), AllocError>
     ensures ok { OnOk result (line.new.items ≡ line.old.items ++ answer_text answer.now) }
@@ -182,16 +224,12 @@ fn push_answer(alloc: Global, line: &mut Vec<u8>, answer: &Answer) -> Result<(),
             push_posted(line, serials.list())
         }
         Answer::Made(dir, stamp, serials) => {
-            line.extend_from_slice(b"ok")?;
-            push_spaced(line, u64::from(dir.0))?;
-            line.push(b' ')?;
-            push_stamp(line, stamp)?;
-            push_posted(line, serials.list())
+            line.extend_from_slice(b"ok ")?;
+            push_made(line, *dir, stamp, serials.list())
         }
         Answer::Stamped(stamp, serials) => {
             line.extend_from_slice(b"ok ")?;
-            push_stamp(line, stamp)?;
-            push_posted(line, serials.list())
+            push_stamped(line, stamp, serials.list())
         }
         Answer::Values(values) => {
             line.extend_from_slice(b"ok ")?;
@@ -203,13 +241,11 @@ fn push_answer(alloc: Global, line: &mut Vec<u8>, answer: &Answer) -> Result<(),
         }
         Answer::Decoded(tag, used) => {
             line.extend_from_slice(b"ok ")?;
-            line.extend_from_slice(message_of(*tag))?;
-            push_spaced(line, *used as u64)
+            push_message(line, *tag, *used)
         }
         Answer::Refused(refusal) => {
             line.extend_from_slice(b"refused ")?;
-            line.extend_from_slice(name_of(refusal))?;
-            push_numbers(line, refusal)
+            push_refusal(line, refusal)
         }
     }
 }
@@ -247,15 +283,6 @@ pub fn append_answer(
         return Err(error);
     }
     Ok(())
-}
-
-/// The line of an answer.
-pub fn print_answer(alloc: Global, number: u32, answer: &Answer) -> Result<Vec<u8>, AllocError>
-    ensures { IfOk result (λ line. line.items ≡ line_text number (answer_text answer.now)) }
-{
-    let mut line = Vec::with_capacity(alloc, USUAL_LINE)?;
-    push_line(alloc, &mut line, number, answer)?;
-    Ok(line)
 }
 
 /// The line of a fault: its name and its place.

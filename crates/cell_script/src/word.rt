@@ -1,5 +1,5 @@
 // What a single word says.
-ghost use Rattle.std.specs.Prelude.{◌≡◌, ◌*◌, ◌%◌, ◌≤◌, ◌∷◌, length, IfOk};
+ghost use Rattle.std.specs.Prelude.{◌≡◌, ◌≢◌, ◌*◌, ◌%◌, ◌≤◌, ℕ, List, ◌∷◌, true, false, length, None, IfOk};
 ghost use Rattle.std.specs.Int.{from_be_bytes, w64};
 ghost use Rattle.cell_script.specs.Words.{number_of, number_to, house_of, directory_of, node_of, octets_value_of, octets_of, confidence_of};
 
@@ -13,18 +13,33 @@ const LOW: &[u8] = b"low";
 
 const HIGH: &[u8] = b"high";
 
+// The greatest number of a house.
+const MOST_HOUSE: u64 = 255;
+
+// The greatest number of a directory.
+const MOST_DIRECTORY: u64 = 4_294_967_295;
+
 // The most digits of a value.
 const MOST_DIGITS: usize = 2048;
 
 // The most digits for which little room is made.
 const USUAL_DIGITS: usize = 32;
 
+// Whether a zero stands in front of further octets.
+#[tactic(auto, unfolding(crate::specs::Words::number_of))]
+fn has_leading_zero(word: &[u8]) -> bool
+    ensures none { result ≡ true → number_of word.now ≡ None }
+    ensures other { result ≡ false → (c : ℕ) (cs : List ℕ) → word.now ≢ 48 ∷ c ∷ cs }
+{
+    word.len() > 1 && word[0] == b'0'
+}
+
 /// A decimal number of 64 bits, with no sign and no leading zero.
 #[tactic(auto, unfolding(crate::specs::Words::number_of))]
 pub(crate) fn number(word: &[u8]) -> Option<u64>
     ensures { result ≡ number_of word.now }
 {
-    if word.is_empty() || (word[0] == b'0' && word.len() > 1) {
+    if word.is_empty() || has_leading_zero(word) {
         return None;
     }
     let mut value: u64 = 0;
@@ -57,7 +72,7 @@ fn number_up_to(word: &[u8], most: u64) -> Option<u64>
 pub(crate) fn house(word: &[u8]) -> Option<HouseNo>
     ensures { result ≡ house_of word.now }
 {
-    match number_up_to(word, 255) {
+    match number_up_to(word, MOST_HOUSE) {
         Some(number) => Some(HouseNo(number as u8)),
         None => None,
     }
@@ -67,7 +82,7 @@ pub(crate) fn house(word: &[u8]) -> Option<HouseNo>
 pub(crate) fn directory(word: &[u8]) -> Option<DirId>
     ensures { result ≡ directory_of word.now }
 {
-    match number_up_to(word, 4_294_967_295) {
+    match number_up_to(word, MOST_DIRECTORY) {
         Some(number) => Some(DirId(number as u32)),
         None => None,
     }

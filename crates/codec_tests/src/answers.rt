@@ -3,8 +3,8 @@ use attr_sets::Value;
 use cds_stamps::{DirId, Node, Stamp};
 use cell_names::FullName;
 use cell_script::{
-    Answer, Command, ParseFault, ScriptLine, ScriptRefusal, Serials, Values, parse_line,
-    print_answer, print_fault, print_parse_fault,
+    Answer, Command, ParseFault, ScriptLine, ScriptRefusal, Serials, Values, append_answer,
+    parse_line, print_fault, print_parse_fault,
 };
 use std::alloc::Global;
 use std::test::Fail;
@@ -24,7 +24,8 @@ fn stamp() -> Result<Stamp, Fail> {
 
 // Whether the answer to line 7 is this text.
 fn is_told(alloc: Global, answer: Answer, text: &str) -> Result<bool, Fail> {
-    let line = print_answer(alloc, 7, &answer)?;
+    let mut line = Vec::new(alloc);
+    append_answer(alloc, &mut line, 7, &answer)?;
     Ok(line.as_slice() == text.as_bytes())
 }
 

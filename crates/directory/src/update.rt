@@ -54,30 +54,90 @@ impl Update {
     pub fn copy(&self, alloc: Global) -> Result<Update, AllocError>
         ensures { IfOk result (λ u. u ≡ self.now) }
     {
-        Ok(match self {
-            Update::Create(name) => Update::Create(name.copy(alloc)?),
-            Update::MakeLink(name, target) => {
-                Update::MakeLink(name.copy(alloc)?, target.copy(alloc)?)
-            }
-            Update::MakeChild(name, pointer) => {
-                Update::MakeChild(name.copy(alloc)?, pointer.copy(alloc)?)
-            }
-            Update::Delete(name) => Update::Delete(name.copy(alloc)?),
-            Update::Add(name, attr, value) => {
-                Update::Add(name.copy(alloc)?, attr.copy(alloc)?, value.copy(alloc)?)
-            }
-            Update::Remove(name, attr, value) => {
-                Update::Remove(name.copy(alloc)?, attr.copy(alloc)?, value.copy(alloc)?)
-            }
-            Update::Put(name, attr, value) => {
-                Update::Put(name.copy(alloc)?, attr.copy(alloc)?, value.copy(alloc)?)
-            }
-            Update::Clear(name, attr) => Update::Clear(name.copy(alloc)?, attr.copy(alloc)?),
-            Update::Repoint(name, houses) => {
-                Update::Repoint(name.copy(alloc)?, houses.copy(alloc)?)
-            }
-        })
+        match self {
+            Update::Create(name) => Ok(Update::Create(name.copy(alloc)?)),
+            Update::MakeLink(name, target) => copy_link(alloc, name, target),
+            Update::MakeChild(name, pointer) => copy_child(alloc, name, pointer),
+            Update::Delete(name) => Ok(Update::Delete(name.copy(alloc)?)),
+            Update::Add(name, attr, value) => copy_addition(alloc, name, attr, value),
+            Update::Remove(name, attr, value) => copy_removal(alloc, name, attr, value),
+            Update::Put(name, attr, value) => copy_put(alloc, name, attr, value),
+            Update::Clear(name, attr) => copy_clear(alloc, name, attr),
+            Update::Repoint(name, houses) => copy_repointing(alloc, name, houses),
+        }
     }
+}
+
+/// An equal update that makes a link.
+fn copy_link(alloc: Global, name: &SimpleName, target: &FullName) -> Result<Update, AllocError>
+    ensures { IfOk result (λ u. u ≡ Update.MakeLink name.now target.now) }
+{
+    Ok(Update::MakeLink(name.copy(alloc)?, target.copy(alloc)?))
+}
+
+/// An equal update that makes a child.
+fn copy_child(
+    alloc: Global,
+    name: &SimpleName,
+    pointer: &ChildPointer,
+) -> Result<Update, AllocError>
+    ensures { IfOk result (λ u. u ≡ Update.MakeChild name.now pointer.now) }
+{
+    Ok(Update::MakeChild(name.copy(alloc)?, pointer.copy(alloc)?))
+}
+
+/// An equal update that adds a value.
+fn copy_addition(
+    alloc: Global,
+    name: &SimpleName,
+    attr: &AttrName,
+    value: &Value,
+) -> Result<Update, AllocError>
+    ensures { IfOk result (λ u. u ≡ Update.Add name.now attr.now value.now) }
+{
+    Ok(Update::Add(name.copy(alloc)?, attr.copy(alloc)?, value.copy(alloc)?))
+}
+
+/// An equal update that removes a value.
+fn copy_removal(
+    alloc: Global,
+    name: &SimpleName,
+    attr: &AttrName,
+    value: &Value,
+) -> Result<Update, AllocError>
+    ensures { IfOk result (λ u. u ≡ Update.Remove name.now attr.now value.now) }
+{
+    Ok(Update::Remove(name.copy(alloc)?, attr.copy(alloc)?, value.copy(alloc)?))
+}
+
+/// An equal update that puts a value.
+fn copy_put(
+    alloc: Global,
+    name: &SimpleName,
+    attr: &AttrName,
+    value: &Value,
+) -> Result<Update, AllocError>
+    ensures { IfOk result (λ u. u ≡ Update.Put name.now attr.now value.now) }
+{
+    Ok(Update::Put(name.copy(alloc)?, attr.copy(alloc)?, value.copy(alloc)?))
+}
+
+/// An equal update that clears an attribute.
+fn copy_clear(alloc: Global, name: &SimpleName, attr: &AttrName) -> Result<Update, AllocError>
+    ensures { IfOk result (λ u. u ≡ Update.Clear name.now attr.now) }
+{
+    Ok(Update::Clear(name.copy(alloc)?, attr.copy(alloc)?))
+}
+
+/// An equal update that sets the houses of a child.
+fn copy_repointing(
+    alloc: Global,
+    name: &SimpleName,
+    houses: &HouseList,
+) -> Result<Update, AllocError>
+    ensures { IfOk result (λ u. u ≡ Update.Repoint name.now houses.now) }
+{
+    Ok(Update::Repoint(name.copy(alloc)?, houses.copy(alloc)?))
 }
 
 /// The update that creates an entry, if it is absent. Where it is not no memory is asked for.

@@ -1,4 +1,4 @@
-use Rattle.std.proofs.Common.{ℕ, ◌+◌, ◌*◌, List, length, drop, sym, ◌∙◌, ap, arith, ⊎_elim}
+use Rattle.std.proofs.Common.{ℕ, ◌+◌, ◌*◌, drop, refl, sym, ◌∙◌, ap, arith}
 use Rattle.std.proofs.lemmas.Bool.Decides.{nat_tests}
 use Rattle.std.proofs.lemmas.List.{at_drop_more, at_drop_all}
 use Rattle.std.proofs.Math.ListN.{get_or}
@@ -8,10 +8,7 @@ use Rattle.cell_script.proofs.word.number.Goals.{then-value-via-then-value, then
 
 pub loop-b-init : goal.loop-b-init
 loop-b-init c =
-    let some = c.if-is_empty.ensures in
-    number_on_word c.args.word.now (grind (arith, nat_tests, some)) (λ d ds is.
-    let size = ap length is in
-    ⊎_elim (λ short. let few = short.1 in omega (arith, size, few)) (λ other. other (ap (λ (l : List ℕ). get_or l 0 0) is)) c.if-word-gt1.either)
+    let some = c.if-is_empty.ensures in number_on_word c.args.word.now (grind (arith, nat_tests, some)) (c.if-has_leading_zero.ensures.other refl)
 
 pub returns-then-not-is_ascii_digit : goal.returns-then-not-is_ascii_digit
 returns-then-not-is_ascii_digit c =

@@ -52,8 +52,8 @@ returns-in_default-2 c g s =
     (repoint_bad c.args.self.now g s c.args.house.0 c.args.dir.0 c.args.name c.args.master.0 rs at.0 (ap (directory_of ls) c.in-Some.ensures.0
     ∙ at.1) house.0 house.1 all bad)
 
-pub accept_at-requires-clause-house : goal.accept_at-requires-clause-house
-accept_at-requires-clause-house c = place_within c.args.self.now.houses.items c.args.house.0 c.in-Some-position.by c.in-Some-position.ensures
+pub accept_houses-requires-clause-house : goal.accept_houses-requires-clause-house
+accept_houses-requires-clause-house c = place_within c.args.self.now.houses.items c.args.house.0 c.in-Some-position.by c.in-Some-position.ensures
 
 pub returns : goal.returns
 returns c g s =
@@ -68,7 +68,7 @@ returns c g s =
     let good = rw c.in-Some-2.is at c.in_ok-houses.ensures in
     let change : changes.Repoint n m (ascending rs) ≡ changes.Repoint n c.in-Some-2.houses.master c.in-Some-2.houses.others =
     ap (λ (x : Houses). changes.Repoint n x.master x.others) (sym good.1) in
-    answered_step c.answer.result c.in_ok-accepted.accepted c.accept_at.new.self _ _ (c.in_ok-accepted.ensures.step g h s c.in-Some-position.ensures)
+    answered_step c.answer.result c.in_ok-accepted.accepted c.accept_houses.new.self _ _ (c.in_ok-accepted.ensures g h s c.in-Some-position.ensures)
     c.answer.ensures
     (repoint_passes c.args.self.now g s h c.args.dir.0 n m rs at.0 (ap (directory_of ls) c.in-Some.ensures.0 ∙ at.1) house.0 house.1 all good.0
     ∙ ap (λ d. at_house g h (accept h (g.house h) d (changes.Repoint n m (ascending rs)))) c.in-Some.ensures.0

@@ -1,0 +1,19 @@
+-- Words of private functions alone: the commands family by family, as the functions that read them hand a line on.
+use Rattle.std.specs.Prelude.{ℕ, List, Result}
+use Rattle.cell_script.specs.declared.command.ScriptLine.{ScriptLine}
+use Rattle.cell_script.specs.declared.fault.ParseFault.{ParseFault}
+use Rattle.cell_script.specs.Forms.{Words}
+use Rattle.cell_script.specs.Commands.{said_among, no_command, making_rows, entry_rows, value_rows, question_rows}
+
+-- what the words behind a first word say that no family before has: a question, a change of values, an update, any command (own)
+unfoldable pub asked_by : List ℕ → Words → Result ScriptLine ParseFault
+asked_by word = said_among question_rows (no_command word) word
+
+unfoldable pub changed_by : List ℕ → Words → Result ScriptLine ParseFault
+changed_by word s = said_among value_rows (asked_by word s) word s
+
+unfoldable pub updated_by : List ℕ → Words → Result ScriptLine ParseFault
+updated_by word s = said_among entry_rows (changed_by word s) word s
+
+unfoldable pub made_by : List ℕ → Words → Result ScriptLine ParseFault
+made_by word s = said_among making_rows (updated_by word s) word s

@@ -1,0 +1,40 @@
+// The questions.
+#![tactic(auto, unfolding(crate::specs::RowWords::asked_by))]
+
+ghost use Rattle.std.specs.Prelude.{codes};
+ghost use Rattle.cds_stamps.specs.Outcomes.{Answers};
+ghost use Rattle.cell_script.specs.RowWords.{asked_by};
+
+use crate::command::{Question, ScriptLine};
+use crate::words::{Parsed, Words};
+use std::alloc::Global;
+
+pub(crate) fn read(alloc: Global, words: &mut Words<'_>) -> Parsed<ScriptLine>
+    ensures { Answers result (asked_by (codes "read") words.old) }
+{
+    words.exactly(4)?;
+    Ok(ScriptLine::Question(Question::Read(
+        words.house()?,
+        words.confidence()?,
+        words.full_name(alloc)?,
+        words.attr_name(alloc)?,
+    )))
+}
+
+pub(crate) fn readlink(alloc: Global, words: &mut Words<'_>) -> Parsed<ScriptLine>
+    ensures { Answers result (asked_by (codes "readlink") words.old) }
+{
+    words.exactly(3)?;
+    Ok(ScriptLine::Question(Question::Readlink(
+        words.house()?,
+        words.confidence()?,
+        words.full_name(alloc)?,
+    )))
+}
+
+pub(crate) fn decode(alloc: Global, words: &mut Words<'_>) -> Parsed<ScriptLine>
+    ensures { Answers result (asked_by (codes "decode") words.old) }
+{
+    words.exactly(1)?;
+    Ok(ScriptLine::Question(Question::Decode(words.octets(alloc)?)))
+}
