@@ -75,7 +75,7 @@ full_name_of w = result_ok (ok_unless (name_fault w) (components_of w))
 abbrev pub attr_name_of : List ℕ → Option (List ℕ)
 attr_name_of w = result_ok (ok_unless (attr_fault w) w)
 
--- a value of 1 to 1,024 octets, in hexadecimal digits of either case (own)
+-- a value, in hexadecimal digits of either case (own)
 abbrev pub value_in : List ℕ → Option (List ℕ)
 value_in octets = result_ok (ok_unless (value_fault octets) octets)
 

@@ -1,10 +1,11 @@
 // What a single word says.
 ghost use Rattle.std.specs.Prelude.{◌≡◌, ◌≢◌, ◌*◌, ◌%◌, ◌≤◌, ℕ, List, ◌∷◌, true, false, length, None, IfOk};
 ghost use Rattle.std.specs.Int.{from_be_bytes, w64};
+ghost use Rattle.attr_sets.specs.Values.{longest_value};
 ghost use Rattle.cell_script.specs.Words.{number_of, number_to, house_of, directory_of, node_of, octets_value_of, octets_of, confidence_of};
 
 use crate::lists::Octets;
-use attr_sets::Value;
+use attr_sets::{LONGEST_VALUE, Value};
 use cds_stamps::{AllocOr, DirId, HouseNo, Node};
 use hex::FromHexError;
 use std::alloc::{AllocError, Global};
@@ -20,7 +21,7 @@ const MOST_HOUSE: u64 = 255;
 const MOST_DIRECTORY: u64 = 4_294_967_295;
 
 // The most digits of a value.
-const MOST_DIGITS: usize = 2048;
+const MOST_DIGITS: usize = 2 * LONGEST_VALUE;
 
 // The most digits for which little room is made.
 const USUAL_DIGITS: usize = 32;
@@ -143,10 +144,10 @@ pub(crate) fn value(alloc: Global, word: &[u8]) -> Result<Option<Value>, AllocEr
 // The value of many digits: its room is made only where there are so many.
 fn long_value(alloc: Global, word: &[u8]) -> Result<Option<Value>, AllocError>
     requires even { length word.now % 2 ≡ 0 }
-    requires within { length word.now ≤ 2048 }
+    requires within { length word.now ≤ 2 * longest_value }
     ensures { IfOk result (λ v. v ≡ octets_value_of word.now) }
 {
-    let mut octets = [0; MOST_DIGITS / 2];
+    let mut octets = [0; LONGEST_VALUE];
     value_in(alloc, word, &mut octets[..word.len() / 2])
 }
 
