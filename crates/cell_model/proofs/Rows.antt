@@ -126,12 +126,13 @@ ack_row now m t r (Spreading u a) k phase =
     (λ _. passes (Stale t (Some u)) tt)
 
 -- neither a Join nor a Leave
-abbrev IsOther : Body → Type 0
+abbrev pub IsOther : Body → Type 0
 IsOther (Join ms copy) = ⊥
 IsOther Leave = ⊥
 IsOther _ = Unit {0}
 
-own_row : (now : House) (m : Message) (r : Replica) (b : Body) → IsOther b → Own now m b r → Row now m (take_own now m r b)
+-- a message of the epoch that is held comes to a row
+pub own_row : (now : House) (m : Message) (r : Replica) (b : Body) → IsOther b → Own now m b r → Row now m (take_own now m r b)
 own_row now m r (Update marks) o k = updates marks r k
 own_row now m r (Gather t) o k = gives t r k
 own_row now m r (Gathered t copy) o k = gathered_row now m t copy r r.phase k refl
@@ -141,7 +142,8 @@ own_row now m r (Advance t) o k = advances t r k
 own_row now m r (Join ms copy) o k = elim o [ ]
 own_row now m r Leave o k = elim o [ ]
 
-other_row : (now : House) (m : Message) (b : Body) (s : Slot) → IsOther b → m.body ≡ b → now.slots m.dir ≡ s → Row now m (take_other now m b s)
+-- and so does any message but a Join and a Leave
+pub other_row : (now : House) (m : Message) (b : Body) (s : Slot) → IsOther b → m.body ≡ b → now.slots m.dir ≡ s → Row now m (take_other now m b s)
 other_row now m b Absent o is e = passes NoReplica tt
 other_row now m b (Gone d) o is e = passes NoReplica tt
 other_row now m b (Held r) o is e =
@@ -154,7 +156,8 @@ other_row now m b (Held r) o is e =
 
 -- ---- Joins and Leaves
 
-join_row : (now : House) (m : Message) (ms : List Member) (copy : Copy) (s : Slot) → m.body ≡ Join ms copy → now.slots m.dir ≡ s
+-- a Join
+pub join_row : (now : House) (m : Message) (ms : List Member) (copy : Copy) (s : Slot) → m.body ≡ Join ms copy → now.slots m.dir ≡ s
     → Row now m (take_join now m ms copy s)
 join_row now m ms copy Absent is e =
     if_row now m (is_listed m.receiver ms && is_listed m.sender ms) _ _
@@ -185,7 +188,8 @@ join_row now m ms copy (Held r) is e =
         copies ms copy timely (λ r' e'. let same : r ≡ r' = cc in
         subst (λ (z : Replica). (z.epoch ≤ m.epoch) × (z.epoch < since_in ms m.receiver 0)) same (le, le_not _ _ q))
 
-leave_row : (now : House) (m : Message) (s : Slot) → m.body ≡ Leave → now.slots m.dir ≡ s → Row now m (take_leave now m s)
+-- a Leave
+pub leave_row : (now : House) (m : Message) (s : Slot) → m.body ≡ Leave → now.slots m.dir ≡ s → Row now m (take_leave now m s)
 leave_row now m Absent is e = leaves (record { is = is; gone = λ d q. absurd (cc) }) (λ r q. absurd (cc))
 leave_row now m (Gone d) is e =
     late_row now m (cond (nat_le m.epoch d) (Some d) None) _
