@@ -2,3 +2,4 @@ mod MemberLists
 mod Maps
 mod Posts
 mod Phases
+mod TakeSteps
