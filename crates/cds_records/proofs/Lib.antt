@@ -4,12 +4,12 @@ pub mod MapLoops
 pub mod Valid
 pub mod Listed
 pub mod DecodingLaws
-pub mod WritingLaws
 pub mod Ascending
-pub mod KeyedWriting
-pub mod WritingMembers
-pub mod WritingBodies
-pub mod WritingImages
+pub mod WholeFields
+pub mod WholeReplicas
+pub mod WholeMessages
+pub mod WholeImages
+pub mod WritingLoops
 pub mod Spelling
 pub mod SpellingRecords
 pub mod OneDecoding

@@ -5,8 +5,9 @@ pub mod Fields
 pub mod Records
 pub mod Decoding
 pub mod Validity
-pub mod PrivateWriting
 pub mod Kinds
 pub mod Dirs
 pub mod PrivateDirCodes
 pub mod Images
+pub mod Octets
+pub mod Ranges

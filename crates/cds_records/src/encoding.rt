@@ -1,17 +1,19 @@
 // Octets of messages.
-ghost use Rattle.std.specs.Prelude.{◌≡◌, ℕ, Bool, Option, None, IfOk, OnOk};
+ghost use Rattle.std.specs.Prelude.{◌≡◌, ◌++◌, ◌<◌, ◌^◌, None, IfOk, OnOk};
 ghost use Rattle.cds_stamps.specs.Members.{members_of, members_fault};
+ghost use Rattle.cds_stamps.specs.Names.{simple_name_fault};
 ghost use Rattle.directory.specs.Entries.{IsValidEntry, IsValidTable};
 ghost use Rattle.cds_records.specs.Decoding.{IsWhole};
-ghost use Rattle.cds_records.specs.Validity.{IsValidBody, IsValidMessage};
-ghost use Rattle.cds_records.specs.PrivateWriting.{Writes};
-ghost use Rattle.cds_records.specs.Fields.{number_order};
 ghost use Rattle.cds_records.specs.Kinds as kinds;
+ghost use Rattle.cds_records.specs.Octets.{name_octets, stamp_octets, entry_octets, replica_octets, member_octets, members_octets};
+ghost use Rattle.cds_records.specs.Octets.{body_octets, message_head, message_octets, message_with};
+ghost use Rattle.cds_records.specs.Ranges.{FitsStamp, FitsEntry, FitsReplica, FitsMembers, FitsBody, FitsHead};
 ghost use Rattle.cds_records.specs.Records as records;
+ghost use Rattle.cds_records.specs.Validity.{IsValidMessage};
 ghost use Rattle.cds_records.specs.declared.message.Body.TheVariants as bodies;
 
-use crate::format::FORMAT;
-use crate::message::{Body, Message};
+use crate::format::{FORMAT, GATHERED, JOIN, SPREAD, UPDATE};
+use crate::message::{Body, Head, Message};
 use crate::writing::{
     put_entry, put_octet, put_replica, put_simple_name, put_stamp, put_u32, put_u64,
 };
@@ -20,95 +22,131 @@ use directory::Fragment;
 use purge_rule::Replica;
 use std::alloc::{AllocError, Global};
 
-/// The octets of a message. That they are is promised if its entries and tables are valid.
+/// The octets of a message. They are the whole of it if its entries and tables are valid.
 pub fn encode(alloc: Global, message: &Message) -> Result<Vec<u8>, AllocError>
-    ensures { IfOk result (λ v. IsValidMessage message.now → IsWhole records.message message.now v.items) }
+    ensures octets { IfOk result (λ v. v.items ≡ message_octets message.now) }
+    ensures whole { IfOk result (λ v. IsValidMessage message.now → IsWhole records.message message.now v.items) }
 {
-    let mut out = Vec::new(alloc);
-    put_octet(&mut out, FORMAT)?;
-    put_octet(&mut out, message.body.tag())?;
-    put_u32(&mut out, message.dir.0)?;
-    put_octet(&mut out, message.from.0)?;
-    put_u64(&mut out, message.epoch.0)?;
-    put_u64(&mut out, message.floor)?;
+    let mut out = begin(alloc, &message.head(), message.body.tag())?;
     put_body(&mut out, &message.body)?;
     Ok(out)
 }
 
+/// The octets of an Update with this head, from borrowed marks. They are the whole of it if its entry is valid.
+pub fn encode_update(alloc: Global, head: &Head, fragment: &Fragment) -> Result<Vec<u8>, AllocError>
+    ensures octets { IfOk result (λ v. v.items ≡ message_octets (message_with head.now (bodies.Update fragment.now))) }
+    ensures whole { IfOk result (λ v. IsValidEntry fragment.now.entry → IsWhole records.message (message_with head.now (bodies.Update fragment.now)) v.items) }
+{
+    let mut out = begin(alloc, head, UPDATE)?;
+    put_fragment(&mut out, fragment)?;
+    Ok(out)
+}
+
+/// The octets of a Gathered with this head, from a borrowed replica. They are the whole of it if its table is valid.
+pub fn encode_gathered(
+    alloc: Global,
+    head: &Head,
+    t: &Stamp,
+    replica: &Replica,
+) -> Result<Vec<u8>, AllocError>
+    ensures octets { IfOk result (λ v. v.items ≡ message_octets (message_with head.now (bodies.Gathered t.now replica.now))) }
+    ensures whole { IfOk result (λ v. IsValidTable replica.now.table → IsWhole records.message (message_with head.now (bodies.Gathered t.now replica.now)) v.items) }
+{
+    let mut out = begin(alloc, head, GATHERED)?;
+    put_copied(&mut out, t, replica)?;
+    Ok(out)
+}
+
+/// The octets of a Spread with this head, in the same way.
+pub fn encode_spread(
+    alloc: Global,
+    head: &Head,
+    t: &Stamp,
+    replica: &Replica,
+) -> Result<Vec<u8>, AllocError>
+    ensures octets { IfOk result (λ v. v.items ≡ message_octets (message_with head.now (bodies.Spread t.now replica.now))) }
+    ensures whole { IfOk result (λ v. IsValidTable replica.now.table → IsWhole records.message (message_with head.now (bodies.Spread t.now replica.now)) v.items) }
+{
+    let mut out = begin(alloc, head, SPREAD)?;
+    put_copied(&mut out, t, replica)?;
+    Ok(out)
+}
+
+/// The octets of a Join with this head, from a borrowed list and replica. They are the whole of it if its table is valid.
+pub fn encode_join(
+    alloc: Global,
+    head: &Head,
+    members: &Members,
+    replica: &Replica,
+) -> Result<Vec<u8>, AllocError>
+    ensures octets { IfOk result (λ v. v.items ≡ message_octets (message_with head.now (bodies.Join members.now replica.now))) }
+    ensures whole { IfOk result (λ v. IsValidTable replica.now.table → IsWhole records.message (message_with head.now (bodies.Join members.now replica.now)) v.items) }
+{
+    let mut out = begin(alloc, head, JOIN)?;
+    put_joined(&mut out, members, replica)?;
+    Ok(out)
+}
+
+/// What stands before what a message of this tag carries.
+fn begin(alloc: Global, head: &Head, tag: u8) -> Result<Vec<u8>, AllocError>
+    ensures octets { IfOk result (λ v. v.items ≡ message_head 1 head.now tag) }
+    ensures fits { IfOk result (λ v. FitsHead head.now) }
+{
+    let mut out = Vec::new(alloc);
+    put_octet(&mut out, FORMAT)?;
+    put_octet(&mut out, tag)?;
+    put_u32(&mut out, head.dir.0)?;
+    put_octet(&mut out, head.from.0)?;
+    put_u64(&mut out, head.epoch.0)?;
+    put_u64(&mut out, head.floor)?;
+    Ok(out)
+}
+
 /// What a message carries.
+#[tactic(auto, unfolding(crate::specs::Octets::body_octets))]
 fn put_body(out: &mut Vec<u8>, body: &Body) -> Result<(), AllocError>
-    ensures { OnOk result (IsValidBody body.now → Writes (records.body (records.tag_of body.now)) body.now out.old.items out.new.items) }
+    ensures octets { OnOk result (out.new.items ≡ out.old.items ++ body_octets body.now) }
+    ensures fits { OnOk result (FitsBody body.now) }
 {
     match body {
-        Body::Update(fragment) => put_update(out, fragment),
-        Body::Gather(stamp) => put_gather(out, stamp),
-        Body::Gathered(stamp, replica) => put_gathered(out, stamp, replica),
-        Body::Spread(stamp, replica) => put_spread(out, stamp, replica),
-        Body::SpreadAck(stamp) => put_spread_ack(out, stamp),
-        Body::Advance(stamp) => put_advance(out, stamp),
-        Body::Join(members, replica) => put_join(out, members, replica),
-        Body::Leave => put_leave(out),
+        Body::Update(fragment) => put_fragment(out, fragment),
+        Body::Gather(stamp) => put_stamp(out, stamp),
+        Body::Gathered(stamp, replica) => put_copied(out, stamp, replica),
+        Body::Spread(stamp, replica) => put_copied(out, stamp, replica),
+        Body::SpreadAck(stamp) => put_stamp(out, stamp),
+        Body::Advance(stamp) => put_stamp(out, stamp),
+        Body::Join(members, replica) => put_joined(out, members, replica),
+        Body::Leave => Ok(()),
     }
 }
 
 /// The marks of an update: the name of its entry, and the entry.
-fn put_update(out: &mut Vec<u8>, fragment: &Fragment) -> Result<(), AllocError>
-    ensures { OnOk result (IsValidEntry fragment.now.entry → Writes (records.body 1) (bodies.Update fragment.now) out.old.items out.new.items) }
+fn put_fragment(out: &mut Vec<u8>, fragment: &Fragment) -> Result<(), AllocError>
+    ensures octets { OnOk result (out.new.items ≡ out.old.items ++ (name_octets fragment.now.name ++ entry_octets fragment.now.entry)) }
+    ensures fits { OnOk result ((simple_name_fault fragment.now.name ≡ None) × FitsEntry fragment.now.entry) }
 {
     put_simple_name(out, &fragment.name)?;
     put_entry(out, &fragment.entry)?;
     Ok(())
 }
 
-fn put_gather(out: &mut Vec<u8>, stamp: &Stamp) -> Result<(), AllocError>
-    ensures { OnOk result (Writes (records.body 2) (bodies.Gather stamp.now) out.old.items out.new.items) }
-{
-    put_stamp(out, stamp)?;
-    Ok(())
-}
-
-fn put_gathered(out: &mut Vec<u8>, stamp: &Stamp, replica: &Replica) -> Result<(), AllocError>
-    ensures { OnOk result (IsValidTable replica.now.table → Writes (records.body 3) (bodies.Gathered stamp.now replica.now) out.old.items out.new.items) }
+/// The stamp of a skulk, and a replica.
+fn put_copied(out: &mut Vec<u8>, stamp: &Stamp, replica: &Replica) -> Result<(), AllocError>
+    ensures octets { OnOk result (out.new.items ≡ out.old.items ++ (stamp_octets stamp.now ++ replica_octets replica.now)) }
+    ensures fits { OnOk result (FitsStamp stamp.now × FitsReplica replica.now) }
 {
     put_stamp(out, stamp)?;
     put_replica(out, replica)?;
     Ok(())
 }
 
-fn put_spread(out: &mut Vec<u8>, stamp: &Stamp, replica: &Replica) -> Result<(), AllocError>
-    ensures { OnOk result (IsValidTable replica.now.table → Writes (records.body 4) (bodies.Spread stamp.now replica.now) out.old.items out.new.items) }
-{
-    put_stamp(out, stamp)?;
-    put_replica(out, replica)?;
-    Ok(())
-}
-
-fn put_spread_ack(out: &mut Vec<u8>, stamp: &Stamp) -> Result<(), AllocError>
-    ensures { OnOk result (Writes (records.body 5) (bodies.SpreadAck stamp.now) out.old.items out.new.items) }
-{
-    put_stamp(out, stamp)?;
-    Ok(())
-}
-
-fn put_advance(out: &mut Vec<u8>, stamp: &Stamp) -> Result<(), AllocError>
-    ensures { OnOk result (Writes (records.body 6) (bodies.Advance stamp.now) out.old.items out.new.items) }
-{
-    put_stamp(out, stamp)?;
-    Ok(())
-}
-
-fn put_join(out: &mut Vec<u8>, members: &Members, replica: &Replica) -> Result<(), AllocError>
-    ensures { OnOk result (IsValidTable replica.now.table → Writes (records.body 7) (bodies.Join members.now replica.now) out.old.items out.new.items) }
+/// The members of an epoch, and the master's replica.
+fn put_joined(out: &mut Vec<u8>, members: &Members, replica: &Replica) -> Result<(), AllocError>
+    ensures octets { OnOk result (out.new.items ≡ out.old.items ++ (members_octets members.now ++ replica_octets replica.now)) }
+    ensures fits { OnOk result (FitsMembers members.now × FitsReplica replica.now) }
 {
     put_members(out, members.list())?;
     put_replica(out, replica)?;
-    Ok(())
-}
-
-fn put_leave(out: &mut Vec<u8>) -> Result<(), AllocError>
-    ensures { OnOk result (Writes (records.body 8) bodies.Leave out.old.items out.new.items) }
-{
-    let _ = out;
     Ok(())
 }
 
@@ -124,10 +162,8 @@ fn kind_number(kind: MemberKind) -> u8
 
 /// A member.
 fn put_member(out: &mut Vec<u8>, member: &Member) -> Result<(), AllocError>
-    ensures { OnOk result
-        ((left : ℕ) (before : Option ℕ) (master : Bool) → number_order before member.now.house.0 ≡ None
-        → records.kind_rule left master (kinds.kind_number member.now.kind) ≡ None
-        → Writes (records.member left before master) member.now out.old.items out.new.items) }
+    ensures octets { OnOk result (out.new.items ≡ out.old.items ++ member_octets member.now) }
+    ensures fits { OnOk result (member.now.since.0 < 2 ^ 64) }
 {
     put_octet(out, member.house.0)?;
     put_u64(out, member.since.0)?;
@@ -138,7 +174,8 @@ fn put_member(out: &mut Vec<u8>, member: &Member) -> Result<(), AllocError>
 /// A member list.
 pub(crate) fn put_members(out: &mut Vec<u8>, list: &[Member]) -> Result<(), AllocError>
     requires { members_fault (members_of list.now) ≡ None }
-    ensures { OnOk result (Writes records.members list.now out.old.items out.new.items) }
+    ensures octets { OnOk result (out.new.items ≡ out.old.items ++ members_octets list.now) }
+    ensures fits { OnOk result (FitsMembers list.now) }
 {
     put_octet(out, list.len() as u8)?;
     for member in list {

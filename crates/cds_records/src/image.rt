@@ -70,7 +70,9 @@ impl ImageDirs {
     }
 
     /// The directories with what is kept of them, ascending, given away.
-    pub fn into_entries(self) -> IntoIter<DirId, ImageDir, Global> {
+    pub fn into_entries(self) -> IntoIter<DirId, ImageDir, Global>
+        ensures { result ≡ map.entries self }
+    {
         self.dirs.into_iter()
     }
 

@@ -1,17 +1,12 @@
 // Octets of images.
-ghost use Rattle.std.specs.Prelude.{◌≡◌, Option, None, IfOk, OnOk};
-ghost use Rattle.std.specs.FinMap as map;
-ghost use Rattle.std.specs.Option.{option_map};
-ghost use Rattle.cds_stamps.specs.Joins.{EachValue};
+ghost use Rattle.std.specs.Prelude.{◌≡◌, ◌++◌, ◌<◌, ◌^◌, IfOk, OnOk};
+ghost use Rattle.std.specs.FinMap.{entries};
 ghost use Rattle.cds_stamps.specs.declared.numbers.DirId as number;
-ghost use Rattle.directory.specs.Entries.{IsValidTable};
 ghost use Rattle.cds_records.specs.Decoding.{IsWhole};
-ghost use Rattle.cds_records.specs.Dirs.{dir_cmp};
-ghost use Rattle.cds_records.specs.Fields.{number_order};
 ghost use Rattle.cds_records.specs.Images as images;
-ghost use Rattle.cds_records.specs.Records as records;
-ghost use Rattle.cds_records.specs.Validity.{IsValidDir, IsValidImage};
-ghost use Rattle.cds_records.specs.PrivateWriting.{Writes};
+ghost use Rattle.cds_records.specs.Octets.{each_octets, dir_octets, kept_octets, image_head, image_octets};
+ghost use Rattle.cds_records.specs.Ranges.{ItemsFit, FitsDir};
+ghost use Rattle.cds_records.specs.Validity.{IsValidImage};
 ghost use Rattle.cds_records.specs.declared.image.ImageDir.TheVariants as states;
 
 use crate::encoding::put_members;
@@ -21,64 +16,54 @@ use crate::writing::{put_node, put_octet, put_replica, put_u32, put_u64};
 use cds_stamps::{DirId, EpochNo, HouseNo, Members, Node};
 use purge_rule::Replica;
 use std::alloc::{AllocError, Global};
+use std::marker::Model;
 
-/// The octets of an image. That they are is promised if its tables are valid.
+/// The octets of an image. They are the whole of it if its tables are valid.
 pub fn encode_image(alloc: Global, image: &Image) -> Result<Vec<u8>, AllocError>
-    ensures { IfOk result (λ v. IsValidImage image.now → IsWhole images.image image.now v.items) }
+    ensures octets { IfOk result (λ v. v.items ≡ image_octets image.now) }
+    ensures whole { IfOk result (λ v. IsValidImage image.now → IsWhole images.image image.now v.items) }
 {
-    let mut out = Vec::new(alloc);
-    put_octet(&mut out, FORMAT)?;
-    put_octet(&mut out, IMAGE)?;
-    put_octet(&mut out, image.house.0)?;
-    put_node(&mut out, image.node)?;
-    put_u64(&mut out, image.floor)?;
-    put_u64(&mut out, image.dirs.len() as u64)?;
+    let count = image.dirs.len() as u64;
+    let mut out = begin_image(alloc, image.house, image.node, image.floor, count)?;
     put_dirs(&mut out, &image.dirs)?;
     Ok(out)
 }
 
-/// The directories of an image.
-fn put_dirs(out: &mut Vec<u8>, dirs: &ImageDirs) -> Result<(), AllocError>
-    ensures { OnOk result
-        (EachValue IsValidDir dirs.now
-        → Writes (records.map_of {R = dir_cmp} images.dir_number images.dir_state (map.len dirs.now)) dirs.now out.old.items out.new.items) }
+/// What stands before the directories, of which there are so many.
+fn begin_image(
+    alloc: Global,
+    house: HouseNo,
+    node: Node,
+    floor: u64,
+    count: u64,
+) -> Result<Vec<u8>, AllocError>
+    ensures octets { IfOk result (λ v. v.items ≡ image_head 1 house.0 node floor count) }
+    ensures node { node < 2 ^ 48 }
+    ensures floor { floor < 2 ^ 64 }
 {
-    for (dir, kept) in dirs.iter() {
-        put_numbered(out, dir, kept)?;
-    }
-    Ok(())
+    let mut out = Vec::new(alloc);
+    put_octet(&mut out, FORMAT)?;
+    put_octet(&mut out, IMAGE)?;
+    put_octet(&mut out, house.0)?;
+    put_node(&mut out, node)?;
+    put_u64(&mut out, floor)?;
+    put_u64(&mut out, count)?;
+    Ok(out)
 }
 
-/// A directory and what is kept of it.
-fn put_numbered(out: &mut Vec<u8>, dir: &DirId, kept: &ImageDir) -> Result<(), AllocError>
-    ensures { OnOk result
-        (IsValidDir kept.now → (before : Option number.DirId) → number_order (option_map (λ (d : number.DirId). d.0) before) dir.now.0 ≡ None
-        → Writes (records.item images.dir_number images.dir_state before) (dir.now, kept.now) out.old.items out.new.items) }
-{
-    put_u32(out, dir.0)?;
-    put_dir(out, kept)?;
-    Ok(())
-}
-
-/// What is kept of a directory.
-fn put_dir(out: &mut Vec<u8>, kept: &ImageDir) -> Result<(), AllocError>
-    ensures { OnOk result (IsValidDir kept.now → Writes images.dir_state kept.now out.old.items out.new.items) }
-{
-    match kept {
-        ImageDir::Held(epoch, members, replica) => put_held(out, *epoch, members, replica),
-        ImageDir::Gone(epoch) => put_gone(out, *epoch),
-    }
-}
-
-/// A directory that is held: its epoch, its members and its replica.
+/// A directory that is held: its number, its epoch, its members and its replica.
 fn put_held(
     out: &mut Vec<u8>,
+    dir: DirId,
     epoch: EpochNo,
     members: &Members,
     replica: &Replica,
 ) -> Result<(), AllocError>
-    ensures { OnOk result (IsValidTable replica.now.table → Writes images.dir_state (states.Held epoch members.now replica.now) out.old.items out.new.items) }
+    ensures octets { OnOk result (
+        out.new.items ≡ out.old.items ++ (dir_octets dir ++ kept_octets (states.Held epoch members.now replica.now))) }
+    ensures fits { OnOk result ((dir.0 < 2 ^ 32) × FitsDir (states.Held epoch members.now replica.now)) }
 {
+    put_u32(out, dir.0)?;
     put_octet(out, 1)?;
     put_u64(out, epoch.0)?;
     put_members(out, members.list())?;
@@ -86,19 +71,52 @@ fn put_held(
     Ok(())
 }
 
-/// A directory that the house has left: the epoch of that.
-fn put_gone(out: &mut Vec<u8>, epoch: EpochNo) -> Result<(), AllocError>
-    ensures { OnOk result (Writes images.dir_state (states.Gone epoch) out.old.items out.new.items) }
+/// A directory that the house has left: its number, and the epoch of that.
+fn put_gone(out: &mut Vec<u8>, dir: DirId, epoch: EpochNo) -> Result<(), AllocError>
+    ensures octets { OnOk result (out.new.items ≡ out.old.items ++ (dir_octets dir ++ kept_octets (states.Gone epoch))) }
+    ensures fits { OnOk result ((dir.0 < 2 ^ 32) × FitsDir (states.Gone epoch)) }
 {
+    put_u32(out, dir.0)?;
     put_octet(out, 2)?;
     put_u64(out, epoch.0)?;
     Ok(())
 }
 
-/// An image in the making: octets of what a house keeps, written from borrowed parts.
+/// A directory.
+fn put_dir(out: &mut Vec<u8>, dir: &DirId, kept: &ImageDir) -> Result<(), AllocError>
+    ensures octets { OnOk result (out.new.items ≡ out.old.items ++ (dir_octets dir.now ++ kept_octets kept.now)) }
+    ensures fits { OnOk result ((dir.now.0 < 2 ^ 32) × FitsDir kept.now) }
+{
+    match kept {
+        ImageDir::Held(epoch, members, replica) => put_held(out, *dir, *epoch, members, replica),
+        ImageDir::Gone(epoch) => put_gone(out, *dir, *epoch),
+    }
+}
+
+/// The directories of an image.
+fn put_dirs(out: &mut Vec<u8>, dirs: &ImageDirs) -> Result<(), AllocError>
+    ensures octets { OnOk result (out.new.items ≡ out.old.items ++ each_octets dir_octets kept_octets dirs.now) }
+    ensures fits { OnOk result (ItemsFit (λ (d : number.DirId). d.0 < 2 ^ 32) FitsDir (entries dirs.now)) }
+{
+    for (dir, kept) in dirs.iter() {
+        put_dir(out, dir, kept)?;
+    }
+    Ok(())
+}
+
+/// An image in the making, written from borrowed parts. It is seen as the octets that stand there; after want of memory
+/// some of a directory may be among them.
 #[derive(Drop)]
 pub struct ImageWriter {
     out: Vec<u8>,
+}
+
+impl Model for ImageWriter {
+    ghost use Rattle.std.specs.Prelude.{ℕ, List};
+
+    ghost Value = { List ℕ };
+
+    ghost view = { λ w. w.out.items };
 }
 
 impl ImageWriter {
@@ -109,14 +127,12 @@ impl ImageWriter {
         node: Node,
         floor: u64,
         count: u64,
-    ) -> Result<ImageWriter, AllocError> {
-        let mut out = Vec::new(alloc);
-        put_octet(&mut out, FORMAT)?;
-        put_octet(&mut out, IMAGE)?;
-        put_octet(&mut out, house.0)?;
-        put_node(&mut out, node)?;
-        put_u64(&mut out, floor)?;
-        put_u64(&mut out, count)?;
+    ) -> Result<ImageWriter, AllocError>
+        ensures octets { IfOk result (λ w. w ≡ image_head 1 house.0 node floor count) }
+        ensures node { node < 2 ^ 48 }
+        ensures floor { floor < 2 ^ 64 }
+    {
+        let out = begin_image(alloc, house, node, floor, count)?;
         Ok(ImageWriter { out })
     }
 
@@ -127,19 +143,25 @@ impl ImageWriter {
         epoch: EpochNo,
         members: &Members,
         replica: &Replica,
-    ) -> Result<(), AllocError> {
-        put_u32(&mut self.out, dir.0)?;
-        put_held(&mut self.out, epoch, members, replica)
+    ) -> Result<(), AllocError>
+        ensures octets { OnOk result (self.new ≡ self.old ++ (dir_octets dir ++ kept_octets (states.Held epoch members.now replica.now))) }
+        ensures fits { OnOk result ((dir.0 < 2 ^ 32) × FitsDir (states.Held epoch members.now replica.now)) }
+    {
+        put_held(&mut self.out, dir, epoch, members, replica)
     }
 
     /// The next directory, which the house has left.
-    pub fn gone(&mut self, dir: DirId, epoch: EpochNo) -> Result<(), AllocError> {
-        put_u32(&mut self.out, dir.0)?;
-        put_gone(&mut self.out, epoch)
+    pub fn gone(&mut self, dir: DirId, epoch: EpochNo) -> Result<(), AllocError>
+        ensures octets { OnOk result (self.new ≡ self.old ++ (dir_octets dir ++ kept_octets (states.Gone epoch))) }
+        ensures fits { OnOk result ((dir.0 < 2 ^ 32) × FitsDir (states.Gone epoch)) }
+    {
+        put_gone(&mut self.out, dir, epoch)
     }
 
     /// The octets of the image.
-    pub fn octets(self) -> Vec<u8> {
+    pub fn octets(self) -> Vec<u8>
+        ensures { result.items ≡ self }
+    {
         self.out
     }
 }

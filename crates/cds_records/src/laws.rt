@@ -5,7 +5,10 @@ ghost use Rattle.cds_records.specs.declared.message.Message.{Message};
 ghost use Rattle.cds_records.specs.Decoding.{IsWhole, Decodes, decoding, with_memory};
 ghost use Rattle.cds_records.specs.declared.image.Image.{Image};
 ghost use Rattle.cds_records.specs.Images.{image};
+ghost use Rattle.cds_records.specs.Octets.{message_octets, image_octets};
+ghost use Rattle.cds_records.specs.Ranges.{FitsMessage, FitsImage};
 ghost use Rattle.cds_records.specs.Records.{message};
+ghost use Rattle.cds_records.specs.Validity.{IsValidMessage, IsValidImage};
 
 /// The octets of no message begin those of another, so what follows a message is never taken as its own, and octets are
 /// those of one message at most.
@@ -33,4 +36,15 @@ pub fn an_image_has_one_spelling()
 pub fn octets_decode_to_one_thing()
     ensures messages { (octets : List ℕ) → Decodes message octets (with_memory (decoding message octets)) }
     ensures images { (octets : List ℕ) → Decodes image octets (with_memory (decoding image octets)) }
+{}
+
+/// The octets of a message are the whole of it, if its entries and tables are valid, its numbers fit their fields, and its
+/// names, values and members keep their rules.
+pub fn octets_of_a_message_are_whole()
+    ensures { (m : Message) → IsValidMessage m → FitsMessage m → IsWhole message m (message_octets m) }
+{}
+
+/// So are the octets of an image.
+pub fn octets_of_an_image_are_whole()
+    ensures { (i : Image) → IsValidImage i → FitsImage i → IsWhole image i (image_octets i) }
 {}

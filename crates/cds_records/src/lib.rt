@@ -17,8 +17,8 @@ mod tables;
 mod writing;
 
 pub use decoding::{decode, decode_image};
-pub use encoding::encode;
+pub use encoding::{encode, encode_gathered, encode_join, encode_spread, encode_update};
 pub use fault::RecordFault;
 pub use image::{Image, ImageDir, ImageDirs};
 pub use image_encoding::{ImageWriter, encode_image};
-pub use message::{Body, Message};
+pub use message::{Body, Head, Message};

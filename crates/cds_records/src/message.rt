@@ -1,7 +1,9 @@
 // Messages between the houses of a directory.
 ghost use Rattle.std.specs.Prelude.{◌≡◌, IfOk};
+ghost use Rattle.cds_records.specs.Octets.{head_of};
 ghost use Rattle.cds_records.specs.Records.{tag_of};
 
+use crate::format::{ADVANCE, GATHER, GATHERED, JOIN, LEAVE, SPREAD, SPREAD_ACK, UPDATE};
 use cds_stamps::{DirId, EpochNo, HouseNo, Members, Stamp};
 use directory::Fragment;
 use purge_rule::Replica;
@@ -16,6 +18,15 @@ pub struct Message {
     /// The sender's floor when it posted the message.
     pub floor: u64,
     pub body: Body,
+}
+
+/// What stands before what a message carries: the directory, and the house that posts it with its epoch and its floor.
+#[derive(Clone, Copy)]
+pub struct Head {
+    pub dir: DirId,
+    pub from: HouseNo,
+    pub epoch: EpochNo,
+    pub floor: u64,
 }
 
 /// What a message carries.
@@ -40,6 +51,18 @@ pub enum Body {
 }
 
 impl Message {
+    /// What stands before what it carries.
+    pub fn head(&self) -> Head
+        ensures { result ≡ head_of self.now }
+    {
+        Head {
+            dir: self.dir,
+            from: self.from,
+            epoch: self.epoch,
+            floor: self.floor,
+        }
+    }
+
     /// A message of the same parts.
     pub fn copy(&self, alloc: Global) -> Result<Message, AllocError>
         ensures { IfOk result (λ m. m ≡ self.now) }
@@ -61,14 +84,14 @@ impl Body {
         ensures { result ≡ tag_of self.now }
     {
         match self {
-            Body::Update(_) => 1,
-            Body::Gather(_) => 2,
-            Body::Gathered(_, _) => 3,
-            Body::Spread(_, _) => 4,
-            Body::SpreadAck(_) => 5,
-            Body::Advance(_) => 6,
-            Body::Join(_, _) => 7,
-            Body::Leave => 8,
+            Body::Update(_) => UPDATE,
+            Body::Gather(_) => GATHER,
+            Body::Gathered(_, _) => GATHERED,
+            Body::Spread(_, _) => SPREAD,
+            Body::SpreadAck(_) => SPREAD_ACK,
+            Body::Advance(_) => ADVANCE,
+            Body::Join(_, _) => JOIN,
+            Body::Leave => LEAVE,
         }
     }
 

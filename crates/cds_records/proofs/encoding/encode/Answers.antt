@@ -1,10 +1,16 @@
-use Rattle.cds_records.proofs.WritingBodies.{message_written}
+use Rattle.std.proofs.Common.{◌∙◌}
+use Rattle.cds_records.specs.Octets.{message_head}
+use Rattle.cds_records.specs.Ranges.{FitsHead}
+use Rattle.std.proofs.Common.{subst}
+use Rattle.cds_records.proofs.WholeMessages.{message_written, written_whole}
 use Rattle.cds_records.proofs.encoding.encode.Goals as goal
 
-pub returns : goal.returns
-returns c = λ valid.
-    message_written c.args.message.now c.new-out.result.items c.put_octet.new.out.items c.put_octet-2.new.out.items c.put_u32.new.out.items
-    c.put_octet-3.new.out.items c.put_u64.new.out.items c.put_u64-2.new.out.items c.put_body.new.out.items
-    c.new-out.ensures.items c.in_ok-put_octet.ensures
-    (rw (← c.tag.ensures) c.in_ok-put_octet-2.ensures) c.in_ok-put_u32.ensures c.in_ok-put_octet-3.ensures c.in_ok-put_u64.ensures c.in_ok-put_u64-2.ensures
-    (c.in_ok-put_body.ensures valid)
+pub returns-clause-octets : goal.returns-clause-octets
+returns-clause-octets c =
+    message_written _ c.args.message.now.body _ _ (c.in_ok-out.ensures.octets ∙ (λ i. message_head 1 (c.head.ensures i) (c.tag.ensures i)))
+    c.in_ok-put_body.ensures.octets
+
+pub returns-clause-whole : goal.returns-clause-whole
+returns-clause-whole c =
+    written_whole _ c.args.message.now.body _ (returns-clause-octets c) (subst FitsHead c.head.ensures c.in_ok-out.ensures.fits)
+    c.in_ok-put_body.ensures.fits

@@ -1,9 +1,23 @@
-use Rattle.cds_records.proofs.WritingImages.{image_written}
+use Rattle.std.proofs.Common.{◌++◌, ◌∙◌, ap, sym, subst, arith}
+use Rattle.cds_records.specs.Decoding.{IsWhole}
+use Rattle.cds_records.specs.Images.{image}
+use Rattle.cds_records.specs.Octets.{dir_octets, kept_octets, each_octets, image_head, image_octets_in}
+use Rattle.cds_records.proofs.WholeImages.{the_image_whole}
 use Rattle.cds_records.proofs.image_encoding.encode_image.Goals as goal
 
-pub returns : goal.returns
-returns c = λ valid.
-    image_written c.args.image.now c.new-out.result.items c.put_octet.new.out.items c.put_octet-2.new.out.items c.put_octet-3.new.out.items
-    c.put_node.new.out.items c.put_u64.new.out.items c.put_u64-2.new.out.items c.put_dirs.new.out.items
-    c.new-out.ensures.items c.in_ok-put_octet.ensures c.in_ok-put_octet-2.ensures c.in_ok-put_octet-3.ensures c.in_ok-put_node.ensures.node
-    c.in_ok-put_u64.ensures (rw (← c.len.ensures) c.in_ok-put_u64-2.ensures) (c.in_ok-put_dirs.ensures valid)
+pub returns-clause-octets : goal.returns-clause-octets
+unfolding image_octets_in
+returns-clause-octets c =
+    let i = c.args.image.now in
+    c.in_ok-put_dirs.ensures.octets
+    ∙ ap (λ o. o ++ each_octets dir_octets kept_octets i.dirs)
+    (c.in_ok-out.ensures.octets ∙ ap (image_head 1 i.house.0 i.node i.floor) c.len-count.ensures)
+
+pub returns-clause-whole : goal.returns-clause-whole
+returns-clause-whole c =
+    λ valid. subst (λ o. IsWhole image c.args.image.now o) (sym (returns-clause-octets c))
+    (the_image_whole c.args.image.now valid (record {
+      node = c.in_ok-out.ensures.node;
+      floor = c.in_ok-out.ensures.floor;
+      dirs = record { count = omega (arith, c.len-count.ensures); each = c.in_ok-put_dirs.ensures.fits };
+    }))

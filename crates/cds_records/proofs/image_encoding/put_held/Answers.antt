@@ -1,12 +1,18 @@
-use Rattle.std.proofs.Common.{subst}
-use Rattle.cds_records.specs.PrivateWriting.{Writes}
-use Rattle.cds_records.specs.Records.{members}
-use Rattle.cds_records.proofs.WritingImages.{held_written}
+use Rattle.std.proofs.Common.{◌++◌, ◌∷◌, [], ◌∙◌, ap, subst, arith}
+use Rattle.std.specs.Int.{w32, w64, to_be_bytes}
+use Rattle.cds_records.specs.Octets.{dir_octets, kept_octets, members_octets, replica_octets}
+use Rattle.cds_records.specs.Ranges.{FitsMembers}
+use Rattle.cds_records.proofs.WritingLoops.{behind_5}
 use Rattle.cds_records.proofs.image_encoding.put_held.Goals as goal
 
-pub returns : goal.returns
-returns c = λ valid.
-    held_written c.args.epoch c.args.members.now c.args.replica.now c.args.out.now.items c.put_octet.new.out.items c.put_u64.new.out.items
-    c.put_members.new.out.items c.put_replica.new.out.items c.in_ok-put_octet.ensures c.in_ok-put_u64.ensures
-    (subst (λ ms. Writes members ms c.put_u64.new.out.items c.put_members.new.out.items) c.list.ensures.value c.in_ok-put_members.ensures)
-    (c.in_ok-put_replica.ensures valid)
+pub returns-clause-octets : goal.returns-clause-octets
+unfolding dir_octets kept_octets
+returns-clause-octets c =
+    let a = c.args in
+    behind_5 a.out.now.items (to_be_bytes w32 a.dir.0) (1 ∷ []) (to_be_bytes w64 a.epoch.0) (members_octets a.members.now) (replica_octets a.replica.now)
+    c.in_ok-put_u32.ensures c.in_ok-put_octet.ensures c.in_ok-put_u64.ensures
+    (c.in_ok-put_members.ensures.octets ∙ ap (λ ms. c.put_u64.new.out.items ++ members_octets ms) c.list.ensures.value) c.in_ok-put_replica.ensures.octets
+
+pub returns-clause-fits : goal.returns-clause-fits
+returns-clause-fits c =
+    (omega arith, (omega arith, subst FitsMembers c.list.ensures.value c.in_ok-put_members.ensures.fits, c.in_ok-put_replica.ensures.fits))

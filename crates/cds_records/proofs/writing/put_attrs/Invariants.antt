@@ -1,8 +1,10 @@
-use Rattle.directory.specs.Entries.{IsHeldCell}
-use Rattle.cds_records.specs.Fields.{attr_name}
-use Rattle.cds_records.specs.Records.{cell}
-use Rattle.cds_records.proofs.KeyedWriting.{octets_keys, Written}
+use Rattle.std.proofs.Common.{◌≡◌, None}
+use Rattle.std.specs.FinMap.{entries}
+use Rattle.cds_stamps.specs.Names.{attr_fault}
+use Rattle.cds_records.specs.Octets.{name_octets, cell_octets}
+use Rattle.cds_records.specs.Ranges.{FitsCell}
+use Rattle.cds_records.proofs.WritingLoops.{Written}
 use Rattle.cds_records.proofs.writing.put_attrs.Given as goal
 
 abbrev pub invariant-loop-name : goal.invariant-loop-name
-invariant-loop-name l = Written octets_keys IsHeldCell attr_name cell l.attrs l.name-iterator l.fn.out.items l.out.items
+invariant-loop-name l = Written name_octets cell_octets (λ n. attr_fault n ≡ None) FitsCell (entries l.attrs) l.name-iterator l.fn.out.items l.out.items

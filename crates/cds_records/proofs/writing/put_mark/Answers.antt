@@ -1,7 +1,10 @@
-use Rattle.cds_records.proofs.WritingLaws.{mark_written}
+use Rattle.std.proofs.Common.{◌++◌, ◌∷◌, ◌∙◌, ap}
+use Rattle.cds_records.specs.Octets.{stamp_octets, mark_octets}
+use Rattle.cds_records.proofs.WritingLoops.{behind}
 use Rattle.cds_records.proofs.writing.put_mark.Goals as goal
 
-pub returns : goal.returns
-returns c =
-    λ cleared lawful. mark_written cleared c.args.mark.now c.flag.result c.args.out.now.items c.put_octet.new.out.items c.put_stamp.new.out.items
-    c.flag.ensures c.in_ok-put_octet.ensures c.in_ok-put_stamp.ensures lawful
+pub returns-clause-octets : goal.returns-clause-octets
+unfolding mark_octets
+returns-clause-octets c =
+    behind _ _ _ _ _ c.in_ok-put_octet.ensures c.in_ok-put_stamp.ensures.octets
+    ∙ ap (λ n. c.args.out.now.items ++ n ∷ stamp_octets c.args.mark.now.stamp) c.flag.ensures

@@ -1,15 +1,14 @@
-use Rattle.std.proofs.Common.{◌≡◌, subst, arith, None}
-use Rattle.cds_records.specs.Fields.{octets_order, simple_name}
-use Rattle.cds_records.specs.PrivateWriting.{Writes}
-use Rattle.cds_records.proofs.WritingLaws.{simple_name_lawful, simple_name_written}
+use Rattle.std.proofs.Common.{◌++◌, ◌∷◌, ◌∙◌, ap, length, arith}
+use Rattle.cds_records.specs.Octets.{name_octets}
+use Rattle.cds_records.proofs.WholeFields.{simple_name_lawful}
+use Rattle.cds_records.proofs.WritingLoops.{behind}
 use Rattle.cds_records.proofs.writing.put_simple_name.Goals as goal
 
 pub overflow_cast-octets : goal.overflow_cast-octets
 overflow_cast-octets c = omega (arith, (simple_name_lawful c.octets-octets.result.now c.octets-octets.ensures.lawful).2)
 
-pub returns : goal.returns
-returns c = λ before above.
-    subst (λ k. octets_order before k ≡ None
-    → Writes (simple_name before) k c.args.out.now.items c.extend_from_slice.new.self.items) c.octets-octets.ensures.value
-    (simple_name_written c.octets-octets.result.now c.args.out.now.items c.put_octet.new.out.items c.extend_from_slice.new.self.items
-    c.octets-octets.ensures.lawful c.in_ok-put_octet.ensures c.in_ok-extend_from_slice.ensures.items before) above
+pub returns-clause-octets : goal.returns-clause-octets
+unfolding name_octets
+returns-clause-octets c =
+    behind _ _ _ _ _ c.in_ok-put_octet.ensures c.in_ok-extend_from_slice.ensures.items
+    ∙ ap (λ o. c.args.out.now.items ++ length o ∷ o) c.octets-octets.ensures.value

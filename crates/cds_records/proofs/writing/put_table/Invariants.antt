@@ -1,8 +1,10 @@
-use Rattle.directory.specs.Entries.{IsValidEntry}
-use Rattle.cds_records.specs.Fields.{simple_name}
-use Rattle.cds_records.specs.Records.{entry}
-use Rattle.cds_records.proofs.KeyedWriting.{octets_keys, Written}
+use Rattle.std.proofs.Common.{◌≡◌, None}
+use Rattle.std.specs.FinMap.{entries}
+use Rattle.cds_stamps.specs.Names.{simple_name_fault}
+use Rattle.cds_records.specs.Octets.{name_octets, entry_octets}
+use Rattle.cds_records.specs.Ranges.{FitsEntry}
+use Rattle.cds_records.proofs.WritingLoops.{Written}
 use Rattle.cds_records.proofs.writing.put_table.Given as goal
 
 abbrev pub invariant-loop-name : goal.invariant-loop-name
-invariant-loop-name l = Written octets_keys IsValidEntry simple_name entry l.table l.name-iterator l.fn.out.items l.out.items
+invariant-loop-name l = Written name_octets entry_octets (λ n. simple_name_fault n ≡ None) FitsEntry (entries l.table) l.name-iterator l.fn.out.items l.out.items

@@ -1,11 +1,15 @@
-use Rattle.std.proofs.Common.{◌++◌, ◌∙◌, ap, arith}
-use Rattle.cds_records.proofs.WritingLaws.{value_lawful, value_written}
+use Rattle.std.proofs.Common.{◌++◌, ◌∙◌, arith}
+use Rattle.std.specs.Int.{w16, to_be_bytes}
+use Rattle.cds_records.specs.Octets.{value_octets}
+use Rattle.cds_records.proofs.WholeFields.{value_lawful}
+use Rattle.cds_records.proofs.WritingLoops.{behind}
 use Rattle.cds_records.proofs.writing.put_value.Goals as goal
 
 pub overflow_cast-len : goal.overflow_cast-len
 overflow_cast-len c = omega (arith, (value_lawful c.args.value.now c.len.ensures.lawful).1, c.len.ensures.len)
 
-pub returns : goal.returns
-returns c =
-    value_written c.args.value.now c.args.out.now.items c.put_u16.new.out.items c.extend_from_slice.new.self.items c.len.ensures.lawful
-    (rw (← c.len.ensures.len) c.in_ok-put_u16.ensures) (c.in_ok-extend_from_slice.ensures.items ∙ ap (λ o. c.put_u16.new.out.items ++ o) c.octets.ensures)
+pub returns-clause-octets : goal.returns-clause-octets
+unfolding value_octets
+returns-clause-octets c =
+    behind _ _ _ _ _ c.in_ok-put_u16.ensures c.in_ok-extend_from_slice.ensures.items
+    ∙ (λ i. c.args.out.now.items ++ (to_be_bytes w16 (c.len.ensures.len i) ++ c.octets.ensures i))

@@ -1,0 +1,67 @@
+-- The octets of images are the whole of them.
+use Rattle.std.proofs.Common.{◌≡◌, ℕ, ◌^◌, ◌<◌, List, [], ◌∷◌, ◌++◌, Option, None, refl, append_assoc, arith}
+use Rattle.std.specs.Prelude.{◌==◌}
+use Rattle.std.specs.FinMap.{len}
+use Rattle.cds_stamps.specs.declared.numbers.DirId.{DirId}
+use Rattle.cds_records.specs.declared.fault.Rule.TheVariants.{BadTag, BadFlag}
+use Rattle.cds_records.specs.declared.image.Image.{Image}
+use Rattle.cds_records.specs.declared.image.ImageDir.{ImageDir}
+use Rattle.cds_records.specs.declared.image.ImageDir.TheVariants.{Held, Gone}
+use Rattle.cds_records.specs.Layouts.{done, next, choose}
+use Rattle.cds_records.specs.Decoding.{IsWhole}
+use Rattle.cds_records.specs.Fields.{free, outside, number, node_octets}
+use Rattle.cds_records.specs.Images.{dir_number, held, dir_state, image, image_in}
+use Rattle.std.specs.Int.{w64, to_be_bytes}
+use Rattle.cds_records.specs.Octets.{members_octets, replica_octets, each_octets, dir_octets, kept_octets, image_head, image_octets_in, image_octets}
+use Rattle.cds_records.specs.Ranges.{FitsDir, FitsImage}
+use Rattle.cds_records.specs.Validity.{IsValidDir, IsValidImage}
+use Rattle.cds_records.proofs.WholeFields.{Whole, Keyed, dir_keys, dir_order, whole_next, whole_last, whole_as, within_lawful, octet_whole}
+use Rattle.cds_records.proofs.WholeFields.{u32_whole, u64_whole, node_whole, map_whole}
+use Rattle.cds_records.proofs.WholeReplicas.{replica_whole}
+use Rattle.cds_records.proofs.WholeMessages.{members_whole}
+
+number_whole : (before : Option DirId) (d : DirId) → d.0 < 2 ^ 32 → dir_order before d ≡ None → Whole (dir_number before) d (dir_octets d)
+unfolding dir_number dir_octets
+number_whole before d fits above =
+    whole_last {f = λ n. record { 0 = n }} (u32_whole (λ n. dir_order before (record { 0 = n })) d.0 fits above) refl
+
+four : (a b c d : List ℕ) → a ++ (b ++ (c ++ d)) ≡ a ++ b ++ c ++ d
+four a b c d = simp append_assoc refl
+
+kept_whole : (d : ImageDir) → IsValidDir d → FitsDir d → Whole dir_state d (kept_octets d)
+unfolding dir_state held kept_octets
+kept_whole (Held e ms r) valid fits =
+    whole_as
+    (whole_next {second = λ state. next (number w64 free) (λ epoch. choose (state == 1) (held epoch) (done (Gone (record { 0 = epoch }))))}
+    (octet_whole (outside BadFlag 1 2) 1 refl)
+    (whole_next {second = held} (u64_whole free e.0 fits.0 refl)
+    (whole_next (members_whole ms fits.1) (whole_last (replica_whole r valid fits.2) refl))))
+    (four (1 ∷ []) (to_be_bytes w64 e.0) (members_octets ms) (replica_octets r))
+kept_whole (Gone e) valid fits =
+    whole_next {second = λ state. next (number w64 free) (λ epoch. choose (state == 1) (held epoch) (done (Gone (record { 0 = epoch }))))}
+    (octet_whole (outside BadFlag 1 2) 2 refl) (whole_last {f = λ epoch. Gone (record { 0 = epoch })} (u64_whole free e.0 fits refl) refl)
+
+dirs : Keyed dir_keys IsValidDir dir_number dir_state (λ d. d.0 < 2 ^ 32) FitsDir dir_octets kept_octets
+dirs = record { keys = number_whole; contents = kept_whole }
+
+seven : (a b c d e f g : List ℕ) → a ++ (b ++ (c ++ (d ++ (e ++ (f ++ g))))) ≡ (a ++ b ++ c ++ d ++ e ++ f) ++ g
+seven a b c d e f g = simp append_assoc refl
+
+-- an image
+pub image_whole : (format : ℕ) (i : Image) → IsValidImage i → FitsImage i → Whole (image_in format) i (image_octets_in format i)
+unfolding image_in image_octets_in image_head
+image_whole format i valid fits =
+    whole_as
+    (whole_next (octet_whole (outside BadTag format format) format (within_lawful BadTag format format format (omega arith) (omega arith)))
+    (whole_next (octet_whole (outside BadTag 9 9) 9 refl)
+    (whole_next (octet_whole free i.house.0 refl)
+    (whole_next (node_whole i.node fits.node)
+    (whole_next (u64_whole free i.floor fits.floor refl)
+    (whole_next (u64_whole free (len i.dirs) fits.dirs.count refl) (whole_last (map_whole dirs i.dirs fits.dirs.each valid) refl)))))))
+    (seven (format ∷ []) (9 ∷ []) (i.house.0 ∷ []) (node_octets i.node) (to_be_bytes w64 i.floor) (to_be_bytes w64 (len i.dirs))
+    (each_octets dir_octets kept_octets i.dirs))
+
+-- an image of format 1
+pub the_image_whole : (i : Image) → IsValidImage i → FitsImage i → IsWhole image i (image_octets i)
+unfolding image
+the_image_whole i valid fits = (image_whole 1 i valid fits).is

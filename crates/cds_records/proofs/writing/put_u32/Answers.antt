@@ -1,8 +1,0 @@
-use Rattle.std.proofs.Common.{◌++◌, ◌∙◌, ap, arith}
-use Rattle.cds_records.proofs.WritingLaws.{u32_written}
-use Rattle.cds_records.proofs.writing.put_u32.Goals as goal
-
-pub returns : goal.returns
-returns c =
-    λ rule lawful. u32_written c.args.n c.args.out.now.items c.extend_from_slice.new.self.items (omega arith)
-    (c.in_ok-extend_from_slice.ensures.items ∙ ap (λ o. c.args.out.now.items ++ o) c.write_u32.ensures) rule lawful

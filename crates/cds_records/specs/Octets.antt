@@ -1,0 +1,139 @@
+-- The octets of messages and images as functions, field by field (own). Numbers are big-endian.
+use Rattle.std.specs.Prelude.{ℕ, ◌+◌, List, [], ◌∷◌, ◌++◌, length, Option, Some, None, if◌then◌else◌}
+use Rattle.std.specs.List.{flat_map}
+use Rattle.std.specs.Int.{w16, w32, w64, to_be_bytes}
+use Rattle.std.specs.FinMap.{FinMap, entries, len}
+use Rattle.std.specs.declared.cmp.Ordering.{Ordering}
+use Rattle.cds_stamps.specs.declared.stamp.Stamp.{Stamp}
+use Rattle.cds_stamps.specs.declared.numbers.DirId.{DirId}
+use Rattle.cds_stamps.specs.declared.members.Member.{Member}
+use Rattle.attr_sets.specs.declared.mark.ValueMark.{ValueMark}
+use Rattle.attr_sets.specs.declared.cell.AttrCell.{AttrCell}
+use Rattle.directory.specs.declared.entry.EntryCell.{EntryCell}
+use Rattle.directory.specs.Kinds.{rank}
+use Rattle.purge_rule.specs.declared.replica.Replica.{Replica}
+use Rattle.cds_records.specs.declared.image.ImageDir.{ImageDir}
+use Rattle.cds_records.specs.declared.image.ImageDir.TheVariants.{Held, Gone}
+use Rattle.cds_records.specs.declared.image.Image.{Image}
+use Rattle.cds_records.specs.declared.message.Head.{Head}
+use Rattle.cds_records.specs.declared.message.Message.{Message}
+use Rattle.cds_records.specs.declared.message.Body.{Body}
+use Rattle.cds_records.specs.declared.message.Body.TheVariants.{Update, Gather, Gathered, Spread, SpreadAck, Advance, Join, Leave}
+use Rattle.cds_records.specs.Fields.{node_octets}
+use Rattle.cds_records.specs.Kinds.{kind_number}
+use Rattle.cds_records.specs.Records.{tag_of}
+
+-- ---- fields
+
+-- a stamp: its time in 8 octets, and its node in 6 (own)
+unfoldable pub stamp_octets : Stamp → List ℕ
+stamp_octets s = to_be_bytes w64 s.time ++ node_octets s.node
+
+-- a flag, and a stamp where it is 1 (own)
+unfoldable pub optional_stamp_octets : Option Stamp → List ℕ
+optional_stamp_octets None = 0 ∷ []
+optional_stamp_octets (Some s) = 1 ∷ stamp_octets s
+
+-- a simple name or an attribute's name, behind its length in 1 octet (own)
+unfoldable pub name_octets : List ℕ → List ℕ
+name_octets name = length name ∷ name
+
+-- a value, behind its length in 2 octets (own)
+unfoldable pub value_octets : List ℕ → List ℕ
+value_octets value = to_be_bytes w16 (length value) ++ value
+
+-- ---- keyed lists
+
+-- each key, and what is said of it (own)
+unfoldable pub items_octets : {K X : Type 0} → (K → List ℕ) → (X → List ℕ) → List (K × X) → List ℕ
+items_octets key content es = flat_map (λ e. key e.0 ++ content e.1) es
+
+-- the entries of a map, in order (own)
+abbrev pub each_octets : {K X : Type 0} {R : K → K → Ordering} → (K → List ℕ) → (X → List ℕ) → FinMap R X → List ℕ
+each_octets key content m = items_octets key content (entries m)
+
+-- ---- replicas
+
+-- a mark: 1 where the value is present and else 0, and the stamp (own)
+unfoldable pub mark_octets : ValueMark → List ℕ
+mark_octets m = (if m.present then 1 else 0) ∷ stamp_octets m.stamp
+
+-- the clear of an attribute, how many values it has, and they with their marks (own)
+unfoldable pub cell_octets : AttrCell → List ℕ
+cell_octets c = optional_stamp_octets c.cleared ++ to_be_bytes w64 (len c.values) ++ each_octets value_octets mark_octets c.values
+
+-- an entry behind its name: its kind, birth and death, how many attributes it has, and they with their cells (own)
+unfoldable pub entry_octets : EntryCell → List ℕ
+entry_octets e =
+    (rank e.kind + 1) ∷ stamp_octets e.birth ++ optional_stamp_octets e.death ++ to_be_bytes w64 (len e.attrs)
+    ++ each_octets name_octets cell_octets e.attrs
+
+-- AllUpTo, how many entries the table has, and they with their names (own)
+unfoldable pub replica_octets : Replica → List ℕ
+replica_octets r = optional_stamp_octets r.all_up_to ++ to_be_bytes w64 (len r.table) ++ each_octets name_octets entry_octets r.table
+
+-- ---- members
+
+-- a member: its house, its since and its kind (own)
+unfoldable pub member_octets : Member → List ℕ
+member_octets m = m.house.0 ∷ to_be_bytes w64 m.since.0 ++ kind_number m.kind ∷ []
+
+-- how many members there are, and they (own)
+unfoldable pub members_octets : List Member → List ℕ
+members_octets ms = length ms ∷ flat_map member_octets ms
+
+-- ---- messages
+
+-- what a message carries behind its head (own)
+unfoldable pub body_octets : Body → List ℕ
+body_octets (Update f) = name_octets f.name ++ entry_octets f.entry
+body_octets (Gather t) = stamp_octets t
+body_octets (Gathered t r) = stamp_octets t ++ replica_octets r
+body_octets (Spread t r) = stamp_octets t ++ replica_octets r
+body_octets (SpreadAck t) = stamp_octets t
+body_octets (Advance t) = stamp_octets t
+body_octets (Join ms r) = members_octets ms ++ replica_octets r
+body_octets Leave = []
+
+-- what stands before that: format and tag, the directory, the sender's house, epoch and floor (own)
+unfoldable pub message_head : (format : ℕ) → Head → (tag : ℕ) → List ℕ
+message_head format h tag = format ∷ tag ∷ to_be_bytes w32 h.dir.0 ++ h.from.0 ∷ to_be_bytes w64 h.epoch.0 ++ to_be_bytes w64 h.floor
+
+-- the head of a message (own)
+abbrev pub head_of : Message → Head
+head_of m = record { dir = m.dir; from = m.from; epoch = m.epoch; floor = m.floor }
+
+-- the message with this head that carries this (own)
+abbrev pub message_with : Head → Body → Message
+message_with h b = record { dir = h.dir; from = h.from; epoch = h.epoch; floor = h.floor; body = b }
+
+-- a message: its head, and what it carries (own)
+unfoldable pub message_octets_in : (format : ℕ) → Message → List ℕ
+message_octets_in format m = message_head format (head_of m) (tag_of m.body) ++ body_octets m.body
+
+-- messages of format 1 (own)
+abbrev pub message_octets : Message → List ℕ
+message_octets = message_octets_in 1
+
+-- ---- images
+
+-- the number of a directory (own)
+unfoldable pub dir_octets : DirId → List ℕ
+dir_octets d = to_be_bytes w32 d.0
+
+-- what is kept of a directory: held is 1, gone 2; its epoch; and where it is held its members and replica (own)
+unfoldable pub kept_octets : ImageDir → List ℕ
+kept_octets (Held e ms r) = 1 ∷ to_be_bytes w64 e.0 ++ members_octets ms ++ replica_octets r
+kept_octets (Gone e) = 2 ∷ to_be_bytes w64 e.0
+
+-- what stands before the directories: format and tag, house, node, floor, and how many directories there are (own)
+unfoldable pub image_head : (format : ℕ) (house node floor count : ℕ) → List ℕ
+image_head format house node floor count = format ∷ 9 ∷ house ∷ node_octets node ++ to_be_bytes w64 floor ++ to_be_bytes w64 count
+
+-- an image: its head, and its directories (own)
+unfoldable pub image_octets_in : (format : ℕ) → Image → List ℕ
+image_octets_in format i = image_head format i.house.0 i.node i.floor (len i.dirs) ++ each_octets dir_octets kept_octets i.dirs
+
+-- images of format 1 (own)
+abbrev pub image_octets : Image → List ℕ
+image_octets = image_octets_in 1
