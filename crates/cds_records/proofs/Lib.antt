@@ -10,6 +10,7 @@ pub mod WholeReplicas
 pub mod WholeMessages
 pub mod WholeImages
 pub mod WritingLoops
+pub mod Mapped
 pub mod Spelling
 pub mod SpellingRecords
 pub mod OneDecoding

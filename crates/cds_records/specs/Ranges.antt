@@ -1,4 +1,5 @@
--- Numbers that fit their fields, and names, values and member lists that keep their rules (own). A program has no others, by its types; a law has to say so.
+-- Numbers that fit their fields, and names, values and member lists that keep their rules (own). A program has no others, by its types;
+-- a law has to say so.
 use Rattle.std.specs.Prelude.{◌≡◌, ◌^◌, ◌<◌, List, None, IfSome}
 use Rattle.std.specs.List.{AllByRecursion}
 use Rattle.std.specs.FinMap.{FinMap, entries, len}

@@ -35,7 +35,8 @@ pub fn encode(alloc: Global, message: &Message) -> Result<Vec<u8>, AllocError>
 /// The octets of an Update with this head, from borrowed marks. They are the whole of it if its entry is valid.
 pub fn encode_update(alloc: Global, head: &Head, fragment: &Fragment) -> Result<Vec<u8>, AllocError>
     ensures octets { IfOk result (λ v. v.items ≡ message_octets (message_with head.now (bodies.Update fragment.now))) }
-    ensures whole { IfOk result (λ v. IsValidEntry fragment.now.entry → IsWhole records.message (message_with head.now (bodies.Update fragment.now)) v.items) }
+    ensures whole { IfOk result (λ v.
+        IsValidEntry fragment.now.entry → IsWhole records.message (message_with head.now (bodies.Update fragment.now)) v.items) }
 {
     let mut out = begin(alloc, head, UPDATE)?;
     put_fragment(&mut out, fragment)?;
@@ -50,7 +51,8 @@ pub fn encode_gathered(
     replica: &Replica,
 ) -> Result<Vec<u8>, AllocError>
     ensures octets { IfOk result (λ v. v.items ≡ message_octets (message_with head.now (bodies.Gathered t.now replica.now))) }
-    ensures whole { IfOk result (λ v. IsValidTable replica.now.table → IsWhole records.message (message_with head.now (bodies.Gathered t.now replica.now)) v.items) }
+    ensures whole { IfOk result (λ v.
+        IsValidTable replica.now.table → IsWhole records.message (message_with head.now (bodies.Gathered t.now replica.now)) v.items) }
 {
     let mut out = begin(alloc, head, GATHERED)?;
     put_copied(&mut out, t, replica)?;
@@ -65,7 +67,8 @@ pub fn encode_spread(
     replica: &Replica,
 ) -> Result<Vec<u8>, AllocError>
     ensures octets { IfOk result (λ v. v.items ≡ message_octets (message_with head.now (bodies.Spread t.now replica.now))) }
-    ensures whole { IfOk result (λ v. IsValidTable replica.now.table → IsWhole records.message (message_with head.now (bodies.Spread t.now replica.now)) v.items) }
+    ensures whole { IfOk result (λ v.
+        IsValidTable replica.now.table → IsWhole records.message (message_with head.now (bodies.Spread t.now replica.now)) v.items) }
 {
     let mut out = begin(alloc, head, SPREAD)?;
     put_copied(&mut out, t, replica)?;
@@ -80,7 +83,8 @@ pub fn encode_join(
     replica: &Replica,
 ) -> Result<Vec<u8>, AllocError>
     ensures octets { IfOk result (λ v. v.items ≡ message_octets (message_with head.now (bodies.Join members.now replica.now))) }
-    ensures whole { IfOk result (λ v. IsValidTable replica.now.table → IsWhole records.message (message_with head.now (bodies.Join members.now replica.now)) v.items) }
+    ensures whole { IfOk result (λ v.
+        IsValidTable replica.now.table → IsWhole records.message (message_with head.now (bodies.Join members.now replica.now)) v.items) }
 {
     let mut out = begin(alloc, head, JOIN)?;
     put_joined(&mut out, members, replica)?;
@@ -122,7 +126,8 @@ fn put_body(out: &mut Vec<u8>, body: &Body) -> Result<(), AllocError>
 
 /// The marks of an update: the name of its entry, and the entry.
 fn put_fragment(out: &mut Vec<u8>, fragment: &Fragment) -> Result<(), AllocError>
-    ensures octets { OnOk result (out.new.items ≡ out.old.items ++ (name_octets fragment.now.name ++ entry_octets fragment.now.entry)) }
+    ensures octets { OnOk result (
+        out.new.items ≡ out.old.items ++ (name_octets fragment.now.name ++ entry_octets fragment.now.entry)) }
     ensures fits { OnOk result ((simple_name_fault fragment.now.name ≡ None) × FitsEntry fragment.now.entry) }
 {
     put_simple_name(out, &fragment.name)?;

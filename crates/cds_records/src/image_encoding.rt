@@ -144,7 +144,8 @@ impl ImageWriter {
         members: &Members,
         replica: &Replica,
     ) -> Result<(), AllocError>
-        ensures octets { OnOk result (self.new ≡ self.old ++ (dir_octets dir ++ kept_octets (states.Held epoch members.now replica.now))) }
+        ensures octets { OnOk result (
+            self.new ≡ self.old ++ (dir_octets dir ++ kept_octets (states.Held epoch members.now replica.now))) }
         ensures fits { OnOk result ((dir.0 < 2 ^ 32) × FitsDir (states.Held epoch members.now replica.now)) }
     {
         put_held(&mut self.out, dir, epoch, members, replica)
