@@ -3,3 +3,4 @@ mod Maps
 mod Posts
 mod Phases
 mod TakeSteps
+mod JoinSteps

@@ -297,7 +297,7 @@ body_looks _ _ w = elim w [ ]
 -- ---- of any message of the model
 
 -- the message of the model, by what a message to the house says
-message_is : (to : ℕ) (m : Message) (n : model.Message) → StandsHead to m n
+pub message_is : (to : ℕ) (m : Message) (n : model.Message) → StandsHead to m n
     → n ≡ record { receiver = to; dir = m.dir.0; sender = m.from.0; epoch = m.epoch.0; floor = m.floor; body = n.body }
 message_is to m n h = λ i. record {
   receiver = h.receiver i;
