@@ -4,3 +4,7 @@ mod Posts
 mod Phases
 mod TakeSteps
 mod JoinSteps
+mod Accepting
+mod Beginning
+mod Lawfulness
+mod Houses

@@ -1,12 +1,15 @@
 -- Rounds of skulks: the places whose bits are set, and the houses that the model names.
-use Rattle.std.proofs.Common.{◌≡◌, ℕ, zero, suc, ◌+◌, ◌<◌, ◌≤◌, Bool, true, false, ◌&&◌, ◌||◌, ◌==◌, cond, List, [], ◌∷◌, length, map, length-map, Option, Some, None, MatchBool}
+use Rattle.std.proofs.Common.{◌≡◌, ℕ, zero, suc, ◌+◌, ◌<◌, ◌≤◌, Bool, true, false, ◌&&◌, ◌||◌, ◌==◌, cond, List, [], ◌∷◌, length, map, Option, Some, None, MatchBool}
 use Rattle.std.proofs.Common.{refl, sym, ap, subst, ◌∙◌, arith}
 use Rattle.std.specs.Prelude.{slice_get, nat_lt, unwrap_or, if◌then◌else◌}
 use Rattle.std.specs.List.{position_from, list_all}
+use Rattle.std.proofs.lemmas.List.{length-map}
 use Rattle.std.proofs.lemmas.Bool.Decides.{nat_tests}
 use Rattle.cds_stamps.specs.declared.mask.MemberMask.{MemberMask}
 use Rattle.cds_stamps.specs.declared.stamp.Stamp.{Stamp}
-use Rattle.cds_stamps.specs.Members.{Member, members_fault, first_unordered, is_listed, place_of, others_of}
+use Rattle.cds_stamps.specs.declared.members.Member as declared
+use Rattle.cds_stamps.specs.declared.numbers.HouseNo.{HouseNo}
+use Rattle.cds_stamps.specs.Members.{Member, member_of, members_of, most_members, members_fault, first_unordered, is_listed, place_of, others_of}
 use Rattle.cds_stamps.specs.Places.{has_place, each_place}
 use Rattle.cds_stamps.specs.Stamps.{is_stamp}
 use Rattle.cds_stamps.proofs.Masks.{same_place, other_place, each_place-same}
@@ -21,26 +24,24 @@ use Rattle.cell_model.specs.Commands as commands
 use Rattle.cell_model.specs.Sets.{has}
 use Rattle.cell_model.specs.Turns as turn
 use Rattle.cell_model.specs.Turns.{HouseStep, all_answered}
-use Rattle.cell_model.proofs.Lists.{stamp_from}
+use Rattle.cell_model.proofs.Lists.{eq_from, stamp_from}
+use Rattle.clearinghouse.specs.PrivateTurns.{place_in}
 use Rattle.clearinghouse.specs.Standing.{StandsRound, StandsPhase}
 
 -- ---- places of houses
 
-not_itself : (b : Bool) → b ≡ true → b ≡ false → ⊥
-not_itself b yes no = absurd (cc)
-
 -- the houses of an ordered list are not below the least that may come
 above : (place least : ℕ) (ms : List Member) → first_unordered place least ms ≡ None → (p : ℕ) (m : Member) → slice_get ms p ≡ Some m → least ≤ m.house
 above place least [] h p m is = absurd (cc)
-above place least (y ∷ ys) h p m is = by (nat_lt y.house least) refl p is
+above place least (y ∷ ys) h p m is = by (above (place + 1) (y.house + 1) ys) (nat_lt y.house least) refl p is
   where
-    by : (b : Bool) → nat_lt y.house least ≡ b → (p : ℕ) → slice_get (y ∷ ys) p ≡ Some m → least ≤ m.house
-    by true low p is = absurd (let e : Some place ≡ None = ap (λ b. cond b (Some place) (first_unordered (place + 1) (y.house + 1) ys)) (sym low) ∙ h in cc)
-    by false low zero is = let same : y ≡ m = cc in let e = ap (λ (x : Member). x.house) same in grind (arith, nat_tests)
-    by false low (suc q) is =
+    by : (first_unordered (place + 1) (y.house + 1) ys ≡ None → (p : ℕ) (m : Member) → slice_get ys p ≡ Some m → y.house + 1 ≤ m.house) → (b : Bool) → nat_lt y.house least ≡ b → (p : ℕ) → slice_get (y ∷ ys) p ≡ Some m → least ≤ m.house
+    by more true low p is = absurd (let e : Some place ≡ None = ap (λ b. cond b (Some place) (first_unordered (place + 1) (y.house + 1) ys)) (sym low) ∙ h in cc)
+    by more false low zero is = let same : y ≡ m = cc in let e = ap (λ (x : Member). x.house) same in grind (arith, nat_tests)
+    by more false low (suc q) is =
         let rest : first_unordered (place + 1) (y.house + 1) ys ≡ None =
         ap (λ b. cond b (Some place) (first_unordered (place + 1) (y.house + 1) ys)) (sym low) ∙ h in
-        let more = above (place + 1) (y.house + 1) ys rest q m is in grind (arith, nat_tests)
+        let high = more rest q m is in grind (arith, nat_tests)
 
 rest_ordered : (place least : ℕ) (y : Member) (ys : List Member) → first_unordered place least (y ∷ ys) ≡ None → first_unordered (place + 1) (y.house + 1) ys ≡ None
 rest_ordered place least y ys h = by (nat_lt y.house least) refl
@@ -52,52 +53,50 @@ rest_ordered place least y ys h = by (nat_lt y.house least) refl
 -- a place that is found is not before the first
 found_from : (x i k : ℕ) (ms : List Member) → position_from (λ (m : Member). m.house == x) i ms ≡ Some k → (i ≤ k) × (k < i + length ms)
 found_from x i k [] h = absurd (cc)
-found_from x i k (y ∷ ys) h = by (y.house == x) refl
+found_from x i k (y ∷ ys) h = by (found_from x (i + 1) k ys) (y.house == x) refl
   where
-    by : (b : Bool) → (y.house == x) ≡ b → (i ≤ k) × (k < i + length (y ∷ ys))
-    by true is = let e : Some i ≡ Some k = ap (λ b. cond b (Some i) (position_from (λ (m : Member). m.house == x) (i + 1) ys)) (sym is) ∙ h in
+    by : (position_from (λ (m : Member). m.house == x) (i + 1) ys ≡ Some k → (i + 1 ≤ k) × (k < i + 1 + length ys))
+        → (b : Bool) → (y.house == x) ≡ b → (i ≤ k) × (k < i + length (y ∷ ys))
+    by rest true is = let e : Some i ≡ Some k = ap (λ b. cond b (Some i) (position_from (λ (m : Member). m.house == x) (i + 1) ys)) (sym is) ∙ h in
         let same : i ≡ k = cc in (omega arith, omega arith)
-    by false is =
+    by rest false is =
         let e : position_from (λ (m : Member). m.house == x) (i + 1) ys ≡ Some k =
         ap (λ b. cond b (Some i) (position_from (λ (m : Member). m.house == x) (i + 1) ys)) (sym is) ∙ h in
-        let w = found_from x (i + 1) k ys e in (omega (arith, w.0), omega (arith, w.1))
+        let w = rest e in (omega (arith, w.0), omega (arith, w.1))
 
 -- of a listed house a place is found
 listed_from : (x i : ℕ) (ms : List Member) → is_listed x ms ≡ true → (k : ℕ) × (position_from (λ (m : Member). m.house == x) i ms ≡ Some k)
 listed_from x i [] h = absurd (cc)
-listed_from x i (y ∷ ys) h = by (y.house == x) refl
+listed_from x i (y ∷ ys) h = by (listed_from x (i + 1) ys) (y.house == x) refl
   where
-    by : (b : Bool) → (y.house == x) ≡ b → (k : ℕ) × (position_from (λ (m : Member). m.house == x) i (y ∷ ys) ≡ Some k)
-    by true is = (i, ap (λ b. cond b (Some i) (position_from (λ (m : Member). m.house == x) (i + 1) ys)) is)
-    by false is =
-        let rest : is_listed x ys ≡ true = ap (λ b. b || is_listed x ys) (sym is) ∙ h in
-        let w = listed_from x (i + 1) ys rest in
+    by : (is_listed x ys ≡ true → (k : ℕ) × (position_from (λ (m : Member). m.house == x) (i + 1) ys ≡ Some k))
+        → (b : Bool) → (y.house == x) ≡ b → (k : ℕ) × (position_from (λ (m : Member). m.house == x) i (y ∷ ys) ≡ Some k)
+    by rest true is = (i, ap (λ b. cond b (Some i) (position_from (λ (m : Member). m.house == x) (i + 1) ys)) is)
+    by rest false is =
+        let w = rest (ap (λ b. b || is_listed x ys) (sym is) ∙ h) in
         (w.0, ap (λ b. cond b (Some i) (position_from (λ (m : Member). m.house == x) (i + 1) ys)) is ∙ w.1)
 
 -- the member at the place that is found
 member_at : (x i k : ℕ) (ms : List Member) → position_from (λ (m : Member). m.house == x) i ms ≡ Some k
     → (p : ℕ) × (m : Member) × (slice_get ms p ≡ Some m) × (m.house ≡ x)
 member_at x i k [] h = absurd (cc)
-member_at x i k (y ∷ ys) h = by (y.house == x) refl
+member_at x i k (y ∷ ys) h = by (member_at x (i + 1) k ys) (y.house == x) refl
   where
-    by : (b : Bool) → (y.house == x) ≡ b → (p : ℕ) × (m : Member) × (slice_get (y ∷ ys) p ≡ Some m) × (m.house ≡ x)
-    by true is = (0, y, refl, grind (arith, is))
-    by false is =
-        let e : position_from (λ (m : Member). m.house == x) (i + 1) ys ≡ Some k =
-        ap (λ b. cond b (Some i) (position_from (λ (m : Member). m.house == x) (i + 1) ys)) (sym is) ∙ h in
-        let w = member_at x (i + 1) k ys e in (suc w.0, w.1, w.2, w.3)
+    by : (position_from (λ (m : Member). m.house == x) (i + 1) ys ≡ Some k → (p : ℕ) × (m : Member) × (slice_get ys p ≡ Some m) × (m.house ≡ x))
+        → (b : Bool) → (y.house == x) ≡ b → (p : ℕ) × (m : Member) × (slice_get (y ∷ ys) p ≡ Some m) × (m.house ≡ x)
+    by rest true is = (0, y, refl, eq_from y.house x is)
+    by rest false is =
+        let w = rest (ap (λ b. cond b (Some i) (position_from (λ (m : Member). m.house == x) (i + 1) ys)) (sym is) ∙ h) in (suc w.0, w.1, w.2, w.3)
 
 -- a house of which a place is found is listed
 from_found : (x i k : ℕ) (ms : List Member) → position_from (λ (m : Member). m.house == x) i ms ≡ Some k → is_listed x ms ≡ true
 from_found x i k [] h = absurd (cc)
-from_found x i k (y ∷ ys) h = by (y.house == x) refl
+from_found x i k (y ∷ ys) h = by (from_found x (i + 1) k ys) (y.house == x) refl
   where
-    by : (b : Bool) → (y.house == x) ≡ b → is_listed x (y ∷ ys) ≡ true
-    by true is = ap (λ b. b || is_listed x ys) is
-    by false is =
-        let e : position_from (λ (m : Member). m.house == x) (i + 1) ys ≡ Some k =
-        ap (λ b. cond b (Some i) (position_from (λ (m : Member). m.house == x) (i + 1) ys)) (sym is) ∙ h in
-        ap (λ b. b || is_listed x ys) is ∙ from_found x (i + 1) k ys e
+    by : (position_from (λ (m : Member). m.house == x) (i + 1) ys ≡ Some k → is_listed x ys ≡ true) → (b : Bool) → (y.house == x) ≡ b → is_listed x (y ∷ ys) ≡ true
+    by rest true is = ap (λ b. b || is_listed x ys) is
+    by rest false is =
+        ap (λ b. b || is_listed x ys) is ∙ rest (ap (λ b. cond b (Some i) (position_from (λ (m : Member). m.house == x) (i + 1) ys)) (sym is) ∙ h)
 
 -- a house is listed exactly where it has a place
 pub unlisted : (x : ℕ) (ms : List Member) → place_of x ms ≡ None → is_listed x ms ≡ false
@@ -119,29 +118,29 @@ place_listed x ms is = let w = listed_from x 0 ms is in rw w.1 refl
 -- a member stands at the place that is found exactly where it is the house
 tie : (x i k place least : ℕ) (ms : List Member) → first_unordered place least ms ≡ None → position_from (λ (m : Member). m.house == x) i ms ≡ Some k
     → (p : ℕ) (m : Member) → slice_get ms p ≡ Some m → (i + p == k) ≡ (m.house == x)
-tie x i k place least [] ordered h p m is = absurd (cc)
-tie x i k place least (y ∷ ys) ordered h p m is = by (y.house == x) refl p is
+tie x i k place least [] sorted h p m is = absurd (cc)
+tie x i k place least (y ∷ ys) sorted h p m is = by (tie x (i + 1) k (place + 1) (y.house + 1) ys (rest_ordered place least y ys sorted)) (y.house == x) refl p is
   where
-    by : (b : Bool) → (y.house == x) ≡ b → (p : ℕ) → slice_get (y ∷ ys) p ≡ Some m → (i + p == k) ≡ (m.house == x)
-    by true here zero is =
+    by : (position_from (λ (m : Member). m.house == x) (i + 1) ys ≡ Some k → (p : ℕ) (m : Member) → slice_get ys p ≡ Some m → (i + 1 + p == k) ≡ (m.house == x)) → (b : Bool) → (y.house == x) ≡ b → (p : ℕ) → slice_get (y ∷ ys) p ≡ Some m → (i + p == k) ≡ (m.house == x)
+    by rest true here zero is =
         let e : Some i ≡ Some k = ap (λ b. cond b (Some i) (position_from (λ (m : Member). m.house == x) (i + 1) ys)) (sym here) ∙ h in
         let same : i ≡ k = cc in let own : y ≡ m = cc in
         same_place (i + 0) k (omega arith) ∙ sym here ∙ ap (λ (m : Member). m.house == x) own
-    by true here (suc q) is =
+    by rest true here (suc q) is =
         let e : Some i ≡ Some k = ap (λ b. cond b (Some i) (position_from (λ (m : Member). m.house == x) (i + 1) ys)) (sym here) ∙ h in
         let same : i ≡ k = cc in
-        let high = above (place + 1) (y.house + 1) ys (rest_ordered place least y ys ordered) q m is in
+        let high = above (place + 1) (y.house + 1) ys (rest_ordered place least y ys sorted) q m is in
         other_place (i + suc q) k (λ e. absurd (omega arith)) ∙ sym (other_place m.house x (λ e. absurd (grind (arith, nat_tests))))
-    by false here zero is =
+    by rest false here zero is =
         let e : position_from (λ (m : Member). m.house == x) (i + 1) ys ≡ Some k =
         ap (λ b. cond b (Some i) (position_from (λ (m : Member). m.house == x) (i + 1) ys)) (sym here) ∙ h in
         let w = found_from x (i + 1) k ys e in let own : y ≡ m = cc in
         other_place (i + 0) k (λ e. absurd (omega (arith, w.0))) ∙ sym here ∙ ap (λ (m : Member). m.house == x) own
-    by false here (suc q) is =
+    by rest false here (suc q) is =
         let e : position_from (λ (m : Member). m.house == x) (i + 1) ys ≡ Some k =
         ap (λ b. cond b (Some i) (position_from (λ (m : Member). m.house == x) (i + 1) ys)) (sym here) ∙ h in
         ap (λ n. n == k) (let same : i + suc q ≡ (i + 1) + q = omega arith in same)
-        ∙ tie x (i + 1) k (place + 1) (y.house + 1) ys (rest_ordered place least y ys ordered) e q m is
+        ∙ rest e q m is
 
 -- ---- who has answered
 
@@ -289,6 +288,9 @@ module _ (now : model.House) (m : model.Message) (t : Stamp) (r : model.Replica)
         (one_more m.receiver r.members lawful mask answered m.sender from here round.places)))
         w.1
 
+    abbrev joined_or : Stamp → List ℕ → Bool → HouseStep
+    joined_or u answered b = if b then turn.taken now m (model.Held (turn.merged r c)) [] else turn.stale t (model.Spreading u answered)
+
     -- the answer of the first round, by the phases
     pub gather_row : (old phase : Skulk) (p : model.Phase) (n : Next) → r.phase ≡ p → StandsPhase m.receiver r.members old p
         → TakesGathered t from (length r.members) mine old phase n → GatherRow now m t c r p old phase n
@@ -306,19 +308,16 @@ module _ (now : model.House) (m : model.Message) (t : Stamp) (r : model.Replica)
             (does.1 ∙ ap (λ v. next.Stale (Some v)) h.stamp)
     gather_row (skulk.Spreading s mask) phase (model.Spreading u answered) n is h does = by (is_stamp t s) refl does
       where
-        abbrev joined_or : Bool → HouseStep
-        joined_or b = if b then turn.taken now m (model.Held (turn.merged r c)) [] else turn.stale t (model.Spreading u answered)
-
         by : (b : Bool) → is_stamp t s ≡ b
             → MatchBool b (Waits (skulk.Spreading s mask) phase n) (IsStale (skulk.Spreading s mask) phase n)
             → GatherRow now m t c r (model.Spreading u answered) (skulk.Spreading s mask) phase n
         by true same does =
             waits (model.Spreading u answered)
-            (ap joined_or (ap (is_stamp t) (sym h.stamp) ∙ same)
+            (ap (joined_or u answered) (ap (is_stamp t) (sym h.stamp) ∙ same)
             ∙ ap (λ q. turn.taken now m (model.Held (record (turn.merged r c) { phase = q })) []) is)
             (subst (λ x. StandsPhase m.receiver r.members x (model.Spreading u answered)) (sym does.0) h)
             does.1
-        by false other does = stale (ap joined_or (ap (is_stamp t) (sym h.stamp) ∙ other)) (does.1 ∙ ap (λ v. next.Stale (Some v)) h.stamp)
+        by false other does = stale (ap (joined_or u answered) (ap (is_stamp t) (sym h.stamp) ∙ other)) (does.1 ∙ ap (λ v. next.Stale (Some v)) h.stamp)
     gather_row skulk.Idle phase (model.Gathering u answered) n is h does = elim h [ ]
     gather_row skulk.Idle phase (model.Spreading u answered) n is h does = elim h [ ]
     gather_row (skulk.Gathering s mask) phase model.Idle n is h does = elim h [ ]
@@ -359,23 +358,23 @@ module _ (now : model.House) (m : model.Message) (t : Stamp) (r : model.Replica)
       (one_more m.receiver r.members lawful mask answered m.sender from here round.places)))
       w.1
 
+  abbrev kept_or : Stamp → List ℕ → Bool → HouseStep
+  kept_or u answered b = if b then turn.taken now m (model.Held r) [] else turn.stale t (model.Gathering u answered)
+
   -- the answer of the second round, by the phases
   pub ack_row : (old phase : Skulk) (p : model.Phase) (n : Next) → r.phase ≡ p → StandsPhase m.receiver r.members old p
       → TakesSpread t from (length r.members) old phase n → AckRow now m t r p old phase n
   ack_row skulk.Idle phase model.Idle n is h does = stale refl does.1 does.0
   ack_row (skulk.Gathering s mask) phase (model.Gathering u answered) n is h does = by (is_stamp t s) refl does
     where
-      abbrev kept_or : Bool → HouseStep
-      kept_or b = if b then turn.taken now m (model.Held r) [] else turn.stale t (model.Gathering u answered)
-
       by : (b : Bool) → is_stamp t s ≡ b → MatchBool b (Waits (skulk.Gathering s mask) phase n) (IsStale (skulk.Gathering s mask) phase n)
           → AckRow now m t r (model.Gathering u answered) (skulk.Gathering s mask) phase n
       by true same does =
           waits (model.Gathering u answered)
-          (ap kept_or (ap (is_stamp t) (sym h.stamp) ∙ same) ∙ ap (λ q. turn.taken now m (model.Held (record r { phase = q })) []) is)
+          (ap (kept_or u answered) (ap (is_stamp t) (sym h.stamp) ∙ same) ∙ ap (λ q. turn.taken now m (model.Held (record r { phase = q })) []) is)
           (subst (λ x. StandsPhase m.receiver r.members x (model.Gathering u answered)) (sym does.0) h)
           does.1
-      by false other does = stale (ap kept_or (ap (is_stamp t) (sym h.stamp) ∙ other)) (does.1 ∙ ap (λ v. next.Stale (Some v)) h.stamp) does.0
+      by false other does = stale (ap (kept_or u answered) (ap (is_stamp t) (sym h.stamp) ∙ other)) (does.1 ∙ ap (λ v. next.Stale (Some v)) h.stamp) does.0
   ack_row (skulk.Spreading s mask) phase (model.Spreading u answered) n is h does = by (is_stamp t s) refl does
     where
       by : (b : Bool) → is_stamp t s ≡ b → MatchBool b (Spreads s mask from (length r.members) phase n) (IsStale (skulk.Spreading s mask) phase n)
@@ -399,43 +398,45 @@ module _ (now : model.House) (m : model.Message) (t : Stamp) (r : model.Replica)
 -- a house that is not listed has all of the list for others
 others_all : (x : ℕ) (ms : List Member) → is_listed x ms ≡ false → others_of x ms ≡ map (λ (m : Member). m.house) ms
 others_all x [] h = refl
-others_all x (y ∷ ys) h = by (y.house == x) refl
+others_all x (y ∷ ys) h = by (others_all x ys) (y.house == x) refl
   where
-    by : (b : Bool) → (y.house == x) ≡ b → others_of x (y ∷ ys) ≡ y.house ∷ map (λ (m : Member). m.house) ys
-    by true is = absurd (let e : true ≡ false = ap (λ b. b || is_listed x ys) (sym is) ∙ h in cc)
-    by false is =
+    by : (is_listed x ys ≡ false → others_of x ys ≡ map (λ (m : Member). m.house) ys) → (b : Bool) → (y.house == x) ≡ b
+        → others_of x (y ∷ ys) ≡ y.house ∷ map (λ (m : Member). m.house) ys
+    by rest true is = absurd (let e : true ≡ false = ap (λ b. b || is_listed x ys) (sym is) ∙ h in cc)
+    by rest false is =
         ap (λ b. if b then others_of x ys else y.house ∷ others_of x ys) is
-        ∙ ap (λ hs. y.house ∷ hs) (others_all x ys (ap (λ b. b || is_listed x ys) (sym is) ∙ h))
+        ∙ ap (λ hs. y.house ∷ hs) (rest (ap (λ b. b || is_listed x ys) (sym is) ∙ h))
 
 rest_unlisted : (place x : ℕ) (ys : List Member) → first_unordered place (x + 1) ys ≡ None → is_listed x ys ≡ false
-rest_unlisted place x ys ordered = by (is_listed x ys) refl
+rest_unlisted place x ys sorted = by (is_listed x ys) refl
   where
     by : (b : Bool) → is_listed x ys ≡ b → b ≡ false
     by true is = absurd (let w = listed_from x 0 ys is in
         let m = member_at x 0 w.0 ys w.1 in
-        let high = above place (x + 1) ys ordered m.0 m.1 m.2 in omega (arith, high, m.3))
+        let high = above place (x + 1) ys sorted m.0 m.1 m.2 in omega (arith, high, m.3))
     by false is = refl
 
 -- a listed house has all but itself for others
 count_others : (x place least : ℕ) (ms : List Member) → first_unordered place least ms ≡ None → is_listed x ms ≡ true
     → suc (length (others_of x ms)) ≡ length ms
-count_others x place least [] ordered h = absurd (cc)
-count_others x place least (y ∷ ys) ordered h = by (y.house == x) refl
+count_others x place least [] sorted h = absurd (cc)
+count_others x place least (y ∷ ys) sorted h = by (count_others x (place + 1) (y.house + 1) ys (rest_ordered place least y ys sorted)) (y.house == x) refl
   where
-    by : (b : Bool) → (y.house == x) ≡ b → suc (length (others_of x (y ∷ ys))) ≡ suc (length ys)
-    by true is =
-        let same : y.house ≡ x = grind (arith, is) in
+    by : (is_listed x ys ≡ true → suc (length (others_of x ys)) ≡ length ys) → (b : Bool) → (y.house == x) ≡ b → suc (length (others_of x (y ∷ ys))) ≡ suc (length ys)
+    by rest true is =
+        let same : y.house ≡ x = eq_from y.house x is in
         ap (λ b. suc (length (if b then others_of x ys else y.house ∷ others_of x ys))) is
-        ∙ ap (λ hs. suc (length hs)) (others_all x ys (rest_unlisted (place + 1) x ys (subst (λ n. first_unordered (place + 1) (n + 1) ys ≡ None) same (rest_ordered place least y ys ordered))))
-        ∙ ap suc (length-map (λ (m : Member). m.house) ys)
-    by false is =
+        ∙ ap (λ (hs : List ℕ). suc (length hs)) (others_all x ys (rest_unlisted (place + 1) x ys
+        (subst (λ n. first_unordered (place + 1) (n + 1) ys ≡ None) same (rest_ordered place least y ys sorted))))
+        ∙ ap suc (length-map ys (λ (m : Member). m.house))
+    by rest false is =
         ap (λ b. suc (length (if b then others_of x ys else y.house ∷ others_of x ys))) is
-        ∙ ap suc (count_others x (place + 1) (y.house + 1) ys (rest_ordered place least y ys ordered) (ap (λ b. b || is_listed x ys) (sym is) ∙ h))
+        ∙ ap suc (rest (ap (λ b. b || is_listed x ys) (sym is) ∙ h))
 
 -- a skulk that begins is complete at once where there are no others; else its first round runs
 pub data BeginRow (me : ℕ) (ms : List Member) (t : Stamp) (phase : Skulk) (n : Next) : Type 0 where
-  completes : others_of me ms ≡ [] → phase ≡ skulk.Idle → n ≡ next.Complete t → BeginRow me ms t phase n
-  waits : (y : ℕ) (ys : List ℕ) → others_of me ms ≡ y ∷ ys → StandsPhase me ms phase (model.Gathering t []) → n ≡ next.Nothing → BeginRow me ms t phase n
+  complete : others_of me ms ≡ [] → phase ≡ skulk.Idle → n ≡ next.Complete t → BeginRow me ms t phase n
+  begun : (y : ℕ) (ys : List ℕ) → others_of me ms ≡ y ∷ ys → StandsPhase me ms phase (model.Gathering t []) → n ≡ next.Nothing → BeginRow me ms t phase n
 
 pub begin_row : (me mine : ℕ) (ms : List Member) (t : Stamp) (phase : Skulk) (n : Next) → members_fault ms ≡ None → place_of me ms ≡ Some mine
     → Begins t (length ms) mine phase n → BeginRow me ms t phase n
@@ -449,11 +450,25 @@ begin_row me mine ms t phase n lawful here does = by (length ms == 1) refl does 
 
     by : (b : Bool) → (length ms == 1) ≡ b → MatchBool b ((phase ≡ skulk.Idle) × (n ≡ next.Complete t)) (IsGathering t (only mine) phase × (n ≡ next.Nothing))
         → (hs : List ℕ) → others_of me ms ≡ hs → BeginRow me ms t phase n
-    by true one does [] is = completes is does.0 does.1
+    by true one does [] is = complete is does.0 does.1
     by true one does (y ∷ ys) is = absurd (let many : suc (suc (length ys)) ≡ length ms = ap (λ hs. suc (length hs)) (sym is) ∙ counted in grind (arith, nat_tests))
     by false one does [] is = absurd (let few : 1 ≡ length ms = ap (λ (hs : List ℕ). suc (length hs)) (sym is) ∙ counted in grind (arith, nat_tests))
     by false one does (y ∷ ys) is =
-        waits y ys is
+        begun y ys is
         (subst (λ x. StandsPhase me ms x (model.Gathering t [])) (sym does.0.round)
         (record { listed = listed; stamp = refl; places = λ p m got. does.0.places p ∙ alone me ms lawful mine here p m got }))
         does.1
+
+-- a member list has as many members in the program as in the model, and at least one
+pub counted : (ms : List declared.Member) → members_fault (members_of ms) ≡ None → (0 < length ms) × (length ms ≤ most_members)
+counted ms lawful =
+    let facts = no_members_fault (members_of ms) lawful in
+    (subst (λ n. 0 < n) (length-map ms member_of) facts.0, subst (λ n. n ≤ most_members) (length-map ms member_of) facts.1)
+
+-- the place of a house is one of the list
+pub place_within : (house : HouseNo) (ms : List declared.Member) → 0 < length ms → place_in house ms < length ms
+place_within house ms some = by (place_of house.0 (members_of ms)) refl
+  where
+    by : (o : Option ℕ) → place_of house.0 (members_of ms) ≡ o → unwrap_or o 0 < length ms
+    by None is = some
+    by (Some k) is = subst (λ n. k < n) (length-map ms member_of) (within house.0 k (members_of ms) is)

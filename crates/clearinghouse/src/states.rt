@@ -1,8 +1,8 @@
 // What a house holds of directories.
-ghost use Rattle.std.specs.Prelude.{◌≡◌, ℕ, ◌<◌, ◌≤◌, length, IfOk, IfSome, OnOk, OnErr, is_some, option_copied};
+ghost use Rattle.std.specs.Prelude.{◌≡◌, ℕ, ◌<◌, ◌≤◌, length, None, IfOk, IfSome, OnOk, OnErr, is_some, option_copied};
 ghost use Rattle.std.specs.FinMap as map;
 ghost use Rattle.std.specs.Option.{option_copied_mut};
-ghost use Rattle.cds_stamps.specs.Members.{is_accepting, is_listed, members_of, most_members, since_in};
+ghost use Rattle.cds_stamps.specs.Members.{is_accepting, is_listed, members_fault, members_of, most_members, since_in};
 ghost use Rattle.clearinghouse.specs.PrivateTurns.{held_in, held_of, place_in};
 
 use cds_stamps::{DirId, EpochNo, HouseNo, MemberKind, Members};
@@ -184,7 +184,7 @@ impl Held {
     /// The place of this house in the member list; 0 where it is not listed, and then it runs no skulk.
     pub(crate) fn own_place(&self, house: HouseNo) -> usize
         ensures place { result ≡ place_in house self.now.members }
-        ensures within { result < length self.now.members }
+        ensures within { 0 < length self.now.members → result < length self.now.members }
     {
         self.members.place(house).unwrap_or(0)
     }
@@ -192,7 +192,9 @@ impl Held {
     /// How many members there are.
     pub(crate) fn count(&self) -> usize
         ensures count { result ≡ length self.now.members }
+        ensures some { 0 < result }
         ensures few { result ≤ most_members }
+        ensures lawful { members_fault (members_of self.now.members) ≡ None }
     {
         self.members.list().len()
     }

@@ -1,5 +1,5 @@
 // Updates of a directory at its master.
-ghost use Rattle.std.specs.Prelude.{◌≡◌, ◌≤◌, ◌<◌, ℕ, None, Err, IfOk, OnErr};
+ghost use Rattle.std.specs.Prelude.{◌≡◌, ◌≤◌, ◌<◌, ℕ, None, Err, IfOk, OnOk, OnErr};
 ghost use Rattle.cds_stamps.specs.declared.numbers.DirId as number;
 ghost use Rattle.cds_stamps.specs.Stamps.{next_stamp};
 ghost use Rattle.directory.specs.Shown.{shown_in, refusal_of};
@@ -58,7 +58,9 @@ impl Held {
             ≡ stamp_unless (held_refusal by.house.0 (change_of update.now) self.old) (next_stamp by.clock floor.old.time by.node)) }
         ensures refused { IfOk result (λ turn. OnErr turn.answer ((self.new ≡ self.old) × (floor.new ≡ floor.old) × (turn.outgoing ≡ None))) }
         ensures rises { floor.old.time ≤ floor.new.time }
-        ensures kept { IsLawfulHeld floor.old.time self.old → IsLawfulHeld floor.new.time self.new }
+        ensures kept { OnOk result (IsLawfulHeld floor.old.time self.old → IsLawfulHeld floor.new.time self.new) }
+        ensures err { OnErr result (self.new ≡ self.old) }
+        ensures err_floor { OnErr result (floor.new ≡ floor.old) }
         ensures step { (now : model.House) (dir : number.DirId) (r : model.Replica) → IssuesAt now by floor.old.time dir self.old r
             → IfOk result (λ turn. HeldStep (IsStampAnswer turn.answer) (accept_in by.house.0 now dir.0 (change_of update.now) (model.Held r))
             now by.house dir self.old self.new floor.new.time turn.outgoing) }
@@ -84,7 +86,9 @@ impl Held {
         ensures answer { IfOk result (λ turn. turn.answer ≡ stamp_unless None (next_stamp by.clock floor.old.time by.node)) }
         ensures refused { IfOk result (λ turn. OnErr turn.answer ((self.new ≡ self.old) × (floor.new ≡ floor.old) × (turn.outgoing ≡ None))) }
         ensures rises { floor.old.time ≤ floor.new.time }
-        ensures kept { IsLawfulHeld floor.old.time self.old → IsLawfulHeld floor.new.time self.new }
+        ensures kept { OnOk result (IsLawfulHeld floor.old.time self.old → IsLawfulHeld floor.new.time self.new) }
+        ensures err { OnErr result (self.new ≡ self.old) }
+        ensures err_floor { OnErr result (floor.new ≡ floor.old) }
         ensures step { (now : model.House) (dir : number.DirId) (r : model.Replica) → IssuesAt now by floor.old.time dir self.old r
             → IfOk result (λ turn. HeldStep (IsStampAnswer turn.answer) (accept_at by.house.0 now dir.0 (change_of update.now) r (stamp_at now))
             now by.house dir self.old self.new floor.new.time turn.outgoing) }
@@ -113,7 +117,7 @@ impl Held {
         requires { refusal_of (shown_in self.old.replica.table (changed_name (change_of update.now))) (change_of update.now) ≡ None }
         ensures adds { (r : model.Replica) (floor : ℕ) (me : ℕ) → StandsHeld me floor self.old r → floor < stamp.now.time
             → IfOk result (λ f. AddsMarks me r (change_of update.now) stamp.now self.new f) }
-        ensures kept { (floor : ℕ) → IsLawfulHeld floor self.old → floor < stamp.now.time → IsLawfulHeld stamp.now.time self.new }
+        ensures kept { OnOk result ((floor : ℕ) → IsLawfulHeld floor self.old → floor < stamp.now.time → IsLawfulHeld stamp.now.time self.new) }
         ensures err { OnErr result (self.new ≡ self.old) }
     {
         let fragment = self.replica.table.fragment(alloc, update, *stamp)?;

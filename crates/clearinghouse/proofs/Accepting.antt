@@ -1,0 +1,152 @@
+-- An update that is accepted: its marks are merged in, and posted.
+use Rattle.std.proofs.Common.{◌≡◌, ℕ, ◌<◌, ◌≤◌, Bool, true, false, List, [], ◌∷◌, ◌++◌, Option, Some, None, Result, Ok, Err, refl, sym, ap, subst, ◌∙◌, arith}
+use Rattle.std.specs.Prelude.{if◌then◌else◌}
+use Rattle.std.specs.List.{AllByRecursion}
+use Rattle.cds_stamps.specs.declared.numbers.DirId.{DirId}
+use Rattle.cds_stamps.specs.declared.stamp.Stamp.{Stamp}
+use Rattle.cds_stamps.specs.Members.{is_accepting, members_of, others_of}
+use Rattle.cds_stamps.specs.Stamps.{is_earlier, next_stamp}
+use Rattle.std.proofs.lemmas.Bool.Decides.{nat_tests}
+use Rattle.directory.specs.declared.entry.Fragment.{Fragment}
+use Rattle.directory.specs.declared.update.UpdateRefusal.{UpdateRefusal}
+use Rattle.directory.specs.declared.update.UpdateRefusal.TheVariants as why
+use Rattle.directory.specs.Histories.{Mark, CanMerge, IsBefore, name_in, stamp_in, entry_of}
+use Rattle.directory.specs.Updates.{Change, changed_name}
+use Rattle.directory.specs.Shown.{shown, shown_in, refusal_of, marks_of}
+use Rattle.directory.proofs.ShownLaws.{shown_in-table_of}
+use Rattle.directory.proofs.UpdateLaws.{marks_of-names}
+use Rattle.purge_rule.specs.declared.replica.Replica.{Replica}
+use Rattle.purge_rule.specs.Replicas.{replica_of, IsFragmentOf}
+use Rattle.cell_model.specs.Cells as model
+use Rattle.cell_model.specs.Turns as turn
+use Rattle.cell_model.specs.Turns.{grown, update_refusal, accept_in, accept_at, stamp_at}
+use Rattle.cell_model.specs.Floors.{ReplicaBelow}
+use Rattle.cell_model.proofs.Merging.{contains_in}
+use Rattle.cell_model.proofs.Fine.{Fine, accepted_merge, accepted_fine}
+use Rattle.clearinghouse.specs.declared.states.Held.{Held}
+use Rattle.clearinghouse.specs.declared.outgoing.Outgoing.{Outgoing}
+use Rattle.clearinghouse.specs.declared.outgoing.Outgoing.TheVariants as out
+use Rattle.clearinghouse.specs.declared.updates.Issuer.{Issuer}
+use Rattle.clearinghouse.specs.Refusing.{held_refusal, stamp_unless}
+use Rattle.clearinghouse.specs.Standing.{StandsHeld}
+use Rattle.clearinghouse.specs.Stepping.{IsStampAnswer}
+use Rattle.clearinghouse.specs.PrivateTurns.{new_marks, AddsMarks, IssuesAt, HeldStep, TakesFragment}
+use Rattle.clearinghouse.proofs.Posts.{posts_stand}
+
+-- what is held shows what the replica of the model shows
+pub held_shows : (me floor : ℕ) (held : Held) (r : model.Replica) (n : List ℕ) → StandsHeld me floor held r → shown_in held.replica.table n ≡ shown r.history n
+held_shows me floor held r n stands = ap (λ (x : Replica). shown_in x.table n) stands.replica ∙ shown_in-table_of r.history n
+
+-- the replica of the model of what is held, up to the AllUpTo of that
+pub held_replica : (me floor : ℕ) (held : Held) (r : model.Replica) → StandsHeld me floor held r → held.replica ≡ replica_of r.history held.replica.all_up_to
+held_replica me floor held r stands = stands.replica ∙ ap (replica_of r.history) (sym (ap (λ (x : Replica). x.all_up_to) stands.replica))
+
+-- it is a history, and no time of it is above the floor
+pub fine_held : (me floor : ℕ) (held : Held) (r : model.Replica) → StandsHeld me floor held r → Fine floor r
+fine_held me floor held r stands = record { history = stands.history; below = stands.below }
+
+by_time : (a b : Stamp) → a.time < b.time → is_earlier a b ≡ true
+by_time a b lt = grind (arith, nat_tests)
+
+before_stamp : (r : model.Replica) (floor : ℕ) (s : Stamp) → ReplicaBelow r floor → floor < s.time → IsBefore r.history s
+before_stamp r floor s below above m there = by_time (stamp_in m) s (let low = (below.marks m (contains_in r.history m there)).0 in omega arith)
+
+-- the marks of an accepted update are merged into what is held
+pub adds_marks : (held : Held) (new : Replica) (me : ℕ) (r : model.Replica) (floor : ℕ) (u : Change) (s : Stamp) (f : Fragment)
+    → refusal_of (shown_in held.replica.table (changed_name u)) u ≡ None → f.name ≡ changed_name u
+    → entry_of (marks_of (shown_in held.replica.table (changed_name u)) u s) f.name ≡ Some f.entry → TakesFragment held.replica f new
+    → StandsHeld me floor held r → floor < s.time → AddsMarks me r u s (record held { replica = new }) f
+adds_marks held new me r floor u s f fine name entry takes stands above =
+    let up : held.replica.all_up_to ≡ r.all_up_to = ap (λ (x : Replica). x.all_up_to) stands.replica in
+    let seen : shown_in held.replica.table (changed_name u) ≡ shown r.history (changed_name u) = held_shows me floor held r (changed_name u) stands in
+    let accepted : refusal_of (shown r.history (changed_name u)) u ≡ None = ap (λ e. refusal_of e u) (sym seen) ∙ fine in
+    let own : entry_of (new_marks r u s) f.name ≡ Some f.entry = subst (λ e. entry_of (marks_of e u s) f.name ≡ Some f.entry) seen entry in
+    let before : IsBefore r.history s = before_stamp r floor s stands.below above in
+    let fragment : IsFragmentOf (new_marks r u s) f = record {
+      named = subst (λ n. AllByRecursion (λ m. name_in m ≡ n) (new_marks r u s)) (sym name) (marks_of-names r.history u s stands.history before accepted);
+      entry = own;
+    } in
+    let merge = accepted_merge r floor u s (fine_held me floor held r stands) above accepted in
+    let after = accepted_fine r floor u s (fine_held me floor held r stands) above accepted in
+    record {
+      stands = record {
+        looks = record { epoch = stands.looks.epoch; members = stands.looks.members; phase = stands.looks.phase };
+        replica =
+            takes.merged r.history (new_marks r u s) (subst (CanMerge r.history (new_marks r u s)) (sym up) merge) fragment (held_replica me floor held r stands)
+            ∙ ap (replica_of (r.history ++ new_marks r u s)) up;
+        history = after.history;
+        below = after.below;
+      };
+      fragment = fragment;
+    }
+
+module _ (by : Issuer) (now : model.House) (dir : DirId) (low : ℕ) (u : Change) (r : model.Replica) where
+  -- with the stamp that is issued the update is accepted
+  pub stamped : (old new : Held) (s : Stamp) (f : Fragment) → next_stamp by.clock low by.node ≡ Some s → AddsMarks by.house.0 r u s new f
+      → IssuesAt now by low dir old r
+      → HeldStep (IsStampAnswer (Ok s)) (accept_at by.house.0 now dir.0 u r (stamp_at now)) now by.house dir old new s.time (Some (out.Update f))
+  stamped old new s f issued adds at =
+      let own : stamp_at now ≡ Some s =
+      ap (λ c. next_stamp c now.floor now.node) at.clock ∙ ap (λ l. next_stamp by.clock l now.node) at.floor ∙ ap (next_stamp by.clock low) at.node ∙ issued in
+      subst (λ o. HeldStep (IsStampAnswer (Ok s)) (accept_at by.house.0 now dir.0 u r o) now by.house dir old new s.time (Some (out.Update f))) (sym own)
+      (λ ns. refl, record {
+        replica = grown r (new_marks r u s);
+        house = refl;
+        stands = adds.stands;
+        each =
+            posts_stand (record { house = by.house; dir = dir; floor = s.time }) new (out.Update f) (model.Update (new_marks r u s)) (others_of by.house.0 r.members)
+            dir.0 by.house.0 r.epoch s.time (ap (others_of by.house.0) adds.stands.looks.members) refl refl adds.stands.looks.epoch refl adds.fragment;
+      })
+
+  -- with no stamp left it is refused
+  pub unstamped : (old : Held) → next_stamp by.clock low by.node ≡ None → IssuesAt now by low dir old r
+      → HeldStep (IsStampAnswer (Err why.StampsSpent)) (accept_at by.house.0 now dir.0 u r (stamp_at now)) now by.house dir old old low None
+  unstamped old issued at =
+      let own : stamp_at now ≡ None =
+      ap (λ c. next_stamp c now.floor now.node) at.clock ∙ ap (λ l. next_stamp by.clock l now.node) at.floor ∙ ap (next_stamp by.clock low) at.node ∙ issued in
+      subst (λ o. HeldStep (IsStampAnswer (Err why.StampsSpent)) (accept_at by.house.0 now dir.0 u r o) now by.house dir old old low None) (sym own)
+      (refl, refl, sym at.floor, refl)
+
+  -- the refusal of the table is that of the model
+  its_refusal : (old : Held) (q : Option UpdateRefusal) → is_accepting by.house.0 (members_of old.members) ≡ true
+      → refusal_of (shown_in old.replica.table (changed_name u)) u ≡ q → IssuesAt now by low dir old r → update_refusal by.house.0 u r ≡ q
+  its_refusal old q accepts is at =
+      ap (λ ms. if is_accepting by.house.0 ms then refusal_of (shown r.history (changed_name u)) u else Some why.NotMaster) at.stands.looks.members
+      ∙ ap (λ b. if b then refusal_of (shown r.history (changed_name u)) u else Some why.NotMaster) accepts
+      ∙ ap (λ e. refusal_of e u) (sym (held_shows by.house.0 low old r (changed_name u) at.stands)) ∙ is
+
+  -- what the table accepts goes on to the stamp
+  pub accepted_in : (old new : Held) (floor : ℕ) (a : Result Stamp UpdateRefusal) (o : Option Outgoing) → is_accepting by.house.0 (members_of old.members) ≡ true
+      → refusal_of (shown_in old.replica.table (changed_name u)) u ≡ None → IssuesAt now by low dir old r
+      → HeldStep (IsStampAnswer a) (accept_at by.house.0 now dir.0 u r (stamp_at now)) now by.house dir old new floor o
+      → HeldStep (IsStampAnswer a) (accept_in by.house.0 now dir.0 u (model.Held r)) now by.house dir old new floor o
+  accepted_in old new floor a o accepts is at step =
+      subst (λ q. HeldStep (IsStampAnswer a) (turn.unless_refused q (accept_at by.house.0 now dir.0 u r (stamp_at now))) now by.house dir old new floor o)
+      (sym (its_refusal old None accepts is at)) step
+
+  refused_in : (old : Held) (q : UpdateRefusal) → update_refusal by.house.0 u r ≡ Some q → IssuesAt now by low dir old r
+      → HeldStep (IsStampAnswer (Err q)) (accept_in by.house.0 now dir.0 u (model.Held r)) now by.house dir old old low None
+  refused_in old q is at =
+      subst (λ p. HeldStep (IsStampAnswer (Err q)) (turn.unless_refused p (accept_at by.house.0 now dir.0 u r (stamp_at now))) now by.house dir old old low None)
+      (sym is) (refl, refl, sym at.floor, refl)
+
+  -- what it refuses is refused
+  pub table_refuses : (old : Held) (q : UpdateRefusal) → is_accepting by.house.0 (members_of old.members) ≡ true
+      → refusal_of (shown_in old.replica.table (changed_name u)) u ≡ Some q → IssuesAt now by low dir old r
+      → HeldStep (IsStampAnswer (Err q)) (accept_in by.house.0 now dir.0 u (model.Held r)) now by.house dir old old low None
+  table_refuses old q accepts is at = refused_in old q (its_refusal old (Some q) accepts is at) at
+
+  -- a house that accepts no updates refuses
+  pub list_refuses : (old : Held) → is_accepting by.house.0 (members_of old.members) ≡ false → IssuesAt now by low dir old r
+      → HeldStep (IsStampAnswer (Err why.NotMaster)) (accept_in by.house.0 now dir.0 u (model.Held r)) now by.house dir old old low None
+  list_refuses old accepts at =
+      refused_in old why.NotMaster
+      (ap (λ ms. if is_accepting by.house.0 ms then refusal_of (shown r.history (changed_name u)) u else Some why.NotMaster) at.stands.looks.members
+      ∙ ap (λ b. if b then refusal_of (shown r.history (changed_name u)) u else Some why.NotMaster) accepts) at
+
+-- what the house answers where the table refuses
+pub answer_refused : (me : ℕ) (u : Change) (h : Held) (q : UpdateRefusal) (stamp : Option Stamp) → is_accepting me (members_of h.members) ≡ true
+    → refusal_of (shown_in h.replica.table (changed_name u)) u ≡ Some q → Err q ≡ stamp_unless (held_refusal me u h) stamp
+answer_refused me u h q stamp accepts is =
+    sym (ap (λ b. stamp_unless (if b then refusal_of (shown_in h.replica.table (changed_name u)) u else Some why.NotMaster) stamp) accepts
+    ∙ ap (λ p. stamp_unless p stamp) is)

@@ -1,0 +1,40 @@
+use Rattle.std.proofs.Common.{sym, ap, subst}
+use Rattle.std.specs.Prelude.{IfOk}
+use Rattle.std.proofs.lemmas.Result.{on_err_weaker}
+use Rattle.cds_stamps.specs.declared.stamp.Floor.{Floor}
+use Rattle.directory.specs.Updates.{change_of}
+use Rattle.cell_model.specs.Turns.{accept_in}
+use Rattle.cell_model.specs.Cells as model
+use Rattle.clearinghouse.specs.PrivateTurns.{HeldStep, IssuesAt}
+use Rattle.clearinghouse.specs.Stepping.{IsStampAnswer}
+use Rattle.clearinghouse.specs.declared.updates.Issuer.{Issuer}
+use Rattle.clearinghouse.proofs.Houses.{at_held, kept_at, kept_by, same_house}
+use Rattle.clearinghouse.proofs.Maps.{if_ok_map}
+use Rattle.clearinghouse.proofs.house.Clearinghouse.accept_at.Goals as goal
+
+pub returns-in-Some-clause-kept : goal.returns-in-Some-clause-kept
+returns-in-Some-clause-kept c =
+    kept_at c.args.self.now c.args.dir c.in-Some.held.now c.accept.new.self c.accept.new.floor c.in-Some.ensures.value c.accept.ensures.rises
+    (kept_by c.accept.result _ _ _ _ c.accept.ensures.kept c.accept.ensures.err
+    (on_err_weaker c.accept.result (λ e. ap (λ (f : Floor). f.time) e) c.accept.ensures.err_floor))
+
+pub returns-in-Some-clause-refused : goal.returns-in-Some-clause-refused
+returns-in-Some-clause-refused c =
+    if_ok_map _ _ c.accept.result
+    (λ turn refused. on_err_weaker turn.answer
+    (λ same. (same_house c.args.self.now c.args.dir c.in-Some.held.now c.accept.new.self c.accept.new.floor c.in-Some.ensures.value same.0 same.1, same.2)) refused)
+    c.accept.ensures.refused
+
+pub returns-in-Some-clause-step : goal.returns-in-Some-clause-step
+returns-in-Some-clause-step c = λ now stands ticks.
+    let who = c.issuer-by.ensures in
+    at_held (λ turn. IsStampAnswer turn.answer) (λ turn. turn.outgoing) (accept_in c.args.self.now.house.0 now c.args.dir.0 (change_of c.args.update.now))
+    c.args.self.now now c.args.dir c.in-Some.held.now c.accept.new.self c.accept.new.floor c.accept.result c.in-Some.ensures.value c.accept.ensures.rises stands
+    (λ q here holds.
+    let at : IssuesAt now c.issuer-by.result c.args.self.now.floor.time c.args.dir c.in-Some.held.now q =
+    subst (λ (b : Issuer). IssuesAt now b c.args.self.now.floor.time c.args.dir c.in-Some.held.now q) (sym who)
+    (record { node = stands.node; clock = ticks; floor = stands.floor; here = here; stands = holds }) in
+    subst (λ (b : Issuer). IfOk c.accept.result (λ x. HeldStep (IsStampAnswer x.answer)
+    (accept_in b.house.0 now c.args.dir.0 (change_of c.args.update.now) (model.Held q)) now b.house c.args.dir c.in-Some.held.now c.accept.new.self
+    c.accept.new.floor.time x.outgoing)) who
+    (c.accept.ensures.step now c.args.dir q at))

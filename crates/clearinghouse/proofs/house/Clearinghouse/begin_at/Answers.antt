@@ -1,0 +1,33 @@
+use Rattle.std.proofs.Common.{sym, ap, subst, Result, Ok, Err}
+use Rattle.std.proofs.lemmas.Result.{on_err_weaker}
+use Rattle.cell_model.specs.Cells as model
+use Rattle.cell_model.specs.Turns.{skulk_in}
+use Rattle.clearinghouse.specs.PrivateTurns.{HeldStep, IssuesAt}
+use Rattle.clearinghouse.specs.Stepping.{IsBegunAnswer}
+use Rattle.clearinghouse.specs.declared.updates.Issuer.{Issuer}
+use Rattle.clearinghouse.proofs.Houses.{at_held_always, kept_at, same_house}
+use Rattle.clearinghouse.proofs.house.Clearinghouse.begin_at.Goals as goal
+
+pub returns-in-Some-clause-kept : goal.returns-in-Some-clause-kept
+returns-in-Some-clause-kept c =
+    kept_at c.args.self.now c.args.dir c.in-Some.held.now c.begin_skulk.new.self c.begin_skulk.new.floor c.in-Some.ensures.value c.begin_skulk.ensures.rises
+    c.begin_skulk.ensures.kept
+
+pub returns-in-Some-clause-refused : goal.returns-in-Some-clause-refused
+returns-in-Some-clause-refused c =
+    on_err_weaker c.begin_skulk.result.answer
+    (λ same. (same_house c.args.self.now c.args.dir c.in-Some.held.now c.begin_skulk.new.self c.begin_skulk.new.floor c.in-Some.ensures.value same.0 same.1, same.2))
+    c.begin_skulk.ensures.refused
+
+pub returns-in-Some-clause-step : goal.returns-in-Some-clause-step
+returns-in-Some-clause-step c = λ now stands ticks.
+    let who = c.issuer-by.ensures in
+    at_held_always (IsBegunAnswer c.begin_skulk.result.answer) c.begin_skulk.result.outgoing (skulk_in c.args.self.now.house.0 now c.args.dir.0)
+    c.args.self.now now c.args.dir c.in-Some.held.now c.begin_skulk.new.self c.begin_skulk.new.floor c.in-Some.ensures.value c.begin_skulk.ensures.rises stands
+    (λ q here holds.
+    let at : IssuesAt now c.issuer-by.result c.args.self.now.floor.time c.args.dir c.in-Some.held.now q =
+    subst (λ (b : Issuer). IssuesAt now b c.args.self.now.floor.time c.args.dir c.in-Some.held.now q) (sym who)
+    (record { node = stands.node; clock = ticks; floor = stands.floor; here = here; stands = holds }) in
+    subst (λ (b : Issuer). HeldStep (IsBegunAnswer c.begin_skulk.result.answer) (skulk_in b.house.0 now c.args.dir.0 (model.Held q)) now b.house c.args.dir
+    c.in-Some.held.now c.begin_skulk.new.self c.begin_skulk.new.floor.time c.begin_skulk.result.outgoing) who
+    (c.begin_skulk.ensures.step now c.args.dir q at))

@@ -1,0 +1,30 @@
+use Rattle.clearinghouse.proofs.Beginning.{row_begins, completed_step, completed_lawful, begun_answer, begun_step, begun_lawful}
+use Rattle.clearinghouse.proofs.states.Held.begin_with.Goals as goal
+
+pub returns-in-Complete-clause-kept : goal.returns-in-Complete-clause-kept
+returns-in-Complete-clause-kept c =
+    completed_lawful c.args.by c.args.t.now c.args.self.now c.begin.new.self c.begin.result
+    (row_begins c.args.by.house c.args.self.now.members c.args.t.now c.begin.new.self c.begin.result _ _ c.count-count.ensures.lawful
+    c.requires.master c.count-count.ensures.count c.own_place-me.ensures.place c.begin.ensures.does)
+    c.advance.new.self c.in-Complete.field-0 c.in-Complete.is
+    (record { merged = c.advance.ensures.merged; valid = c.advance.ensures.valid; below = λ n _. c.advance.ensures.times n })
+
+pub returns-in-Complete-clause-step : goal.returns-in-Complete-clause-step
+returns-in-Complete-clause-step c =
+    completed_step c.args.by c.args.t.now c.args.self.now c.begin.new.self c.begin.result
+    (row_begins c.args.by.house c.args.self.now.members c.args.t.now c.begin.new.self c.begin.result _ _ c.count-count.ensures.lawful
+    c.requires.master c.count-count.ensures.count c.own_place-me.ensures.place c.begin.ensures.does)
+    c.advance.new.self c.in-Complete.field-0 c.in-Complete.is
+    (record { merged = c.advance.ensures.merged; valid = c.advance.ensures.valid; below = λ n _. c.advance.ensures.times n })
+
+pub returns-in_default : goal.returns-in_default
+returns-in_default c =
+    let row = row_begins c.args.by.house c.args.self.now.members c.args.t.now c.begin.new.self c.begin.result _ _ c.count-count.ensures.lawful
+    c.requires.master c.count-count.ensures.count c.own_place-me.ensures.place c.begin.ensures.does in
+    record {
+      answer =
+          begun_answer c.args.t.now c.args.self.now.members _ _ c.begin.new.self c.begin.result c.count-count.ensures.count c.begin.ensures.does
+          c.in_default.not-Complete;
+      kept = begun_lawful c.args.by c.args.t.now c.args.self.now c.begin.new.self c.begin.result row c.in_default.not-Complete;
+      step = begun_step c.args.by c.args.t.now c.args.self.now c.begin.new.self c.begin.result row c.in_default.not-Complete;
+    }

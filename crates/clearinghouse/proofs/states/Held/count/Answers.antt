@@ -1,0 +1,16 @@
+use Rattle.std.proofs.Common.{sym, ap, subst, length, ◌<◌, ◌≤◌, ◌∙◌}
+use Rattle.std.proofs.Common.{arith}
+use Rattle.cds_stamps.specs.Members.{members_of, most_members}
+use Rattle.clearinghouse.proofs.Phases.{counted}
+use Rattle.clearinghouse.proofs.states.Held.count.Goals as goal
+
+pub returns : goal.returns
+returns c =
+    let same = ap length c.list.ensures.value in
+    let facts = counted c.list.result.now c.list.ensures.lawful in
+    record {
+      count = same;
+      some = facts.0;
+      few = facts.1;
+      lawful = rw (← c.list.ensures.value) c.list.ensures.lawful;
+    }
