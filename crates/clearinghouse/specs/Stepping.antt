@@ -11,6 +11,8 @@ use Rattle.directory.specs.declared.update.UpdateRefusal.TheVariants as why
 use Rattle.cell_model.specs.Commands as command
 use Rattle.cell_model.specs.Turns.{Turn, HouseStep, Stays, Turns}
 use Rattle.clearinghouse.specs.declared.house.Clearinghouse.{Clearinghouse}
+use Rattle.clearinghouse.specs.declared.outgoing.Outgoing.{Outgoing}
+use Rattle.clearinghouse.specs.declared.outgoing.Outgoing.TheVariants as out
 use Rattle.clearinghouse.specs.declared.posted.Posted.{Posted}
 use Rattle.clearinghouse.specs.declared.states.Held.{Held}
 use Rattle.clearinghouse.specs.declared.states.DirState.TheVariants as state
@@ -53,6 +55,12 @@ IsBegunAnswer (Ok (begun.Started s)) (command.Stamped t ns) = s ≡ t
 IsBegunAnswer (Ok (begun.Complete s)) (command.Complete t ns) = s ≡ t
 IsBegunAnswer (Err r) (command.Refused (command.Update q)) = r ≡ q
 IsBegunAnswer _ _ = ⊥
+
+-- what there is to post where a skulk begins (own)
+abbrev pub begun_outgoing : Result Begun UpdateRefusal → Option Outgoing
+begun_outgoing (Ok (begun.Started t)) = Some (out.Gather t)
+begun_outgoing (Ok (begun.Complete t)) = None
+begun_outgoing (Err r) = None
 
 -- what came of a skulk that was to begin, but for what was posted (own)
 abbrev pub skulk_result : Skulked → Result Begun UpdateRefusal

@@ -15,7 +15,7 @@ ghost use Rattle.clearinghouse.specs.declared.outgoing.Outgoing.TheVariants as o
 ghost use Rattle.clearinghouse.specs.declared.states.DirState.TheVariants as state;
 ghost use Rattle.clearinghouse.specs.Refusing.{accept_answer, skulk_answer, epoch_refused, IsLater};
 ghost use Rattle.clearinghouse.specs.Standing.{StandsHouse};
-ghost use Rattle.clearinghouse.specs.Stepping.{IsCall, IsTurn, IsStep, IsStampAnswer, IsAcceptAnswer, IsBegunAnswer, IsSkulkAnswer, Enters};
+ghost use Rattle.clearinghouse.specs.Stepping.{IsCall, IsTurn, IsStep, IsStampAnswer, IsAcceptAnswer, IsBegunAnswer, IsSkulkAnswer, Enters, begun_outgoing};
 ghost use Rattle.clearinghouse.specs.Stepping.{IsEpochAnswer, accept_result, accept_posts, skulk_result, skulk_posts, epoch_result, epoch_posts};
 
 use crate::epochs::{EpochRefusal, EpochSet, post_leaves};
@@ -245,6 +245,7 @@ impl Clearinghouse {
         ensures usable { is_err result ≡ self.old.spent }
         ensures kept { IsLawful self.old → IsLawful self.new }
         ensures answer { IfOk result (λ turn. turn.answer ≡ skulk_answer self.old.house.0 (next_stamp clock self.old.floor.time self.old.node) (map.get self.old.dirs dir)) }
+        ensures posts { IfOk result (λ turn. turn.outgoing ≡ begun_outgoing turn.answer) }
         ensures refused { IfOk result (λ turn. OnErr turn.answer ((self.new ≡ self.old) × (turn.outgoing ≡ None))) }
         ensures step { (now : model.House) → StandsHouse self.old now → now.clock ≡ clock
             → IfOk result (λ turn. IsStep (IsBegunAnswer turn.answer) (skulk self.old.house.0 now dir.0) self.old self.new (posts_at self.new dir turn.outgoing)) }
@@ -258,6 +259,7 @@ impl Clearinghouse {
         ensures who { SameHouse self.old self.new }
         ensures kept { IsLawful self.old → IsLawful self.new }
         ensures answer { result.answer ≡ skulk_answer self.old.house.0 (next_stamp clock self.old.floor.time self.old.node) (map.get self.old.dirs dir) }
+        ensures posts { result.outgoing ≡ begun_outgoing result.answer }
         ensures refused { OnErr result.answer ((self.new ≡ self.old) × (result.outgoing ≡ None)) }
         ensures step { (now : model.House) → StandsHouse self.old now → now.clock ≡ clock
             → IsStep (IsBegunAnswer result.answer) (skulk self.old.house.0 now dir.0) self.old self.new (posts_at self.new dir result.outgoing) }
@@ -352,7 +354,7 @@ impl Clearinghouse {
         dir: DirId,
         outgoing: Option<&Outgoing>,
     ) -> Result<PostedList, AllocError>
-        ensures posts { IfOk result (λ p. p ≡ posts_at self.old dir (option_copied outgoing)) }
+        ensures posts { IfOk result (λ p. p ≡ posts_at self.old dir (option_copied outgoing.entry)) }
         ensures heeds { Heeds self.old self.new result }
     {
         let posted = self.posts(alloc, dir, outgoing);
@@ -365,7 +367,7 @@ impl Clearinghouse {
         dir: DirId,
         outgoing: Option<&Outgoing>,
     ) -> Result<PostedList, AllocError>
-        ensures { IfOk result (λ p. p ≡ posts_at self.now dir (option_copied outgoing)) }
+        ensures { IfOk result (λ p. p ≡ posts_at self.now dir (option_copied outgoing.entry)) }
     {
         let Some(outgoing) = outgoing else {
             return Ok(PostedList::new(alloc));

@@ -7,7 +7,7 @@ ghost use Rattle.cell_model.specs.Cells as model;
 ghost use Rattle.cell_model.specs.Turns.{skulk_in, begin};
 ghost use Rattle.clearinghouse.specs.Lawful.{IsLawfulHeld};
 ghost use Rattle.clearinghouse.specs.Refusing.{begun_among, not_master, stamp_unless};
-ghost use Rattle.clearinghouse.specs.Stepping.{IsBegunAnswer};
+ghost use Rattle.clearinghouse.specs.Stepping.{IsBegunAnswer, begun_outgoing};
 ghost use Rattle.clearinghouse.specs.PrivateTurns.{HeldStep, IssuesAt};
 
 use crate::outgoing::{Outgoing, Turn};
@@ -46,6 +46,7 @@ impl Held {
     ) -> Turn<Result<Begun, UpdateRefusal>>
         ensures answer { result.answer ≡ begun_among self.old.members (stamp_unless (not_master by.house.0 self.old) (next_stamp by.clock floor.old.time by.node)) }
         ensures refused { OnErr result.answer ((self.new ≡ self.old) × (floor.new ≡ floor.old) × (result.outgoing ≡ None)) }
+        ensures posts { result.outgoing ≡ begun_outgoing result.answer }
         ensures rises { floor.old.time ≤ floor.new.time }
         ensures kept { IsLawfulHeld floor.old.time self.old → IsLawfulHeld floor.new.time self.new }
         ensures step { (now : model.House) (dir : number.DirId) (r : model.Replica) → IssuesAt now by floor.old.time dir self.old r
@@ -64,6 +65,7 @@ impl Held {
     fn begin_with(&mut self, by: Issuer, t: &Stamp) -> Turn<Result<Begun, UpdateRefusal>>
         requires master { master_of (members_of self.old.members) ≡ by.house.0 }
         ensures answer { result.answer ≡ begun_among self.old.members (Ok t.now) }
+        ensures posts { result.outgoing ≡ begun_outgoing result.answer }
         ensures kept { IsLawfulHeld t.now.time self.old → IsLawfulHeld t.now.time self.new }
         ensures step { (now : model.House) (dir : number.DirId) (r : model.Replica) → IssuesAt now by now.floor dir self.old r → now.floor < t.now.time
             → HeldStep (IsBegunAnswer result.answer) (begin by.house.0 now dir.0 r t.now (others_of by.house.0 r.members)) now by.house dir self.old self.new t.now.time result.outgoing }
