@@ -22,31 +22,35 @@ fn stamp() -> Result<Stamp, Fail> {
     Ok(Stamp { time: 100, node })
 }
 
-// Whether the answer to line 7 is this text.
-fn is_told(alloc: Global, answer: Answer, text: &str) -> Result<bool, Fail> {
+// Fails with this text, where the answer to line 7 has another.
+fn told(alloc: Global, answer: Answer, text: &'static str) -> Result<(), Fail> {
     let mut line = Vec::new(alloc);
     append_answer(alloc, &mut line, 7, &answer)?;
-    Ok(line.as_slice() == text.as_bytes())
+    if line.as_slice() == text.as_bytes() {
+        Ok(())
+    } else {
+        Err(Fail::new(text))
+    }
 }
 
 #[test]
 fn posted_messages_are_numbered(rt: HostRuntime) -> Result<(), Fail> {
     let alloc = rt.alloc();
-    let none = Answer::Posted(serials(alloc, &[])?);
-    assert!(rt; is_told(alloc, none, "7 ok\n")?);
-    let two = Answer::Posted(serials(alloc, &[1, 2])?);
-    assert!(rt; is_told(alloc, two, "7 ok posted 1 2\n")?);
-    Ok(())
+    told(alloc, Answer::Posted(serials(alloc, &[])?), "7 ok\n")?;
+    told(
+        alloc,
+        Answer::Posted(serials(alloc, &[1, 2])?),
+        "7 ok posted 1 2\n",
+    )
 }
 
 #[test]
 fn stamps_stand_before_the_posted(rt: HostRuntime) -> Result<(), Fail> {
     let alloc = rt.alloc();
     let made = Answer::Made(DirId(2), stamp()?, serials(alloc, &[9])?);
-    assert!(rt; is_told(alloc, made, "7 ok 2 100@000000000a0b posted 9\n")?);
+    told(alloc, made, "7 ok 2 100@000000000a0b posted 9\n")?;
     let stamped = Answer::Stamped(stamp()?, serials(alloc, &[3, 10])?);
-    assert!(rt; is_told(alloc, stamped, "7 ok 100@000000000a0b posted 3 10\n")?);
-    Ok(())
+    told(alloc, stamped, "7 ok 100@000000000a0b posted 3 10\n")
 }
 
 #[test]
@@ -55,36 +59,33 @@ fn values_and_targets(rt: HostRuntime) -> Result<(), Fail> {
     let mut values = Values::new(alloc);
     values.push(Value::new(alloc, &[0, 16])?)?;
     values.push(Value::new(alloc, &[255])?)?;
-    assert!(rt; is_told(alloc, Answer::Values(values), "7 ok 2 0010 ff\n")?);
+    told(alloc, Answer::Values(values), "7 ok 2 0010 ff\n")?;
     let target = Answer::Target(FullName::parse(alloc, b"/.:/a")?);
-    assert!(rt; is_told(alloc, target, "7 ok /.:/a\n")?);
-    Ok(())
+    told(alloc, target, "7 ok /.:/a\n")
 }
 
 #[test]
 fn messages_have_their_names(rt: HostRuntime) -> Result<(), Fail> {
-    let alloc = rt.alloc();
     for (tag, text) in [(3, "7 ok Gathered 46\n"), (5, "7 ok SpreadAck 46\n")] {
-        assert!(rt; is_told(alloc, Answer::Decoded(tag, 46), text)?);
+        told(rt.alloc(), Answer::Decoded(tag, 46), text)?;
     }
     Ok(())
 }
 
-// Whether the refusal of line 7 is this text.
-fn is_refused(alloc: Global, refusal: ScriptRefusal, text: &str) -> Result<bool, Fail> {
-    is_told(alloc, Answer::Refused(refusal), text)
+// The same of a refusal.
+fn refused(alloc: Global, refusal: ScriptRefusal, text: &'static str) -> Result<(), Fail> {
+    told(alloc, Answer::Refused(refusal), text)
 }
 
 #[test]
 fn refusals_that_no_command_gives_yet(rt: HostRuntime) -> Result<(), Fail> {
     let alloc = rt.alloc();
-    assert!(rt; is_refused(alloc, ScriptRefusal::Down, "7 refused Down\n")?);
-    assert!(rt; is_refused(alloc, ScriptRefusal::NotMaster, "7 refused NotMaster\n")?);
+    refused(alloc, ScriptRefusal::Down, "7 refused Down\n")?;
+    refused(alloc, ScriptRefusal::NotMaster, "7 refused NotMaster\n")?;
     let spent = ScriptRefusal::StampsSpent(Some(2), serials(alloc, &[4, 5])?);
-    assert!(rt; is_refused(alloc, spent, "7 refused StampsSpent 2 posted 4 5\n")?);
+    refused(alloc, spent, "7 refused StampsSpent 2 posted 4 5\n")?;
     let spent = ScriptRefusal::StampsSpent(Some(0), serials(alloc, &[])?);
-    assert!(rt; is_refused(alloc, spent, "7 refused StampsSpent 0\n")?);
-    Ok(())
+    refused(alloc, spent, "7 refused StampsSpent 0\n")
 }
 
 #[test]

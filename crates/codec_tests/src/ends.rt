@@ -88,21 +88,25 @@ fn a_piece_goes_out_up_to_the_failed_write(rt: HostRuntime) -> Result<(), Fail> 
     Ok(())
 }
 
+// How many octets are consumed, what the next call to fill the window answers, and what it holds then.
+#[rattlefmt::skip]
+static FILLS: [(usize, Result<bool, Failed>, &[u8]); 5] = [
+    (0, Err(Failed), b"abc"),
+    (0, Ok(false), b"abcd"),
+    (0, Ok(false), b"abcd"),
+    (3, Ok(false), b"defg"),
+    (3, Ok(true), b"gh"),
+];
+
 #[test]
 fn a_window_fills_up_to_the_end(rt: HostRuntime) -> Result<(), Fail> {
     let alloc = rt.alloc();
     let mut source = MemSource::new(b"abcdefgh".to_vec(alloc)?, vec![in alloc; 2]?, 3);
     let mut window = Window::new(alloc, 4)?;
-    assert_eq!(rt; window.fill(&mut source), Err(Failed));
-    assert_eq!(rt; window.octets(), b"abc".as_slice());
-    assert_eq!(rt; window.fill(&mut source), Ok(false));
-    assert_eq!(rt; window.octets(), b"abcd".as_slice());
-    assert_eq!(rt; window.fill(&mut source), Ok(false));
-    window.consume(window.octets().len().min(3));
-    assert_eq!(rt; window.fill(&mut source), Ok(false));
-    assert_eq!(rt; window.octets(), b"defg".as_slice());
-    window.consume(window.octets().len().min(3));
-    assert_eq!(rt; window.fill(&mut source), Ok(true));
-    assert_eq!(rt; window.octets(), b"gh".as_slice());
+    for (used, answer, octets) in FILLS {
+        window.consume(window.octets().len().min(used));
+        assert_eq!(rt; window.fill(&mut source), answer);
+        assert_eq!(rt; window.octets(), octets);
+    }
     Ok(())
 }

@@ -3,23 +3,28 @@ use cds_base::{LineFault, Lines, MemSource};
 use std::alloc::Global;
 use std::test::Fail;
 
-// The input is this many spaces, and then these octets. It has lines of these lengths, and then the fault, or it ends.
-type Row = (usize, &'static [u8], &'static [usize], Option<LineFault>);
+// The input is this many spaces, and then these octets. It has lines of these lengths, and then it ends or has the fault.
+type Row = (
+    usize,
+    &'static [u8],
+    &'static [usize],
+    Result<bool, LineFault>,
+);
 
 #[rattlefmt::skip]
 static ROWS: [Row; 7] = [
-    (0, b"house 1 00000000000a\n\n# note\n", &[20, 0, 6], None),
-    (4096, b"\n", &[4096], None),
-    (4096, b"", &[], Some(LineFault::NoLineEnd(1, 4097))),
-    (4096, b"\r\n", &[], Some(LineFault::LineTooLong(1, 4097))),
-    (3, b"\n\n\xc3\xa9\n", &[3, 0], Some(LineFault::NotAscii(3, 1))),
-    (2, b"\n~\x7f", &[2], Some(LineFault::NotAscii(2, 2))),
-    (1, b"\n~", &[1], Some(LineFault::NoLineEnd(2, 2))),
+    (0, b"house 1 00000000000a\n\n# note\n", &[20, 0, 6], Ok(true)),
+    (4096, b"\n", &[4096], Ok(true)),
+    (4096, b"", &[], Err(LineFault::NoLineEnd(1, 4097))),
+    (4096, b"\r\n", &[], Err(LineFault::LineTooLong(1, 4097))),
+    (3, b"\n\n\xc3\xa9\n", &[3, 0], Err(LineFault::NotAscii(3, 1))),
+    (2, b"\n~\x7f", &[2], Err(LineFault::NotAscii(2, 2))),
+    (1, b"\n~", &[1], Err(LineFault::NoLineEnd(2, 2))),
 ];
 
-// Whether lines of these lengths come, and then that fault or the end, at this many octets a read.
+// Whether lines of these lengths come, and then the end or that fault, at this many octets a read.
 fn ends_so(alloc: Global, row: Row, most: usize) -> Result<bool, Fail> {
-    let (spaces, then, lengths, fault) = row;
+    let (spaces, then, lengths, end) = row;
     let mut input = vec![in alloc; b' '; spaces]?;
     input.extend_from_slice(then)?;
     let mut source = MemSource::new(input, Vec::new(alloc), most.max(1));
@@ -30,11 +35,7 @@ fn ends_so(alloc: Global, row: Row, most: usize) -> Result<bool, Fail> {
             return Ok(false);
         }
     }
-    let ends = |answer| match fault {
-        None => answer == Ok(true),
-        Some(fault) => answer == Err(fault),
-    };
-    Ok(ends(lines.next(&mut source).map(|line| line.is_none())))
+    Ok(lines.next(&mut source).map(|line| line.is_none()) == end)
 }
 
 #[test]
