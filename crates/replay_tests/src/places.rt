@@ -1,10 +1,10 @@
 // Where full names lead in a cell.
 use attr_sets::Value;
 use cds_cell::{Cell, CellReader};
-use cds_stamps::{AllocOr, AttrName};
+use cds_stamps::{AllocOr, AttrName, DirId, HouseNo, SimpleName};
 use cell_names::FullName;
 use cell_script::{ScriptLine, parse_line};
-use resolver::{EntryReader, Refusal, place, resolve};
+use resolver::{EntryReader, Refusal, Seen, place, resolve};
 use std::alloc::Global;
 use std::test::Fail;
 
@@ -40,6 +40,37 @@ fn cell_of(alloc: Global) -> Result<Cell, Fail> {
     Ok(cell)
 }
 
+#[test]
+fn houses_that_were_made(rt: HostRuntime) -> Result<(), Fail> {
+    let cell = cell_of(rt.alloc())?;
+    assert!(rt; cell.has_house(HouseNo(1)) && !cell.has_house(HouseNo(2)));
+    Ok(())
+}
+
+// What a reader sees of a name in the root directory, where it stands at house 1 alone.
+fn seen_of(alloc: Global, cell: &Cell, name: &[u8]) -> Result<Seen, Fail> {
+    let reader = CellReader { cell };
+    match reader.root(alloc)? {
+        Some(root) if root.dir == DirId::ROOT && root.houses.master() == HouseNo(1) => {
+            Ok(reader.lookup(alloc, &root, &SimpleName::parse(alloc, name)?)?)
+        }
+        _ => Err("another root".into()),
+    }
+}
+
+#[test]
+fn names_in_the_root_directory(rt: HostRuntime) -> Result<(), Fail> {
+    let alloc = rt.alloc();
+    let cell = cell_of(alloc)?;
+    let none = seen_of(alloc, &cell, b"none")?;
+    assert!(rt; matches!(&none, Seen::Absent(HouseNo(1))));
+    let sub = seen_of(alloc, &cell, b"sub")?;
+    assert!(rt; matches!(&sub, Seen::Child(HouseNo(1), child) if child.dir == DirId(2)));
+    let soft = seen_of(alloc, &cell, b"soft")?;
+    assert!(rt; matches!(&soft, Seen::Link(HouseNo(1), target) if target.is_spelled(b"/.:/sub/e")));
+    Ok(())
+}
+
 // The directory and the name of the place of a full name, and whether an entry is there; or why it has none.
 fn place_of(
     alloc: Global,
@@ -48,7 +79,6 @@ fn place_of(
     wanted: Result<(u32, &[u8], bool), Refusal>,
 ) -> Result<bool, Fail> {
     let name = FullName::parse(alloc, name)?;
-    let wanted = wanted;
     match place(alloc, &CellReader { cell }, &name) {
         Ok(place) => Ok(wanted == Ok((place.dir.0, place.name.octets(), place.kind.is_some()))),
         Err(AllocOr::Fault(refusal)) => Ok(wanted == Err(refusal)),
