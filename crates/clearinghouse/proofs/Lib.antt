@@ -8,3 +8,4 @@ mod Accepting
 mod Beginning
 mod Lawfulness
 mod Houses
+mod Takings
