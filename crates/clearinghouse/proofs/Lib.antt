@@ -9,3 +9,4 @@ mod Beginning
 mod Lawfulness
 mod Houses
 mod Takings
+mod Entering
