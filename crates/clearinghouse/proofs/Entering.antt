@@ -223,3 +223,35 @@ module _ (c new : Clearinghouse) (now : model.House) (dir : DirId) (k : EpochNo)
       (λ none. refuses_here e (is ∙ none_refused c.house.0 k.0 (members_of ms) (get c.dirs dir) none) same)
       (λ g none. refuses_here e (is ∙ none_refused c.house.0 k.0 (members_of ms) (get c.dirs dir) none) same)
       (λ h r got here held. in_epoch h r got who stands held (subst (IsLater k.0) got later) e is same enters)
+
+-- ---- in a call that may want for memory
+
+module _ (c mid : Clearinghouse) (dir : DirId) (k : EpochNo) (ms : List declared.Member) (who : SameHouse c mid) where
+  entered_lawful : Enters c mid dir k ms → IsLawful c → IsLawful mid
+  entered_lawful enters lawful =
+      let after : mid ≡ record c { dirs = insert c.dirs dir (state.Held (entered k ms enters.held)) } =
+      λ i. record { house = who.house i; node = who.node i; floor = enters.floor i; dirs = enters.after i; spent = who.spent i } in
+      let own = lawful dir enters.held enters.before in
+      let fine : IsLawfulHeld c.floor.time (entered k ms enters.held) = record { valid = own.valid; replica = own.replica; skulk = λ t e. absurd (cc) } in
+      subst IsLawful (sym after)
+      (house_lawful c dir c.floor (state.Held (entered k ms enters.held)) (le_refl _)
+      (λ h is. let same : entered k ms enters.held ≡ h = cc in subst (IsLawfulHeld c.floor.time) same fine) lawful)
+
+  by_answer : (e : Result (Unit {0}) EpochRefusal) → OnErr e (mid ≡ c) → OnOk e (Enters c mid dir k ms) → IsLawful c → IsLawful mid
+  by_answer (Ok x) same enters lawful = entered_lawful enters lawful
+  by_answer (Err r) same enters lawful = subst IsLawful (sym same) lawful
+
+  -- it is lawful still
+  pub enters_lawful : (done : Result (Result (Unit {0}) EpochRefusal) AllocError) → IfOk done (λ e. OnErr e (mid ≡ c)) → IfOk done (λ e. OnOk e (Enters c mid dir k ms))
+      → OnErr done (mid ≡ c) → IsLawful c → IsLawful mid
+  enters_lawful (Ok e) same enters err lawful = by_answer e same enters lawful
+  enters_lawful (Err x) same enters err lawful = subst IsLawful (sym err) lawful
+
+  -- and a step of the model
+  pub enters_steps : (now : model.House) (leaving : List HouseNo) (done : Result (Result (Unit {0}) EpochRefusal) AllocError)
+      → IfOk done (λ e. result_err e ≡ epoch_refused c.house.0 k.0 (members_of ms) (get c.dirs dir))
+      → IfOk done (λ e. OnErr e (mid ≡ c)) → IfOk done (λ e. OnOk e (Enters c mid dir k ms)) → StandsHouse c now → IsLater k.0 (get c.dirs dir)
+      → IfOk done (λ e. IsStep (IsEpochAnswer k.0 (result_err e)) (new_epoch c.house.0 now dir.0 k.0 (members_of ms) (numbers_of leaving)) c mid
+        (epoch_posts_at mid dir k leaving (result_err e)))
+  enters_steps now leaving (Ok e) is same enters stands later = enters_step c mid now dir k ms leaving e is same enters who stands later
+  enters_steps now leaving (Err x) is same enters stands later = tt
