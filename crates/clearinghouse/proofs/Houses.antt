@@ -238,3 +238,10 @@ module _ {T : Type 0} (mid new : Clearinghouse) (done result : Result T AllocErr
         spent = ap (λ (c : Clearinghouse). c.spent) spent ∙ sym (ap is_err is);
         usable = subst (λ r. IfOk r (λ _. old.spent ≡ false)) (sym is) tt;
       }
+
+-- a step of a call, after the copies are posted
+pub posted_step : {T : Type 0} (A : command.Answer → Type 0) (step : HouseStep) (old mid new : Clearinghouse) (posts given : List Posted) (done : Result T AllocError)
+    (x : T) → done ≡ Ok x → Heeds mid new done → posts ≡ given → IsStep A step old mid posts → IsStep A step old new given
+posted_step A step old mid new posts given done x is heeds same h =
+    let stays : new ≡ mid = subst (λ r. OnOk r (new ≡ mid)) is heeds.same in
+    subst (IsStep A step old new) same (subst (λ c. IsStep A step old c posts) (sym stays) h)

@@ -372,11 +372,7 @@ floor_is (answers.Stale t r) now floor latest old same low = omega (arith, same)
 floor_is answers.NoReplica now floor latest old same low = omega (arith, same)
 floor_is answers.Foreign now floor latest old same low = omega (arith, same)
 
-module _ (msg : Message) (now : model.House) (old new : Clearinghouse) (a : Taken) (o : Option Outgoing) (m : model.Message)
-    (lawful : (h : Held) → get old.dirs msg.dir ≡ Some (state.Held h) → members_fault (members_of h.members) ≡ None) where
-  lawful_model : (h : Held) (r : model.Replica) → get old.dirs msg.dir ≡ Some (state.Held h) → LooksHeld old.house.0 h r → members_fault r.members ≡ None
-  lawful_model h r got looks = ap members_fault looks.members ∙ lawful h got
-
+module _ (msg : Message) (now : model.House) (old new : Clearinghouse) (a : Taken) (o : Option Outgoing) (m : model.Message) where
   nothing_posted : o ≡ None → posts_at new msg.dir o ≡ []
   nothing_posted none = ap (posts_at new msg.dir) none ∙ posts_none (sender_of new msg.dir) (get new.dirs msg.dir)
 
@@ -396,7 +392,7 @@ module _ (msg : Message) (now : model.House) (old new : Clearinghouse) (a : Take
       floor_is a now.floor msg.floor (latest_in_message msg) old.floor.time stands.floor (latest_is old.house.0 msg m now carries can) in
       let step : HeldStep (IsTakeAnswer a) (take_other now m m.body (model.Held r)) now old.house msg.dir h z.held floor.time o =
       subst (λ x. HeldStep (IsTakeAnswer a) (take_other now m m.body (model.Held r)) now old.house msg.dir h z.held x o) (sym same)
-      (other_step old.house msg m now h z.held r a o (lawful_model h r got here.looks) carries here can (ap now.slots carries.head.dir ∙ held) other z.takes) in
+      (other_step old.house msg m now h z.held r a o carries here can (ap now.slots carries.head.dir ∙ held) other z.takes) in
       subst (λ (x : Clearinghouse). IsStep (IsTakeAnswer a) (take_other now m m.body (model.Held r)) old x (posts_at x msg.dir o)) (sym z.after)
       (step_of (IsTakeAnswer a) (take_other now m m.body (model.Held r)) old now msg.dir h z.held floor o stands got (omega arith) step)
 
@@ -447,7 +443,7 @@ module _ (msg : Message) (now : model.House) (old new : Clearinghouse) (a : Take
   slot_seen (Some (state.Held h)) (model.Held r) got here carries z =
       after_looks (take_other now m m.body (model.Held r)) z.held
       (z.after ∙ ap (λ f. record old { floor = f; dirs = insert old.dirs msg.dir (state.Held z.held) }) (ap (λ (x : Clearinghouse). x.floor) (sym z.after)))
-      (other_looks old.house msg m now h z.held r a o (lawful_model h r got here) carries here z.takes)
+      (other_looks old.house msg m now h z.held r a o carries here z.takes)
   slot_seen None (model.Gone k) got here carries z = elim here [ ]
   slot_seen None (model.Held r) got here carries z = elim here [ ]
   slot_seen (Some (state.Gone e)) model.Absent got here carries z = elim here [ ]

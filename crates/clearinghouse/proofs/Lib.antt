@@ -8,3 +8,5 @@ mod Accepting
 mod Beginning
 mod Lawfulness
 mod Houses
+mod Takings
+mod Entering

@@ -1,10 +1,14 @@
 -- What a house posts: the loop over its members, and the messages of the model for which posted ones stand.
-use Rattle.std.proofs.Common.{◌≡◌, ℕ, Bool, true, false, cond, List, [], ◌∷◌, ◌++◌, Option, Some, None, refl, sym, ap, subst, ◌∙◌, append_assoc, append-nil}
+use Rattle.std.proofs.Common.{◌≡◌, ℕ, Bool, true, false, cond, List, [], ◌∷◌, ◌++◌, Option, Some, None, Result, Ok, Err, refl, sym, ap, subst, ◌∙◌, append_assoc, append-nil}
 use Rattle.std.specs.Prelude.{◌==◌}
 use Rattle.cds_stamps.specs.declared.members.Member.{Member}
 use Rattle.cds_stamps.specs.declared.numbers.EpochNo.{EpochNo}
 use Rattle.cds_stamps.specs.declared.numbers.HouseNo.{HouseNo}
 use Rattle.cds_stamps.specs.Members.{members_of, others_of}
+use Rattle.std.specs.FinMap.{get}
+use Rattle.cds_stamps.specs.declared.numbers.DirId.{DirId}
+use Rattle.cds_stamps.specs.declared.stamp.Stamp.{Stamp}
+use Rattle.directory.specs.declared.update.UpdateRefusal.{UpdateRefusal}
 use Rattle.cds_records.specs.declared.message.Message.{Message}
 use Rattle.cds_records.specs.declared.message.Body.TheVariants as body
 use Rattle.cell_model.specs.Cells as model
@@ -15,7 +19,11 @@ use Rattle.clearinghouse.specs.declared.posted.Posted.{Posted}
 use Rattle.clearinghouse.specs.declared.states.DirState.{DirState}
 use Rattle.clearinghouse.specs.declared.states.DirState.TheVariants as state
 use Rattle.clearinghouse.specs.declared.states.Held.{Held}
-use Rattle.clearinghouse.specs.Posting.{posts_to, posts_of, posts_if, body_of, message_of, leave_of, receivers_of, receiver_of, numbers_of, StandsBody, StandEach}
+use Rattle.clearinghouse.specs.declared.house.Clearinghouse.{Clearinghouse}
+use Rattle.clearinghouse.specs.declared.skulks.Begun.{Begun}
+use Rattle.clearinghouse.specs.declared.skulks.Begun.TheVariants as begun
+use Rattle.clearinghouse.specs.Stepping.{begun_outgoing}
+use Rattle.clearinghouse.specs.Posting.{posts_at, sender_of, posts_to, posts_of, posts_if, body_of, message_of, leave_of, receivers_of, receiver_of, numbers_of, StandsBody, StandEach}
 
 -- what is posted to the members so far and to the rest is all
 pub record PostsRest (m : Message) (all rest : List Member) (posted : List Posted) : Type 0 where
@@ -90,3 +98,9 @@ leaves_go_on before s k all rest y posted more is h = record {
 pub leaves_end : (before : List Posted) (s : Sender) (k : EpochNo) (all : List HouseNo) (posted : List Posted) → LeavesRest before s k all [] posted
     → posted ≡ before ++ posts_to (numbers_of all) (leave_of s k)
 leaves_end before s k all posted h = sym (append-nil posted) ∙ h.is
+
+-- nothing is posted where a skulk is complete at once
+pub completed_posts : (c : Clearinghouse) (dir : DirId) (a : Result Begun UpdateRefusal) (t : Stamp) (o : Option Outgoing) → a ≡ Ok (begun.Complete t)
+    → o ≡ begun_outgoing a → posts_at c dir o ≡ []
+completed_posts c dir a t o is posts =
+    ap (posts_at c dir) (posts ∙ ap begun_outgoing is) ∙ posts_none (sender_of c dir) (get c.dirs dir)

@@ -74,7 +74,7 @@ replica_advanced old new h t s is takes = (subst (λ (x : Replica). Advances x s
 -- ---- what becomes of a message
 
 module _ (me : HouseNo) (dir : DirId) (sender : HouseNo) (k fl : ℕ) (now : model.House) (old new : Held) (r : model.Replica) (from : ℕ) (a : Taken)
-    (o : Option Outgoing) (looks : LooksHeld me.0 old r) (lawful : members_fault r.members ≡ None) (here : place_of sender.0 r.members ≡ Some from)
+    (o : Option Outgoing) (looks : LooksHeld me.0 old r) (here : place_of sender.0 r.members ≡ Some from)
     (epoch : k ≡ r.epoch) where
   abbrev message : model.Body → model.Message
   message c = record { receiver = me.0; dir = dir.0; sender = sender.0; epoch = k; floor = fl; body = c }
@@ -147,7 +147,7 @@ module _ (me : HouseNo) (dir : DirId) (sender : HouseNo) (k fl : ℕ) (now : mod
   first : (t : Stamp) (rep : Replica) (c : model.Copy) → TakesFirst me from t rep old new a o
       → Core (body.Gathered t rep) (model.Gathered t c) (take_gathered now (message (model.Gathered t c)) t c r r.phase)
   first t rep c w = by_row
-      (gather_row now (message (model.Gathered t c)) t r from (place_in me old.members) lawful here own_place c old.skulk w.phase r.phase w.next refl
+      (gather_row now (message (model.Gathered t c)) t r from (place_in me old.members) (ap members_fault looks.members ∙ w.lawful) here own_place c old.skulk w.phase r.phase w.next refl
       (subst (λ ms. StandsPhase me.0 ms old.skulk r.phase) (sym looks.members) looks.phase)
       (subst (λ n. TakesGathered t from n (place_in me old.members) old.skulk w.phase w.next) count w.does))
     where
@@ -184,7 +184,7 @@ module _ (me : HouseNo) (dir : DirId) (sender : HouseNo) (k fl : ℕ) (now : mod
   second : (t : Stamp) → TakesSecond from t old new a o
       → Core (body.SpreadAck t) (model.SpreadAck t) (take_ack now (message (model.SpreadAck t)) t r r.phase)
   second t w = by_row
-      (ack_row now (message (model.SpreadAck t)) t r from (place_in me old.members) lawful here own_place old.skulk new.skulk r.phase w.next refl
+      (ack_row now (message (model.SpreadAck t)) t r from (place_in me old.members) (ap members_fault looks.members ∙ w.lawful) here own_place old.skulk new.skulk r.phase w.next refl
       (subst (λ ms. StandsPhase me.0 ms old.skulk r.phase) (sym looks.members) looks.phase)
       (subst (λ n. TakesSpread t from n old.skulk new.skulk w.next) count w.does))
     where
@@ -309,8 +309,7 @@ message_is to m n h = λ i. record {
 }
 
 -- what a step does with what is held, that is a member's message of its epoch or not
-module _ (me : HouseNo) (msg : Message) (now : model.House) (old new : Held) (r : model.Replica) (a : Taken) (o : Option Outgoing)
-    (lawful : members_fault r.members ≡ None) where
+module _ (me : HouseNo) (msg : Message) (now : model.House) (old new : Held) (r : model.Replica) (a : Taken) (o : Option Outgoing) where
   abbrev said : model.Body → model.Message
   said c = record { receiver = me.0; dir = msg.dir.0; sender = msg.from.0; epoch = msg.epoch.0; floor = msg.floor; body = c }
 
@@ -347,11 +346,11 @@ module _ (me : HouseNo) (msg : Message) (now : model.House) (old new : Held) (r 
       let here = own_place_of stands.looks from is in
       let listed : is_listed msg.from.0 r.members ≡ true = placed msg.from.0 from r.members here in
       let fine : FineAfter msg.dir.0 (take_own now (said c) r c) =
-      row_fine now (said c) can (fine_slot me msg.dir msg.from msg.epoch.0 msg.floor now old new r from a o stands.looks lawful here epoch stands held)
+      row_fine now (said c) can (fine_slot me msg.dir msg.from msg.epoch.0 msg.floor now old new r from a o stands.looks here epoch stands held)
       (take_own now (said c) r c) (rows.own_row now (said c) r c other (record { is = refl; held = held; epoch = epoch; member = listed })) in
       subst (λ b. Step (if b then take_own now (said c) r c else Stays command.Foreign)) (sym listed)
-      (step_by me msg.dir msg.from msg.epoch.0 msg.floor now old new r from a o stands.looks lawful here epoch msg.body c (take_own now (said c) r c)
-      (core me msg.dir msg.from msg.epoch.0 msg.floor now old new r from a o stands.looks lawful here epoch msg.body c (body_looks msg.body c carries) z)
+      (step_by me msg.dir msg.from msg.epoch.0 msg.floor now old new r from a o stands.looks here epoch msg.body c (take_own now (said c) r c)
+      (core me msg.dir msg.from msg.epoch.0 msg.floor now old new r from a o stands.looks here epoch msg.body c (body_looks msg.body c carries) z)
       stands carries can held fine)
 
   placed_looks : (c : model.Body) (p : Option ℕ) → place_of msg.from.0 (members_of old.members) ≡ p → LooksHeld me.0 old r → LooksBody msg.body c
@@ -365,8 +364,8 @@ module _ (me : HouseNo) (msg : Message) (now : model.House) (old new : Held) (r 
   placed_looks c (Some from) is looks carries epoch z =
       let here = own_place_of looks from is in
       subst (λ b. Looks (if b then take_own now (said c) r c else Stays command.Foreign)) (sym (placed msg.from.0 from r.members here))
-      (looks_by me msg.dir msg.from msg.epoch.0 msg.floor now old new r from a o looks lawful here epoch msg.body c (take_own now (said c) r c)
-      (core me msg.dir msg.from msg.epoch.0 msg.floor now old new r from a o looks lawful here epoch msg.body c carries z))
+      (looks_by me msg.dir msg.from msg.epoch.0 msg.floor now old new r from a o looks here epoch msg.body c (take_own now (said c) r c)
+      (core me msg.dir msg.from msg.epoch.0 msg.floor now old new r from a o looks here epoch msg.body c carries z))
 
   -- by the epochs
   same_epoch : LooksHeld me.0 old r → nat_lt msg.epoch.0 old.epoch.0 ≡ false → nat_lt old.epoch.0 msg.epoch.0 ≡ false → msg.epoch.0 ≡ r.epoch
@@ -419,23 +418,23 @@ module _ (me : HouseNo) (msg : Message) (now : model.House) (old new : Held) (r 
 
 -- a message that is neither a Join nor a Leave, at a house that holds its directory, is the step
 pub other_step : (me : HouseNo) (msg : Message) (m : model.Message) (now : model.House) (old new : Held) (r : model.Replica) (a : Taken) (o : Option Outgoing)
-    → members_fault r.members ≡ None → StandsMessage me.0 msg m → StandsHeld me.0 now.floor old r → CanTake now m → now.slots m.dir ≡ model.Held r
+    → StandsMessage me.0 msg m → StandsHeld me.0 now.floor old r → CanTake now m → now.slots m.dir ≡ model.Held r
     → rows.IsOther m.body → TakesHere me msg old new a o
     → HeldStep (IsTakeAnswer a) (take_other now m m.body (model.Held r)) now me msg.dir old new (floor_taken a now.floor msg.floor) o
-other_step me msg m now old new r a o lawful carries stands can held other z =
+other_step me msg m now old new r a o carries stands can held other z =
     subst (λ (x : model.Message). CanTake now x → now.slots x.dir ≡ model.Held r
     → HeldStep (IsTakeAnswer a) (take_other now x x.body (model.Held r)) now me msg.dir old new (floor_taken a now.floor msg.floor) o)
     (sym (message_is me.0 msg m carries.head))
-    (λ can held. said_step me msg now old new r a o lawful m.body stands carries.body can held other z) can held
+    (λ can held. said_step me msg now old new r a o m.body stands carries.body can held other z) can held
 
 -- and looks so
 pub other_looks : (me : HouseNo) (msg : Message) (m : model.Message) (now : model.House) (old new : Held) (r : model.Replica) (a : Taken)
-    (o : Option Outgoing) → members_fault r.members ≡ None → LooksMessage me.0 msg m → LooksHeld me.0 old r → TakesHere me msg old new a o
+    (o : Option Outgoing) → LooksMessage me.0 msg m → LooksHeld me.0 old r → TakesHere me msg old new a o
     → LooksAfter (IsTakeAnswer a) (take_other now m m.body (model.Held r)) now me.0 msg.dir.0 new
-other_looks me msg m now old new r a o lawful carries looks z =
+other_looks me msg m now old new r a o carries looks z =
     subst (λ (x : model.Message). LooksAfter (IsTakeAnswer a) (take_other now x x.body (model.Held r)) now me.0 msg.dir.0 new)
     (sym (message_is me.0 msg m carries.head))
-    (said_looks me msg now old new r a o lawful m.body looks carries.body z)
+    (said_looks me msg now old new r a o m.body looks carries.body z)
 
 -- ---- the greatest time of a message is its floor
 

@@ -6,7 +6,7 @@ use Rattle.cds_stamps.specs.declared.numbers.EpochNo.{EpochNo}
 use Rattle.cds_stamps.specs.declared.numbers.HouseNo.{HouseNo}
 use Rattle.cds_stamps.specs.declared.members.Member as declared
 use Rattle.cds_stamps.specs.declared.stamp.Stamp.{Stamp}
-use Rattle.cds_stamps.specs.Members.{members_of, place_of}
+use Rattle.cds_stamps.specs.Members.{members_fault, members_of, place_of}
 use Rattle.directory.specs.declared.entry.Fragment.{Fragment}
 use Rattle.directory.specs.Entries.{IsValidEntry, IsValidTable}
 use Rattle.directory.specs.Histories.{Mark, CanMerge}
@@ -145,6 +145,7 @@ AfterGathered t r phase (next.Complete u) old new a o = JoinsAnswer t r phase (n
 
 -- an answer of the first round, with this replica (own)
 pub record TakesFirst (me : HouseNo) (from : ℕ) (t : Stamp) (r : Replica) (old new : Held) (a : Taken) (o : Option Outgoing) : Type 0 where
+  pub lawful : members_fault (members_of old.members) ≡ None
   pub next : Next
   pub phase : Skulk
   pub does : TakesGathered t from (length old.members) (place_in me old.members) old.skulk phase next
@@ -160,6 +161,7 @@ AfterSpread t (next.Complete u) old new a o =
 
 -- an answer of the second round (own)
 pub record TakesSecond (from : ℕ) (t : Stamp) (old new : Held) (a : Taken) (o : Option Outgoing) : Type 0 where
+  pub lawful : members_fault (members_of old.members) ≡ None
   pub next : Next
   pub does : TakesSpread t from (length old.members) old.skulk new.skulk next
   pub after : AfterSpread t next old new a o

@@ -76,7 +76,7 @@ impl Held {
         ensures entered { IfOk result (λ e. OnOk e (self.new ≡ record self.old { epoch = epoch; members = members.now; skulk = skulk.Idle })) }
         ensures err { OnErr result (self.new ≡ self.old) }
     {
-        let since = since_in(members, house).unwrap_or(EpochNo(0));
+        let since = since_in(members, house);
         if let Some(refusal) = self.bars_epoch(epoch, since) {
             return Ok(Err(refusal));
         }

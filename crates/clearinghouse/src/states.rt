@@ -1,8 +1,8 @@
 // What a house holds of directories.
-ghost use Rattle.std.specs.Prelude.{◌≡◌, ℕ, ◌<◌, ◌≤◌, length, None, IfOk, IfSome, OnOk, OnErr, is_some, option_copied};
+ghost use Rattle.std.specs.Prelude.{◌≡◌, ℕ, ◌<◌, ◌≤◌, length, None, IfOk, OnOk, OnErr, option_copied};
 ghost use Rattle.std.specs.FinMap as map;
 ghost use Rattle.std.specs.Option.{option_copied_mut};
-ghost use Rattle.cds_stamps.specs.Members.{is_accepting, is_listed, members_fault, members_of, most_members, since_in};
+ghost use Rattle.cds_stamps.specs.Members.{is_accepting, members_fault, members_of, most_members, since_in};
 ghost use Rattle.clearinghouse.specs.PrivateTurns.{held_in, held_of, place_in};
 
 use cds_stamps::{DirId, EpochNo, HouseNo, MemberKind, Members};
@@ -200,11 +200,14 @@ impl Held {
     }
 }
 
-/// The epoch since which a house is a member without a break, if it is one.
-pub(crate) fn since_in(members: &Members, house: HouseNo) -> Option<EpochNo>
-    ensures listed { is_some result ≡ is_listed house.0 (members_of members.now) }
-    ensures since { IfSome result (λ e. (d : ℕ) → since_in (members_of members.now) house.0 d ≡ e.0) }
+/// The epoch since which a house is a member without a break; 0 where it is none.
+pub(crate) fn since_in(members: &Members, house: HouseNo) -> EpochNo
+    ensures { result.0 ≡ since_in (members_of members.now) house.0 0 }
 {
-    let list = members.list();
-    list.iter().find(|member| member.house == house).map(|member| member.since)
+    for member in members.list() {
+        if member.house == house {
+            return member.since;
+        }
+    }
+    EpochNo(0)
 }

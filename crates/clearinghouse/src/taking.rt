@@ -354,7 +354,7 @@ impl Clearinghouse {
         ensures ok { OnOk result (HasCopy message.now members.now replica.now self.old self.new) }
         ensures err { OnErr result (self.new ≡ self.old) }
     {
-        let since = since_in(members, self.house).unwrap_or(EpochNo(0));
+        let since = since_in(members, self.house);
         match self.dirs.held_mut(message.dir) {
             Some(held) if since <= held.epoch => {
                 held.join(alloc, message.epoch, members, replica)

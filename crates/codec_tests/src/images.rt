@@ -1,6 +1,6 @@
 // An image of a house, read and written again, and the faults of octets that are none.
-use cds_records::{Image, RecordFault, decode_image, encode_image};
-use cds_stamps::AllocOr;
+use cds_records::{Image, ImageDir, ImageWriter, RecordFault, decode_image, encode_image};
+use cds_stamps::{AllocOr, DirId};
 use std::alloc::Global;
 use std::test::Fail;
 
@@ -41,6 +41,33 @@ fn an_image_is_read_and_written_again(rt: HostRuntime) -> Result<(), Fail> {
     let (written, used) = image_again(rt.alloc(), &octets)?;
     assert_eq!(rt; used, 71);
     assert!(rt; written == octets);
+    Ok(())
+}
+
+// One more directory of an image.
+fn put(image: &mut ImageWriter, dir: DirId, kept: ImageDir) -> Result<(), Fail> {
+    match kept {
+        ImageDir::Held(epoch, members, replica) => image.held(dir, epoch, &members, &replica)?,
+        ImageDir::Gone(epoch) => image.gone(dir, epoch)?,
+    }
+    Ok(())
+}
+
+// What is written of the image at the front of the octets, one directory after another.
+fn image_in_parts(alloc: Global, octets: &[u8]) -> Result<Vec<u8>, Fail> {
+    let (image, _used) = decode_image(alloc, octets)?;
+    let count = image.dirs.len() as u64;
+    let mut written = ImageWriter::new(alloc, image.house, image.node, image.floor, count)?;
+    for (dir, kept) in image.dirs.into_entries() {
+        put(&mut written, dir, kept)?;
+    }
+    Ok(written.octets())
+}
+
+#[test]
+fn an_image_is_written_directory_by_directory(rt: HostRuntime) -> Result<(), Fail> {
+    let octets = together(rt.alloc(), &[HEAD, HELD, GONE])?;
+    assert!(rt; image_in_parts(rt.alloc(), &octets)? == octets);
     Ok(())
 }
 

@@ -1,5 +1,7 @@
 // A message of each tag, read from its octets, copied and written again.
-use cds_records::{decode, encode};
+use cds_records::{
+    Body, decode, encode, encode_gathered, encode_join, encode_spread, encode_update,
+};
 use std::alloc::Global;
 use std::test::Fail;
 
@@ -73,6 +75,30 @@ fn messages_are_read_and_written_again(rt: HostRuntime) -> Result<(), Fail> {
         let (written, used) = written_again(alloc, &octets)?;
         assert_eq!(rt; (octets.len(), used), (len, len));
         assert!(rt; written == octets, "of tag {tag}");
+    }
+    Ok(())
+}
+
+// What is written of the message at the front of the octets, of its parts where there is a call for that.
+fn written_of_parts(alloc: Global, octets: &[u8]) -> Result<Vec<u8>, Fail> {
+    let (read, _used) = decode(alloc, octets)?;
+    let head = read.head();
+    let written = match &read.body {
+        Body::Update(fragment) => encode_update(alloc, &head, fragment)?,
+        Body::Gathered(t, replica) => encode_gathered(alloc, &head, t, replica)?,
+        Body::Spread(t, replica) => encode_spread(alloc, &head, t, replica)?,
+        Body::Join(members, replica) => encode_join(alloc, &head, members, replica)?,
+        _ => encode(alloc, &read)?,
+    };
+    Ok(written)
+}
+
+#[test]
+fn messages_are_written_of_their_parts(rt: HostRuntime) -> Result<(), Fail> {
+    let alloc = rt.alloc();
+    for (tag, parts, _len) in ROWS {
+        let octets = message(alloc, tag, &parts)?;
+        assert!(rt; written_of_parts(alloc, &octets)? == octets, "of tag {tag}");
     }
     Ok(())
 }

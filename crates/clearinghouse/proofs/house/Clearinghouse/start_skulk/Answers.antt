@@ -1,5 +1,6 @@
-use Rattle.std.proofs.Common.{refl}
-use Rattle.clearinghouse.proofs.Houses.{heed_lawful}
+use Rattle.std.proofs.Common.{[], Ok, refl, ap, ◌∙◌}
+use Rattle.clearinghouse.proofs.Houses.{heed_lawful, posted_step}
+use Rattle.clearinghouse.proofs.Posts.{completed_posts}
 use Rattle.clearinghouse.proofs.house.Clearinghouse.start_skulk.Goals as goal
 
 pub returns-in_err-posted-clause-kept : goal.returns-in_err-posted-clause-kept
@@ -15,7 +16,11 @@ returns-in-Ok-Complete-clause-kept c = λ lawful.
     heed_lawful c.begin_skulk.new.self c.posted.new.self c.posted.result c.posted.result refl c.posted.ensures.heeds (c.begin_skulk.ensures.kept lawful)
 
 pub returns-in-Ok-Complete-clause-step : goal.returns-in-Ok-Complete-clause-step
-returns-in-Ok-Complete-clause-step c = λ now stands ticks. let s = c.in_ok-answer.ensures.step now stands ticks in let p = c.in_ok-answer.ensures.posts in let is = c.in-Ok-Complete.is in ?
+returns-in-Ok-Complete-clause-step c = λ now stands ticks.
+    posted_step _ _ c.args.self.now c.begin_skulk.new.self c.posted.new.self _ [] c.posted.result c.in_ok-posted.posted c.in_ok-posted.was c.posted.ensures.heeds
+    (completed_posts c.begin_skulk.new.self c.args.dir c.in_ok-answer.field-0.answer c.in-Ok-Complete.t c.in_ok-answer.field-0.outgoing
+    (c.in-Ok-Complete.is ∙ ap Ok c.in-Ok-Complete.field-0-is) c.in_ok-answer.ensures.posts)
+    (rw (c.in-Ok-Complete.is, c.in-Ok-Complete.field-0-is) at c.in_ok-answer.ensures.step now stands ticks)
 
 pub returns-clause-kept : goal.returns-clause-kept
 returns-clause-kept c = λ lawful.

@@ -1,3 +1,4 @@
+use Rattle.std.proofs.Common.{refl}
 use Rattle.clearinghouse.proofs.Beginning.{row_begins, completed_step, completed_lawful, begun_answer, begun_step, begun_lawful}
 use Rattle.clearinghouse.proofs.states.Held.begin_with.Goals as goal
 
@@ -25,6 +26,7 @@ returns-in_default c =
       answer =
           begun_answer c.args.t.now c.args.self.now.members _ _ c.begin.new.self c.begin.result c.count-count.ensures.count c.begin.ensures.does
           c.in_default.not-Complete;
+      posts = refl;
       kept = begun_lawful c.args.by c.args.t.now c.args.self.now c.begin.new.self c.begin.result row c.in_default.not-Complete;
       step = begun_step c.args.by c.args.t.now c.args.self.now c.begin.new.self c.begin.result row c.in_default.not-Complete;
     }
