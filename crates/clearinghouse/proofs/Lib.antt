@@ -10,3 +10,5 @@ mod Lawfulness
 mod Houses
 mod Takings
 mod Entering
+mod Keeping
+mod Does
