@@ -52,6 +52,13 @@ impl Clearinghouse {
         }
     }
 
+    /// Its number.
+    pub fn number(&self) -> HouseNo
+        ensures { result ≡ self.now.house }
+    {
+        self.house
+    }
+
     /// What it has of a directory, if it ever had something.
     pub fn state(&self, dir: DirId) -> Option<&DirState>
         ensures { option_copied result ≡ map.get self.now.dirs dir }

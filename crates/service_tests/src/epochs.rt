@@ -20,6 +20,9 @@ fn enters(
     since: u64,
 ) -> Result<Result<PostedList, EpochRefusal>, Fail> {
     let members = alone(alloc, 1, since)?;
+    if members.master() != house.number() {
+        return Err("another master".into());
+    }
     match house.new_epoch(alloc, ROOT, EpochNo(epoch), &members, &[HouseNo(2)])? {
         EpochSet::Done(posted) => Ok(Ok(posted)),
         EpochSet::Refused(refusal) => Ok(Err(refusal)),

@@ -38,13 +38,7 @@ fn answer(taken: Taken) -> Answer {
 }
 
 // A message from this house, of this epoch, with stamps of this time.
-fn forged(
-    alloc: Global,
-    from: u8,
-    epoch: u64,
-    time: u64,
-    what: Forged,
-) -> Result<Message, Fail> {
+fn forged(alloc: Global, from: u8, epoch: u64, time: u64, what: Forged) -> Result<Message, Fail> {
     let t = stamp(time)?;
     let body = match what {
         Forged::Gather => Body::Gather(t),

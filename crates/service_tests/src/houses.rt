@@ -1,8 +1,6 @@
 // Houses and messages that tests of clearinghouses share.
 use cds_records::{Body, Message};
-use cds_stamps::{
-    DirId, EpochNo, HouseNo, Member, MemberKind, Members, Node, SimpleName, Stamp,
-};
+use cds_stamps::{DirId, EpochNo, HouseNo, Member, MemberKind, Members, Node, SimpleName, Stamp};
 use clearinghouse::{Accepted, Clearinghouse, PostedList};
 use directory::{Table, Update};
 use purge_rule::Replica;
@@ -64,6 +62,9 @@ pub(crate) fn message(epoch: u64, floor: u64, body: Body) -> Message {
 pub(crate) fn founded(alloc: Global) -> Result<(Clearinghouse, PostedList), Fail> {
     let mut house = empty_house(alloc, 1)?;
     let members = pair(alloc)?;
+    if members.master() != house.number() || house.state(ROOT).is_some() {
+        return Err("another master, or a directory".into());
+    }
     let posted = house.create_directory(alloc, ROOT, &members)?;
     Ok((house, posted))
 }

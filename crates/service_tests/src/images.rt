@@ -32,9 +32,10 @@ fn an_image_is_cut_at_each_octet(rt: HostRuntime) -> Result<(), Fail> {
     created(alloc, &mut house, b"kept")?;
     let mut octets = house.image(alloc)?;
     for length in 0..octets.len() {
-        let Err(AllocOr::Fault(StartFault::BadImage(fault))) =
-            Clearinghouse::start(alloc, &octets[..length])
-        else {
+        let Err(AllocOr::Fault(StartFault::BadImage(fault))) = Clearinghouse::start(
+            alloc,
+            &octets[..length],
+        ) else {
             return Err("started".into());
         };
         assert_eq!(rt; fault, RecordFault::Short(length + 1));
