@@ -1,5 +1,5 @@
 -- What a message makes of a clearinghouse, in all that the call promises.
-use Rattle.std.proofs.Common.{◌≡◌, ◌≢◌, ℕ, ◌≤◌, Bool, true, false, List, [], length, Option, Some, None, Result, Ok, Err, refl, sym, ap, subst, ◌∙◌, arith}
+use Rattle.std.proofs.Common.{◌≡◌, ◌≢◌, ℕ, Bool, true, false, List, length, Option, Some, None, Result, Ok, Err, refl, sym, ap, subst, ◌∙◌, arith}
 use Rattle.std.specs.Prelude.{max, nat_lt, nat_le, if◌then◌else◌, MatchBool, MatchOption, IfOk, OnOk, OnErr}
 use Rattle.std.specs.FinMap.{get, insert}
 use Rattle.std.specs.declared.alloc.AllocError.{AllocError}
@@ -11,13 +11,9 @@ use Rattle.cds_stamps.specs.declared.stamp.Floor.{Floor}
 use Rattle.cds_stamps.specs.declared.stamp.Stamp.{Stamp}
 use Rattle.cds_stamps.specs.Members.{members_of, place_of, since_in}
 use Rattle.purge_rule.specs.declared.replica.Replica.{Replica}
-use Rattle.skulk_core.specs.declared.skulk.Skulk.{Skulk}
-use Rattle.skulk_core.specs.declared.skulk.Skulk.TheVariants as skulk
 use Rattle.skulk_core.specs.declared.skulk.Next.{Next}
 use Rattle.skulk_core.specs.declared.skulk.Next.TheVariants as next
-use Rattle.skulk_core.specs.Rounds.{TakesSpread, Spreads, Waits, IsStale, IsSpreading, also}
-use Rattle.cds_stamps.specs.Places.{each_place}
-use Rattle.cds_stamps.specs.Stamps.{is_stamp}
+use Rattle.skulk_core.specs.Rounds.{TakesSpread}
 use Rattle.cds_records.specs.declared.message.Body.{Body}
 use Rattle.cds_records.specs.declared.message.Body.TheVariants as body
 use Rattle.cds_records.specs.declared.message.Message.{Message}

@@ -1,5 +1,5 @@
 -- Joins and Leaves: what comes of them is the step of the house of the model.
-use Rattle.std.proofs.Common.{◌≡◌, ℕ, ◌≤◌, ◌++◌, Bool, true, false, cond, List, [], ◌∷◌, Option, Some, None, refl, sym, ap, subst, ◌∙◌, arith, nat_lt, nat_le}
+use Rattle.std.proofs.Common.{◌≡◌, ℕ, ◌≤◌, Bool, true, false, List, [], Option, Some, None, refl, sym, ap, subst, ◌∙◌, arith, nat_lt, nat_le}
 use Rattle.std.specs.Prelude.{max, if◌then◌else◌, ◌&&◌, ◌||◌, not, MatchBool, MatchOption}
 use Rattle.std.specs.Option.{option_map}
 use Rattle.std.specs.FinMap.{get, insert}
@@ -7,10 +7,9 @@ use Rattle.cds_stamps.specs.declared.numbers.DirId.{DirId}
 use Rattle.cds_stamps.specs.declared.numbers.EpochNo.{EpochNo}
 use Rattle.cds_stamps.specs.declared.members.Member as declared
 use Rattle.cds_stamps.specs.declared.stamp.Floor.{Floor}
-use Rattle.cds_stamps.specs.Members.{Member, members_of, members_fault, is_listed, since_in}
+use Rattle.cds_stamps.specs.Members.{Member, members_of, is_listed, since_in}
 use Rattle.purge_rule.specs.declared.replica.Replica.{Replica}
 use Rattle.purge_rule.specs.Replicas.{replica_of, together}
-use Rattle.cds_records.specs.declared.message.Body.{Body}
 use Rattle.cds_records.specs.declared.message.Body.TheVariants as body
 use Rattle.cds_records.specs.declared.message.Message.{Message}
 use Rattle.cell_model.specs.Cells as model
@@ -32,14 +31,14 @@ use Rattle.clearinghouse.specs.declared.outgoing.Outgoing.{Outgoing}
 use Rattle.clearinghouse.specs.declared.taking.Taken.{Taken}
 use Rattle.clearinghouse.specs.declared.taking.Taken.TheVariants as answers
 use Rattle.clearinghouse.specs.Posting.{StandsBody, StandsMessage, LooksBody, LooksMessage, StandEach, posts_at, sender_of}
-use Rattle.clearinghouse.specs.Standing.{LooksHeld, LooksSlot, LooksHouse, StandsHeld, StandsSlot, StandsHouse, StandsPhase}
-use Rattle.clearinghouse.specs.Stepping.{IsTakeAnswer, IsStep, IsTurn, LooksStep, is_taken}
+use Rattle.clearinghouse.specs.Standing.{LooksHeld, LooksSlot, LooksHouse, StandsHeld, StandsSlot, StandsHouse}
+use Rattle.clearinghouse.specs.Stepping.{IsTakeAnswer, IsStep, LooksStep, is_taken}
 use Rattle.clearinghouse.specs.Times.{latest_in_message}
-use Rattle.clearinghouse.specs.PrivateTurns.{HeldStep, JoinsCopy, LooksAfter, copy_of, floor_taken, held_in}
-use Rattle.clearinghouse.specs.PrivateTaking.{Answers, Merges, Copies, HasCopy, HasJoined, TakesJoin, HasLeft, TakesLeave, TakesAt, TakesOther, join_passed, join_foreign, leave_passed}
+use Rattle.clearinghouse.specs.PrivateTurns.{HeldStep, LooksAfter, copy_of, floor_taken, held_in}
+use Rattle.clearinghouse.specs.PrivateTaking.{Answers, Merges, Copies, HasJoined, TakesJoin, HasLeft, TakesLeave, TakesAt, TakesOther, join_passed, join_foreign, leave_passed}
 use Rattle.clearinghouse.proofs.Houses.{house_holds, got_here, slot_looks, step_of}
 use Rattle.clearinghouse.proofs.Posts.{posts_none}
-use Rattle.clearinghouse.proofs.TakeSteps.{replica_taken, message_is, latest_is, body_looks, other_step, other_looks}
+use Rattle.clearinghouse.proofs.TakeSteps.{replica_taken, message_is, latest_is, other_step, other_looks}
 
 -- what a house has of a directory stands for a slot, where it looks like it, and its replica is the one of the history
 slot_stands : (me floor : ℕ) (s : DirState) (slot : model.Slot) → LooksSlot me (Some s) slot

@@ -1,7 +1,7 @@
 -- A lawful clearinghouse is lawful after a message.
-use Rattle.std.proofs.Common.{◌≡◌, ℕ, ◌<◌, ◌≤◌, Bool, true, false, length, Option, Some, None, refl, sym, ap, subst, ◌∙◌, arith, le_trans}
+use Rattle.std.proofs.Common.{◌≡◌, ℕ, ◌≤◌, Bool, true, false, length, Option, Some, None, refl, sym, ap, subst, ◌∙◌, arith}
 use Rattle.std.specs.Prelude.{max, nat_lt, nat_le, if◌then◌else◌, MatchBool, MatchOption, List}
-use Rattle.std.specs.FinMap.{get, insert}
+use Rattle.std.specs.FinMap.{get}
 use Rattle.cds_stamps.specs.declared.members.Member as declared
 use Rattle.cds_stamps.specs.declared.numbers.EpochNo.{EpochNo}
 use Rattle.cds_stamps.specs.declared.numbers.HouseNo.{HouseNo}
@@ -12,7 +12,7 @@ use Rattle.cds_stamps.specs.Places.{each_place}
 use Rattle.cds_stamps.specs.Stamps.{is_stamp}
 use Rattle.directory.specs.Entries.{IsValidTable}
 use Rattle.purge_rule.specs.declared.replica.Replica.{Replica}
-use Rattle.purge_rule.specs.Latest.{ReplicaUpTo, latest_time}
+use Rattle.purge_rule.specs.Latest.{ReplicaUpTo}
 use Rattle.purge_rule.proofs.Times.{latest_in_entry-≤, latest_time-≤}
 use Rattle.skulk_core.specs.declared.skulk.Skulk.{Skulk}
 use Rattle.skulk_core.specs.declared.skulk.Skulk.TheVariants as skulk

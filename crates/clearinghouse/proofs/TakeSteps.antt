@@ -1,5 +1,5 @@
 -- Messages that are neither Joins nor Leaves, at a house that holds their directory: what comes of them is the step of the house of the model.
-use Rattle.std.proofs.Common.{◌≡◌, ℕ, ◌≤◌, ◌++◌, Bool, true, false, List, [], ◌∷◌, length, map, Option, Some, None, refl, sym, ap, subst, ◌∙◌, arith, inl, inr}
+use Rattle.std.proofs.Common.{◌≡◌, ℕ, ◌≤◌, ◌++◌, Bool, true, false, List, [], ◌∷◌, length, Option, Some, None, refl, sym, ap, subst, ◌∙◌, arith, inl, inr}
 use Rattle.std.specs.Prelude.{max, unwrap_or, nat_lt, if◌then◌else◌, MatchBool, MatchOption, IfSome}
 use Rattle.std.specs.List.{AllByRecursion}
 use Rattle.std.proofs.lemmas.Bool.Decides.{nat_tests}
@@ -17,7 +17,6 @@ use Rattle.purge_rule.specs.Replicas.{replica_of, together, IsFragmentOf}
 use Rattle.purge_rule.specs.Latest.{EntryUpTo, MarkUpTo, ReplicaUpTo, StampUpTo, latest_time}
 use Rattle.purge_rule.proofs.Times.{latest_in_entry-≤, latest_time-≤, entry_of-up_to, table_of-up_to}
 use Rattle.skulk_core.specs.declared.skulk.Skulk.{Skulk}
-use Rattle.skulk_core.specs.declared.skulk.Skulk.TheVariants as skulk
 use Rattle.skulk_core.specs.declared.skulk.Next.{Next}
 use Rattle.skulk_core.specs.declared.skulk.Next.TheVariants as next
 use Rattle.skulk_core.specs.Rounds.{TakesGathered, TakesSpread}
@@ -48,12 +47,12 @@ use Rattle.clearinghouse.specs.Posting.{StandsBody, StandsCopy, StandsHead, Stan
 use Rattle.clearinghouse.specs.Standing.{LooksHeld, StandsHeld, StandsPhase}
 use Rattle.clearinghouse.specs.Stepping.{IsTakeAnswer}
 use Rattle.clearinghouse.specs.Times.{BodyUpTo, latest_in_body, latest_in_message}
-use Rattle.clearinghouse.specs.PrivateTurns.{HeldTurn, HeldStep, HeldLooks, LooksAfter, TakesFragment, TakesReplica, Advances, JoinsAnswer, AfterGathered}
-use Rattle.clearinghouse.specs.PrivateTurns.{TakesFirst, AfterSpread, TakesSecond, TakesOwn, floor_taken, place_in, second_round_of}
+use Rattle.clearinghouse.specs.PrivateTurns.{HeldTurn, HeldStep, LooksAfter, TakesFragment, TakesReplica, Advances, JoinsAnswer, AfterGathered}
+use Rattle.clearinghouse.specs.PrivateTurns.{TakesFirst, AfterSpread, TakesSecond, TakesOwn, floor_taken, place_in}
 use Rattle.clearinghouse.specs.PrivateTaking.{Answers, TakesHere}
 use Rattle.clearinghouse.proofs.Phases.{GatherRow, AckRow, gather_row, ack_row, placed, unlisted, place_listed}
 use Rattle.clearinghouse.proofs.Phases as phases
-use Rattle.clearinghouse.proofs.Posts.{posts_stand, posts_none}
+use Rattle.clearinghouse.proofs.Posts.{posts_stand}
 
 -- ---- replicas
 

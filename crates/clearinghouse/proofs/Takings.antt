@@ -1,10 +1,9 @@
 -- Parts of what a house does with a message.
 use Rattle.std.proofs.Common.{◌≡◌, ℕ, Bool, true, false, List, Option, Some, None, Result, Ok, Err, refl, sym, ap, subst, ◌∙◌}
-use Rattle.std.specs.Prelude.{if◌then◌else◌, ◌||◌, not, is_some, unwrap_or, MatchBool, MatchOption, IfSome, OnOk, OnErr, nat_le}
+use Rattle.std.specs.Prelude.{if◌then◌else◌, ◌||◌, not, is_some, MatchBool, MatchOption, OnOk, OnErr, nat_le}
 use Rattle.std.specs.FinMap.{get, insert}
 use Rattle.cds_stamps.specs.declared.members.Member as declared
 use Rattle.cds_stamps.specs.declared.numbers.EpochNo.{EpochNo}
-use Rattle.cds_stamps.specs.declared.stamp.Floor.{Floor}
 use Rattle.cds_stamps.specs.declared.stamp.Stamp.{Stamp}
 use Rattle.cds_stamps.specs.Members.{Member, members_of, place_of, is_listed, since_in}
 use Rattle.purge_rule.specs.declared.replica.Replica.{Replica}
@@ -12,7 +11,6 @@ use Rattle.skulk_core.specs.declared.skulk.Skulk.{Skulk}
 use Rattle.skulk_core.specs.declared.skulk.Next.{Next}
 use Rattle.skulk_core.specs.declared.skulk.Next.TheVariants as next
 use Rattle.cds_records.specs.declared.message.Message.{Message}
-use Rattle.cell_model.proofs.Terms.{since_unlisted}
 use Rattle.clearinghouse.specs.declared.house.Clearinghouse.{Clearinghouse}
 use Rattle.clearinghouse.specs.declared.states.DirState.TheVariants as state
 use Rattle.clearinghouse.specs.declared.states.Held.{Held}
@@ -63,12 +61,6 @@ copy_floor m ms r old new has = by_held (held_in (get old.dirs m.dir)) has
         → new.floor ≡ old.floor
     by_held None z = ap (λ (c : Clearinghouse). c.floor) z
     by_held (Some h) z = by_term h (nat_le (since_in (members_of ms) old.house.0 0) h.epoch.0) z
-
--- the since of a house, or 0
-pub since_is : (o : Option EpochNo) (ms : List Member) (me : ℕ) → is_some o ≡ is_listed me ms → IfSome o (λ e. (d : ℕ) → since_in ms me d ≡ e.0)
-    → (unwrap_or o (record { 0 = 0 })).0 ≡ since_in ms me 0
-since_is None ms me listed since = sym (since_unlisted me 0 ms (sym listed))
-since_is (Some e) ms me listed since = sym (since 0)
 
 -- what follows from what holds where a call returns
 pub on_ok_map : {T E : Type 0} {P Q : Type 0} (r : Result T E) → (P → Q) → OnOk r P → OnOk r Q

@@ -1,17 +1,16 @@
-use Rattle.std.proofs.Common.{◌≡◌, ◌∙◌, ap, sym, subst, refl, true, false, Some, None, arith}
+use Rattle.std.proofs.Common.{◌≡◌, ◌∙◌, ap, sym, subst, refl, true, false, None, arith}
 use Rattle.std.specs.Prelude.{MatchBool, MatchOption, nat_le}
 use Rattle.std.specs.FinMap as map
 use Rattle.std.specs.Option.{option_copied_mut}
 use Rattle.std.proofs.lemmas.Bool.Decides.{nat_tests}
 use Rattle.std.proofs.lemmas.Result.{on_err_weaker}
-use Rattle.cds_stamps.specs.declared.numbers.EpochNo.{EpochNo}
 use Rattle.cds_stamps.specs.Members.{members_of, since_in}
 use Rattle.clearinghouse.specs.declared.house.Clearinghouse.{Clearinghouse}
 use Rattle.clearinghouse.specs.declared.states.DirState.TheVariants as state
 use Rattle.clearinghouse.specs.PrivateTurns.{held_in}
-use Rattle.clearinghouse.specs.PrivateTaking.{Copies, Merges, HasCopy}
+use Rattle.clearinghouse.specs.PrivateTaking.{Copies, Merges}
 use Rattle.clearinghouse.proofs.Houses.{same_house}
-use Rattle.clearinghouse.proofs.Takings.{copied_over, of_held, of_none, since_is, on_ok_map}
+use Rattle.clearinghouse.proofs.Takings.{copied_over, of_held, of_none, on_ok_map}
 use Rattle.clearinghouse.proofs.house.Clearinghouse.take_copy.Goals.{in_default-via-in-Some+else-le, in_default-via-in-None-1}
 use Rattle.clearinghouse.proofs.house.Clearinghouse.take_copy.Goals as goal
 
@@ -19,9 +18,7 @@ pub returns-in-Some-clause-ok : goal.returns-in-Some-clause-ok
 returns-in-Some-clause-ok c =
     let old : Clearinghouse = c.args.self.now in
     let new : Clearinghouse = record old { dirs = map.insert old.dirs c.args.message.now.dir (state.Held c.join.new.self) } in
-    let since : c.unwrap_or-since.result.0 ≡ since_in (members_of c.args.members.now) old.house.0 0 =
-    ap (λ (e : EpochNo). e.0) c.unwrap_or-since.ensures
-    ∙ since_is c.since_in.result (members_of c.args.members.now) old.house.0 c.since_in.ensures.listed c.since_in.ensures.since in
+    let since : c.since_in-since.result.0 ≡ since_in (members_of c.args.members.now) old.house.0 0 = c.since_in-since.ensures in
     let le = c.if-le.ensures in
     let term : nat_le (since_in (members_of c.args.members.now) old.house.0 0) c.in-Some.held.now.epoch.0 ≡ true = grind (arith, nat_tests, since, le) in
     on_ok_map c.join.result
@@ -41,9 +38,7 @@ returns-in-Some-clause-err c =
 
 pub returns-in_default-clause-ok : goal.returns-in_default-clause-ok
 returns-in_default-clause-ok c =
-    let since : c.unwrap_or-since.result.0 ≡ since_in (members_of c.args.members.now) c.args.self.now.house.0 0 =
-    ap (λ (e : EpochNo). e.0) c.unwrap_or-since.ensures
-    ∙ since_is c.since_in.result (members_of c.args.members.now) c.args.self.now.house.0 c.since_in.ensures.listed c.since_in.ensures.since in
+    let since : c.since_in-since.result.0 ≡ since_in (members_of c.args.members.now) c.args.self.now.house.0 0 = c.since_in-since.ensures in
     elim c.in_default.branch [
       | in_default-via-in-Some+else-le w ↦ (
           let value = w.in-Some.ensures in

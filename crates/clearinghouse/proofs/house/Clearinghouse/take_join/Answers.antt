@@ -1,4 +1,4 @@
-use Rattle.std.proofs.Common.{◌∙◌, ap, sym, subst, refl}
+use Rattle.std.proofs.Common.{◌∙◌, ap, sym, subst}
 use Rattle.std.specs.Prelude.{max, MatchOption}
 use Rattle.cds_stamps.specs.declared.stamp.Floor.{Floor}
 use Rattle.clearinghouse.specs.declared.house.Clearinghouse.{Clearinghouse}

@@ -1,15 +1,11 @@
-use Rattle.std.proofs.Common.{◌≡◌, ◌∙◌, IfOk, OnOk, OnErr, None, Result, Ok, Err, refl, sym, subst}
-use Rattle.std.specs.FinMap as map
-use Rattle.std.specs.declared.alloc.AllocError.{AllocError}
-use Rattle.cds_records.specs.declared.message.Message.{Message}
+use Rattle.std.proofs.Common.{◌≡◌, None, sym}
 use Rattle.clearinghouse.specs.declared.house.Clearinghouse.{Clearinghouse}
 use Rattle.clearinghouse.specs.declared.outgoing.Turn.{Turn}
 use Rattle.clearinghouse.specs.declared.taking.Taken.{Taken}
 use Rattle.clearinghouse.specs.Posting.{posts_at}
 use Rattle.clearinghouse.specs.Stepping.{IsStep, IsTakeAnswer, LooksStep, UnlessTaken}
 use Rattle.cell_model.specs.Turns.{take}
-use Rattle.clearinghouse.specs.PrivateTurns.{SameHouse}
-use Rattle.clearinghouse.proofs.Does.{Does, DoesOr, done_other, done_join, done_leave, or_kept, or_others, or_told, or_who}
+use Rattle.clearinghouse.proofs.Does.{DoesOr, done_other, done_join, done_leave, or_kept, or_others, or_told, or_who}
 use Rattle.clearinghouse.proofs.Houses.{heed_ok, heed_lawful, heed_call}
 use Rattle.clearinghouse.proofs.house.Clearinghouse.take_message.Goals.{in-Join, in-Leave, in_default}
 use Rattle.clearinghouse.proofs.house.Clearinghouse.take_message.Goals as goal
