@@ -1,14 +1,15 @@
 // What a house keeps over a crash, and how it starts of that.
-ghost use Rattle.std.specs.Prelude.{◌≡◌, false, IfOk};
+ghost use Rattle.std.specs.Prelude.{◌≡◌, ◌++◌, false, IfOk, OnOk, map as list_map};
+ghost use Rattle.std.specs.FinMap as map;
 ghost use Rattle.cds_stamps.specs.Outcomes.{Answers};
-ghost use Rattle.cds_records.specs.Octets.{image_octets};
-ghost use Rattle.clearinghouse.specs.Imaging.{image_of, started};
+ghost use Rattle.cds_records.specs.Octets.{dir_octets, image_octets, items_octets, kept_octets};
+ghost use Rattle.clearinghouse.specs.Imaging.{image_of, kept_of, started, started_from, started_of};
 ghost use Rattle.clearinghouse.specs.Lawful.{IsLawful};
 
 use crate::house::Clearinghouse;
 use crate::states::{DirState, DirStates, Held};
 use crate::times::latest_in_image;
-use cds_records::{ImageDir, ImageDirs, ImageWriter, RecordFault, decode_image};
+use cds_records::{Image, ImageDir, ImageDirs, ImageWriter, RecordFault, decode_image};
 use cds_stamps::{AllocOr, DirId, Floor};
 use skulk_core::Skulk;
 use std::alloc::{AllocError, Global};
@@ -22,7 +23,9 @@ pub enum StartFault {
 }
 
 /// What a house has of a directory when it starts: no skulk runs.
-fn started(kept: ImageDir) -> DirState {
+fn started(kept: ImageDir) -> DirState
+    ensures { result ≡ started_of kept }
+{
     match kept {
         ImageDir::Held(epoch, members, replica) => DirState::Held(Held {
             epoch,
@@ -35,7 +38,9 @@ fn started(kept: ImageDir) -> DirState {
 }
 
 /// The directories of a house that starts.
-pub(crate) fn started_dirs(alloc: Global, kept: ImageDirs) -> Result<DirStates, AllocError> {
+fn started_dirs(alloc: Global, kept: ImageDirs) -> Result<DirStates, AllocError>
+    ensures { IfOk result (λ d. d ≡ map.from_entries (list_map (λ e. (e.0, started_of e.1)) (map.entries kept))) }
+{
     let mut dirs = DirStates::new(alloc);
     for (dir, state) in kept.into_entries() {
         dirs.insert(dir, started(state))?;
@@ -43,24 +48,40 @@ pub(crate) fn started_dirs(alloc: Global, kept: ImageDirs) -> Result<DirStates, 
     Ok(dirs)
 }
 
+impl DirState {
+    /// Writes what is kept of the directory of this number behind the others of an image.
+    fn write(&self, image: &mut ImageWriter, dir: DirId) -> Result<(), AllocError>
+        ensures { OnOk result (image.new ≡ image.old ++ (dir_octets dir ++ kept_octets (kept_of self.now))) }
+    {
+        match self {
+            DirState::Held(held) => image.held(dir, held.epoch, &held.members, &held.replica),
+            DirState::Gone(epoch) => image.gone(dir, *epoch),
+        }
+    }
+}
+
+impl DirStates {
+    /// Writes what is kept of the directories behind the head of an image.
+    fn write(&self, image: &mut ImageWriter) -> Result<(), AllocError>
+        ensures { OnOk result (image.new ≡ image.old ++ items_octets dir_octets (λ s. kept_octets (kept_of s)) (map.entries self.now)) }
+    {
+        for (dir, state) in self.iter() {
+            state.write(image, *dir)?;
+        }
+        Ok(())
+    }
+}
+
 impl Clearinghouse {
     /// The octets of what it keeps over a crash.
     pub fn image(&self, alloc: Global) -> Result<Vec<u8>, AllocError>
-        ensures usable { IfOk result (self.now.spent ≡ false) }
+        ensures usable { IfOk result (λ _. self.now.spent ≡ false) }
         ensures octets { IfOk result (λ v. v.items ≡ image_octets (image_of self.now)) }
     {
         self.usable()?;
         let count = self.dirs.len() as u64;
-        let mut image =
-            ImageWriter::new(alloc, self.house, self.node, self.floor.time, count)?;
-        for (dir, state) in self.dirs.iter() {
-            match state {
-                DirState::Held(held) => {
-                    image.held(*dir, held.epoch, &held.members, &held.replica)?
-                }
-                DirState::Gone(epoch) => image.gone(*dir, *epoch)?,
-            }
-        }
+        let mut image = ImageWriter::new(alloc, self.house, self.node, self.floor.time, count)?;
+        self.dirs.write(&mut image)?;
         Ok(image.octets())
     }
 
@@ -77,13 +98,20 @@ impl Clearinghouse {
         if length < octets.len() {
             return Err(AllocOr::Fault(StartFault::BadImage(RecordFault::Trailing(length + 1))));
         }
-        let time = latest_in_image(&image);
-        Ok(Clearinghouse {
-            house: image.house,
-            node: image.node,
-            floor: Floor { time },
-            dirs: started_dirs(alloc, image.dirs)?,
-            spent: false,
-        })
+        Ok(started_house(alloc, image)?)
     }
+}
+
+/// The house that starts of an image.
+fn started_house(alloc: Global, image: Image) -> Result<Clearinghouse, AllocError>
+    ensures { IfOk result (λ c. c ≡ started_from image) }
+{
+    let time = latest_in_image(&image);
+    Ok(Clearinghouse {
+        house: image.house,
+        node: image.node,
+        floor: Floor { time },
+        dirs: started_dirs(alloc, image.dirs)?,
+        spent: false,
+    })
 }

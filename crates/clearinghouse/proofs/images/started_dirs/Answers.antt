@@ -1,0 +1,14 @@
+use Rattle.std.proofs.Common.{List, sym, ap, ◌∙◌}
+use Rattle.std.specs.Prelude.{map}
+use Rattle.cds_stamps.specs.declared.numbers.DirId.{DirId}
+use Rattle.cds_records.specs.declared.image.ImageDir.{ImageDir}
+use Rattle.cds_records.specs.Dirs.{dir_total, dir_exact}
+use Rattle.cds_records.specs.Records.{add_all}
+use Rattle.cds_records.proofs.Mapped.{mapped_made}
+use Rattle.clearinghouse.specs.Imaging.{started_of}
+use Rattle.clearinghouse.proofs.images.started_dirs.Goals as goal
+
+pub returns : goal.returns
+returns c =
+    ap (λ (es : List (DirId × ImageDir)). add_all c.loop-dir.dirs (map (λ e. (e.0, started_of e.1)) es)) (sym c.in-None.ensures.steps.0)
+    ∙ c.loop-dir.invariant ∙ mapped_made dir_total dir_exact started_of c.args.kept
