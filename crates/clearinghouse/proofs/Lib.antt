@@ -12,3 +12,4 @@ mod Takings
 mod Entering
 mod Keeping
 mod Does
+mod Starting

@@ -1,0 +1,105 @@
+-- A house that starts of an image.
+use Rattle.std.proofs.Common.{◌≡◌, ℕ, ◌<◌, ◌≤◌, Bool, true, false, cond, List, [], ◌∷◌, length, max, Option, Some, None, Result, Ok, Err, refl, sym, ap, subst, ◌∙◌, arith, le_trans}
+use Rattle.std.specs.Prelude.{◌==◌, ◌+◌, IfOk, IfSome, map, if◌then◌else◌}
+use Rattle.std.specs.Option.{option_map}
+use Rattle.std.specs.FinMap.{FinMap, entries, find, from_entries, get, get-entries}
+use Rattle.std.specs.BTreeMap.{is_at}
+use Rattle.cds_stamps.specs.declared.alloc_or.AllocOr.{AllocOr}
+use Rattle.cds_stamps.specs.declared.alloc_or.AllocOr.TheVariants.{Fault}
+use Rattle.cds_stamps.specs.declared.numbers.DirId.{DirId}
+use Rattle.cds_stamps.specs.Outcomes.{Answers}
+use Rattle.cds_stamps.proofs.Masks.{same_place, other_place}
+use Rattle.purge_rule.specs.Latest.{ReplicaUpTo, greatest_of, latest_time}
+use Rattle.purge_rule.proofs.Times.{latest_time-≤}
+use Rattle.cds_records.specs.Decoding.{Decodes, decoding}
+use Rattle.cds_records.specs.Dirs.{dir_cmp, dir_total, dir_exact}
+use Rattle.cds_records.specs.Images.{image}
+use Rattle.cds_records.specs.Validity.{IsValidDir, IsValidImage}
+use Rattle.cds_records.specs.declared.fault.RecordFault.{RecordFault}
+use Rattle.cds_records.specs.declared.fault.RecordFault.TheVariants.{Trailing}
+use Rattle.cds_records.specs.declared.image.Image.{Image}
+use Rattle.cds_records.specs.declared.image.ImageDir.{ImageDir}
+use Rattle.cds_records.specs.declared.image.ImageDir.TheVariants as kept
+use Rattle.cds_records.proofs.Mapped.{entries_mapped}
+use Rattle.cds_records.proofs.OneDecoding.{answers_decoding}
+use Rattle.clearinghouse.specs.declared.images.StartFault.TheVariants.{BadImage}
+use Rattle.clearinghouse.specs.declared.states.DirState.{DirState}
+use Rattle.clearinghouse.specs.declared.states.DirState.TheVariants as state
+use Rattle.clearinghouse.specs.declared.states.Held.{Held}
+use Rattle.clearinghouse.specs.Imaging.{started, started_from, started_of, starting}
+use Rattle.clearinghouse.specs.Lawful.{IsLawful, IsLawfulHeld}
+use Rattle.clearinghouse.specs.Times.{latest_in_image, latest_in_kept}
+
+-- ---- answers
+
+-- a fault is handed on
+pub fault_is : (octets : List ℕ) (r : Result (Image × ℕ) (AllocOr RecordFault)) (e : AllocOr RecordFault) (fault : RecordFault) → Decodes image octets r → r ≡ Err e → e ≡ Fault fault
+    → started octets ≡ Err (BadImage fault)
+fault_is octets r e fault decodes is named =
+    ap (starting octets) (subst (λ r. Answers r (decoding image octets)) (is ∙ ap Err named) (answers_decoding image octets r decodes))
+
+decoded_is : (octets : List ℕ) (r : Result (Image × ℕ) (AllocOr RecordFault)) (d : Image × ℕ) → Decodes image octets r → r ≡ Ok d → decoding image octets ≡ Ok d
+decoded_is octets r d decodes is = subst (λ r. Answers r (decoding image octets)) is (answers_decoding image octets r decodes)
+
+-- octets that follow are a fault
+pub trailing_is : (octets : List ℕ) (r : Result (Image × ℕ) (AllocOr RecordFault)) (d : Image × ℕ) → Decodes image octets r → r ≡ Ok d → d.1 < length octets
+    → started octets ≡ Err (BadImage (Trailing (d.1 + 1)))
+trailing_is octets r d decodes is more =
+    ap (starting octets) (decoded_is octets r d decodes is)
+    ∙ ap (λ b. if b then Ok (started_from d.0) else Err (BadImage (Trailing (d.1 + 1)))) (other_place d.1 (length octets) (λ e. absurd (omega arith)))
+
+-- with none the house starts
+pub start_is : (octets : List ℕ) (r : Result (Image × ℕ) (AllocOr RecordFault)) (d : Image × ℕ) → Decodes image octets r → r ≡ Ok d → length octets ≤ d.1
+    → started octets ≡ Ok (started_from d.0)
+start_is octets r d decodes is all =
+    let within : d.1 ≤ length octets = subst (λ r. IfOk r (λ x. x.1 ≤ length octets)) is decodes.within in
+    ap (starting octets) (decoded_is octets r d decodes is)
+    ∙ ap (λ b. if b then Ok (started_from d.0) else Err (BadImage (Trailing (d.1 + 1)))) (same_place d.1 (length octets) (omega arith))
+
+-- ---- what it has
+
+module _ {X Y : Type 0} (f : X → Y) (q : DirId) where
+  find_mapped : (es : List (DirId × X)) → find dir_cmp q (map (λ e. (e.0, f e.1)) es) ≡ option_map f (find dir_cmp q es)
+  find_mapped [] = refl
+  find_mapped (e ∷ es) = by (is_at (dir_cmp q) e.0) (find_mapped es)
+    where
+      by : (b : Bool) → find dir_cmp q (map (λ e. (e.0, f e.1)) es) ≡ option_map f (find dir_cmp q es)
+          → cond b (Some (f e.1)) (find dir_cmp q (map (λ e. (e.0, f e.1)) es)) ≡ option_map f (cond b (Some e.1) (find dir_cmp q es))
+      by true rest = refl
+      by false rest = rest
+
+found_below : (f : ImageDir → ℕ) (q : DirId) (es : List (DirId × ImageDir)) (x : ImageDir) → find dir_cmp q es ≡ Some x → f x ≤ greatest_of (λ e. f e.1) es
+found_below f q [] x is = absurd (cc)
+found_below f q (e ∷ es) x is = by (is_at (dir_cmp q) e.0) (found_below f q es x) is
+  where
+    by : (b : Bool) → (find dir_cmp q es ≡ Some x → f x ≤ greatest_of (λ e. f e.1) es) → cond b (Some e.1) (find dir_cmp q es) ≡ Some x
+        → f x ≤ max (f e.1) (greatest_of (λ e. f e.1) es)
+    by true rest is = let same : e.1 ≡ x = cc in subst (λ y. f y ≤ max (f e.1) (greatest_of (λ e. f e.1) es)) same (omega arith)
+    by false rest is = let w = rest is in omega (arith, w)
+
+abbrev IsLawfulState : ℕ → DirState → Type 0
+IsLawfulState n (state.Held h) = IsLawfulHeld n h
+IsLawfulState n (state.Gone e) = Unit {0}
+
+-- a house that starts is lawful
+pub started_lawful : (i : Image) → IsValidImage i → IsLawful (started_from i)
+started_lawful i valid dir h got = at (get i.dirs dir) refl
+  where
+    read : get (started_from i).dirs dir ≡ option_map started_of (get i.dirs dir)
+    read =
+        get-entries (started_from i).dirs dir
+        ∙ ap (find dir_cmp dir) (entries_mapped dir_total dir_exact started_of i.dirs)
+        ∙ find_mapped started_of dir (entries i.dirs) ∙ ap (option_map started_of) (sym (get-entries i.dirs dir))
+
+    at : (o : Option ImageDir) → get i.dirs dir ≡ o → IsLawfulHeld (latest_in_image i) h
+    at None is = absurd (let e : None ≡ Some (state.Held h) = sym (read ∙ ap (option_map started_of) is) ∙ got in cc)
+    at (Some (kept.Gone k)) is = absurd (let e : Some (state.Gone k) ≡ Some (state.Held h) = sym (read ∙ ap (option_map started_of) is) ∙ got in cc)
+    at (Some (kept.Held k ms r)) is =
+        let e : Some (started_of (kept.Held k ms r)) ≡ Some (state.Held h) = sym (read ∙ ap (option_map started_of) is) ∙ got in
+        let same : started_of (kept.Held k ms r) ≡ state.Held h = cc in
+        let low = found_below latest_in_kept dir (entries i.dirs) (kept.Held k ms r) (sym (get-entries i.dirs dir) ∙ is) in
+        let fine : IsValidDir (kept.Held k ms r) = subst (λ o. IfSome o IsValidDir) is (valid dir) in
+        let le : latest_time r ≤ latest_in_image i = omega (arith, low) in
+        let own : IsLawfulState (latest_in_image i) (started_of (kept.Held k ms r)) =
+            record { valid = fine; replica = (latest_time-≤ (latest_in_image i) r).0 le; skulk = λ t e. absurd (cc) } in
+        subst (IsLawfulState (latest_in_image i)) same own
