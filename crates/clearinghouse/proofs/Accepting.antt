@@ -1,5 +1,5 @@
 -- An update that is accepted: its marks are merged in, and posted.
-use Rattle.std.proofs.Common.{◌≡◌, ℕ, ◌<◌, ◌≤◌, Bool, true, false, List, [], ◌∷◌, ◌++◌, Option, Some, None, Result, Ok, Err, refl, sym, ap, subst, ◌∙◌, arith}
+use Rattle.std.proofs.Common.{◌≡◌, ℕ, ◌<◌, true, false, List, ◌++◌, Option, Some, None, Result, Ok, Err, refl, sym, ap, subst, ◌∙◌, arith}
 use Rattle.std.specs.Prelude.{if◌then◌else◌}
 use Rattle.std.specs.List.{AllByRecursion}
 use Rattle.cds_stamps.specs.declared.numbers.DirId.{DirId}
@@ -10,7 +10,7 @@ use Rattle.std.proofs.lemmas.Bool.Decides.{nat_tests}
 use Rattle.directory.specs.declared.entry.Fragment.{Fragment}
 use Rattle.directory.specs.declared.update.UpdateRefusal.{UpdateRefusal}
 use Rattle.directory.specs.declared.update.UpdateRefusal.TheVariants as why
-use Rattle.directory.specs.Histories.{Mark, CanMerge, IsBefore, name_in, stamp_in, entry_of}
+use Rattle.directory.specs.Histories.{CanMerge, IsBefore, name_in, stamp_in, entry_of}
 use Rattle.directory.specs.Updates.{Change, changed_name}
 use Rattle.directory.specs.Shown.{shown, shown_in, refusal_of, marks_of}
 use Rattle.directory.proofs.ShownLaws.{shown_in-table_of}
@@ -88,15 +88,17 @@ module _ (by : Issuer) (now : model.House) (dir : DirId) (low : ℕ) (u : Change
   stamped old new s f issued adds at =
       let own : stamp_at now ≡ Some s =
       ap (λ c. next_stamp c now.floor now.node) at.clock ∙ ap (λ l. next_stamp by.clock l now.node) at.floor ∙ ap (next_stamp by.clock low) at.node ∙ issued in
-      subst (λ o. HeldStep (IsStampAnswer (Ok s)) (accept_at by.house.0 now dir.0 u r o) now by.house dir old new s.time (Some (out.Update f))) (sym own)
-      (λ ns. refl, record {
-        replica = grown r (new_marks r u s);
-        house = refl;
-        stands = adds.stands;
-        each =
-            posts_stand (record { house = by.house; dir = dir; floor = s.time }) new (out.Update f) (model.Update (new_marks r u s)) (others_of by.house.0 r.members)
-            dir.0 by.house.0 r.epoch s.time (ap (others_of by.house.0) adds.stands.looks.members) refl refl adds.stands.looks.epoch refl adds.fragment;
-      })
+      subst (λ o. HeldStep (IsStampAnswer (Ok s)) (accept_at by.house.0 now dir.0 u r o) now by.house dir old new s.time (Some (out.Update f))) (sym own) (
+        λ ns. refl,
+        record {
+          replica = grown r (new_marks r u s);
+          house = refl;
+          stands = adds.stands;
+          each =
+              posts_stand (record { house = by.house; dir = dir; floor = s.time }) new (out.Update f) (model.Update (new_marks r u s)) (others_of by.house.0 r.members)
+              dir.0 by.house.0 r.epoch s.time (ap (others_of by.house.0) adds.stands.looks.members) refl refl adds.stands.looks.epoch refl adds.fragment;
+        },
+      )
 
   -- with no stamp left it is refused
   pub unstamped : (old : Held) → next_stamp by.clock low by.node ≡ None → IssuesAt now by low dir old r

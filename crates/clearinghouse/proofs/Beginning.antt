@@ -32,7 +32,7 @@ use Rattle.clearinghouse.specs.declared.outgoing.Outgoing.TheVariants as out
 use Rattle.clearinghouse.specs.declared.skulks.Begun.{Begun}
 use Rattle.clearinghouse.specs.declared.skulks.Begun.TheVariants as started
 use Rattle.clearinghouse.specs.declared.updates.Issuer.{Issuer}
-use Rattle.clearinghouse.specs.Standing.{StandsHeld, StandsPhase}
+use Rattle.clearinghouse.specs.Standing.{StandsPhase}
 use Rattle.clearinghouse.specs.Stepping.{IsBegunAnswer}
 use Rattle.clearinghouse.specs.Lawful.{IsLawfulHeld}
 use Rattle.clearinghouse.specs.Refusing.{begun_among}
@@ -47,47 +47,51 @@ module _ (by : Issuer) (now : model.House) (dir : DirId) (r : model.Replica) (t 
       → StandsPhase by.house.0 (members_of old.members) phase model.Idle
       → Advances old.replica t new → now.floor < t.time → IssuesAt now by now.floor dir old r
       → HeldStep (IsBegunAnswer (Ok (started.Complete t))) (begin by.house.0 now dir.0 r t (others_of by.house.0 r.members)) now by.house dir old
-        (record old { replica = new; skulk = phase }) t.time None
+      (record old { replica = new; skulk = phase }) t.time None
   completes_at_once new phase alone idle advances above at =
       subst (λ hs. HeldStep (IsBegunAnswer (Ok (started.Complete t))) (begin by.house.0 now dir.0 r t hs) now by.house dir old (record old { replica = new; skulk = phase }) t.time None)
-      (sym (ap (others_of by.house.0) at.stands.looks.members ∙ alone))
-      (λ ns. refl, record {
-        replica = record r { all_up_to = raised r.all_up_to t; phase = model.Idle };
-        house = refl;
-        stands = record {
-          looks = record { epoch = at.stands.looks.epoch; members = at.stands.looks.members; phase = idle };
-          replica =
-              advances.merged r.history (held_replica by.house.0 now.floor old r at.stands)
-              ∙ ap (λ (a : Option Stamp). replica_of r.history (together a (Some t))) (ap (λ (x : Replica). x.all_up_to) at.stands.replica);
-          history = at.stands.history;
-          below = idle_below (record r { all_up_to = raised r.all_up_to t }) t.time
-              (raised_below r t t.time (below_later r now.floor t.time (omega arith) at.stands.below) (le_refl _));
-        };
-        each = tt;
-      })
+      (sym (ap (others_of by.house.0) at.stands.looks.members ∙ alone)) (
+        λ ns. refl,
+        record {
+          replica = record r { all_up_to = raised r.all_up_to t; phase = model.Idle };
+          house = refl;
+          stands = record {
+            looks = record { epoch = at.stands.looks.epoch; members = at.stands.looks.members; phase = idle };
+            replica =
+                advances.merged r.history (held_replica by.house.0 now.floor old r at.stands)
+                ∙ ap (λ (a : Option Stamp). replica_of r.history (together a (Some t))) (ap (λ (x : Replica). x.all_up_to) at.stands.replica);
+            history = at.stands.history;
+            below = idle_below (record r { all_up_to = raised r.all_up_to t }) t.time
+                (raised_below r t t.time (below_later r now.floor t.time (omega arith) at.stands.below) (le_refl _));
+          };
+          each = tt;
+        },
+      )
 
   -- at any other its first round is posted
   pub begins_round : (phase : Skulk) (y : ℕ) (ys : List ℕ) → others_of by.house.0 (members_of old.members) ≡ y ∷ ys
       → StandsPhase by.house.0 (members_of old.members) phase (model.Gathering t []) → now.floor < t.time → IssuesAt now by now.floor dir old r
       → HeldStep (IsBegunAnswer (Ok (started.Started t))) (begin by.house.0 now dir.0 r t (others_of by.house.0 r.members)) now by.house dir old
-        (record old { skulk = phase }) t.time (Some (out.Gather t))
+      (record old { skulk = phase }) t.time (Some (out.Gather t))
   begins_round phase y ys others gathering above at =
       subst (λ hs. HeldStep (IsBegunAnswer (Ok (started.Started t))) (begin by.house.0 now dir.0 r t hs) now by.house dir old (record old { skulk = phase }) t.time (Some (out.Gather t)))
-      (sym (ap (others_of by.house.0) at.stands.looks.members ∙ others))
-      (λ ns. refl, record {
-        replica = record r { phase = model.Gathering t [] };
-        house = refl;
-        stands = record {
-          looks = record { epoch = at.stands.looks.epoch; members = at.stands.looks.members; phase = gathering };
-          replica = at.stands.replica;
-          history = at.stands.history;
-          below = phase_below r (model.Gathering t []) t.time (below_later r now.floor t.time (omega arith) at.stands.below)
-              (λ s e. let same : t ≡ s = cc in subst (λ (z : Stamp). z.time ≤ t.time) same (le_refl _));
-        };
-        each =
-            posts_stand (record { house = by.house; dir = dir; floor = t.time }) (record old { skulk = phase }) (out.Gather t) (model.Gather t) (y ∷ ys)
-            dir.0 by.house.0 r.epoch t.time (sym others) refl refl at.stands.looks.epoch refl refl;
-      })
+      (sym (ap (others_of by.house.0) at.stands.looks.members ∙ others)) (
+        λ ns. refl,
+        record {
+          replica = record r { phase = model.Gathering t [] };
+          house = refl;
+          stands = record {
+            looks = record { epoch = at.stands.looks.epoch; members = at.stands.looks.members; phase = gathering };
+            replica = at.stands.replica;
+            history = at.stands.history;
+            below = phase_below r (model.Gathering t []) t.time (below_later r now.floor t.time (omega arith) at.stands.below)
+                (λ s e. let same : t ≡ s = cc in subst (λ (z : Stamp). z.time ≤ t.time) same (le_refl _));
+          };
+          each =
+              posts_stand (record { house = by.house; dir = dir; floor = t.time }) (record old { skulk = phase }) (out.Gather t) (model.Gather t) (y ∷ ys)
+              dir.0 by.house.0 r.epoch t.time (sym others) refl refl at.stands.looks.epoch refl refl;
+        },
+      )
 
 module _ (by : Issuer) (now : model.House) (dir : DirId) (low : ℕ) (r : model.Replica) (old : Held) where
   abbrev master_or : Bool → turn.HouseStep
@@ -136,7 +140,7 @@ masters_listed (y ∷ ys) n some = by (masters_listed ys n) (is_master y.kind) r
     by rest false is =
         ap (λ b. is_listed (if b then y.house else master_of ys) (y ∷ ys)) is
         ∙ or_true (y.house == master_of ys) (is_listed (master_of ys) ys)
-          (rest (ap (λ b. fold (λ (a : ℕ) (x : Member). a + cond (is_master x.kind) 1 0) (0 + cond b 1 0) ys) (sym is) ∙ some))
+        (rest (ap (λ b. fold (λ (a : ℕ) (x : Member). a + cond (is_master x.kind) 1 0) (0 + cond b 1 0) ys) (sym is) ∙ some))
 
 -- the row of a skulk that begins at the master
 pub row_begins : (h : HouseNo) (ms : List declared.Member) (t : Stamp) (phase : Skulk) (n : Next) (count mine : ℕ) → members_fault (members_of ms) ≡ None
@@ -152,7 +156,7 @@ module _ (by : Issuer) (t : Stamp) (old : Held) (phase : Skulk) (n : Next) (row 
   module _ (new : Replica) (u : Stamp) (done : n ≡ next.Complete u) (advances : Advances old.replica t new) where
     pub completed_step : (now : model.House) (dir : DirId) (r : model.Replica) → IssuesAt now by now.floor dir old r → now.floor < t.time
         → HeldStep (IsBegunAnswer (Ok (started.Complete t))) (begin by.house.0 now dir.0 r t (others_of by.house.0 r.members)) now by.house dir old
-          (record old { replica = new; skulk = phase }) t.time None
+        (record old { replica = new; skulk = phase }) t.time None
     completed_step now dir r at above =
         elim row [
           | complete alone idle is ↦ completes_at_once by now dir r t old new phase alone
@@ -165,16 +169,16 @@ module _ (by : Issuer) (t : Stamp) (old : Held) (phase : Skulk) (n : Next) (row 
       valid = advances.valid lawful.valid;
       replica = advances.below t.time lawful.valid lawful.replica (le_refl _);
       skulk = λ v is. elim row [
-          | complete alone idle is' ↦ absurd (let e : running skulk.Idle ≡ Some v = ap running (sym idle) ∙ is in cc)
-          | begun y ys others gathering is' ↦ absurd (cc)
-        ];
+        | complete alone idle is' ↦ absurd (let e : running skulk.Idle ≡ Some v = ap running (sym idle) ∙ is in cc)
+        | begun y ys others gathering is' ↦ absurd (cc)
+      ];
     }
 
   -- a skulk that has begun
   module _ (more : (u : Stamp) → n ≡ next.Complete u → ⊥) where
     pub begun_step : (now : model.House) (dir : DirId) (r : model.Replica) → IssuesAt now by now.floor dir old r → now.floor < t.time
         → HeldStep (IsBegunAnswer (Ok (started.Started t))) (begin by.house.0 now dir.0 r t (others_of by.house.0 r.members)) now by.house dir old
-          (record old { skulk = phase }) t.time (Some (out.Gather t))
+        (record old { skulk = phase }) t.time (Some (out.Gather t))
     begun_step now dir r at above =
         elim row [
           | complete alone idle is ↦ absurd (more t is)
@@ -186,11 +190,11 @@ module _ (by : Issuer) (t : Stamp) (old : Held) (phase : Skulk) (n : Next) (row 
       valid = lawful.valid;
       replica = lawful.replica;
       skulk = λ v is. elim row [
-          | complete alone idle is' ↦ absurd (more t is')
-          | begun y ys others gathering is' ↦
-              (let e : Some v ≡ Some t = sym is ∙ same_running by.house.0 (members_of old.members) phase (model.Gathering t []) gathering in
-              let same : t ≡ v = cc in subst (λ (z : Stamp). z.time ≤ t.time) same (le_refl _))
-        ];
+        | complete alone idle is' ↦ absurd (more t is')
+        | begun y ys others gathering is' ↦
+            (let e : Some v ≡ Some t = sym is ∙ same_running by.house.0 (members_of old.members) phase (model.Gathering t []) gathering in
+            let same : t ≡ v = cc in subst (λ (z : Stamp). z.time ≤ t.time) same (le_refl _))
+      ];
     }
 
 -- a skulk that is not complete at once has other members

@@ -1,5 +1,5 @@
 -- New directories and new epochs.
-use Rattle.std.proofs.Common.{◌≡◌, ℕ, ◌<◌, ◌≤◌, Bool, true, false, List, [], ◌∷◌, ◌++◌, Option, Some, None, Result, Ok, Err, refl, sym, ap, subst, ◌∙◌, arith, le_refl}
+use Rattle.std.proofs.Common.{◌≡◌, ℕ, ◌<◌, Bool, true, false, List, [], Option, Some, None, Result, Ok, Err, refl, sym, ap, subst, ◌∙◌, arith, le_refl}
 use Rattle.std.specs.Prelude.{IfOk, OnOk, OnErr, nat_lt, nat_le, if◌then◌else◌}
 use Rattle.std.specs.Result.{result_err}
 use Rattle.std.specs.FinMap.{get, insert}
@@ -19,7 +19,6 @@ use Rattle.cell_model.specs.Cells as model
 use Rattle.cell_model.specs.Commands as command
 use Rattle.cell_model.specs.Turns as turn
 use Rattle.cell_model.specs.Turns.{copy_of, epoch_posts, epoch_replica, first_replica, found, holding, new_epoch, new_epoch_in, to_each}
-use Rattle.cell_model.proofs.Fine.{idle_below}
 use Rattle.clearinghouse.specs.declared.epochs.EpochRefusal.{EpochRefusal}
 use Rattle.clearinghouse.specs.declared.epochs.EpochRefusal.TheVariants as refusal
 use Rattle.clearinghouse.specs.declared.house.Clearinghouse.{Clearinghouse}
@@ -29,11 +28,11 @@ use Rattle.clearinghouse.specs.declared.states.DirState.{DirState}
 use Rattle.clearinghouse.specs.declared.states.DirState.TheVariants as state
 use Rattle.clearinghouse.specs.declared.states.Held.{Held}
 use Rattle.clearinghouse.specs.Lawful.{IsLawful, IsLawfulHeld}
-use Rattle.clearinghouse.specs.Posting.{StandEach, epoch_posts_at, leave_of, numbers_of, posts_at, posts_if, posts_to, sender_of}
-use Rattle.clearinghouse.specs.Refusing.{IsLater, epoch_fault, epoch_refused}
+use Rattle.clearinghouse.specs.Posting.{StandEach, epoch_posts_at, leave_of, numbers_of, posts_at, posts_if, posts_to}
+use Rattle.clearinghouse.specs.Refusing.{IsLater, epoch_refused}
 use Rattle.clearinghouse.specs.Standing.{StandsHeld, StandsHouse}
 use Rattle.clearinghouse.specs.Stepping.{Enters, IsEpochAnswer, IsStep, IsTurn}
-use Rattle.clearinghouse.specs.PrivateTurns.{HeldTurn, SameHouse, first_held, held_in}
+use Rattle.clearinghouse.specs.PrivateTurns.{SameHouse, first_held, held_in}
 use Rattle.clearinghouse.proofs.Houses.{by_slot, got_here, house_holds, house_lawful, turn_of}
 use Rattle.clearinghouse.proofs.Posts.{each_append, each_stands, posts_stand}
 
@@ -126,11 +125,11 @@ module _ (c new : Clearinghouse) (now : model.House) (dir : DirId) (k : EpochNo)
   takes_here : (h : Held) (r : model.Replica) → new ≡ record c { dirs = insert c.dirs dir (state.Held (entered k ms h)) } → StandsHouse c now
       → StandsHeld c.house.0 c.floor.time h r
       → IsTurn (record {
-          house = holding now dir.0 now.floor (model.Held (epoch_replica k.0 (members_of ms) r));
-          posts = epoch_posts now.floor dir.0 c.house.0 k.0 (members_of ms) (numbers_of leaving) r;
-          answer = command.NewEpoch k.0;
-          accepted = [];
-        }) new (epoch_posts_at new dir k leaving None)
+        house = holding now dir.0 now.floor (model.Held (epoch_replica k.0 (members_of ms) r));
+        posts = epoch_posts now.floor dir.0 c.house.0 k.0 (members_of ms) (numbers_of leaving) r;
+        answer = command.NewEpoch k.0;
+        accepted = [];
+      }) new (epoch_posts_at new dir k leaving None)
   takes_here h r after stands held =
       subst (λ x. IsTurn (record {
         house = holding now dir.0 now.floor (model.Held (epoch_replica k.0 (members_of ms) r));
@@ -173,15 +172,15 @@ module _ (c new : Clearinghouse) (now : model.House) (dir : DirId) (k : EpochNo)
     fault_is b is =
         ap (epoch_refused c.house.0 k.0 (members_of ms)) got
         ∙ ap (λ x. if x then Some (refusal.StaleEpoch (record { 0 = h.epoch.0 }) (record { 0 = k.0 }))
-          else (if nat_lt h.epoch.0 (since_in (members_of ms) c.house.0 0)
-          then Some (refusal.NotJoined (record { 0 = h.epoch.0 }) (record { 0 = since_in (members_of ms) c.house.0 0 })) else None)) (fresh k.0 h.epoch.0 later)
+        else (if nat_lt h.epoch.0 (since_in (members_of ms) c.house.0 0)
+        then Some (refusal.NotJoined (record { 0 = h.epoch.0 }) (record { 0 = since_in (members_of ms) c.house.0 0 })) else None)) (fresh k.0 h.epoch.0 later)
         ∙ ap (λ x. if x then Some (refusal.NotJoined (record { 0 = h.epoch.0 }) (record { 0 = since_in (members_of ms) c.house.0 0 })) else None) is
 
     abbrev joined_or : Bool → turn.HouseStep
     joined_or b =
         if b
         then turn.turned (holding now dir.0 now.floor (model.Held (epoch_replica k.0 (members_of ms) r)))
-          (epoch_posts now.floor dir.0 c.house.0 k.0 (members_of ms) (numbers_of leaving) r) (command.NewEpoch k.0)
+        (epoch_posts now.floor dir.0 c.house.0 k.0 (members_of ms) (numbers_of leaving) r) (command.NewEpoch k.0)
         else turn.Stays (command.Refused (command.NotJoined r.epoch (since_in (members_of ms) c.house.0 0)))
 
     by_since : (e : Result (Unit {0}) EpochRefusal) (b : Bool) → nat_lt h.epoch.0 (since_in (members_of ms) c.house.0 0) ≡ b
@@ -216,7 +215,7 @@ module _ (c new : Clearinghouse) (now : model.House) (dir : DirId) (k : EpochNo)
   pub enters_step : (e : Result (Unit {0}) EpochRefusal) → result_err e ≡ epoch_refused c.house.0 k.0 (members_of ms) (get c.dirs dir)
       → OnErr e (new ≡ c) → OnOk e (Enters c new dir k ms) → SameHouse c new → StandsHouse c now → IsLater k.0 (get c.dirs dir)
       → IsStep (IsEpochAnswer k.0 (result_err e)) (new_epoch c.house.0 now dir.0 k.0 (members_of ms) (numbers_of leaving)) c new
-        (epoch_posts_at new dir k leaving (result_err e))
+      (epoch_posts_at new dir k leaving (result_err e))
   enters_step e is same enters who stands later =
       by_slot c.house.0 c.floor.time (get c.dirs dir) (now.slots dir.0)
       (λ s. IsEntered (result_err e) (new_epoch_in c.house.0 now dir.0 k.0 (members_of ms) (numbers_of leaving) s)) (stands.slots dir.0)
@@ -252,6 +251,6 @@ module _ (c mid : Clearinghouse) (dir : DirId) (k : EpochNo) (ms : List declared
       → IfOk done (λ e. result_err e ≡ epoch_refused c.house.0 k.0 (members_of ms) (get c.dirs dir))
       → IfOk done (λ e. OnErr e (mid ≡ c)) → IfOk done (λ e. OnOk e (Enters c mid dir k ms)) → StandsHouse c now → IsLater k.0 (get c.dirs dir)
       → IfOk done (λ e. IsStep (IsEpochAnswer k.0 (result_err e)) (new_epoch c.house.0 now dir.0 k.0 (members_of ms) (numbers_of leaving)) c mid
-        (epoch_posts_at mid dir k leaving (result_err e)))
+      (epoch_posts_at mid dir k leaving (result_err e)))
   enters_steps now leaving (Ok e) is same enters stands later = enters_step c mid now dir k ms leaving e is same enters who stands later
   enters_steps now leaving (Err x) is same enters stands later = tt

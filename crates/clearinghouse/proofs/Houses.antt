@@ -1,5 +1,5 @@
 -- A clearinghouse after a call at one directory.
-use Rattle.std.proofs.Common.{◌≡◌, ℕ, ◌≤◌, Bool, true, false, cond, List, [], Option, Some, None, Result, Ok, Err, refl, sym, ap, subst, ◌∙◌, arith}
+use Rattle.std.proofs.Common.{◌≡◌, ℕ, ◌≤◌, Bool, true, false, cond, List, Option, Some, None, Result, Ok, Err, refl, sym, ap, subst, ◌∙◌, arith}
 use Rattle.std.specs.Prelude.{◌==◌, IfOk, OnOk, OnErr, is_err}
 use Rattle.std.specs.FinMap.{FinMap, get, insert, get-insert}
 use Rattle.std.specs.Ordering.{eq_by_cmp}
@@ -21,7 +21,7 @@ use Rattle.clearinghouse.specs.declared.states.DirState.TheVariants as state
 use Rattle.clearinghouse.specs.declared.states.Held.{Held}
 use Rattle.clearinghouse.specs.Lawful.{IsLawful, IsLawfulHeld}
 use Rattle.clearinghouse.specs.Posting.{StandEach, posts_if, posts_at, sender_of}
-use Rattle.clearinghouse.specs.Standing.{LooksHouse, LooksSlot, StandsHeld, StandsHouse, StandsSlot}
+use Rattle.clearinghouse.specs.Standing.{LooksSlot, StandsHeld, StandsHouse, StandsSlot}
 use Rattle.clearinghouse.specs.Stepping.{IsCall, IsStep, IsTurn}
 use Rattle.clearinghouse.specs.PrivateTurns.{Heeds, HeldStep, HeldTurn, SameHouse, held_in}
 use Rattle.clearinghouse.proofs.Lawfulness.{lawful_later}
@@ -121,7 +121,7 @@ house_lawful c dir floor s le here lawful d h got = by (eq_by_cmp dir_cmp d dir)
 pub turn_of : (c : Clearinghouse) (now : model.House) (dir : DirId) (new : Held) (floor : Floor) (turn : Turn) (o : Option Outgoing) → StandsHouse c now
     → c.floor.time ≤ floor.time → HeldTurn turn now c.house dir new floor.time o
     → IsTurn turn (record c { floor = floor; dirs = insert c.dirs dir (state.Held new) })
-      (posts_at (record c { floor = floor; dirs = insert c.dirs dir (state.Held new) }) dir o)
+    (posts_at (record c { floor = floor; dirs = insert c.dirs dir (state.Held new) }) dir o)
 turn_of c now dir new floor turn o stands le turns = record {
   stands =
       subst (StandsHouse (record c { floor = floor; dirs = insert c.dirs dir (state.Held new) })) (sym turns.house)
@@ -135,13 +135,15 @@ pub step_of : (A : command.Answer → Type 0) (step : HouseStep) (c : Clearingho
     (o : Option Outgoing) → StandsHouse c now → get c.dirs dir ≡ Some (state.Held old) → c.floor.time ≤ floor.time
     → HeldStep A step now c.house dir old new floor.time o
     → IsStep A step c (record c { floor = floor; dirs = insert c.dirs dir (state.Held new) })
-      (posts_at (record c { floor = floor; dirs = insert c.dirs dir (state.Held new) }) dir o)
+    (posts_at (record c { floor = floor; dirs = insert c.dirs dir (state.Held new) }) dir o)
 step_of A (Stays answer) c now dir old new floor o stands here le step =
     let dirs : insert c.dirs dir (state.Held new) ≡ c.dirs = ap (λ h. insert c.dirs dir (state.Held h)) step.1 ∙ unchanged c.dirs dir (state.Held old) here in
-    let low : floor.time ≡ c.floor.time = step.2 ∙ stands.floor in
-    (step.0, λ i. record { house = c.house; node = c.node; floor = record { time = low i }; dirs = dirs i; spent = c.spent },
-    ap (posts_at (record c { floor = floor; dirs = insert c.dirs dir (state.Held new) }) dir) step.3
-    ∙ posts_none (sender_of (record c { floor = floor; dirs = insert c.dirs dir (state.Held new) }) dir) (get (insert c.dirs dir (state.Held new)) dir))
+    let low : floor.time ≡ c.floor.time = step.2 ∙ stands.floor in (
+      step.0,
+      λ i. record { house = c.house; node = c.node; floor = record { time = low i }; dirs = dirs i; spent = c.spent },
+      ap (posts_at (record c { floor = floor; dirs = insert c.dirs dir (state.Held new) }) dir) step.3
+          ∙ posts_none (sender_of (record c { floor = floor; dirs = insert c.dirs dir (state.Held new) }) dir) (get (insert c.dirs dir (state.Held new)) dir),
+    )
 step_of A (Turns turn) c now dir old new floor o stands here le step = (step.0, turn_of c now dir new floor turn o stands le step.1)
 
 -- what is held is what the house has
@@ -180,7 +182,7 @@ pub at_held : {T : Type 0} (A : T → command.Answer → Type 0) (out : T → Op
     → ((q : model.Replica) → now.slots dir.0 ≡ model.Held q → StandsHeld c.house.0 c.floor.time old q
     → IfOk r (λ x. HeldStep (A x) (step (model.Held q)) now c.house dir old new floor.time (out x)))
     → IfOk r (λ x. IsStep (A x) (step (now.slots dir.0)) c (record c { floor = floor; dirs = insert c.dirs dir (state.Held new) })
-      (posts_at (record c { floor = floor; dirs = insert c.dirs dir (state.Held new) }) dir (out x)))
+    (posts_at (record c { floor = floor; dirs = insert c.dirs dir (state.Held new) }) dir (out x)))
 at_held A out step c now dir old new floor r here le stands steps =
     by_slot c.house.0 c.floor.time (get c.dirs dir) (now.slots dir.0)
     (λ s. IfOk r (λ x. IsStep (A x) (step s) c (record c { floor = floor; dirs = insert c.dirs dir (state.Held new) })
@@ -198,7 +200,7 @@ pub at_held_always : (A : command.Answer → Type 0) (o : Option Outgoing) (step
     → ((q : model.Replica) → now.slots dir.0 ≡ model.Held q → StandsHeld c.house.0 c.floor.time old q
     → HeldStep A (step (model.Held q)) now c.house dir old new floor.time o)
     → IsStep A (step (now.slots dir.0)) c (record c { floor = floor; dirs = insert c.dirs dir (state.Held new) })
-      (posts_at (record c { floor = floor; dirs = insert c.dirs dir (state.Held new) }) dir o)
+    (posts_at (record c { floor = floor; dirs = insert c.dirs dir (state.Held new) }) dir o)
 at_held_always A o step c now dir old new floor here le stands steps =
     at_held (λ (x : Unit {0}). A) (λ x. o) step c now dir old new floor (Ok tt) here le stands steps
 

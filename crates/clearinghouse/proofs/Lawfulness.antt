@@ -1,20 +1,19 @@
 -- What keeps what is held valid, with no time above the floor.
-use Rattle.std.proofs.Common.{◌≡◌, ℕ, ◌<◌, ◌≤◌, Bool, true, false, cond, List, [], ◌∷◌, Option, Some, None, refl, sym, ap, subst, ◌∙◌, arith, inl, inr, le_trans}
+use Rattle.std.proofs.Common.{◌≡◌, ℕ, ◌<◌, ◌≤◌, Bool, true, false, cond, List, [], ◌∷◌, Option, Some, None, refl, subst, arith, inl, inr, le_trans}
 use Rattle.std.specs.Prelude.{IfSome, option_and_then}
 use Rattle.std.specs.List.{AllByRecursion}
 use Rattle.std.specs.FinMap.{get}
 use Rattle.cds_stamps.specs.declared.stamp.Stamp.{Stamp}
 use Rattle.directory.specs.declared.entry.EntryCell.{EntryCell}
 use Rattle.directory.specs.declared.entry.Fragment.{Fragment}
-use Rattle.directory.specs.Entries.{Entries, IsValidEntry, IsValidTable}
+use Rattle.directory.specs.Entries.{Entries, IsValidEntry}
 use Rattle.directory.specs.Histories.{Mark, stamp_in, born_in, entry_of}
 use Rattle.directory.specs.Updates.{Change, changed_name}
 use Rattle.directory.specs.Shown.{Shown, leads, face_of, shown_entry, shown_if_live, shown_in, refusal_of, marks_of}
 use Rattle.directory.proofs.TableLaws.{entry_of-valid}
 use Rattle.purge_rule.specs.declared.replica.Replica.{Replica}
-use Rattle.purge_rule.specs.Latest.{EntryUpTo, MarkUpTo, ReplicaUpTo, TableUpTo, StampUpTo}
+use Rattle.purge_rule.specs.Latest.{EntryUpTo, MarkUpTo, ReplicaUpTo, TableUpTo}
 use Rattle.purge_rule.proofs.Times.{entry_of-up_to, latest_time-≤}
-use Rattle.skulk_core.specs.Rounds.{running}
 use Rattle.cell_model.specs.Sets.{In}
 use Rattle.cell_model.proofs.Lists.{earlier_up_to, time_up_to}
 use Rattle.cell_model.proofs.Marks.{marks_made}
@@ -51,7 +50,7 @@ pub update_times : (t : Entries) (u : Change) (s : Stamp) (f : Fragment) (floor 
     → entry_of (marks_of (shown_in t (changed_name u)) u s) f.name ≡ Some f.entry → TableUpTo floor t → floor < s.time → EntryUpTo s.time f.entry
 update_times t u s f floor fine entry up above =
     let made = marks_made (shown_in t (changed_name u)) u s fine
-        (λ e is. let low = table_birth floor t (changed_name u) e up is in earlier_up_to e.birth s (omega arith)) in
+    (λ e is. let low = table_birth floor t (changed_name u) e up is in earlier_up_to e.birth s (omega arith)) in
     some_of (EntryUpTo s.time) (entry_of (marks_of (shown_in t (changed_name u)) u s) f.name) f.entry entry
     (entry_of-up_to s.time (marks_of (shown_in t (changed_name u)) u s) f.name (each_mark s.time (marks_of (shown_in t (changed_name u)) u s)
     (λ k i. let stamped = time_up_to (stamp_in k) s (made.stamped k i) in

@@ -1,5 +1,5 @@
 -- Directories of a house after one was written, and results.
-use Rattle.std.proofs.Common.{◌≡◌, Bool, true, false, cond, List, Option, Some, None, Result, Ok, Err, refl, sym, ap, subst, ◌∙◌}
+use Rattle.std.proofs.Common.{◌≡◌, Bool, true, false, cond, List, Some, Result, Ok, Err, refl, sym, ap, ◌∙◌}
 use Rattle.std.specs.Prelude.{IfOk}
 use Rattle.std.specs.FinMap.{FinMap, get, insert, from_entries, get-insert, same_map}
 use Rattle.std.specs.BTreeMap.{is_at}

@@ -2,7 +2,7 @@
 use Rattle.std.proofs.Common.{◌≡◌, ℕ, zero, suc, ◌+◌, ◌<◌, ◌≤◌, Bool, true, false, ◌&&◌, ◌||◌, ◌==◌, cond, List, [], ◌∷◌, length, map, Option, Some, None, MatchBool}
 use Rattle.std.proofs.Common.{refl, sym, ap, subst, ◌∙◌, arith}
 use Rattle.std.specs.Prelude.{slice_get, nat_lt, unwrap_or, if◌then◌else◌}
-use Rattle.std.specs.List.{position_from, list_all}
+use Rattle.std.specs.List.{position_from}
 use Rattle.std.proofs.lemmas.List.{length-map}
 use Rattle.std.proofs.lemmas.Bool.Decides.{nat_tests}
 use Rattle.cds_stamps.specs.declared.mask.MemberMask.{MemberMask}
@@ -12,7 +12,7 @@ use Rattle.cds_stamps.specs.declared.numbers.HouseNo.{HouseNo}
 use Rattle.cds_stamps.specs.Members.{Member, member_of, members_of, most_members, members_fault, first_unordered, is_listed, place_of, others_of}
 use Rattle.cds_stamps.specs.Places.{has_place, each_place}
 use Rattle.cds_stamps.specs.Stamps.{is_stamp}
-use Rattle.cds_stamps.proofs.Masks.{same_place, other_place, each_place-same}
+use Rattle.cds_stamps.proofs.Masks.{same_place, other_place}
 use Rattle.cds_stamps.proofs.MemberLaws.{no_members_fault}
 use Rattle.skulk_core.specs.declared.skulk.Skulk.{Skulk}
 use Rattle.skulk_core.specs.declared.skulk.Skulk.TheVariants as skulk

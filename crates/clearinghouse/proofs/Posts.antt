@@ -1,5 +1,5 @@
 -- What a house posts: the loop over its members, and the messages of the model for which posted ones stand.
-use Rattle.std.proofs.Common.{◌≡◌, ℕ, Bool, true, false, cond, List, [], ◌∷◌, ◌++◌, Option, Some, None, Result, Ok, Err, refl, sym, ap, subst, ◌∙◌, append_assoc, append-nil}
+use Rattle.std.proofs.Common.{◌≡◌, ℕ, true, false, cond, List, [], ◌∷◌, ◌++◌, Option, Some, None, Result, Ok, refl, sym, ap, subst, ◌∙◌, append_assoc, append-nil}
 use Rattle.std.specs.Prelude.{◌==◌}
 use Rattle.cds_stamps.specs.declared.members.Member.{Member}
 use Rattle.cds_stamps.specs.declared.numbers.EpochNo.{EpochNo}
@@ -10,7 +10,6 @@ use Rattle.cds_stamps.specs.declared.numbers.DirId.{DirId}
 use Rattle.cds_stamps.specs.declared.stamp.Stamp.{Stamp}
 use Rattle.directory.specs.declared.update.UpdateRefusal.{UpdateRefusal}
 use Rattle.cds_records.specs.declared.message.Message.{Message}
-use Rattle.cds_records.specs.declared.message.Body.TheVariants as body
 use Rattle.cell_model.specs.Cells as model
 use Rattle.cell_model.specs.Turns.{to_each}
 use Rattle.clearinghouse.specs.declared.outgoing.Outgoing.{Outgoing}
@@ -58,9 +57,10 @@ posts_end m all posted h = sym (append-nil posted) ∙ h.is
 pub each_stands : (m : Message) (b : model.Body) (d s e f : ℕ) → d ≡ m.dir.0 → s ≡ m.from.0 → e ≡ m.epoch.0 → f ≡ m.floor → StandsBody m.body b
     → (houses : List ℕ) → StandEach (posts_to houses m) (to_each houses d s e f b)
 each_stands m b d s e f dir sender epoch floor h [] = tt
-each_stands m b d s e f dir sender epoch floor h (x ∷ xs) =
-    (record { head = record { receiver = refl; dir = dir; sender = sender; epoch = epoch; floor = floor }; body = h },
-    each_stands m b d s e f dir sender epoch floor h xs)
+each_stands m b d s e f dir sender epoch floor h (x ∷ xs) = (
+  record { head = record { receiver = refl; dir = dir; sender = sender; epoch = epoch; floor = floor }; body = h },
+  each_stands m b d s e f dir sender epoch floor h xs,
+)
 
 -- what a house says stands for what the house of the model posts
 pub posts_stand : (s : Sender) (h : Held) (o : Outgoing) (b : model.Body) (houses : List ℕ) (d x e f : ℕ)

@@ -1,15 +1,15 @@
 -- A house that starts of an image.
-use Rattle.std.proofs.Common.{◌≡◌, ℕ, ◌<◌, ◌≤◌, Bool, true, false, cond, List, [], ◌∷◌, length, max, Option, Some, None, Result, Ok, Err, refl, sym, ap, subst, ◌∙◌, arith, le_trans}
-use Rattle.std.specs.Prelude.{◌==◌, ◌+◌, IfOk, IfSome, map, if◌then◌else◌}
+use Rattle.std.proofs.Common.{◌≡◌, ℕ, ◌<◌, ◌≤◌, Bool, true, false, cond, List, [], ◌∷◌, length, max, Option, Some, None, Result, Ok, Err, refl, sym, ap, subst, ◌∙◌, arith}
+use Rattle.std.specs.Prelude.{◌+◌, IfOk, IfSome, map, if◌then◌else◌}
 use Rattle.std.specs.Option.{option_map}
-use Rattle.std.specs.FinMap.{FinMap, entries, find, from_entries, get, get-entries}
+use Rattle.std.specs.FinMap.{entries, find, get, get-entries}
 use Rattle.std.specs.BTreeMap.{is_at}
 use Rattle.cds_stamps.specs.declared.alloc_or.AllocOr.{AllocOr}
 use Rattle.cds_stamps.specs.declared.alloc_or.AllocOr.TheVariants.{Fault}
 use Rattle.cds_stamps.specs.declared.numbers.DirId.{DirId}
 use Rattle.cds_stamps.specs.Outcomes.{Answers}
 use Rattle.cds_stamps.proofs.Masks.{same_place, other_place}
-use Rattle.purge_rule.specs.Latest.{ReplicaUpTo, greatest_of, latest_time}
+use Rattle.purge_rule.specs.Latest.{greatest_of, latest_time}
 use Rattle.purge_rule.proofs.Times.{latest_time-≤}
 use Rattle.cds_records.specs.Decoding.{Decodes, decoding}
 use Rattle.cds_records.specs.Dirs.{dir_cmp, dir_total, dir_exact}
@@ -25,7 +25,6 @@ use Rattle.cds_records.proofs.OneDecoding.{answers_decoding}
 use Rattle.clearinghouse.specs.declared.images.StartFault.TheVariants.{BadImage}
 use Rattle.clearinghouse.specs.declared.states.DirState.{DirState}
 use Rattle.clearinghouse.specs.declared.states.DirState.TheVariants as state
-use Rattle.clearinghouse.specs.declared.states.Held.{Held}
 use Rattle.clearinghouse.specs.Imaging.{started, started_from, started_of, starting}
 use Rattle.clearinghouse.specs.Lawful.{IsLawful, IsLawfulHeld}
 use Rattle.clearinghouse.specs.Times.{latest_in_image, latest_in_kept}
@@ -101,5 +100,5 @@ started_lawful i valid dir h got = at (get i.dirs dir) refl
         let fine : IsValidDir (kept.Held k ms r) = subst (λ o. IfSome o IsValidDir) is (valid dir) in
         let le : latest_time r ≤ latest_in_image i = omega (arith, low) in
         let own : IsLawfulState (latest_in_image i) (started_of (kept.Held k ms r)) =
-            record { valid = fine; replica = (latest_time-≤ (latest_in_image i) r).0 le; skulk = λ t e. absurd (cc) } in
+        record { valid = fine; replica = (latest_time-≤ (latest_in_image i) r).0 le; skulk = λ t e. absurd (cc) } in
         subst (IsLawfulState (latest_in_image i)) same own

@@ -1,6 +1,6 @@
 -- What a clearinghouse keeps over a crash, and which one starts of that (own, after C705, clearinghouses).
-use Rattle.std.specs.Prelude.{◌≡◌, ℕ, ◌+◌, ◌==◌, if◌then◌else◌, false, length, List, map, Result, Ok, Err}
-use Rattle.std.specs.FinMap.{FinMap, entries, from_entries}
+use Rattle.std.specs.Prelude.{ℕ, ◌+◌, ◌==◌, if◌then◌else◌, false, length, List, map, Result, Ok, Err}
+use Rattle.std.specs.FinMap.{entries, from_entries}
 use Rattle.cds_records.specs.Decoding.{decoding}
 use Rattle.cds_records.specs.Images.{image}
 use Rattle.cds_records.specs.declared.fault.RecordFault.{RecordFault}

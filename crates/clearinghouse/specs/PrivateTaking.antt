@@ -1,5 +1,5 @@
 -- Words of private contracts: what a message makes of a clearinghouse (own, after C705, updates, skulks and new epochs).
-use Rattle.std.specs.Prelude.{◌≡◌, ℕ, ◌||◌, not, true, false, max, nat_lt, nat_le, if◌then◌else◌, MatchBool, MatchOption, List, Option, Some, None}
+use Rattle.std.specs.Prelude.{◌≡◌, ℕ, ◌||◌, not, max, nat_lt, nat_le, if◌then◌else◌, MatchBool, MatchOption, List, Option, Some, None}
 use Rattle.std.specs.FinMap.{get, insert}
 use Rattle.cds_stamps.specs.declared.numbers.EpochNo.{EpochNo}
 use Rattle.cds_stamps.specs.declared.numbers.HouseNo.{HouseNo}
@@ -14,7 +14,7 @@ use Rattle.clearinghouse.specs.declared.states.DirState.TheVariants as state
 use Rattle.clearinghouse.specs.declared.outgoing.Outgoing.{Outgoing}
 use Rattle.clearinghouse.specs.declared.taking.Taken.{Taken}
 use Rattle.clearinghouse.specs.declared.taking.Taken.TheVariants as taken
-use Rattle.clearinghouse.specs.PrivateTurns.{JoinsCopy, LeavesAll, TakesOwn, copy_of, held_in}
+use Rattle.clearinghouse.specs.PrivateTurns.{JoinsCopy, TakesOwn, copy_of, held_in}
 use Rattle.clearinghouse.specs.Stepping.{is_taken}
 use Rattle.clearinghouse.specs.Times.{latest_in_message}
 

@@ -1,7 +1,6 @@
 -- What a clearinghouse answers, told of what it has and of what it is given, without any model (own, after C705, updates, skulks and new epochs).
-use Rattle.std.specs.Prelude.{◌≡◌, ℕ, ◌==◌, ◌<◌, nat_lt, nat_le, if◌then◌else◌, length, List, Option, Some, None, Result, Ok, Err}
+use Rattle.std.specs.Prelude.{ℕ, ◌==◌, ◌<◌, nat_lt, nat_le, if◌then◌else◌, length, List, Option, Some, None, Result, Ok, Err}
 use Rattle.cds_stamps.specs.declared.members.Member as declared
-use Rattle.cds_stamps.specs.declared.numbers.EpochNo.{EpochNo}
 use Rattle.cds_stamps.specs.declared.stamp.Stamp.{Stamp}
 use Rattle.cds_stamps.specs.Members.{Member, members_of, is_accepting, master_of, since_in}
 use Rattle.directory.specs.declared.update.UpdateRefusal.{UpdateRefusal}

@@ -1,5 +1,5 @@
 -- Which house of the model a clearinghouse stands for (own, after C705, clearinghouses and replicas).
-use Rattle.std.specs.Prelude.{◌≡◌, ℕ, true, false, ◌||◌, ◌==◌, List, Option, Some, None, slice_get}
+use Rattle.std.specs.Prelude.{◌≡◌, ℕ, true, ◌||◌, ◌==◌, List, Option, Some, None, slice_get}
 use Rattle.std.specs.FinMap.{get}
 use Rattle.cds_stamps.specs.declared.numbers.DirId.{DirId}
 use Rattle.cds_stamps.specs.declared.mask.MemberMask.{MemberMask}

@@ -372,7 +372,8 @@ impl Clearinghouse {
         replica: &Replica,
     ) -> Result<(), AllocError>
         ensures ok { OnOk result (self.new ≡ record self.old {
-            dirs = map.insert self.old.dirs message.now.dir (state.Held (copy_of message.now.epoch members.now replica.now)) }) }
+          dirs = map.insert self.old.dirs message.now.dir (state.Held (copy_of message.now.epoch members.now replica.now));
+        }) }
         ensures err { OnErr result (self.new ≡ self.old) }
     {
         let held = Held {
@@ -393,7 +394,8 @@ impl Clearinghouse {
         if let Some(passed) = self.passes_leave(message) {
             return Ok(unchanged(Taken::Late(message.epoch, passed)));
         }
-        self.dirs.insert(message.dir, DirState::Gone(message.epoch))?;
+        self.dirs
+            .insert(message.dir, DirState::Gone(message.epoch))?;
         self.floor.raise(message.floor);
         Ok(taken_with(None))
     }

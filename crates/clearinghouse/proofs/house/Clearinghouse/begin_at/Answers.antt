@@ -1,4 +1,4 @@
-use Rattle.std.proofs.Common.{sym, ap, subst, Result, Ok, Err}
+use Rattle.std.proofs.Common.{sym, subst}
 use Rattle.std.proofs.lemmas.Result.{on_err_weaker}
 use Rattle.cell_model.specs.Cells as model
 use Rattle.cell_model.specs.Turns.{skulk_in}

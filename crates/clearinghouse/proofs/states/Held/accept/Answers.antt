@@ -1,4 +1,4 @@
-use Rattle.std.proofs.Common.{sym, Some, None}
+use Rattle.std.proofs.Common.{sym}
 use Rattle.cds_stamps.proofs.OutcomeLaws.{ok_unless-Ok, ok_unless-Err}
 use Rattle.directory.specs.Updates.{change_of}
 use Rattle.clearinghouse.proofs.Maps.{if_ok_map}

@@ -1,6 +1,4 @@
-use Rattle.std.proofs.Common.{sym, ap, subst, length, ◌<◌, ◌≤◌, ◌∙◌}
-use Rattle.std.proofs.Common.{arith}
-use Rattle.cds_stamps.specs.Members.{members_of, most_members}
+use Rattle.std.proofs.Common.{ap, length}
 use Rattle.clearinghouse.proofs.Phases.{counted}
 use Rattle.clearinghouse.proofs.states.Held.count.Goals as goal
 
