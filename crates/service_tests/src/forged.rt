@@ -27,7 +27,7 @@ enum Answer {
     Other,
 }
 
-fn answer(taken: Taken) -> Answer {
+fn without_stamps(taken: Taken) -> Answer {
     match taken {
         Taken::Taken => Answer::Taken,
         Taken::Late(sent, held) => Answer::Late(sent.0, held.0),
@@ -38,7 +38,7 @@ fn answer(taken: Taken) -> Answer {
 }
 
 // A message from this house, of this epoch, with stamps of this time.
-fn forged(alloc: Global, from: u8, epoch: u64, time: u64, what: Forged) -> Result<Message, Fail> {
+fn forge(alloc: Global, from: u8, epoch: u64, time: u64, what: Forged) -> Result<Message, Fail> {
     let t = stamp(time)?;
     let body = match what {
         Forged::Gather => Body::Gather(t),
@@ -74,8 +74,8 @@ fn forged_messages_have_the_answers_of_the_table(rt: HostRuntime) -> Result<(), 
     let alloc = rt.alloc();
     let (_, mut house) = both(alloc)?;
     for (from, epoch, time, what, wanted, floor) in FORGED {
-        let took = house.take(alloc, &forged(alloc, from, epoch, time, what)?)?;
-        assert_eq!(rt; answer(took.taken), wanted);
+        let took = house.take(alloc, &forge(alloc, from, epoch, time, what)?)?;
+        assert_eq!(rt; without_stamps(took.taken), wanted);
         assert_eq!(rt; house.floor(), floor);
     }
     Ok(())
@@ -87,7 +87,7 @@ fn answers_to_no_skulk_are_stale(rt: HostRuntime) -> Result<(), Fail> {
     let (mut house, _) = both(alloc)?;
     let t = stamp(3)?;
     for what in [Forged::Gathered, Forged::Ack] {
-        let took = house.take(alloc, &forged(alloc, 2, 1, 3, what)?)?;
+        let took = house.take(alloc, &forge(alloc, 2, 1, 3, what)?)?;
         assert_eq!(rt; took.taken, Taken::Stale(t, None));
         assert!(rt; took.posted.list().is_empty() && house.floor() == 0);
     }
