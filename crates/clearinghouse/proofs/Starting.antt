@@ -11,7 +11,7 @@ use Rattle.cds_stamps.specs.Outcomes.{Answers}
 use Rattle.cds_stamps.proofs.Masks.{same_place, other_place}
 use Rattle.purge_rule.specs.Latest.{greatest_of, latest_time}
 use Rattle.purge_rule.proofs.Times.{latest_time-≤}
-use Rattle.cds_records.specs.Decoding.{Decodes, decoding}
+use Rattle.cds_records.specs.Decoding.{Decodes, IsWhole, decoding, with_memory}
 use Rattle.cds_records.specs.Dirs.{dir_cmp, dir_total, dir_exact}
 use Rattle.cds_records.specs.Images.{image}
 use Rattle.cds_records.specs.Validity.{IsValidDir, IsValidImage}
@@ -21,11 +21,16 @@ use Rattle.cds_records.specs.declared.image.Image.{Image}
 use Rattle.cds_records.specs.declared.image.ImageDir.{ImageDir}
 use Rattle.cds_records.specs.declared.image.ImageDir.TheVariants as kept
 use Rattle.cds_records.proofs.Mapped.{entries_mapped}
-use Rattle.cds_records.proofs.OneDecoding.{answers_decoding}
+use Rattle.std.proofs.Common.{append-nil}
+use Rattle.cds_records.specs.Octets.{image_octets}
+use Rattle.cds_records.specs.Ranges.{FitsImage}
+use Rattle.cds_records.proofs.OneDecoding.{answers_decoding, decoding_decodes}
+use Rattle.cds_records.proofs.WholeImages.{the_image_whole}
+use Rattle.clearinghouse.specs.declared.house.Clearinghouse.{Clearinghouse}
 use Rattle.clearinghouse.specs.declared.images.StartFault.TheVariants.{BadImage}
 use Rattle.clearinghouse.specs.declared.states.DirState.{DirState}
 use Rattle.clearinghouse.specs.declared.states.DirState.TheVariants as state
-use Rattle.clearinghouse.specs.Imaging.{started, started_from, started_of, starting}
+use Rattle.clearinghouse.specs.Imaging.{image_of, kept_of, started, started_from, started_of, starting}
 use Rattle.clearinghouse.specs.Lawful.{IsLawful, IsLawfulHeld}
 use Rattle.clearinghouse.specs.Times.{latest_in_image, latest_in_kept}
 
@@ -102,3 +107,32 @@ started_lawful i valid dir h got = at (get i.dirs dir) refl
         let own : IsLawfulState (latest_in_image i) (started_of (kept.Held k ms r)) =
         record { valid = fine; replica = (latest_time-≤ (latest_in_image i) r).0 le; skulk = λ t e. absurd (cc) } in
         subst (IsLawfulState (latest_in_image i)) same own
+
+-- ---- its own image
+
+-- octets that are the whole of an image start its house
+whole_starts : (i : Image) (octets : List ℕ) → IsWhole image i octets → started octets ≡ Ok (started_from i)
+whole_starts i octets whole =
+    ap (starting octets) (by (decoding image octets) ((decoding_decodes image octets).only i octets [] whole (sym (append-nil octets))))
+    ∙ ap (λ b. if b then Ok (started_from i) else Err (BadImage (Trailing (length octets + 1)))) (same_place (length octets) (length octets) refl)
+  where
+    by : (d : Result (Image × ℕ) RecordFault) → Answers (with_memory d) (Ok (i, length octets)) → d ≡ Ok (i, length octets)
+    by (Ok y) h = sym h
+    by (Err f) h = absurd (cc)
+
+-- the image of a lawful house is valid
+image_valid : (c : Clearinghouse) → IsLawful c → IsValidImage (image_of c)
+image_valid c lawful q = subst (λ o. IfSome o IsValidDir) (sym read) (at (get c.dirs q) refl)
+  where
+    read : get (image_of c).dirs q ≡ option_map kept_of (get c.dirs q)
+    read =
+        get-entries (image_of c).dirs q ∙ ap (find dir_cmp q) (entries_mapped dir_total dir_exact kept_of c.dirs) ∙ find_mapped kept_of q (entries c.dirs)
+        ∙ ap (option_map kept_of) (sym (get-entries c.dirs q))
+
+    at : (o : Option DirState) → get c.dirs q ≡ o → IfSome (option_map kept_of o) IsValidDir
+    at None is = tt
+    at (Some (state.Gone e)) is = tt
+    at (Some (state.Held h)) is = (lawful q h is).valid
+
+pub image_starts : (c : Clearinghouse) → IsLawful c → FitsImage (image_of c) → started (image_octets (image_of c)) ≡ Ok (started_from (image_of c))
+image_starts c lawful fits = whole_starts (image_of c) (image_octets (image_of c)) (the_image_whole (image_of c) (image_valid c lawful) fits)

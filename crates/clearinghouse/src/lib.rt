@@ -4,6 +4,7 @@
 mod epochs;
 mod house;
 mod images;
+pub mod laws;
 mod outgoing;
 mod posted;
 mod skulks;
