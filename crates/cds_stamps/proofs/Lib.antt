@@ -12,3 +12,4 @@ pub mod FirstLaws
 pub mod FirstFaults
 pub mod NameFaults
 pub mod MemberFaults
+pub mod OctetWords

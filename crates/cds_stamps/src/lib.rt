@@ -8,6 +8,7 @@ mod mask;
 mod members;
 mod names;
 mod numbers;
+mod octet_order;
 mod octets;
 mod stamp;
 

@@ -7,6 +7,7 @@ ghost use Rattle.std.specs.Cmp.Rules.{comparing, hashing};
 ghost use Rattle.std.specs.Hash as fed;
 ghost use Rattle.std.proofs.Common.{rules};
 
+use crate::octet_order::octet_order;
 use std::alloc::{AllocError, Global};
 use std::cmp::Ordering;
 use std::hash::{Hash, Hasher};
@@ -60,7 +61,7 @@ impl Ord for Octets {
     ghost matches_eq = { Prim.search (comparing, rules) };
 
     fn cmp(&self, other: &Octets) -> Ordering {
-        self.items.as_slice().cmp(other.items.as_slice())
+        octet_order(self.items.as_slice(), other.items.as_slice())
     }
 }
 
