@@ -1,5 +1,5 @@
 -- Updates that are applied in place do what the join of their fragment would do.
-use Rattle.std.proofs.Common.{◌≡◌, ℕ, Bool, true, false, cond, List, ◌∷◌, Option, Some, None, IsSome, refl, sym, ap, subst, ◌∙◌}
+use Rattle.std.proofs.Common.{◌≡◌, ℕ, Bool, true, false, cond, List, ◌∷◌, Option, Some, None, Result, Ok, Err, IfOk, OnOk, IsSome, refl, sym, ap, subst, ◌∙◌}
 use Rattle.std.specs.Prelude.{◌&&◌, is_none, IfSome, if◌then◌else◌}
 use Rattle.std.specs.declared.cmp.Ordering.{Ordering}
 use Rattle.std.specs.declared.cmp.Ordering.TheVariants.{Less, Equal, Greater}
@@ -14,6 +14,7 @@ use Rattle.cds_stamps.specs.Semilattice.{maybe}
 use Rattle.cds_stamps.specs.Stamps.{stamp_cmp, stamp_total, earlier_stamp}
 use Rattle.cds_stamps.specs.Octets.{octets_cmp, octets_exact, is_octets}
 use Rattle.cds_stamps.specs.Joins.{join_maps, get-join_maps}
+use Rattle.cds_stamps.specs.Outcomes.{ok_unless}
 use Rattle.cds_stamps.specs.Undos.{RaisesAt}
 use Rattle.cds_stamps.proofs.TreeViews.{get-view}
 use Rattle.cds_stamps.proofs.Undoing.{joined_here}
@@ -126,3 +127,11 @@ takes_fragment old new n marks g named made joins =
     let valid : IsValidEntry g.entry = subst (λ x. IfSome x IsValidEntry) made (entry_of-valid marks g.name) in
     subst (λ n. TakesIn old new n marks) named (subst (λ x. IsSomeAnd x (λ e. IfSome
     (get old g.name) IsValidEntry → RaisesAt join_entries old new g.name e)) (sym made) (λ own. joins own valid))
+
+-- what follows of an answer that a refusal decides, where nothing was said against
+pub where_accepted : {E F P Q : Type 0} (r : Result (Result (Unit {0}) E) F) (refusal : Option E) → IfOk r (λ a. a ≡ ok_unless refusal tt)
+    → IfOk r (λ a. OnOk a P) → (refusal ≡ None → P → Q) → IfOk r (λ a. OnOk a Q)
+where_accepted (Err e) refusal is p f = tt
+where_accepted (Ok (Err e)) refusal is p f = tt
+where_accepted (Ok (Ok x)) None is p f = f refl p
+where_accepted (Ok (Ok x)) (Some y) is p f = cc is

@@ -1,5 +1,5 @@
 // Entries.
-ghost use Rattle.std.specs.Prelude.{◌≡◌, true, Some, None, IsSome, IfOk, OnOk, OnErr, if◌then◌else◌, filter, is_some, option_copied};
+ghost use Rattle.std.specs.Prelude.{◌≡◌, ℕ, List, true, Some, None, IsSome, IfOk, OnOk, OnErr, if◌then◌else◌, filter, is_some, option_copied};
 ghost use Rattle.cds_stamps.specs.Semilattice.{maybe, greater};
 ghost use Rattle.cds_stamps.specs.Stamps.{earlier_stamp};
 ghost use Rattle.directory.specs.Kinds.{kind_cmp, is_child};
@@ -9,10 +9,13 @@ ghost use Rattle.directory.specs.EntryUndoWords.{undo_entry};
 ghost use Rattle.attr_sets.specs.Cells.{cell_values};
 ghost use Rattle.attr_sets.specs.CellChanges.{change_marks};
 ghost use Rattle.directory.specs.Applied.{changed_entry, deleted_entry};
-ghost use Rattle.directory.specs.Shown.{is_readable, leads, only_one, lead_of, entry_values, face_of, shown_entry, shown_dir};
+ghost use Rattle.cds_stamps.specs.Outcomes.{ok_unless};
+ghost use Rattle.directory.specs.Updates.{Clear};
+ghost use Rattle.directory.specs.Shown.{is_readable, is_reserved, leads, only_one, lead_of, entry_values, face_of, refusal_of, shown_entry, shown_dir};
 
 use crate::attr_map::{AttrMap, CellLog};
 use crate::undo::EntryUndo;
+use crate::update::UpdateRefusal;
 use attr_sets::{AttrCell, CellChange, Value};
 use cds_stamps::{AttrName, DirId, Lattice, SimpleName, Stamp};
 use cell_names::{ChildPointer, FullName};
@@ -163,6 +166,30 @@ impl EntryCell {
         Ok(())
     }
 
+    /// Adds the marks of a change of an attribute, in place, or refuses it.
+    pub(crate) fn accept_change(
+        &mut self,
+        alloc: Global,
+        attr: &AttrName,
+        change: &CellChange,
+        stamp: Stamp,
+    ) -> Result<Result<(), UpdateRefusal>, AllocError>
+        ensures answer { (n : List ℕ) → IfOk result (λ answer. answer ≡ ok_unless (refusal_of (shown_entry self.old) (Clear n attr.now)) tt) }
+        ensures ok { IfOk result (λ answer. OnOk answer
+            (IsValidEntry self.old → self.new ≡ join_entries self.old (changed_entry self.old attr.now (change_marks change.now stamp)))) }
+        ensures refused { IfOk result (λ answer. OnErr answer (self.new ≡ self.old)) }
+        ensures err { OnErr result (self.new ≡ self.old) }
+    {
+        if !self.is_live() {
+            return Ok(Err(UpdateRefusal::NoSuchEntry));
+        }
+        if is_reserved(attr) {
+            return Ok(Err(UpdateRefusal::WrongKind));
+        }
+        self.change(alloc, attr, change, stamp)?;
+        Ok(Ok(()))
+    }
+
     /// Adds a death.
     pub(crate) fn delete(&mut self, stamp: Stamp)
         ensures { self.new ≡ join_entries self.old (deleted_entry self.old stamp) }
@@ -280,6 +307,13 @@ impl Fragment {
             entry: self.entry.copy(alloc)?,
         })
     }
+}
+
+/// Whether the attribute changes only by the updates that make or repoint links and children.
+pub(crate) fn is_reserved(attr: &AttrName) -> bool
+    ensures { result ≡ is_reserved attr.now }
+{
+    attr.octets() == LINK_TARGET || attr.octets() == REPLICAS
 }
 
 /// Whether octets read as what an entry of this kind leads to.

@@ -1,5 +1,5 @@
 // The table of a directory.
-ghost use Rattle.std.specs.Prelude.{◌≡◌, List, ℕ, [], ◌∷◌, Some, None, true, if◌then◌else◌, option_copied};
+ghost use Rattle.std.specs.Prelude.{◌≡◌, List, ℕ, [], ◌∷◌, Option, Some, None, true, if◌then◌else◌, option_copied};
 ghost use Rattle.std.specs.Prelude.{MatchOption, MatchBool, IsSome, IfOk, IfSome, OnOk, OnErr};
 ghost use Rattle.std.specs.FinMap as map;
 ghost use Rattle.std.specs.Option.{option_map};
@@ -18,10 +18,10 @@ ghost use Rattle.directory.specs.Applied.{changed_entry, deleted_entry, TakesOwn
 ghost use Rattle.attr_sets.specs.CellChanges.{change_marks};
 ghost use Rattle.directory.specs.Updates.{Delete, Clear, Repoint, changed_name, change_of};
 ghost use Rattle.directory.specs.Histories.{entry_of};
-ghost use Rattle.directory.specs.Shown.{face_of, shown_in, live_count, is_reserved, new_refusal, live_refusal, refusal_of, marks_of, shown_dir};
+ghost use Rattle.directory.specs.Shown.{Shown, face_of, shown_in, live_count, new_refusal, live_refusal, refusal_of, marks_of, shown_dir};
 
 use crate::attr_map::AttrMap;
-use crate::entry::{EntryCell, Fragment, Kind, LINK_TARGET, REPLICAS};
+use crate::entry::{EntryCell, Fragment, Kind, LINK_TARGET, REPLICAS, is_reserved};
 use crate::undo::EntryUndo;
 use crate::update::{Update, UpdateRefusal};
 use attr_sets::{AttrCell, CellChange, Value};
@@ -352,6 +352,113 @@ impl Table {
         Ok(())
     }
 
+    /// Adds the marks of an update with this stamp in place, or refuses it: as check and apply do, but that the name of a change
+    /// of an attribute is looked up once.
+    pub fn accept(
+        &mut self,
+        alloc: Global,
+        update: &Update,
+        stamp: Stamp,
+    ) -> Result<Result<(), UpdateRefusal>, AllocError>
+        ensures answer { IfOk result (λ answer.
+            answer ≡ ok_unless (refusal_of (shown_in self.old (changed_name (change_of update.now))) (change_of update.now)) tt) }
+        ensures ok { let n = changed_name (change_of update.now) in
+            IfOk result (λ answer. OnOk answer (TakesIn self.old self.new n (marks_of (shown_in self.old n) (change_of update.now) stamp))) }
+        ensures others { LeavesOthers self.old self.new (changed_name (change_of update.now)) }
+        ensures refused { IfOk result (λ answer. OnErr answer (self.new ≡ self.old)) }
+        ensures err { OnErr result (self.new ≡ self.old) }
+    {
+        match update {
+            Update::Add(name, attr, value) => {
+                self.accept_change(alloc, name, attr, &CellChange::Add(value), stamp)
+            }
+            Update::Remove(name, attr, value) => {
+                self.accept_change(alloc, name, attr, &CellChange::Remove(value), stamp)
+            }
+            Update::Put(name, attr, value) => {
+                self.accept_change(alloc, name, attr, &CellChange::Put(value), stamp)
+            }
+            Update::Clear(name, attr) => {
+                self.accept_change(alloc, name, attr, &CellChange::Clear, stamp)
+            }
+            Update::Create(_) | Update::MakeLink(_, _) | Update::MakeChild(_, _) => {
+                self.accept_new(alloc, update, stamp)
+            }
+            Update::Delete(_) | Update::Repoint(_, _) => self.check_and_apply(alloc, update, stamp),
+        }
+    }
+
+    /// The same for an update that makes an entry. A name that has none, live or not, is looked up twice, the second time to
+    /// insert it.
+    fn accept_new(
+        &mut self,
+        alloc: Global,
+        update: &Update,
+        stamp: Stamp,
+    ) -> Result<Result<(), UpdateRefusal>, AllocError>
+        requires { (e : Option Shown) → refusal_of e (change_of update.now) ≡ new_refusal e }
+        ensures answer { IfOk result (λ answer.
+            answer ≡ ok_unless (refusal_of (shown_in self.old (changed_name (change_of update.now))) (change_of update.now)) tt) }
+        ensures ok { let n = changed_name (change_of update.now) in
+            IfOk result (λ answer. OnOk answer (TakesIn self.old self.new n (marks_of (shown_in self.old n) (change_of update.now) stamp))) }
+        ensures others { LeavesOthers self.old self.new (changed_name (change_of update.now)) }
+        ensures refused { IfOk result (λ answer. OnErr answer (self.new ≡ self.old)) }
+        ensures err { OnErr result (self.new ≡ self.old) }
+    {
+        if self.get(update.name()).is_some() {
+            return self.check_and_apply(alloc, update, stamp);
+        }
+        let fragment = self.fragment(alloc, update, stamp)?;
+        self.insert(fragment.name, fragment.entry)?;
+        Ok(Ok(()))
+    }
+
+    /// The same for any update, with look-ups for each of the two.
+    fn check_and_apply(
+        &mut self,
+        alloc: Global,
+        update: &Update,
+        stamp: Stamp,
+    ) -> Result<Result<(), UpdateRefusal>, AllocError>
+        ensures answer { IfOk result (λ answer.
+            answer ≡ ok_unless (refusal_of (shown_in self.old (changed_name (change_of update.now))) (change_of update.now)) tt) }
+        ensures ok { let n = changed_name (change_of update.now) in
+            IfOk result (λ answer. OnOk answer (TakesIn self.old self.new n (marks_of (shown_in self.old n) (change_of update.now) stamp))) }
+        ensures others { LeavesOthers self.old self.new (changed_name (change_of update.now)) }
+        ensures refused { IfOk result (λ answer. OnErr answer (self.new ≡ self.old)) }
+        ensures err { OnErr result (self.new ≡ self.old) }
+    {
+        match self.check(update) {
+            Ok(()) => {
+                self.apply(alloc, update, stamp)?;
+                Ok(Ok(()))
+            }
+            Err(refusal) => Ok(Err(refusal)),
+        }
+    }
+
+    /// Adds the marks of a change of an attribute to the entry of a name, or refuses it.
+    fn accept_change(
+        &mut self,
+        alloc: Global,
+        name: &SimpleName,
+        attr: &AttrName,
+        change: &CellChange,
+        stamp: Stamp,
+    ) -> Result<Result<(), UpdateRefusal>, AllocError>
+        ensures answer { IfOk result (λ answer. answer ≡ ok_unless (refusal_of (shown_in self.old name.now) (Clear name.now attr.now)) tt) }
+        ensures ok { IfOk result (λ answer. OnOk answer
+            (TakesOwn self.old self.new name.now (λ e. changed_entry e attr.now (change_marks change.now stamp)))) }
+        ensures others { LeavesOthers self.old self.new name.now }
+        ensures refused { IfOk result (λ answer. OnErr answer (self.new ≡ self.old)) }
+        ensures err { OnErr result (self.new ≡ self.old) }
+    {
+        match self.entries.get_mut(name) {
+            Some(own) => own.accept_change(alloc, attr, change, stamp),
+            None => Ok(Err(UpdateRefusal::NoSuchEntry)),
+        }
+    }
+
     /// Adds the marks of a change of an attribute to the entry of a name, if it has one.
     fn change(
         &mut self,
@@ -592,13 +699,6 @@ fn refuse_if(wrong: bool) -> Result<(), UpdateRefusal>
     } else {
         Ok(())
     }
-}
-
-/// Whether the attribute changes only by the updates that make or repoint links and children.
-fn is_reserved(attr: &AttrName) -> bool
-    ensures { result ≡ is_reserved attr.now }
-{
-    attr.octets() == LINK_TARGET || attr.octets() == REPLICAS
 }
 
 /// The fragment of a new entry with these cells.

@@ -1,5 +1,5 @@
 use Rattle.directory.proofs.Lookups.{reserved_by_second}
-use Rattle.directory.proofs.table.is_reserved.Goals as goal
+use Rattle.directory.proofs.entry.is_reserved.Goals as goal
 
 pub returns-else-eq : goal.returns-else-eq
 returns-else-eq c =
