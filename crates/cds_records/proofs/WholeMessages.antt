@@ -100,7 +100,8 @@ unfolding member member_octets
 member_whole left before master m above lawful fits =
     whole_as
     (whole_next (octet_whole (number_order before) m.house.0 above)
-    (whole_next (u64_whole free m.since.0 fits refl) (whole_last (kind_whole left master m.kind lawful) refl))) (three (m.house.0 ∷ []) (to_be_bytes w64 m.since.0) (kind_number m.kind ∷ []))
+    (whole_next (u64_whole free m.since.0 fits refl) (whole_last (kind_whole left master m.kind lawful) refl)))
+    (three (m.house.0 ∷ []) (to_be_bytes w64 m.since.0) (kind_number m.kind ∷ []))
 
 listed_whole : (before : Option ℕ) (master : Bool) (ms : List Member) → IsListed before master ms → AllByRecursion (λ m. m.since.0 < 2 ^ 64) ms
     → Whole (listed (length ms) before master) ms (flat_map member_octets ms)

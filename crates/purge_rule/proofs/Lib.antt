@@ -1,4 +1,4 @@
 mod Counts
-mod MapValues
+pub mod MapValues
 pub mod ReplicaLaws
 pub mod Times

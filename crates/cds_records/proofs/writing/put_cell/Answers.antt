@@ -11,7 +11,8 @@ returns-clause-octets c =
     let x = c.args.cell.now in
     let count : c.put_u64.new.out.items ≡ c.put_optional_stamp.new.out.items ++ to_be_bytes w64 (len x.values) =
     c.in_ok-put_u64.ensures ∙ ap (λ n. c.put_optional_stamp.new.out.items ++ to_be_bytes w64 n) c.len.ensures in
-    behind_3 c.args.out.now.items (optional_stamp_octets x.cleared) (to_be_bytes w64 (len x.values)) (each_octets value_octets mark_octets x.values) c.in_ok-put_optional_stamp.ensures.octets count
+    behind_3 c.args.out.now.items (optional_stamp_octets x.cleared) (to_be_bytes w64 (len x.values)) (each_octets value_octets mark_octets x.values)
+    c.in_ok-put_optional_stamp.ensures.octets count
     c.in_ok-put_marks.ensures.octets
 
 pub returns-clause-fits : goal.returns-clause-fits

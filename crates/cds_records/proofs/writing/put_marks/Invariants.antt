@@ -8,4 +8,6 @@ use Rattle.cds_records.proofs.WritingLoops.{Written}
 use Rattle.cds_records.proofs.writing.put_marks.Given as goal
 
 abbrev pub invariant-loop-value : goal.invariant-loop-value
-invariant-loop-value l = Written value_octets mark_octets (λ v. value_fault v ≡ None) (λ (m : ValueMark). FitsStamp m.stamp) (entries l.marks) l.value-iterator l.fn.out.items l.out.items
+invariant-loop-value l =
+    Written value_octets mark_octets (λ v. value_fault v ≡ None) (λ (m : ValueMark). FitsStamp m.stamp)
+    (entries l.marks) l.value-iterator l.fn.out.items l.out.items

@@ -11,7 +11,8 @@ returns-clause-octets c =
     let x = c.args.replica.now in
     let count : c.put_u64.new.out.items ≡ c.put_optional_stamp.new.out.items ++ to_be_bytes w64 (len x.table) =
     c.in_ok-put_u64.ensures ∙ ap (λ n. c.put_optional_stamp.new.out.items ++ to_be_bytes w64 n) c.len.ensures in
-    behind_3 c.args.out.now.items (optional_stamp_octets x.all_up_to) (to_be_bytes w64 (len x.table)) (each_octets name_octets entry_octets x.table) c.in_ok-put_optional_stamp.ensures.octets count
+    behind_3 c.args.out.now.items (optional_stamp_octets x.all_up_to) (to_be_bytes w64 (len x.table)) (each_octets name_octets entry_octets x.table)
+    c.in_ok-put_optional_stamp.ensures.octets count
     c.in_ok-put_table.ensures.octets
 
 pub returns-clause-fits : goal.returns-clause-fits
