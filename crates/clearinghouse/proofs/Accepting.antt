@@ -1,36 +1,41 @@
--- An update that is accepted: its marks are merged in, and posted.
-use Rattle.std.proofs.Common.{◌≡◌, ℕ, ◌<◌, true, false, List, ◌++◌, Option, Some, None, Result, Ok, Err, refl, sym, ap, subst, ◌∙◌, arith}
+-- An update that is accepted: its marks are added, and posted.
+use Rattle.std.proofs.Common.{◌≡◌, ℕ, ◌<◌, true, false, List, [], ◌++◌, Option, Some, None, Result, Ok, Err, refl, sym, ap, subst, ◌∙◌, arith}
 use Rattle.std.specs.Prelude.{if◌then◌else◌}
 use Rattle.std.specs.List.{AllByRecursion}
 use Rattle.cds_stamps.specs.declared.numbers.DirId.{DirId}
+use Rattle.cds_stamps.specs.declared.numbers.HouseNo.{HouseNo}
 use Rattle.cds_stamps.specs.declared.stamp.Stamp.{Stamp}
 use Rattle.cds_stamps.specs.Members.{is_accepting, members_of, others_of}
 use Rattle.cds_stamps.specs.Stamps.{is_earlier, next_stamp}
 use Rattle.std.proofs.lemmas.Bool.Decides.{nat_tests}
-use Rattle.directory.specs.declared.entry.Fragment.{Fragment}
 use Rattle.directory.specs.declared.update.UpdateRefusal.{UpdateRefusal}
 use Rattle.directory.specs.declared.update.UpdateRefusal.TheVariants as why
-use Rattle.directory.specs.Histories.{CanMerge, IsBefore, name_in, stamp_in, entry_of}
+use Rattle.directory.specs.Applied.{TakesIn}
+use Rattle.directory.specs.Entries.{Entries}
+use Rattle.directory.specs.Histories.{Mark, IsBefore, IsHistory, name_in, stamp_in, entry_of, table_of}
 use Rattle.directory.specs.Updates.{Change, changed_name}
-use Rattle.directory.specs.Shown.{shown, shown_in, refusal_of, marks_of}
+use Rattle.directory.specs.Shown.{Shown, shown, shown_in, refusal_of, marks_of}
 use Rattle.directory.proofs.ShownLaws.{shown_in-table_of}
-use Rattle.directory.proofs.UpdateLaws.{marks_of-names}
+use Rattle.directory.proofs.UpdateLaws.{applied-table_of, marks_of-names}
 use Rattle.purge_rule.specs.declared.replica.Replica.{Replica}
-use Rattle.purge_rule.specs.Replicas.{replica_of, IsFragmentOf}
+use Rattle.purge_rule.specs.Replicas.{replica_of}
+use Rattle.purge_rule.proofs.ReplicaLaws.{same_replica}
 use Rattle.cell_model.specs.Cells as model
 use Rattle.cell_model.specs.Turns as turn
-use Rattle.cell_model.specs.Turns.{grown, update_refusal, accept_in, accept_at, stamp_at}
+use Rattle.cell_model.specs.Turns.{grown, update_refusal, accept_in, accept_at, stamp_at, to_each}
 use Rattle.cell_model.specs.Floors.{ReplicaBelow}
 use Rattle.cell_model.proofs.Merging.{contains_in}
-use Rattle.cell_model.proofs.Fine.{Fine, accepted_merge, accepted_fine}
+use Rattle.cell_model.proofs.Fine.{Fine, accepted_fine}
 use Rattle.clearinghouse.specs.declared.states.Held.{Held}
+use Rattle.clearinghouse.specs.declared.states.DirState.TheVariants as state
 use Rattle.clearinghouse.specs.declared.outgoing.Outgoing.{Outgoing}
 use Rattle.clearinghouse.specs.declared.outgoing.Outgoing.TheVariants as out
 use Rattle.clearinghouse.specs.declared.updates.Issuer.{Issuer}
 use Rattle.clearinghouse.specs.Refusing.{held_refusal, stamp_unless}
 use Rattle.clearinghouse.specs.Standing.{StandsHeld}
 use Rattle.clearinghouse.specs.Stepping.{IsStampAnswer}
-use Rattle.clearinghouse.specs.PrivateTurns.{new_marks, AddsMarks, IssuesAt, HeldStep, TakesFragment}
+use Rattle.clearinghouse.specs.Posting.{StandEach, posts_if, posts_of}
+use Rattle.clearinghouse.specs.PrivateTurns.{new_marks, AddsMarks, IssuesAt, HeldStep, PostsFragment, PostsMarks}
 use Rattle.clearinghouse.proofs.Posts.{posts_stand}
 
 -- what is held shows what the replica of the model shows
@@ -51,52 +56,77 @@ by_time a b lt = grind (arith, nat_tests)
 before_stamp : (r : model.Replica) (floor : ℕ) (s : Stamp) → ReplicaBelow r floor → floor < s.time → IsBefore r.history s
 before_stamp r floor s below above m there = by_time (stamp_in m) s (let low = (below.marks m (contains_in r.history m there)).0 in omega arith)
 
--- the marks of an accepted update are merged into what is held
-pub adds_marks : (held : Held) (new : Replica) (me : ℕ) (r : model.Replica) (floor : ℕ) (u : Change) (s : Stamp) (f : Fragment)
-    → refusal_of (shown_in held.replica.table (changed_name u)) u ≡ None → f.name ≡ changed_name u
-    → entry_of (marks_of (shown_in held.replica.table (changed_name u)) u s) f.name ≡ Some f.entry → TakesFragment held.replica f new
-    → StandsHeld me floor held r → floor < s.time → AddsMarks me r u s (record held { replica = new }) f
-adds_marks held new me r floor u s f fine name entry takes stands above =
+-- a fragment with the marks of an accepted update is to be posted, where there is another house
+posts_marks : (others : List ℕ) (h : List Mark) (u : Change) (s : Stamp) (seen : Option Shown) (o : Option Outgoing) → IsHistory h → IsBefore h s
+    → refusal_of (shown h (changed_name u)) u ≡ None → seen ≡ shown h (changed_name u) → PostsMarks others (changed_name u) (marks_of seen u s) o
+    → PostsFragment others (marks_of (shown h (changed_name u)) u s) o
+posts_marks others h u s seen None known before accepted is posts = posts
+posts_marks others h u s seen (Some o) known before accepted is posts = (
+  posts.0,
+  posts.1,
+  record {
+    named =
+        subst (λ n. AllByRecursion (λ m. name_in m ≡ n) (marks_of (shown h (changed_name u)) u s)) (sym posts.2)
+        (marks_of-names h u s known before accepted);
+    entry = subst (λ e. entry_of (marks_of e u s) posts.0.name ≡ Some posts.0.entry) is posts.3;
+  },
+)
+
+-- the marks of an accepted update are added to what is held
+pub adds_marks : (held : Held) (table : Entries) (me : ℕ) (r : model.Replica) (floor : ℕ) (u : Change) (s : Stamp) (o : Option Outgoing)
+    → refusal_of (shown_in held.replica.table (changed_name u)) u ≡ None
+    → TakesIn held.replica.table table (changed_name u) (marks_of (shown_in held.replica.table (changed_name u)) u s)
+    → PostsMarks (others_of me (members_of held.members)) (changed_name u) (marks_of (shown_in held.replica.table (changed_name u)) u s) o
+    → StandsHeld me floor held r → floor < s.time → AddsMarks me r u s (record held { replica = record held.replica { table = table } }) o
+adds_marks held table me r floor u s o fine takes posts stands above =
     let up : held.replica.all_up_to ≡ r.all_up_to = ap (λ (x : Replica). x.all_up_to) stands.replica in
     let seen : shown_in held.replica.table (changed_name u) ≡ shown r.history (changed_name u) = held_shows me floor held r (changed_name u) stands in
     let accepted : refusal_of (shown r.history (changed_name u)) u ≡ None = ap (λ e. refusal_of e u) (sym seen) ∙ fine in
-    let own : entry_of (new_marks r u s) f.name ≡ Some f.entry = subst (λ e. entry_of (marks_of e u s) f.name ≡ Some f.entry) seen entry in
     let before : IsBefore r.history s = before_stamp r floor s stands.below above in
-    let fragment : IsFragmentOf (new_marks r u s) f = record {
-      named = subst (λ n. AllByRecursion (λ m. name_in m ≡ n) (new_marks r u s)) (sym name) (marks_of-names r.history u s stands.history before accepted);
-      entry = own;
-    } in
-    let merge = accepted_merge r floor u s (fine_held me floor held r stands) above accepted in
     let after = accepted_fine r floor u s (fine_held me floor held r stands) above accepted in
+    let now : table ≡ table_of (r.history ++ new_marks r u s) =
+    applied-table_of r.history u s stands.history before accepted held.replica.table table (ap (λ (x : Replica). x.table) stands.replica) takes in
     record {
       stands = record {
         looks = record { epoch = stands.looks.epoch; members = stands.looks.members; phase = stands.looks.phase };
-        replica =
-            takes.merged r.history (new_marks r u s) (subst (CanMerge r.history (new_marks r u s)) (sym up) merge) fragment (held_replica me floor held r stands)
-            ∙ ap (replica_of (r.history ++ new_marks r u s)) up;
+        replica = same_replica table (table_of (r.history ++ new_marks r u s)) held.replica.all_up_to r.all_up_to now up;
         history = after.history;
         below = after.below;
       };
-      fragment = fragment;
+      posts =
+          posts_marks (others_of me r.members) r.history u s (shown_in held.replica.table (changed_name u)) o stands.history before accepted seen
+          (subst (λ ms. PostsMarks (others_of me ms) (changed_name u) (marks_of (shown_in held.replica.table (changed_name u)) u s) o)
+          (sym stands.looks.members) posts);
     }
+
+-- what is to be posted stands for the messages with the marks
+marks_stand : (me : HouseNo) (dir : DirId) (floor : ℕ) (new : Held) (r : model.Replica) (marks : List Mark) (o : Option Outgoing)
+    → r.members ≡ members_of new.members → r.epoch ≡ new.epoch.0 → PostsFragment (others_of me.0 r.members) marks o
+    → StandEach (posts_if (record { house = me; dir = dir; floor = floor }) (Some (state.Held new)) o)
+    (to_each (others_of me.0 r.members) dir.0 me.0 r.epoch floor (model.Update marks))
+marks_stand me dir floor new r marks None members epoch posts =
+    subst (λ hs. StandEach [] (to_each hs dir.0 me.0 r.epoch floor (model.Update marks))) (sym posts) tt
+marks_stand me dir floor new r marks (Some o) members epoch posts =
+    subst (λ x. StandEach (posts_of (record { house = me; dir = dir; floor = floor }) new x)
+    (to_each (others_of me.0 r.members) dir.0 me.0 r.epoch floor (model.Update marks))) (sym posts.1)
+    (posts_stand (record { house = me; dir = dir; floor = floor }) new (out.Update posts.0) (model.Update marks) (others_of me.0 r.members)
+    dir.0 me.0 r.epoch floor (ap (others_of me.0) members) refl refl epoch refl posts.2)
 
 module _ (by : Issuer) (now : model.House) (dir : DirId) (low : ℕ) (u : Change) (r : model.Replica) where
   -- with the stamp that is issued the update is accepted
-  pub stamped : (old new : Held) (s : Stamp) (f : Fragment) → next_stamp by.clock low by.node ≡ Some s → AddsMarks by.house.0 r u s new f
+  pub stamped : (old new : Held) (s : Stamp) (o : Option Outgoing) → next_stamp by.clock low by.node ≡ Some s → AddsMarks by.house.0 r u s new o
       → IssuesAt now by low dir old r
-      → HeldStep (IsStampAnswer (Ok s)) (accept_at by.house.0 now dir.0 u r (stamp_at now)) now by.house dir old new s.time (Some (out.Update f))
-  stamped old new s f issued adds at =
+      → HeldStep (IsStampAnswer (Ok s)) (accept_at by.house.0 now dir.0 u r (stamp_at now)) now by.house dir old new s.time o
+  stamped old new s o issued adds at =
       let own : stamp_at now ≡ Some s =
       ap (λ c. next_stamp c now.floor now.node) at.clock ∙ ap (λ l. next_stamp by.clock l now.node) at.floor ∙ ap (next_stamp by.clock low) at.node ∙ issued in
-      subst (λ o. HeldStep (IsStampAnswer (Ok s)) (accept_at by.house.0 now dir.0 u r o) now by.house dir old new s.time (Some (out.Update f))) (sym own) (
+      subst (λ x. HeldStep (IsStampAnswer (Ok s)) (accept_at by.house.0 now dir.0 u r x) now by.house dir old new s.time o) (sym own) (
         λ ns. refl,
         record {
           replica = grown r (new_marks r u s);
           house = refl;
           stands = adds.stands;
-          each =
-              posts_stand (record { house = by.house; dir = dir; floor = s.time }) new (out.Update f) (model.Update (new_marks r u s)) (others_of by.house.0 r.members)
-              dir.0 by.house.0 r.epoch s.time (ap (others_of by.house.0) adds.stands.looks.members) refl refl adds.stands.looks.epoch refl adds.fragment;
+          each = marks_stand by.house dir s.time new r (new_marks r u s) o adds.stands.looks.members adds.stands.looks.epoch adds.posts;
         },
       )
 
@@ -118,7 +148,8 @@ module _ (by : Issuer) (now : model.House) (dir : DirId) (low : ℕ) (u : Change
       ∙ ap (λ e. refusal_of e u) (sym (held_shows by.house.0 low old r (changed_name u) at.stands)) ∙ is
 
   -- what the table accepts goes on to the stamp
-  pub accepted_in : (old new : Held) (floor : ℕ) (a : Result Stamp UpdateRefusal) (o : Option Outgoing) → is_accepting by.house.0 (members_of old.members) ≡ true
+  pub accepted_in : (old new : Held) (floor : ℕ) (a : Result Stamp UpdateRefusal) (o : Option Outgoing)
+      → is_accepting by.house.0 (members_of old.members) ≡ true
       → refusal_of (shown_in old.replica.table (changed_name u)) u ≡ None → IssuesAt now by low dir old r
       → HeldStep (IsStampAnswer a) (accept_at by.house.0 now dir.0 u r (stamp_at now)) now by.house dir old new floor o
       → HeldStep (IsStampAnswer a) (accept_in by.house.0 now dir.0 u (model.Held r)) now by.house dir old new floor o
@@ -129,7 +160,8 @@ module _ (by : Issuer) (now : model.House) (dir : DirId) (low : ℕ) (u : Change
   refused_in : (old : Held) (q : UpdateRefusal) → update_refusal by.house.0 u r ≡ Some q → IssuesAt now by low dir old r
       → HeldStep (IsStampAnswer (Err q)) (accept_in by.house.0 now dir.0 u (model.Held r)) now by.house dir old old low None
   refused_in old q is at =
-      subst (λ p. HeldStep (IsStampAnswer (Err q)) (turn.unless_refused p (accept_at by.house.0 now dir.0 u r (stamp_at now))) now by.house dir old old low None)
+      subst (λ p. HeldStep (IsStampAnswer (Err q)) (turn.unless_refused p (accept_at by.house.0 now dir.0 u r (stamp_at now)))
+      now by.house dir old old low None)
       (sym is) (refl, refl, sym at.floor, refl)
 
   -- what it refuses is refused

@@ -1,5 +1,6 @@
 -- A skulk that begins at a master.
-use Rattle.std.proofs.Common.{◌≡◌, ℕ, ◌<◌, ◌≤◌, Bool, true, false, List, [], ◌∷◌, Option, Some, None, Result, Ok, Err, refl, sym, ap, subst, ◌∙◌, arith, le_refl}
+use Rattle.std.proofs.Common.{◌≡◌, ℕ, ◌<◌, ◌≤◌, Bool, true, false, List, [], ◌∷◌, Option, Some, None, Result, Ok, Err, refl, sym, ap, subst, ◌∙◌}
+use Rattle.std.proofs.Common.{arith, le_refl}
 use Rattle.std.proofs.Common.{suc, cond, ◌+◌, ◌||◌, MatchBool}
 use Rattle.std.proofs.lemmas.List.{length-map}
 use Rattle.std.specs.List.{fold}
@@ -20,7 +21,7 @@ use Rattle.skulk_core.specs.declared.skulk.Skulk.{Skulk}
 use Rattle.skulk_core.specs.declared.skulk.Skulk.TheVariants as skulk
 use Rattle.skulk_core.specs.declared.skulk.Next.{Next}
 use Rattle.skulk_core.specs.declared.skulk.Next.TheVariants as next
-use Rattle.skulk_core.specs.Rounds.{Begins, IsGathering, only, running}
+use Rattle.skulk_core.specs.Rounds.{Begins, IsGathering, IsPhaseOf, only, running}
 use Rattle.cell_model.specs.Cells as model
 use Rattle.cell_model.specs.Turns as turn
 use Rattle.cell_model.specs.Turns.{begin, raised, skulk_in, stamp_at}
@@ -37,7 +38,7 @@ use Rattle.clearinghouse.specs.Stepping.{IsBegunAnswer}
 use Rattle.clearinghouse.specs.Lawful.{IsLawfulHeld}
 use Rattle.clearinghouse.specs.Refusing.{begun_among}
 use Rattle.clearinghouse.specs.PrivateTurns.{Advances, IssuesAt, HeldStep, place_in}
-use Rattle.clearinghouse.proofs.Phases.{BeginRow, complete, begun, begin_row, place_listed, same_running}
+use Rattle.clearinghouse.proofs.Phases.{BeginRow, complete, begun, begin_row, phase_listed, place_listed, same_running}
 use Rattle.clearinghouse.proofs.Accepting.{held_replica}
 use Rattle.clearinghouse.proofs.Posts.{posts_stand}
 
@@ -49,7 +50,8 @@ module _ (by : Issuer) (now : model.House) (dir : DirId) (r : model.Replica) (t 
       → HeldStep (IsBegunAnswer (Ok (started.Complete t))) (begin by.house.0 now dir.0 r t (others_of by.house.0 r.members)) now by.house dir old
       (record old { replica = new; skulk = phase }) t.time None
   completes_at_once new phase alone idle advances above at =
-      subst (λ hs. HeldStep (IsBegunAnswer (Ok (started.Complete t))) (begin by.house.0 now dir.0 r t hs) now by.house dir old (record old { replica = new; skulk = phase }) t.time None)
+      subst (λ hs. HeldStep (IsBegunAnswer (Ok (started.Complete t))) (begin by.house.0 now dir.0 r t hs) now by.house dir old
+      (record old { replica = new; skulk = phase }) t.time None)
       (sym (ap (others_of by.house.0) at.stands.looks.members ∙ alone)) (
         λ ns. refl,
         record {
@@ -74,7 +76,8 @@ module _ (by : Issuer) (now : model.House) (dir : DirId) (r : model.Replica) (t 
       → HeldStep (IsBegunAnswer (Ok (started.Started t))) (begin by.house.0 now dir.0 r t (others_of by.house.0 r.members)) now by.house dir old
       (record old { skulk = phase }) t.time (Some (out.Gather t))
   begins_round phase y ys others gathering above at =
-      subst (λ hs. HeldStep (IsBegunAnswer (Ok (started.Started t))) (begin by.house.0 now dir.0 r t hs) now by.house dir old (record old { skulk = phase }) t.time (Some (out.Gather t)))
+      subst (λ hs. HeldStep (IsBegunAnswer (Ok (started.Started t))) (begin by.house.0 now dir.0 r t hs) now by.house dir old
+      (record old { skulk = phase }) t.time (Some (out.Gather t)))
       (sym (ap (others_of by.house.0) at.stands.looks.members ∙ others)) (
         λ ns. refl,
         record {
@@ -116,7 +119,8 @@ module _ (by : Issuer) (now : model.House) (dir : DirId) (low : ℕ) (r : model.
       → HeldStep (IsBegunAnswer (Err why.StampsSpent)) (skulk_in by.house.0 now dir.0 (model.Held r)) now by.house dir old old low None
   spent_refuses own none at =
       subst (λ b. HeldStep (IsBegunAnswer (Err why.StampsSpent)) (master_or b) now by.house dir old old low None) (sym (master_is true own at))
-      (subst (λ o. HeldStep (IsBegunAnswer (Err why.StampsSpent)) (turn.skulk_at by.house.0 now dir.0 r o) now by.house dir old old low None) (sym (own_stamp None none at))
+      (subst (λ o. HeldStep (IsBegunAnswer (Err why.StampsSpent)) (turn.skulk_at by.house.0 now dir.0 r o) now by.house dir old old low None)
+      (sym (own_stamp None none at))
       (refl, refl, sym at.floor, refl))
 
   -- else it begins
@@ -126,7 +130,8 @@ module _ (by : Issuer) (now : model.House) (dir : DirId) (low : ℕ) (r : model.
       → HeldStep (IsBegunAnswer a) (skulk_in by.house.0 now dir.0 (model.Held r)) now by.house dir old new floor o
   begins new t a floor o own issued at step =
       subst (λ b. HeldStep (IsBegunAnswer a) (master_or b) now by.house dir old new floor o) (sym (master_is true own at))
-      (subst (λ s. HeldStep (IsBegunAnswer a) (turn.skulk_at by.house.0 now dir.0 r s) now by.house dir old new floor o) (sym (own_stamp (Some t) issued at)) step)
+      (subst (λ s. HeldStep (IsBegunAnswer a) (turn.skulk_at by.house.0 now dir.0 r s) now by.house dir old new floor o)
+      (sym (own_stamp (Some t) issued at)) step)
 
 -- ---- what comes of it, by the rows
 
@@ -164,7 +169,7 @@ module _ (by : Issuer) (t : Stamp) (old : Held) (phase : Skulk) (n : Next) (row 
           | begun y ys others gathering is ↦ absurd (cc)
         ]
 
-    pub completed_lawful : IsLawfulHeld t.time old → IsLawfulHeld t.time (record old { replica = new; skulk = phase })
+    pub completed_lawful : IsLawfulHeld by.house.0 t.time old → IsLawfulHeld by.house.0 t.time (record old { replica = new; skulk = phase })
     completed_lawful lawful = record {
       valid = advances.valid lawful.valid;
       replica = advances.below t.time lawful.valid lawful.replica (le_refl _);
@@ -185,15 +190,21 @@ module _ (by : Issuer) (t : Stamp) (old : Held) (phase : Skulk) (n : Next) (row 
           | begun y ys others gathering is ↦ begins_round by now dir r t old phase y ys others gathering above at
         ]
 
-    pub begun_lawful : IsLawfulHeld t.time old → IsLawfulHeld t.time (record old { skulk = phase })
-    begun_lawful lawful = record {
+    pub begun_lawful : IsPhaseOf (length old.members) (place_in by.house old.members) phase → IsLawfulHeld by.house.0 t.time old
+        → IsLawfulHeld by.house.0 t.time (record old { skulk = phase })
+    begun_lawful round lawful = record {
       valid = lawful.valid;
       replica = lawful.replica;
       skulk = λ v is. elim row [
         | complete alone idle is' ↦ absurd (more t is')
         | begun y ys others gathering is' ↦
             (let e : Some v ≡ Some t = sym is ∙ same_running by.house.0 (members_of old.members) phase (model.Gathering t []) gathering in
-            let same : t ≡ v = cc in subst (λ (z : Stamp). z.time ≤ t.time) same (le_refl _))
+            let same : t ≡ v = cc in record {
+              time = subst (λ (z : Stamp). z.time ≤ t.time) same (le_refl _);
+              place = place_in by.house old.members;
+              member = place_listed by.house.0 (members_of old.members) (phase_listed by.house.0 (members_of old.members) phase t [] gathering);
+              round = round;
+            })
       ];
     }
 

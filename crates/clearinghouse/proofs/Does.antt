@@ -36,7 +36,8 @@ use Rattle.clearinghouse.specs.Standing.{LooksHouse, StandsHouse}
 use Rattle.clearinghouse.specs.Stepping.{IsStep, IsTakeAnswer, LooksStep, UnlessTaken, is_taken}
 use Rattle.clearinghouse.specs.Times.{latest_in_message}
 use Rattle.clearinghouse.specs.PrivateTurns.{AfterGathered, AfterSpread, Heeds, SameHouse, TakesFirst, TakesOwn, TakesSecond, copy_of, held_in}
-use Rattle.clearinghouse.specs.PrivateTaking.{Answers, Copies, HasCopy, HasJoined, HasLeft, Merges, TakesAt, TakesHere, TakesJoin, TakesLeave, TakesOther, holding, join_bar, leave_passed}
+use Rattle.clearinghouse.specs.PrivateTaking.{Answers, Copies, HasCopy, HasJoined, HasLeft, Merges, TakesAt, TakesHere, TakesJoin, TakesLeave}
+use Rattle.clearinghouse.specs.PrivateTaking.{TakesOther, holding, join_bar, leave_passed}
 use Rattle.clearinghouse.proofs.Houses.{got_there, same_house}
 use Rattle.clearinghouse.proofs.Keeping.{other_kept, join_kept, leave_kept, stale_phase}
 use Rattle.clearinghouse.proofs.Maps.{if_ok_map}
@@ -86,9 +87,12 @@ second_same : (from : ℕ) (t : Stamp) (old new : Held) (a : Taken) (o : Option 
     → UnlessTaken a ((new ≡ old) × (o ≡ None))
 second_same from t old new a o w = by_next w.next w.does w.after
   where
-    by_next : (n : Next) → TakesSpread t from (length old.members) old.skulk new.skulk n → AfterSpread t n old new a o → UnlessTaken a ((new ≡ old) × (o ≡ None))
+    by_next : (n : Next) → TakesSpread t from (length old.members) old.skulk new.skulk n → AfterSpread t n old new a o
+        → UnlessTaken a ((new ≡ old) × (o ≡ None))
     by_next (next.Stale running) does z =
-        unless_of a ((new ≡ old) × (o ≡ None)) (z.0 ∙ ap (λ k. record old { skulk = k }) (stale_phase t from (length old.members) old.skulk new.skulk running does), z.2)
+        let same : new ≡ old =
+        z.0 ∙ ap (λ k. record old { skulk = k }) (stale_phase t from (length old.members) old.skulk new.skulk running does) in
+        unless_of a ((new ≡ old) × (o ≡ None)) (same, z.2)
     by_next next.Nothing does z = taken_so a ((new ≡ old) × (o ≡ None)) z.1
     by_next next.SendSpread does z = taken_so a ((new ≡ old) × (o ≡ None)) z.1
     by_next (next.Complete u) does z = completed_so a t ((new ≡ old) × (o ≡ None)) z.2
@@ -185,7 +189,8 @@ copy_besides m ms r old new has = by_held (held_in (get old.dirs m.dir)) has
     by_held None z = over z
     by_held (Some h) z = by_term h (nat_le (since_in (members_of ms) old.house.0 0) h.epoch.0) z
 
-joined_besides : (m : Message) (ms : List declared.Member) (r : Replica) (old new : Clearinghouse) (a : Taken) (o : Option Outgoing) → HasJoined m ms r old new a o
+joined_besides : (m : Message) (ms : List declared.Member) (r : Replica) (old new : Clearinghouse) (a : Taken) (o : Option Outgoing)
+    → HasJoined m ms r old new a o
     → Besides m old new
 joined_besides m ms r old new a o z =
     let between = copy_besides m ms r old z.between z.has in (
@@ -200,7 +205,8 @@ joined_besides m ms r old new a o z =
 -- ---- the three kinds of messages
 
 -- a body that is neither a Join nor a Leave
-other_of : (b : Body) (c : model.Body) → ((ms : List declared.Member) (r : Replica) → b ≡ body.Join ms r → ⊥) → (b ≡ body.Leave → ⊥) → LooksBody b c → rows.IsOther c
+other_of : (b : Body) (c : model.Body) → ((ms : List declared.Member) (r : Replica) → b ≡ body.Join ms r → ⊥) → (b ≡ body.Leave → ⊥) → LooksBody b c
+    → rows.IsOther c
 other_of b (model.Update marks) j l z = tt
 other_of b (model.Gather t) j l z = tt
 other_of b (model.Gathered t c) j l z = tt
@@ -225,7 +231,8 @@ other_of (body.SpreadAck t) model.Leave j l z = z
 other_of (body.Advance t) model.Leave j l z = z
 
 -- any message but a Join or a Leave
-pub other_does : (msg : Message) (old new : Clearinghouse) (a : Taken) (o : Option Outgoing) → ((ms : List declared.Member) (r : Replica) → msg.body ≡ body.Join ms r → ⊥)
+pub other_does : (msg : Message) (old new : Clearinghouse) (a : Taken) (o : Option Outgoing)
+    → ((ms : List declared.Member) (r : Replica) → msg.body ≡ body.Join ms r → ⊥)
     → (msg.body ≡ body.Leave → ⊥) → TakesOther msg old new a o → Does msg old new a o
 other_does msg old new a o not-join not-leave z =
     let rest = by (held_in (get old.dirs msg.dir)) refl z in
@@ -248,7 +255,8 @@ other_does msg old new a o not-join not-leave z =
     )
 
 -- a Join
-pub join_does : (msg : Message) (ms : List declared.Member) (r : Replica) (old new : Clearinghouse) (a : Taken) (o : Option Outgoing) → msg.body ≡ body.Join ms r
+pub join_does : (msg : Message) (ms : List declared.Member) (r : Replica) (old new : Clearinghouse) (a : Taken) (o : Option Outgoing)
+    → msg.body ≡ body.Join ms r
     → TakesJoin msg ms r old new a o → Does msg old new a o
 join_does msg ms r old new a o is z =
     let rest = by (join_bar old.house.0 msg (members_of ms) (get old.dirs msg.dir)) z in
@@ -309,8 +317,9 @@ done_other msg old mid new done result self is not-join not-leave ok err =
     does_or msg old mid new done result (λ t. TakesOther msg old mid t.answer t.outgoing) self is
     (λ t z. other_does msg old mid t.answer t.outgoing not-join not-leave z) ok err
 
-pub done_join : (msg : Message) (ms : List declared.Member) (r : Replica) (old mid new : Clearinghouse) (done result : Result (Turn Taken) AllocError) → new ≡ mid
-    → result ≡ done → msg.body ≡ body.Join ms r → IfOk done (λ t. TakesJoin msg ms r old mid t.answer t.outgoing) → OnErr done (mid ≡ old) → DoesOr msg old new result
+pub done_join : (msg : Message) (ms : List declared.Member) (r : Replica) (old mid new : Clearinghouse) (done result : Result (Turn Taken) AllocError)
+    → new ≡ mid → result ≡ done → msg.body ≡ body.Join ms r → IfOk done (λ t. TakesJoin msg ms r old mid t.answer t.outgoing) → OnErr done (mid ≡ old)
+    → DoesOr msg old new result
 done_join msg ms r old mid new done result self is join ok err =
     does_or msg old mid new done result (λ t. TakesJoin msg ms r old mid t.answer t.outgoing) self is
     (λ t z. join_does msg ms r old mid t.answer t.outgoing join z) ok err

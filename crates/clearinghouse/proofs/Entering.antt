@@ -48,8 +48,8 @@ first_stands me floor ms = record {
 }
 
 -- and is lawful
-first_lawful : (floor : ℕ) (ms : List declared.Member) → IsLawfulHeld floor (first_held ms)
-first_lawful floor ms = record {
+first_lawful : (me floor : ℕ) (ms : List declared.Member) → IsLawfulHeld me floor (first_held ms)
+first_lawful me floor ms = record {
   valid = table_of-valid [];
   replica = record { table = table_of-up_to floor [] tt; all_up_to = tt };
   skulk = λ t e. absurd (cc);
@@ -79,10 +79,11 @@ module _ (c : Clearinghouse) (dir : DirId) (ms : List declared.Member) (mid : Cl
   found_lawful (Ok o) holds same lawful =
       subst IsLawful (sym holds)
       (house_lawful c dir c.floor (state.Held (first_held ms)) (le_refl _)
-      (λ h is. let same : first_held ms ≡ h = cc in subst (IsLawfulHeld c.floor.time) same (first_lawful c.floor.time ms)) lawful)
+      (λ h is. let same : first_held ms ≡ h = cc in subst (IsLawfulHeld c.house.0 c.floor.time) same (first_lawful c.house.0 c.floor.time ms)) lawful)
   found_lawful (Err e) holds same lawful = subst IsLawful (sym same) lawful
 
-  pub found_step : (now : model.House) (done : Result Outgoing AllocError) → IfOk done (λ o. o ≡ out.Join) → OnOk done (mid ≡ founded c dir ms) → StandsHouse c now
+  pub found_step : (now : model.House) (done : Result Outgoing AllocError) → IfOk done (λ o. o ≡ out.Join) → OnOk done (mid ≡ founded c dir ms)
+      → StandsHouse c now
       → IfOk done (λ o. IsTurn (found c.house.0 now dir.0 (members_of ms)) mid (posts_at mid dir (Some o)))
   found_step now (Ok o) join holds stands =
       subst (λ x. IsTurn (found c.house.0 now dir.0 (members_of ms)) mid (posts_at mid dir (Some x))) (sym join)
@@ -231,17 +232,19 @@ module _ (c mid : Clearinghouse) (dir : DirId) (k : EpochNo) (ms : List declared
       let after : mid ≡ record c { dirs = insert c.dirs dir (state.Held (entered k ms enters.held)) } =
       λ i. record { house = who.house i; node = who.node i; floor = enters.floor i; dirs = enters.after i; spent = who.spent i } in
       let own = lawful dir enters.held enters.before in
-      let fine : IsLawfulHeld c.floor.time (entered k ms enters.held) = record { valid = own.valid; replica = own.replica; skulk = λ t e. absurd (cc) } in
+      let fine : IsLawfulHeld c.house.0 c.floor.time (entered k ms enters.held) =
+      record { valid = own.valid; replica = own.replica; skulk = λ t e. absurd (cc) } in
       subst IsLawful (sym after)
       (house_lawful c dir c.floor (state.Held (entered k ms enters.held)) (le_refl _)
-      (λ h is. let same : entered k ms enters.held ≡ h = cc in subst (IsLawfulHeld c.floor.time) same fine) lawful)
+      (λ h is. let same : entered k ms enters.held ≡ h = cc in subst (IsLawfulHeld c.house.0 c.floor.time) same fine) lawful)
 
   by_answer : (e : Result (Unit {0}) EpochRefusal) → OnErr e (mid ≡ c) → OnOk e (Enters c mid dir k ms) → IsLawful c → IsLawful mid
   by_answer (Ok x) same enters lawful = entered_lawful enters lawful
   by_answer (Err r) same enters lawful = subst IsLawful (sym same) lawful
 
   -- it is lawful still
-  pub enters_lawful : (done : Result (Result (Unit {0}) EpochRefusal) AllocError) → IfOk done (λ e. OnErr e (mid ≡ c)) → IfOk done (λ e. OnOk e (Enters c mid dir k ms))
+  pub enters_lawful : (done : Result (Result (Unit {0}) EpochRefusal) AllocError) → IfOk done (λ e. OnErr e (mid ≡ c))
+      → IfOk done (λ e. OnOk e (Enters c mid dir k ms))
       → OnErr done (mid ≡ c) → IsLawful c → IsLawful mid
   enters_lawful (Ok e) same enters err lawful = by_answer e same enters lawful
   enters_lawful (Err x) same enters err lawful = subst IsLawful (sym err) lawful

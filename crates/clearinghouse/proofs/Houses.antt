@@ -85,7 +85,9 @@ house_holds c now dir floor s slot stands le here = record { node = stands.node;
 
     at : (e : ℕ) (b : Bool) → (e == dir.0) ≡ b
         → StandsSlot c.house.0 floor.time (get (insert c.dirs dir s) (record { 0 = e })) (cond b slot (now.slots e))
-    at e true is = subst (λ o. StandsSlot c.house.0 floor.time o slot) (sym (read e ∙ ap (λ b. cond b (Some s) (get c.dirs (record { 0 = e }))) (tie e true is))) here
+    at e true is =
+        subst (λ o. StandsSlot c.house.0 floor.time o slot)
+        (sym (read e ∙ ap (λ b. cond b (Some s) (get c.dirs (record { 0 = e }))) (tie e true is))) here
     at e false is =
         subst (λ o. StandsSlot c.house.0 floor.time o (now.slots e)) (sym (read e ∙ ap (λ b. cond b (Some s) (get c.dirs (record { 0 = e }))) (tie e false is)))
         (slot_later c.house.0 c.floor.time floor.time (get c.dirs (record { 0 = e })) (now.slots e) le (stands.slots e))
@@ -107,14 +109,14 @@ got_there m dir d s other = get-insert dir_total m dir s d ∙ by (eq_by_cmp dir
 
 -- it is lawful where what it has is
 pub house_lawful : (c : Clearinghouse) (dir : DirId) (floor : Floor) (s : DirState) → c.floor.time ≤ floor.time
-    → ((h : Held) → s ≡ state.Held h → IsLawfulHeld floor.time h) → IsLawful c → IsLawful (record c { floor = floor; dirs = insert c.dirs dir s })
+    → ((h : Held) → s ≡ state.Held h → IsLawfulHeld c.house.0 floor.time h) → IsLawful c → IsLawful (record c { floor = floor; dirs = insert c.dirs dir s })
 house_lawful c dir floor s le here lawful d h got = by (eq_by_cmp dir_cmp d dir) refl
   where
-    by : (b : Bool) → eq_by_cmp dir_cmp d dir ≡ b → IsLawfulHeld floor.time h
+    by : (b : Bool) → eq_by_cmp dir_cmp d dir ≡ b → IsLawfulHeld c.house.0 floor.time h
     by true is =
         here h (let e : Some s ≡ Some (state.Held h) = sym (get-insert dir_total c.dirs dir s d ∙ ap (λ b. cond b (Some s) (get c.dirs d)) is) ∙ got in cc)
     by false is =
-        lawful_later c.floor.time floor.time h le
+        lawful_later c.house.0 c.floor.time floor.time h le
         (lawful d h (sym (get-insert dir_total c.dirs dir s d ∙ ap (λ b. cond b (Some s) (get c.dirs d)) is) ∙ got))
 
 -- a turn at the directory is a turn of the house
@@ -127,7 +129,8 @@ turn_of c now dir new floor turn o stands le turns = record {
       subst (StandsHouse (record c { floor = floor; dirs = insert c.dirs dir (state.Held new) })) (sym turns.house)
       (house_holds c now dir floor (state.Held new) (model.Held turns.replica) stands le turns.stands);
   each =
-      subst (λ s. StandEach (posts_if (record { house = c.house; dir = dir; floor = floor.time }) s o) turn.posts) (sym (got_here c.dirs dir (state.Held new))) turns.each;
+      subst (λ s. StandEach (posts_if (record { house = c.house; dir = dir; floor = floor.time }) s o) turn.posts)
+      (sym (got_here c.dirs dir (state.Held new))) turns.each;
 }
 
 -- a step at the directory is a step of the house
@@ -165,20 +168,22 @@ same_house c dir old new floor here same low =
 
 -- it is lawful where what is held stays so
 pub kept_at : (c : Clearinghouse) (dir : DirId) (old new : Held) (floor : Floor) → Some old ≡ held_in (get c.dirs dir) → c.floor.time ≤ floor.time
-    → (IsLawfulHeld c.floor.time old → IsLawfulHeld floor.time new) → IsLawful c → IsLawful (record c { floor = floor; dirs = insert c.dirs dir (state.Held new) })
+    → (IsLawfulHeld c.house.0 c.floor.time old → IsLawfulHeld c.house.0 floor.time new) → IsLawful c
+    → IsLawful (record c { floor = floor; dirs = insert c.dirs dir (state.Held new) })
 kept_at c dir old new floor here le keeps lawful =
     house_lawful c dir floor (state.Held new) le
-    (λ h is. let same : new ≡ h = cc in subst (IsLawfulHeld floor.time) same (keeps (lawful dir old (have_held (get c.dirs dir) old here)))) lawful
+    (λ h is. let same : new ≡ h = cc in subst (IsLawfulHeld c.house.0 floor.time) same (keeps (lawful dir old (have_held (get c.dirs dir) old here)))) lawful
 
 -- of a call that may want for memory, after which all is as it was
-pub kept_by : {T : Type 0} (r : Result T AllocError) (a b : ℕ) (old new : Held) → OnOk r (IsLawfulHeld a old → IsLawfulHeld b new) → OnErr r (new ≡ old) → OnErr r (b ≡ a)
-    → IsLawfulHeld a old → IsLawfulHeld b new
-kept_by (Ok x) a b old new keeps same low h = keeps h
-kept_by (Err e) a b old new keeps same low h = subst (λ n. IsLawfulHeld n new) (sym low) (subst (IsLawfulHeld a) (sym same) h)
+pub kept_by : {T : Type 0} (r : Result T AllocError) (me a b : ℕ) (old new : Held) → OnOk r (IsLawfulHeld me a old → IsLawfulHeld me b new)
+    → OnErr r (new ≡ old) → OnErr r (b ≡ a) → IsLawfulHeld me a old → IsLawfulHeld me b new
+kept_by (Ok x) me a b old new keeps same low h = keeps h
+kept_by (Err e) me a b old new keeps same low h = subst (λ n. IsLawfulHeld me n new) (sym low) (subst (IsLawfulHeld me a) (sym same) h)
 
 -- a step at the directory, in a call that may want for memory
 pub at_held : {T : Type 0} (A : T → command.Answer → Type 0) (out : T → Option Outgoing) (step : model.Slot → HouseStep) (c : Clearinghouse) (now : model.House)
-    (dir : DirId) (old new : Held) (floor : Floor) (r : Result T AllocError) → Some old ≡ held_in (get c.dirs dir) → c.floor.time ≤ floor.time → StandsHouse c now
+    (dir : DirId) (old new : Held) (floor : Floor) (r : Result T AllocError) → Some old ≡ held_in (get c.dirs dir) → c.floor.time ≤ floor.time
+    → StandsHouse c now
     → ((q : model.Replica) → now.slots dir.0 ≡ model.Held q → StandsHeld c.house.0 c.floor.time old q
     → IfOk r (λ x. HeldStep (A x) (step (model.Held q)) now c.house dir old new floor.time (out x)))
     → IfOk r (λ x. IsStep (A x) (step (now.slots dir.0)) c (record c { floor = floor; dirs = insert c.dirs dir (state.Held new) })
@@ -242,7 +247,8 @@ module _ {T : Type 0} (mid new : Clearinghouse) (done result : Result T AllocErr
       }
 
 -- a step of a call, after the copies are posted
-pub posted_step : {T : Type 0} (A : command.Answer → Type 0) (step : HouseStep) (old mid new : Clearinghouse) (posts given : List Posted) (done : Result T AllocError)
+pub posted_step : {T : Type 0} (A : command.Answer → Type 0) (step : HouseStep) (old mid new : Clearinghouse) (posts given : List Posted)
+    (done : Result T AllocError)
     (x : T) → done ≡ Ok x → Heeds mid new done → posts ≡ given → IsStep A step old mid posts → IsStep A step old new given
 posted_step A step old mid new posts given done x is heeds same h =
     let stays : new ≡ mid = subst (λ r. OnOk r (new ≡ mid)) is heeds.same in

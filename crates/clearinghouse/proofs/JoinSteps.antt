@@ -15,7 +15,8 @@ use Rattle.cds_records.specs.declared.message.Message.{Message}
 use Rattle.cell_model.specs.Cells as model
 use Rattle.cell_model.specs.Commands as command
 use Rattle.cell_model.specs.Turns as turn
-use Rattle.cell_model.specs.Turns.{HouseStep, Stays, Turns, taken, copied, kept_at_join, joined, late_join, late_leave, unless_late, take_join, take_leave, take_other}
+use Rattle.cell_model.specs.Turns.{HouseStep, Stays, Turns, taken, copied, kept_at_join, joined, late_join, late_leave, unless_late, take_join}
+use Rattle.cell_model.specs.Turns.{take_leave, take_other}
 use Rattle.cell_model.specs.Turns.{take_in, take}
 use Rattle.cell_model.specs.Merges.{of_join}
 use Rattle.cell_model.specs.Taking.{CanTake}
@@ -35,7 +36,8 @@ use Rattle.clearinghouse.specs.Standing.{LooksHeld, LooksSlot, LooksHouse, Stand
 use Rattle.clearinghouse.specs.Stepping.{IsTakeAnswer, IsStep, LooksStep, is_taken}
 use Rattle.clearinghouse.specs.Times.{latest_in_message}
 use Rattle.clearinghouse.specs.PrivateTurns.{HeldStep, LooksAfter, copy_of, floor_taken, held_in}
-use Rattle.clearinghouse.specs.PrivateTaking.{Answers, Merges, Copies, HasJoined, TakesJoin, HasLeft, TakesLeave, TakesAt, TakesOther, join_passed, join_foreign, leave_passed}
+use Rattle.clearinghouse.specs.PrivateTaking.{Answers, Merges, Copies, HasJoined, TakesJoin, HasLeft, TakesLeave, TakesAt, TakesOther, join_passed}
+use Rattle.clearinghouse.specs.PrivateTaking.{join_foreign, leave_passed}
 use Rattle.clearinghouse.proofs.Houses.{house_holds, got_here, slot_looks, step_of}
 use Rattle.clearinghouse.proofs.Posts.{posts_none}
 use Rattle.clearinghouse.proofs.TakeSteps.{replica_taken, message_is, latest_is, other_step, other_looks}
@@ -84,7 +86,8 @@ module _ (msg : Message) (now : model.House) (old new : Clearinghouse) (a : Take
   step_from n c s (turns has slot is ans none after looks content) stands carries can low fine =
       let floor : Floor = record { time = max old.floor.time n } in
       let same : max old.floor.time n ≡ max now.floor msg.floor = ap (λ x. max x n) (sym stands.floor) ∙ ap (max now.floor) low in
-      let w : FineSlot (max now.floor msg.floor) ((turn.holding now msg.dir.0 (max now.floor msg.floor) slot).slots msg.dir.0) = subst (FineAfter msg.dir.0) is fine in
+      let w : FineSlot (max now.floor msg.floor) ((turn.holding now msg.dir.0 (max now.floor msg.floor) slot).slots msg.dir.0) =
+      subst (FineAfter msg.dir.0) is fine in
       let f : FineSlot (max now.floor msg.floor) slot = subst (FineSlot (max now.floor msg.floor)) (put_same now.slots msg.dir.0 slot) w in
       let has_stands : StandsSlot old.house.0 (max old.floor.time n) (Some has) slot =
       subst (λ x. StandsSlot old.house.0 x (Some has) slot) (sym same)
@@ -107,7 +110,8 @@ module _ (msg : Message) (now : model.House) (old new : Clearinghouse) (a : Take
       subst (λ x. LooksStep (IsTakeAnswer a) x msg.dir new) (sym is) (
         (λ ns. subst (λ x. IsTakeAnswer x (command.Taken ns)) (sym ans) tt),
         subst (λ (x : Clearinghouse). LooksHouse x msg.dir (turn.holding now msg.dir.0 (max now.floor msg.floor) slot)) (sym after)
-            (subst (λ x. LooksSlot old.house.0 x ((turn.holding now msg.dir.0 (max now.floor msg.floor) slot).slots msg.dir.0)) (sym (got_here old.dirs msg.dir has))
+            (subst (λ x. LooksSlot old.house.0 x ((turn.holding now msg.dir.0 (max now.floor msg.floor) slot).slots msg.dir.0))
+            (sym (got_here old.dirs msg.dir has))
             (subst (λ x. LooksSlot old.house.0 (Some has) x) (sym (put_same now.slots msg.dir.0 slot)) looks)),
       )
 
@@ -203,7 +207,8 @@ module _ (msg : Message) (now : model.House) (old new : Clearinghouse) (a : Take
         ∙ ap (λ (y : model.Replica). replica_of y.history y.all_up_to) kept)
 
     by_term : (between : Clearinghouse) (s : HouseStep) (x : Held) (r : model.Replica) (b : Bool) → nat_le (since_in list old.house.0 0) x.epoch.0 ≡ b
-        → LooksHeld old.house.0 x r → s ≡ taken now this (model.Held (if nat_le (since_in list old.house.0 0) r.epoch then kept_at_join this list c r else copied this list c)) []
+        → LooksHeld old.house.0 x r
+        → s ≡ taken now this (model.Held (if nat_le (since_in list old.house.0 0) r.epoch then kept_at_join this list c r else copied this list c)) []
         → a ≡ answers.Taken → o ≡ None → new ≡ record between { floor = record { time = max old.floor.time (latest_in_message msg) } }
         → get old.dirs msg.dir ≡ Some (state.Held x) → now.slots msg.dir.0 ≡ model.Held r → r.epoch ≤ msg.epoch.0
         → MatchBool b (Merges msg ms copy old between x) (Copies msg ms copy old between) → Comes_so s
@@ -292,7 +297,8 @@ module _ (msg : Message) (now : model.House) (old new : Clearinghouse) (a : Take
       subst (λ l. StandsBody msg.body (model.Join l c) → CanTake now (told (model.Join l c)) → Step (told (model.Join l c))) w.0
       (λ carries can.
       step_from msg now old new a o (latest_in_message msg) (model.Join (members_of ms) c) (take now (told (model.Join (members_of ms) c)))
-      (join_comes msg now old new a o ms copy c is (slot_looks old.house.0 old.floor.time (get old.dirs msg.dir) (now.slots msg.dir.0) (stands.slots msg.dir.0)) z)
+      (join_comes msg now old new a o ms copy c is
+      (slot_looks old.house.0 old.floor.time (get old.dirs msg.dir) (now.slots msg.dir.0) (stands.slots msg.dir.0)) z)
       stands carries can (latest_is old.house.0 msg (told (model.Join (members_of ms) c)) now (carries_all (model.Join (members_of ms) c) carries) can)
       (take_fine now (told (model.Join (members_of ms) c)) can (house_fine old now msg.dir stands)))
       (subst (λ x. StandsBody x (model.Join ns c)) (sym is) w) can
@@ -382,7 +388,8 @@ module _ (msg : Message) (now : model.House) (old new : Clearinghouse) (a : Take
   none_step : Answers old new answers.NoReplica a o → Step_so (Stays command.NoReplica)
   none_step z = (subst (λ x. IsTakeAnswer x command.NoReplica) (sym z.1) tt, z.0, nothing_posted z.2)
 
-  held_step : (h : Held) (r : model.Replica) → get old.dirs msg.dir ≡ Some (state.Held h) → now.slots msg.dir.0 ≡ model.Held r → StandsHeld old.house.0 now.floor h r
+  held_step : (h : Held) (r : model.Replica) → get old.dirs msg.dir ≡ Some (state.Held h) → now.slots msg.dir.0 ≡ model.Held r
+      → StandsHeld old.house.0 now.floor h r
       → StandsHouse old now → StandsMessage old.house.0 msg m → CanTake now m → rows.IsOther m.body → TakesAt msg old new h a o
       → Step_so (take_other now m m.body (model.Held r))
   held_step h r got held here stands carries can other z =

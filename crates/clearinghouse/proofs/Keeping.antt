@@ -1,6 +1,6 @@
 -- A lawful clearinghouse is lawful after a message.
 use Rattle.std.proofs.Common.{◌≡◌, ℕ, ◌≤◌, Bool, true, false, length, Option, Some, None, refl, sym, ap, subst, ◌∙◌, arith}
-use Rattle.std.specs.Prelude.{max, nat_lt, nat_le, if◌then◌else◌, MatchBool, MatchOption, List}
+use Rattle.std.specs.Prelude.{max, nat_lt, nat_le, if◌then◌else◌, MatchBool, MatchOption, List, unwrap_or}
 use Rattle.std.specs.FinMap.{get}
 use Rattle.cds_stamps.specs.declared.members.Member as declared
 use Rattle.cds_stamps.specs.declared.numbers.EpochNo.{EpochNo}
@@ -18,7 +18,7 @@ use Rattle.skulk_core.specs.declared.skulk.Skulk.{Skulk}
 use Rattle.skulk_core.specs.declared.skulk.Skulk.TheVariants as skulk
 use Rattle.skulk_core.specs.declared.skulk.Next.{Next}
 use Rattle.skulk_core.specs.declared.skulk.Next.TheVariants as next
-use Rattle.skulk_core.specs.Rounds.{Gathers, IsGathering, IsSpreading, IsStale, Spreads, TakesGathered, TakesSpread, Waits, also, only, running}
+use Rattle.skulk_core.specs.Rounds.{Gathers, IsGathering, IsPhaseOf, IsSpreading, IsStale, Spreads, TakesGathered, TakesSpread, Waits, also, only, running}
 use Rattle.cds_records.specs.declared.message.Body.{Body}
 use Rattle.cds_records.specs.declared.message.Body.TheVariants as body
 use Rattle.cds_records.specs.declared.message.Message.{Message}
@@ -29,11 +29,13 @@ use Rattle.clearinghouse.specs.declared.states.DirState.TheVariants as state
 use Rattle.clearinghouse.specs.declared.outgoing.Outgoing.{Outgoing}
 use Rattle.clearinghouse.specs.declared.taking.Taken.{Taken}
 use Rattle.clearinghouse.specs.declared.taking.Taken.TheVariants as answers
-use Rattle.clearinghouse.specs.Lawful.{IsLawful, IsLawfulHeld}
+use Rattle.clearinghouse.specs.Lawful.{IsLawful, IsLawfulHeld, RunsSkulk}
 use Rattle.clearinghouse.specs.Stepping.{is_taken}
 use Rattle.clearinghouse.specs.Times.{BodyUpTo, latest_in_body, latest_in_message}
-use Rattle.clearinghouse.specs.PrivateTurns.{Advances, AfterGathered, AfterSpread, JoinsAnswer, JoinsCopy, TakesFirst, TakesOwn, TakesReplica, TakesSecond, copy_of, held_in, place_in}
-use Rattle.clearinghouse.specs.PrivateTaking.{Answers, Copies, HasCopy, HasJoined, HasLeft, Merges, TakesAt, TakesHere, TakesJoin, TakesLeave, TakesOther, join_bar, leave_passed}
+use Rattle.clearinghouse.specs.PrivateTurns.{Advances, AfterGathered, AfterSpread, JoinsAnswer, JoinsCopy, TakesFirst, TakesOwn, TakesReplica}
+use Rattle.clearinghouse.specs.PrivateTurns.{TakesSecond, copy_of, held_in, place_in}
+use Rattle.clearinghouse.specs.PrivateTaking.{Answers, Copies, HasCopy, HasJoined, HasLeft, Merges, TakesAt, TakesHere, TakesJoin, TakesLeave}
+use Rattle.clearinghouse.specs.PrivateTaking.{TakesOther, join_bar, leave_passed}
 use Rattle.clearinghouse.proofs.Houses.{house_lawful, kept_at}
 use Rattle.clearinghouse.proofs.Lawfulness.{lawful_later}
 
@@ -51,6 +53,10 @@ body_within n (body.Join ms r) le = (latest_time-≤ n r).0 le
 body_within n body.Leave le = tt
 
 -- ---- phases
+
+-- a skulk that runs at the house is its own
+abbrev IsOwn : (me n : ℕ) → List declared.Member → Skulk → Type 0
+IsOwn me n ms s = (u : Stamp) → running s ≡ Some u → RunsSkulk me n ms s u
 
 -- what runs ran before
 abbrev Runs : (old new : Skulk) → Type 0
@@ -73,7 +79,8 @@ gathered_runs t from n me skulk.Idle new x h = runs_same skulk.Idle new h.0
 gathered_runs t from n me (skulk.Gathering v m) new x h = by (is_stamp t v) h
   where
     last : (b : Bool)
-        → MatchBool b (IsSpreading v (only me) new × (x ≡ next.SendSpread)) (IsGathering v (also m from) new × (x ≡ next.Nothing)) → Runs (skulk.Gathering v m) new
+        → MatchBool b (IsSpreading v (only me) new × (x ≡ next.SendSpread)) (IsGathering v (also m from) new × (x ≡ next.Nothing))
+        → Runs (skulk.Gathering v m) new
     last true w = runs_spreading v (only me) (skulk.Gathering v m) new refl w.0
     last false w = runs_gathering v (also m from) (skulk.Gathering v m) new refl w.0
 
@@ -95,7 +102,8 @@ spread_runs t from n (skulk.Gathering v m) new x h = by (is_stamp t v) h
     by false w = runs_same (skulk.Gathering v m) new w.0
 spread_runs t from n (skulk.Spreading v m) new x h = by (is_stamp t v) h
   where
-    last : (b : Bool) → MatchBool b ((new ≡ skulk.Idle) × (x ≡ next.Complete v)) (IsSpreading v (also m from) new × (x ≡ next.Nothing)) → Runs (skulk.Spreading v m) new
+    last : (b : Bool) → MatchBool b ((new ≡ skulk.Idle) × (x ≡ next.Complete v)) (IsSpreading v (also m from) new × (x ≡ next.Nothing))
+        → Runs (skulk.Spreading v m) new
     last true w = runs_idle (skulk.Spreading v m) new w.0
     last false w = runs_spreading v (also m from) (skulk.Spreading v m) new refl w.0
 
@@ -125,95 +133,105 @@ stale_phase t from n (skulk.Spreading u m) new ran h = by (is_stamp t u) h
     by true w = last (each_place n (also m from)) w
     by false w = w.0
 
--- no time of a phase is above n
-phase_within : (n : ℕ) (old new : Skulk) → Runs old new → ((u : Stamp) → running old ≡ Some u → u.time ≤ n) → (u : Stamp) → running new ≡ Some u → u.time ≤ n
-phase_within n old new runs below u h = below u (runs u h)
+-- the skulk that runs is the house's own still
+runs_own : (me n : ℕ) (ms : List declared.Member) (old new : Skulk) → Runs old new
+    → ((place : ℕ) → place_of me (members_of ms) ≡ Some place → IsPhaseOf (length ms) place old → IsPhaseOf (length ms) place new)
+    → IsOwn me n ms old → IsOwn me n ms new
+runs_own me n ms old new runs keeps own u h =
+    let was = own u (runs u h) in
+    record { time = was.time; place = was.place; member = was.member; round = keeps was.place was.member was.round }
 
 -- ---- what is held
 
 -- a replica is merged in, and the phase is this
-merged_lawful : (n : ℕ) (r : Replica) (phase : Skulk) (old new : Held) → TakesReplica old.replica r new.replica
-    → new ≡ record old { replica = new.replica; skulk = phase } → IsLawfulHeld n old → IsValidTable r.table → ReplicaUpTo n r
-    → ((u : Stamp) → running phase ≡ Some u → u.time ≤ n) → IsLawfulHeld n new
-merged_lawful n r phase old new takes rest lawful valid below runs =
-    subst (IsLawfulHeld n) (sym rest)
+merged_lawful : (me n : ℕ) (r : Replica) (phase : Skulk) (old new : Held) → TakesReplica old.replica r new.replica
+    → new ≡ record old { replica = new.replica; skulk = phase } → IsLawfulHeld me n old → IsValidTable r.table → ReplicaUpTo n r
+    → IsOwn me n old.members phase → IsLawfulHeld me n new
+merged_lawful me n r phase old new takes rest lawful valid below runs =
+    subst (IsLawfulHeld me n) (sym rest)
     (record { valid = takes.valid lawful.valid valid; replica = takes.below n lawful.valid valid lawful.replica below; skulk = runs })
 
-advanced_lawful : (n : ℕ) (t : Stamp) (phase : Skulk) (old new : Held) → Advances old.replica t new.replica
-    → new ≡ record old { replica = new.replica; skulk = phase } → IsLawfulHeld n old → t.time ≤ n → ((u : Stamp) → running phase ≡ Some u → u.time ≤ n)
-    → IsLawfulHeld n new
-advanced_lawful n t phase old new takes rest lawful le runs =
-    subst (IsLawfulHeld n) (sym rest)
+advanced_lawful : (me n : ℕ) (t : Stamp) (phase : Skulk) (old new : Held) → Advances old.replica t new.replica
+    → new ≡ record old { replica = new.replica; skulk = phase } → IsLawfulHeld me n old → t.time ≤ n → IsOwn me n old.members phase
+    → IsLawfulHeld me n new
+advanced_lawful me n t phase old new takes rest lawful le runs =
+    subst (IsLawfulHeld me n) (sym rest)
     (record { valid = takes.valid lawful.valid; replica = takes.below n lawful.valid lawful.replica le; skulk = runs })
 
 -- whatever is answered, what is held is lawful up to n, if the body has no time above n where it is taken
-module _ (n : ℕ) (old new : Held) (a : Taken) (o : Option Outgoing) (lawful : IsLawfulHeld n old) where
-  same_lawful : new ≡ old → IsLawfulHeld n new
-  same_lawful is = subst (IsLawfulHeld n) (sym is) lawful
+module _ (me : HouseNo) (n : ℕ) (old new : Held) (a : Taken) (o : Option Outgoing) (lawful : IsLawfulHeld me.0 n old) where
+  same_lawful : new ≡ old → IsLawfulHeld me.0 n new
+  same_lawful is = subst (IsLawfulHeld me.0 n) (sym is) lawful
 
   taken_is : a ≡ answers.Taken → is_taken a ≡ true
   taken_is is = ap is_taken is
 
-  first_lawful : (me : HouseNo) (from : ℕ) (t : Stamp) (r : Replica) → TakesFirst me from t r old new a o → IsValidTable r.table
-      → (is_taken a ≡ true → (t.time ≤ n) × ReplicaUpTo n r) → IsLawfulHeld n new
-  first_lawful me from t r w valid up = by_next w.next w.after
+  first_lawful : (from : ℕ) (t : Stamp) (r : Replica) → TakesFirst me from t r old new a o → IsValidTable r.table
+      → (is_taken a ≡ true → (t.time ≤ n) × ReplicaUpTo n r) → IsLawfulHeld me.0 n new
+  first_lawful from t r w valid up = by_next w.next w.after
     where
-      runs : Runs old.skulk w.phase
-      runs = gathered_runs t from (length old.members) (place_in me old.members) old.skulk w.phase w.next w.does
+      keeps : (place : ℕ) → place_of me.0 (members_of old.members) ≡ Some place → IsPhaseOf (length old.members) place old.skulk
+          → IsPhaseOf (length old.members) place w.phase
+      keeps place here round =
+          let at : place_in me old.members ≡ place = ap (λ p. unwrap_or p 0) here in
+          subst (λ p. IsPhaseOf (length old.members) p w.phase) at (w.keeps (subst (λ p. IsPhaseOf (length old.members) p old.skulk) (sym at) round))
 
-      joins : (x : Next) → JoinsAnswer t r w.phase x old new a o → IsLawfulHeld n new
-      joins x j =
-          let times = up (taken_is j.answer) in
-          merged_lawful n r w.phase old new j.replica j.rest lawful valid times.1
-          (phase_within n old.skulk w.phase runs lawful.skulk)
+      own : IsOwn me.0 n old.members w.phase
+      own =
+          runs_own me.0 n old.members old.skulk w.phase
+          (gathered_runs t from (length old.members) (place_in me old.members) old.skulk w.phase w.next w.does) keeps lawful.skulk
 
-      by_next : (x : Next) → AfterGathered t r w.phase x old new a o → IsLawfulHeld n new
+      joins : (x : Next) → JoinsAnswer t r w.phase x old new a o → IsLawfulHeld me.0 n new
+      joins x j = let times = up (taken_is j.answer) in merged_lawful me.0 n r w.phase old new j.replica j.rest lawful valid times.1 own
+
+      by_next : (x : Next) → AfterGathered t r w.phase x old new a o → IsLawfulHeld me.0 n new
       by_next (next.Stale ran) z = same_lawful z.0
       by_next next.Nothing z = joins next.Nothing z
       by_next next.SendSpread z = joins next.SendSpread z
       by_next (next.Complete u) z = joins (next.Complete u) z
 
-  second_lawful : (from : ℕ) (t : Stamp) → TakesSecond from t old new a o → (is_taken a ≡ true → t.time ≤ n) → IsLawfulHeld n new
+  second_lawful : (from : ℕ) (t : Stamp) → TakesSecond from t old new a o → (is_taken a ≡ true → t.time ≤ n) → IsLawfulHeld me.0 n new
   second_lawful from t w up = by_next w.next w.does w.after
     where
-      phase : (x : Next) → TakesSpread t from (length old.members) old.skulk new.skulk x → (u : Stamp) → running new.skulk ≡ Some u → u.time ≤ n
-      phase x does = phase_within n old.skulk new.skulk (spread_runs t from (length old.members) old.skulk new.skulk x does) lawful.skulk
+      own : IsOwn me.0 n old.members new.skulk
+      own =
+          runs_own me.0 n old.members old.skulk new.skulk (spread_runs t from (length old.members) old.skulk new.skulk w.next w.does)
+          (λ place here. w.keeps place) lawful.skulk
 
-      waits : (x : Next) → TakesSpread t from (length old.members) old.skulk new.skulk x → new ≡ record old { skulk = new.skulk } → IsLawfulHeld n new
-      waits x does rest = subst (IsLawfulHeld n) (sym rest) (record { valid = lawful.valid; replica = lawful.replica; skulk = phase x does })
+      waits : new ≡ record old { skulk = new.skulk } → IsLawfulHeld me.0 n new
+      waits rest = subst (IsLawfulHeld me.0 n) (sym rest) (record { valid = lawful.valid; replica = lawful.replica; skulk = own })
 
-      by_next : (x : Next) → TakesSpread t from (length old.members) old.skulk new.skulk x → AfterSpread t x old new a o → IsLawfulHeld n new
+      by_next : (x : Next) → TakesSpread t from (length old.members) old.skulk new.skulk x → AfterSpread t x old new a o → IsLawfulHeld me.0 n new
       by_next (next.Stale ran) does z =
           same_lawful (z.0 ∙ ap (λ k. record old { skulk = k }) (stale_phase t from (length old.members) old.skulk new.skulk ran does))
-      by_next next.Nothing does z = waits next.Nothing does z.0
-      by_next next.SendSpread does z = waits next.SendSpread does z.0
-      by_next (next.Complete u) does z =
-          let le = up (ap is_taken z.2) in advanced_lawful n t new.skulk old new z.0 z.1 lawful le (phase (next.Complete u) does)
+      by_next next.Nothing does z = waits z.0
+      by_next next.SendSpread does z = waits z.0
+      by_next (next.Complete u) does z = let le = up (ap is_taken z.2) in advanced_lawful me.0 n t new.skulk old new z.0 z.1 lawful le own
 
-  own_lawful : (me : HouseNo) (from : ℕ) (sender : HouseNo) (b : Body) → TakesOwn me from sender b old new a o → IsValidBody b
-      → (is_taken a ≡ true → BodyUpTo n b) → IsLawfulHeld n new
-  own_lawful me from sender (body.Update f) z valid up =
-      subst (IsLawfulHeld n) (sym z.1)
+  own_lawful : (from : ℕ) (sender : HouseNo) (b : Body) → TakesOwn me from sender b old new a o → IsValidBody b
+      → (is_taken a ≡ true → BodyUpTo n b) → IsLawfulHeld me.0 n new
+  own_lawful from sender (body.Update f) z valid up =
+      subst (IsLawfulHeld me.0 n) (sym z.1)
       (record { valid = z.0.valid lawful.valid valid; replica = z.0.below n lawful.valid valid lawful.replica (up (taken_is z.2)); skulk = lawful.skulk })
-  own_lawful me from sender (body.Gather t) z valid up = same_lawful z.0
-  own_lawful me from sender (body.Gathered t r) z valid up = first_lawful me from t r z valid up
-  own_lawful me from sender (body.Spread t r) z valid up = merged_lawful n r old.skulk old new z.0 z.1 lawful valid (up (taken_is z.2)).1 lawful.skulk
-  own_lawful me from sender (body.SpreadAck t) z valid up = second_lawful from t z up
-  own_lawful me from sender (body.Advance t) z valid up = advanced_lawful n t old.skulk old new z.0 z.1 lawful (up (taken_is z.2)) lawful.skulk
-  own_lawful me from sender (body.Join ms r) z valid up = same_lawful z.0.0
-  own_lawful me from sender body.Leave z valid up = same_lawful z.0.0
+  own_lawful from sender (body.Gather t) z valid up = same_lawful z.0
+  own_lawful from sender (body.Gathered t r) z valid up = first_lawful from t r z valid up
+  own_lawful from sender (body.Spread t r) z valid up = merged_lawful me.0 n r old.skulk old new z.0 z.1 lawful valid (up (taken_is z.2)).1 lawful.skulk
+  own_lawful from sender (body.SpreadAck t) z valid up = second_lawful from t z up
+  own_lawful from sender (body.Advance t) z valid up = advanced_lawful me.0 n t old.skulk old new z.0 z.1 lawful (up (taken_is z.2)) lawful.skulk
+  own_lawful from sender (body.Join ms r) z valid up = same_lawful z.0.0
+  own_lawful from sender body.Leave z valid up = same_lawful z.0.0
 
-  here_lawful : (me : HouseNo) (m : Message) → TakesHere me m old new a o → IsValidMessage m → (is_taken a ≡ true → BodyUpTo n m.body) → IsLawfulHeld n new
-  here_lawful me m z valid up = early (nat_lt m.epoch.0 old.epoch.0) z
+  here_lawful : (m : Message) → TakesHere me m old new a o → IsValidMessage m → (is_taken a ≡ true → BodyUpTo n m.body) → IsLawfulHeld me.0 n new
+  here_lawful m z valid up = early (nat_lt m.epoch.0 old.epoch.0) z
     where
-      at : (p : Option ℕ) → MatchOption p (Answers old new answers.Foreign a o) (λ from. TakesOwn me from m.from m.body old new a o) → IsLawfulHeld n new
+      at : (p : Option ℕ) → MatchOption p (Answers old new answers.Foreign a o) (λ from. TakesOwn me from m.from m.body old new a o) → IsLawfulHeld me.0 n new
       at None w = same_lawful w.0
-      at (Some from) w = own_lawful me from m.from m.body w valid up
+      at (Some from) w = own_lawful from m.from m.body w valid up
 
       late : (b : Bool)
           → MatchBool b (Answers old new (answers.Early m.epoch old.epoch) a o)
           (MatchOption (place_of m.from.0 (members_of old.members)) (Answers old new answers.Foreign a o) (λ from. TakesOwn me from m.from m.body old new a o))
-          → IsLawfulHeld n new
+          → IsLawfulHeld me.0 n new
       late true w = same_lawful w.0
       late false w = at (place_of m.from.0 (members_of old.members)) w
 
@@ -221,7 +239,7 @@ module _ (n : ℕ) (old new : Held) (a : Taken) (o : Option Outgoing) (lawful : 
           → MatchBool b (Answers old new (answers.Late m.epoch old.epoch) a o)
           (MatchBool (nat_lt old.epoch.0 m.epoch.0) (Answers old new (answers.Early m.epoch old.epoch) a o)
           (MatchOption (place_of m.from.0 (members_of old.members)) (Answers old new answers.Foreign a o) (λ from. TakesOwn me from m.from m.body old new a o)))
-          → IsLawfulHeld n new
+          → IsLawfulHeld me.0 n new
       early true w = same_lawful w.0
       early false w = late (nat_lt old.epoch.0 m.epoch.0) w
 
@@ -237,14 +255,15 @@ other_kept msg old new a o valid z lawful = by (held_in (get old.dirs msg.dir)) 
         subst (λ b. BodyUpTo (max old.floor.time (if b then latest_in_message msg else 0)) msg.body) (sym is)
         (body_within (max old.floor.time (latest_in_message msg)) msg.body (omega arith))
 
-    by : (h : Option Held) → h ≡ held_in (get old.dirs msg.dir) → MatchOption h (Answers old new answers.NoReplica a o) (λ h. TakesAt msg old new h a o) → IsLawful new
+    by : (h : Option Held) → h ≡ held_in (get old.dirs msg.dir) → MatchOption h (Answers old new answers.NoReplica a o) (λ h. TakesAt msg old new h a o)
+        → IsLawful new
     by None is w = subst IsLawful (sym w.0) lawful
     by (Some h) is w =
         let le : old.floor.time ≤ max old.floor.time (if is_taken a then latest_in_message msg else 0) = omega arith in
         subst IsLawful (sym w.after)
         (kept_at old msg.dir h w.held (record { time = max old.floor.time (if is_taken a then latest_in_message msg else 0) }) is le
-        (λ l. here_lawful (max old.floor.time (if is_taken a then latest_in_message msg else 0)) h w.held a o
-        (lawful_later old.floor.time (max old.floor.time (if is_taken a then latest_in_message msg else 0)) h le l) old.house msg w.takes valid up) lawful)
+        (λ l. here_lawful old.house (max old.floor.time (if is_taken a then latest_in_message msg else 0)) h w.held a o
+        (lawful_later old.house.0 old.floor.time (max old.floor.time (if is_taken a then latest_in_message msg else 0)) h le l) msg w.takes valid up) lawful)
 
 -- a copy is had
 copy_kept : (msg : Message) (ms : List declared.Member) (r : Replica) (old new : Clearinghouse) (floor : Floor) → old.floor.time ≤ floor.time
@@ -255,13 +274,13 @@ copy_kept msg ms r old new floor le valid below has lawful = by_held (held_in (g
     over z =
         subst (λ (c : Clearinghouse). IsLawful (record c { floor = floor })) (sym z)
         (house_lawful old msg.dir floor (state.Held (copy_of msg.epoch ms r)) le
-        (λ h is. let same : copy_of msg.epoch ms r ≡ h = cc in subst (IsLawfulHeld floor.time) same
+        (λ h is. let same : copy_of msg.epoch ms r ≡ h = cc in subst (IsLawfulHeld old.house.0 floor.time) same
         (record { valid = valid; replica = below; skulk = λ t none. absurd (let e = none in cc) })) lawful)
 
-    merged : (h held : Held) → JoinsCopy msg.epoch ms r h held → IsLawfulHeld old.floor.time h → IsLawfulHeld floor.time held
+    merged : (h held : Held) → JoinsCopy msg.epoch ms r h held → IsLawfulHeld old.house.0 old.floor.time h → IsLawfulHeld old.house.0 floor.time held
     merged h held j low =
-        let l = lawful_later old.floor.time floor.time h le low in
-        subst (IsLawfulHeld floor.time) (sym j.rest)
+        let l = lawful_later old.house.0 old.floor.time floor.time h le low in
+        subst (IsLawfulHeld old.house.0 floor.time) (sym j.rest)
         (record {
           valid = j.replica.valid l.valid valid;
           replica = j.replica.below floor.time l.valid valid l.replica below;
@@ -283,13 +302,15 @@ copy_kept msg ms r old new floor le valid below has lawful = by_held (held_in (g
     by_held (Some h) is z = by_term h is (nat_le (since_in (members_of ms) old.house.0 0) h.epoch.0) z
 
 -- a Join
-pub join_kept : (msg : Message) (ms : List declared.Member) (r : Replica) (old new : Clearinghouse) (a : Taken) (o : Option Outgoing) → msg.body ≡ body.Join ms r
+pub join_kept : (msg : Message) (ms : List declared.Member) (r : Replica) (old new : Clearinghouse) (a : Taken) (o : Option Outgoing)
+    → msg.body ≡ body.Join ms r
     → IsValidMessage msg → TakesJoin msg ms r old new a o → IsLawful old → IsLawful new
 join_kept msg ms r old new a o is valid z lawful = by (join_bar old.house.0 msg (members_of ms) (get old.dirs msg.dir)) z
   where
     by : (bar : Option Taken) → MatchOption bar (HasJoined msg ms r old new a o) (λ answer. Answers old new answer a o) → IsLawful new
     by None w =
-        let times : BodyUpTo (max old.floor.time (latest_in_message msg)) msg.body = body_within (max old.floor.time (latest_in_message msg)) msg.body (omega arith) in
+        let times : BodyUpTo (max old.floor.time (latest_in_message msg)) msg.body =
+        body_within (max old.floor.time (latest_in_message msg)) msg.body (omega arith) in
         subst IsLawful (sym w.after)
         (copy_kept msg ms r old w.between (record { time = max old.floor.time (latest_in_message msg) }) (omega arith) (subst IsValidBody is valid)
         (subst (BodyUpTo (max old.floor.time (latest_in_message msg))) is times) w.has lawful)
@@ -302,5 +323,6 @@ leave_kept msg old new a o z lawful = by (leave_passed msg.epoch (get old.dirs m
     by : (passed : Option EpochNo) → MatchOption passed (HasLeft msg old new a o) (λ e. Answers old new (answers.Late msg.epoch e) a o) → IsLawful new
     by None w =
         subst IsLawful (sym w.after)
-        (house_lawful old msg.dir (record { time = max old.floor.time msg.floor }) (state.Gone msg.epoch) (omega arith) (λ h is. absurd (let e = is in cc)) lawful)
+        (house_lawful old msg.dir (record { time = max old.floor.time msg.floor }) (state.Gone msg.epoch) (omega arith)
+        (λ h is. absurd (let e = is in cc)) lawful)
     by (Some e) w = subst IsLawful (sym w.0) lawful

@@ -1,6 +1,7 @@
 mod MemberLists
 mod Maps
 mod Posts
+mod Encoding
 mod Phases
 mod TakeSteps
 mod JoinSteps
@@ -12,4 +13,6 @@ mod Takings
 mod Entering
 mod Keeping
 mod Does
-mod Starting
+pub mod Starting
+pub mod Restarting
+pub mod Looks

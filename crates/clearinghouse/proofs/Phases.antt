@@ -1,5 +1,6 @@
 -- Rounds of skulks: the places whose bits are set, and the houses that the model names.
-use Rattle.std.proofs.Common.{◌≡◌, ℕ, zero, suc, ◌+◌, ◌<◌, ◌≤◌, Bool, true, false, ◌&&◌, ◌||◌, ◌==◌, cond, List, [], ◌∷◌, length, map, Option, Some, None, MatchBool}
+use Rattle.std.proofs.Common.{◌≡◌, ℕ, zero, suc, ◌+◌, ◌<◌, ◌≤◌, Bool, true, false, ◌&&◌, ◌||◌, ◌==◌, cond, List, [], ◌∷◌, length, map, Option, Some}
+use Rattle.std.proofs.Common.{None, MatchBool}
 use Rattle.std.proofs.Common.{refl, sym, ap, subst, ◌∙◌, arith}
 use Rattle.std.specs.Prelude.{slice_get, nat_lt, unwrap_or, if◌then◌else◌}
 use Rattle.std.specs.List.{position_from}
@@ -31,19 +32,22 @@ use Rattle.clearinghouse.specs.Standing.{StandsRound, StandsPhase}
 -- ---- places of houses
 
 -- the houses of an ordered list are not below the least that may come
-above : (place least : ℕ) (ms : List Member) → first_unordered place least ms ≡ None → (p : ℕ) (m : Member) → slice_get ms p ≡ Some m → least ≤ m.house
+pub above : (place least : ℕ) (ms : List Member) → first_unordered place least ms ≡ None → (p : ℕ) (m : Member) → slice_get ms p ≡ Some m → least ≤ m.house
 above place least [] h p m is = absurd (cc)
 above place least (y ∷ ys) h p m is = by (above (place + 1) (y.house + 1) ys) (nat_lt y.house least) refl p is
   where
-    by : (first_unordered (place + 1) (y.house + 1) ys ≡ None → (p : ℕ) (m : Member) → slice_get ys p ≡ Some m → y.house + 1 ≤ m.house) → (b : Bool) → nat_lt y.house least ≡ b → (p : ℕ) → slice_get (y ∷ ys) p ≡ Some m → least ≤ m.house
-    by more true low p is = absurd (let e : Some place ≡ None = ap (λ b. cond b (Some place) (first_unordered (place + 1) (y.house + 1) ys)) (sym low) ∙ h in cc)
+    by : (first_unordered (place + 1) (y.house + 1) ys ≡ None → (p : ℕ) (m : Member) → slice_get ys p ≡ Some m → y.house + 1 ≤ m.house) → (b : Bool)
+        → nat_lt y.house least ≡ b → (p : ℕ) → slice_get (y ∷ ys) p ≡ Some m → least ≤ m.house
+    by more true low p is = absurd (let e : Some place ≡ None = ap (λ b. cond b (Some place) (first_unordered (place + 1) (y.house + 1) ys)) (sym low)
+        ∙ h in cc)
     by more false low zero is = let same : y ≡ m = cc in let e = ap (λ (x : Member). x.house) same in grind (arith, nat_tests)
     by more false low (suc q) is =
         let rest : first_unordered (place + 1) (y.house + 1) ys ≡ None =
         ap (λ b. cond b (Some place) (first_unordered (place + 1) (y.house + 1) ys)) (sym low) ∙ h in
         let high = more rest q m is in grind (arith, nat_tests)
 
-rest_ordered : (place least : ℕ) (y : Member) (ys : List Member) → first_unordered place least (y ∷ ys) ≡ None → first_unordered (place + 1) (y.house + 1) ys ≡ None
+pub rest_ordered : (place least : ℕ) (y : Member) (ys : List Member) → first_unordered place least (y ∷ ys) ≡ None
+    → first_unordered (place + 1) (y.house + 1) ys ≡ None
 rest_ordered place least y ys h = by (nat_lt y.house least) refl
   where
     by : (b : Bool) → nat_lt y.house least ≡ b → first_unordered (place + 1) (y.house + 1) ys ≡ None
@@ -93,7 +97,8 @@ from_found : (x i k : ℕ) (ms : List Member) → position_from (λ (m : Member)
 from_found x i k [] h = absurd (cc)
 from_found x i k (y ∷ ys) h = by (from_found x (i + 1) k ys) (y.house == x) refl
   where
-    by : (position_from (λ (m : Member). m.house == x) (i + 1) ys ≡ Some k → is_listed x ys ≡ true) → (b : Bool) → (y.house == x) ≡ b → is_listed x (y ∷ ys) ≡ true
+    by : (position_from (λ (m : Member). m.house == x) (i + 1) ys ≡ Some k → is_listed x ys ≡ true) → (b : Bool) → (y.house == x) ≡ b
+        → is_listed x (y ∷ ys) ≡ true
     by rest true is = ap (λ b. b || is_listed x ys) is
     by rest false is =
         ap (λ b. b || is_listed x ys) is ∙ rest (ap (λ b. cond b (Some i) (position_from (λ (m : Member). m.house == x) (i + 1) ys)) (sym is) ∙ h)
@@ -119,9 +124,12 @@ place_listed x ms is = let w = listed_from x 0 ms is in rw w.1 refl
 tie : (x i k place least : ℕ) (ms : List Member) → first_unordered place least ms ≡ None → position_from (λ (m : Member). m.house == x) i ms ≡ Some k
     → (p : ℕ) (m : Member) → slice_get ms p ≡ Some m → (i + p == k) ≡ (m.house == x)
 tie x i k place least [] sorted h p m is = absurd (cc)
-tie x i k place least (y ∷ ys) sorted h p m is = by (tie x (i + 1) k (place + 1) (y.house + 1) ys (rest_ordered place least y ys sorted)) (y.house == x) refl p is
+tie x i k place least (y ∷ ys) sorted h p m is =
+    by (tie x (i + 1) k (place + 1) (y.house + 1) ys (rest_ordered place least y ys sorted)) (y.house == x) refl p is
   where
-    by : (position_from (λ (m : Member). m.house == x) (i + 1) ys ≡ Some k → (p : ℕ) (m : Member) → slice_get ys p ≡ Some m → (i + 1 + p == k) ≡ (m.house == x)) → (b : Bool) → (y.house == x) ≡ b → (p : ℕ) → slice_get (y ∷ ys) p ≡ Some m → (i + p == k) ≡ (m.house == x)
+    by : (position_from (λ (m : Member). m.house == x) (i + 1) ys ≡ Some k → (p : ℕ) (m : Member) → slice_get ys p ≡ Some m
+        → (i + 1 + p == k) ≡ (m.house == x))
+        → (b : Bool) → (y.house == x) ≡ b → (p : ℕ) → slice_get (y ∷ ys) p ≡ Some m → (i + p == k) ≡ (m.house == x)
     by rest true here zero is =
         let e : Some i ≡ Some k = ap (λ b. cond b (Some i) (position_from (λ (m : Member). m.house == x) (i + 1) ys)) (sym here) ∙ h in
         let same : i ≡ k = cc in let own : y ≡ m = cc in
@@ -177,10 +185,10 @@ all_set me (y ∷ ys) test answered places =
     by false = refl
 
 module _ (me : ℕ) (ms : List Member) (lawful : members_fault ms ≡ None) where
-  ordered : first_unordered 1 0 ms ≡ None
+  pub ordered : first_unordered 1 0 ms ≡ None
   ordered = (no_members_fault ms lawful).2
 
-  at_place : (x k : ℕ) → place_of x ms ≡ Some k → (p : ℕ) (m : Member) → slice_get ms p ≡ Some m → (p == k) ≡ (m.house == x)
+  pub at_place : (x k : ℕ) → place_of x ms ≡ Some k → (p : ℕ) (m : Member) → slice_get ms p ≡ Some m → (p == k) ≡ (m.house == x)
   at_place x k is p m got = ap (λ n. n == k) (let same : p ≡ 0 + p = omega arith in same) ∙ tie x 0 k 1 0 ms ordered is p m got
 
   -- one more has answered
@@ -217,6 +225,13 @@ same_running me ms (skulk.Gathering t mask) (model.Spreading u answered) h = eli
 same_running me ms (skulk.Spreading t mask) model.Idle h = elim h [ ]
 same_running me ms (skulk.Spreading t mask) (model.Gathering u answered) h = elim h [ ]
 
+-- a house whose first round runs is listed
+pub phase_listed : (me : ℕ) (ms : List Member) (s : Skulk) (u : Stamp) (answered : List ℕ) → StandsPhase me ms s (model.Gathering u answered)
+    → is_listed me ms ≡ true
+phase_listed me ms skulk.Idle u answered h = elim h [ ]
+phase_listed me ms (skulk.Gathering t mask) u answered h = h.listed
+phase_listed me ms (skulk.Spreading t mask) u answered h = elim h [ ]
+
 -- ---- answers, in the program and in the model
 
 -- an answer of the first round: it is stale; it is merged in, and the house waits on; or the second round begins
@@ -226,7 +241,8 @@ pub data GatherRow (now : model.House) (m : model.Message) (t : Stamp) (c : mode
   waits : (q : model.Phase) → turn.take_gathered now m t c r p ≡ turn.taken now m (model.Held (record (turn.merged r c) { phase = q })) []
       → StandsPhase m.receiver r.members phase q → n ≡ next.Nothing → GatherRow now m t c r p old phase n
   spreads : turn.take_gathered now m t c r p
-      ≡ turn.taken now m (model.Held (record (turn.merged r c) { phase = model.Spreading t [] })) (turn.to_others now m r (model.Spread t (turn.copy_of (turn.merged r c))))
+      ≡ turn.taken now m (model.Held (record (turn.merged r c) { phase = model.Spreading t [] }))
+      (turn.to_others now m r (model.Spread t (turn.copy_of (turn.merged r c))))
       → StandsPhase m.receiver r.members phase (model.Spreading t []) → n ≡ next.SendSpread → GatherRow now m t c r p old phase n
 
 -- an answer of the second round: it is stale; the house waits on; or the skulk is complete
@@ -235,7 +251,8 @@ pub data AckRow (now : model.House) (m : model.Message) (t : Stamp) (r : model.R
   waits : (q : model.Phase) → turn.take_ack now m t r p ≡ turn.taken now m (model.Held (record r { phase = q })) []
       → StandsPhase m.receiver r.members phase q → n ≡ next.Nothing → AckRow now m t r p old phase n
   completes : turn.take_ack now m t r p
-      ≡ turn.takes now m (model.Held (record r { all_up_to = turn.raised r.all_up_to t; phase = model.Idle })) (turn.to_others now m r (model.Advance t)) (commands.Complete t)
+      ≡ turn.takes now m (model.Held (record r { all_up_to = turn.raised r.all_up_to t; phase = model.Idle })) (turn.to_others now m r (model.Advance t))
+      (commands.Complete t)
       → phase ≡ skulk.Idle → n ≡ next.Complete t → AckRow now m t r p old phase n
 
 module _ (now : model.House) (m : model.Message) (t : Stamp) (r : model.Replica) (from mine : ℕ) (lawful : members_fault r.members ≡ None)
@@ -253,11 +270,24 @@ module _ (now : model.House) (m : model.Message) (t : Stamp) (r : model.Replica)
       all_set m.receiver r.members (also mask from) (m.sender ∷ answered) (one_more m.receiver r.members lawful mask answered m.sender from here round.places)
 
   module _ (c : model.Copy) where
+    -- an answer of the round that runs, by whether it was the last one missing
     abbrev gathered_or : Stamp → List ℕ → Bool → HouseStep
     gathered_or u answered b =
         if b
-        then turn.taken now m (model.Held (record (turn.merged r c) { phase = model.Spreading u [] })) (turn.to_others now m r (model.Spread u (turn.copy_of (turn.merged r c))))
+        then turn.taken now m (model.Held (record (turn.merged r c) { phase = model.Spreading u [] }))
+        (turn.to_others now m r (model.Spread u (turn.copy_of (turn.merged r c))))
         else turn.taken now m (model.Held (record (turn.merged r c) { phase = model.Gathering u answered })) []
+
+    -- by whether it is of the round that runs
+    abbrev answered_or : Stamp → List ℕ → Bool → HouseStep
+    answered_or u answered b =
+        if b then gathered_or u (m.sender ∷ answered) (all_answered (others_of m.receiver r.members) (m.sender ∷ answered))
+        else turn.stale t (model.Gathering u answered)
+
+    -- what becomes of the phase, by whether all have answered
+    abbrev Goes : Stamp → MemberMask → Skulk → Next → Bool → Type 0
+    Goes s mask phase n b =
+        MatchBool b (IsSpreading s (only mine) phase × (n ≡ next.SendSpread)) (IsGathering s (also mask from) phase × (n ≡ next.Nothing))
 
     gathers : (s u : Stamp) (mask : MemberMask) (answered : List ℕ) (phase : Skulk) (n : Next) → StandsRound m.receiver r.members s mask u answered
         → is_stamp t s ≡ true → (all : Bool) → each_place (length r.members) (also mask from) ≡ all
@@ -266,9 +296,9 @@ module _ (now : model.House) (m : model.Message) (t : Stamp) (r : model.Replica)
     gathers s u mask answered phase n round same true all does =
         let it : t ≡ u = stamp_from t s same ∙ round.stamp in
         let w : IsSpreading s (only mine) phase × (n ≡ next.SendSpread) =
-        subst (λ b. MatchBool b (IsSpreading s (only mine) phase × (n ≡ next.SendSpread)) (IsGathering s (also mask from) phase × (n ≡ next.Nothing))) all does in
+        subst (Goes s mask phase n) all does in
         spreads
-        (ap (λ b. if b then gathered_or u (m.sender ∷ answered) (all_answered (others_of m.receiver r.members) (m.sender ∷ answered)) else turn.stale t (model.Gathering u answered))
+        (ap (answered_or u answered)
         (ap (is_stamp t) (sym round.stamp) ∙ same)
         ∙ ap (gathered_or u (m.sender ∷ answered)) (sym (all_answers s u mask answered round) ∙ all)
         ∙ ap (λ v. gathered_or v (m.sender ∷ answered) true) (sym it))
@@ -278,9 +308,9 @@ module _ (now : model.House) (m : model.Message) (t : Stamp) (r : model.Replica)
         w.1
     gathers s u mask answered phase n round same false all does =
         let w : IsGathering s (also mask from) phase × (n ≡ next.Nothing) =
-        subst (λ b. MatchBool b (IsSpreading s (only mine) phase × (n ≡ next.SendSpread)) (IsGathering s (also mask from) phase × (n ≡ next.Nothing))) all does in
+        subst (Goes s mask phase n) all does in
         waits (model.Gathering u (m.sender ∷ answered))
-        (ap (λ b. if b then gathered_or u (m.sender ∷ answered) (all_answered (others_of m.receiver r.members) (m.sender ∷ answered)) else turn.stale t (model.Gathering u answered))
+        (ap (answered_or u answered)
         (ap (is_stamp t) (sym round.stamp) ∙ same)
         ∙ ap (gathered_or u (m.sender ∷ answered)) (sym (all_answers s u mask answered round) ∙ all))
         (subst (λ x. StandsPhase m.receiver r.members x (model.Gathering u (m.sender ∷ answered))) (sym w.0.round)
@@ -303,7 +333,7 @@ module _ (now : model.House) (m : model.Message) (t : Stamp) (r : model.Replica)
         by true same does = gathers s u mask answered phase n h same (each_place (length r.members) (also mask from)) refl does
         by false other does =
             stale
-            (ap (λ b. if b then gathered_or u (m.sender ∷ answered) (all_answered (others_of m.receiver r.members) (m.sender ∷ answered)) else turn.stale t (model.Gathering u answered))
+            (ap (answered_or u answered)
             (ap (is_stamp t) (sym h.stamp) ∙ other))
             (does.1 ∙ ap (λ v. next.Stale (Some v)) h.stamp)
     gather_row (skulk.Spreading s mask) phase (model.Spreading u answered) n is h does = by (is_stamp t s) refl does
@@ -325,11 +355,19 @@ module _ (now : model.House) (m : model.Message) (t : Stamp) (r : model.Replica)
     gather_row (skulk.Spreading s mask) phase model.Idle n is h does = elim h [ ]
     gather_row (skulk.Spreading s mask) phase (model.Gathering u answered) n is h does = elim h [ ]
 
+  -- an answer of the second round, by whether it was the last one missing
   abbrev spread_or : Stamp → List ℕ → Bool → HouseStep
   spread_or u answered b =
       if b
-      then turn.takes now m (model.Held (record r { all_up_to = turn.raised r.all_up_to u; phase = model.Idle })) (turn.to_others now m r (model.Advance u)) (commands.Complete u)
+      then turn.takes now m (model.Held (record r { all_up_to = turn.raised r.all_up_to u; phase = model.Idle })) (turn.to_others now m r (model.Advance u))
+      (commands.Complete u)
       else turn.taken now m (model.Held (record r { phase = model.Spreading u answered })) []
+
+  -- by whether it is of the round that runs
+  abbrev acked_or : Stamp → List ℕ → Bool → HouseStep
+  acked_or u answered b =
+      if b then spread_or u (m.sender ∷ answered) (all_answered (others_of m.receiver r.members) (m.sender ∷ answered))
+      else turn.stale t (model.Spreading u answered)
 
   acks : (s u : Stamp) (mask : MemberMask) (answered : List ℕ) (phase : Skulk) (n : Next) → StandsRound m.receiver r.members s mask u answered
       → is_stamp t s ≡ true → (all : Bool) → each_place (length r.members) (also mask from) ≡ all
@@ -340,7 +378,7 @@ module _ (now : model.House) (m : model.Message) (t : Stamp) (r : model.Replica)
       let w : (phase ≡ skulk.Idle) × (n ≡ next.Complete s) =
       subst (λ b. MatchBool b ((phase ≡ skulk.Idle) × (n ≡ next.Complete s)) (IsSpreading s (also mask from) phase × (n ≡ next.Nothing))) all does in
       completes
-      (ap (λ b. if b then spread_or u (m.sender ∷ answered) (all_answered (others_of m.receiver r.members) (m.sender ∷ answered)) else turn.stale t (model.Spreading u answered))
+      (ap (acked_or u answered)
       (ap (is_stamp t) (sym round.stamp) ∙ same)
       ∙ ap (spread_or u (m.sender ∷ answered)) (sym (all_answers s u mask answered round) ∙ all)
       ∙ ap (λ v. spread_or v (m.sender ∷ answered) true) (sym it))
@@ -350,7 +388,7 @@ module _ (now : model.House) (m : model.Message) (t : Stamp) (r : model.Replica)
       let w : IsSpreading s (also mask from) phase × (n ≡ next.Nothing) =
       subst (λ b. MatchBool b ((phase ≡ skulk.Idle) × (n ≡ next.Complete s)) (IsSpreading s (also mask from) phase × (n ≡ next.Nothing))) all does in
       waits (model.Spreading u (m.sender ∷ answered))
-      (ap (λ b. if b then spread_or u (m.sender ∷ answered) (all_answered (others_of m.receiver r.members) (m.sender ∷ answered)) else turn.stale t (model.Spreading u answered))
+      (ap (acked_or u answered)
       (ap (is_stamp t) (sym round.stamp) ∙ same)
       ∙ ap (spread_or u (m.sender ∷ answered)) (sym (all_answers s u mask answered round) ∙ all))
       (subst (λ x. StandsPhase m.receiver r.members x (model.Spreading u (m.sender ∷ answered))) (sym w.0.round)
@@ -382,7 +420,7 @@ module _ (now : model.House) (m : model.Message) (t : Stamp) (r : model.Replica)
       by true same does = acks s u mask answered phase n h same (each_place (length r.members) (also mask from)) refl does
       by false other does =
           stale
-          (ap (λ b. if b then spread_or u (m.sender ∷ answered) (all_answered (others_of m.receiver r.members) (m.sender ∷ answered)) else turn.stale t (model.Spreading u answered))
+          (ap (acked_or u answered)
           (ap (is_stamp t) (sym h.stamp) ∙ other))
           (does.1 ∙ ap (λ v. next.Stale (Some v)) h.stamp)
           does.0
@@ -407,7 +445,7 @@ others_all x (y ∷ ys) h = by (others_all x ys) (y.house == x) refl
         ap (λ b. if b then others_of x ys else y.house ∷ others_of x ys) is
         ∙ ap (λ hs. y.house ∷ hs) (rest (ap (λ b. b || is_listed x ys) (sym is) ∙ h))
 
-rest_unlisted : (place x : ℕ) (ys : List Member) → first_unordered place (x + 1) ys ≡ None → is_listed x ys ≡ false
+pub rest_unlisted : (place x : ℕ) (ys : List Member) → first_unordered place (x + 1) ys ≡ None → is_listed x ys ≡ false
 rest_unlisted place x ys sorted = by (is_listed x ys) refl
   where
     by : (b : Bool) → is_listed x ys ≡ b → b ≡ false
@@ -422,7 +460,8 @@ count_others : (x place least : ℕ) (ms : List Member) → first_unordered plac
 count_others x place least [] sorted h = absurd (cc)
 count_others x place least (y ∷ ys) sorted h = by (count_others x (place + 1) (y.house + 1) ys (rest_ordered place least y ys sorted)) (y.house == x) refl
   where
-    by : (is_listed x ys ≡ true → suc (length (others_of x ys)) ≡ length ys) → (b : Bool) → (y.house == x) ≡ b → suc (length (others_of x (y ∷ ys))) ≡ suc (length ys)
+    by : (is_listed x ys ≡ true → suc (length (others_of x ys)) ≡ length ys) → (b : Bool) → (y.house == x) ≡ b
+        → suc (length (others_of x (y ∷ ys))) ≡ suc (length ys)
     by rest true is =
         let same : y.house ≡ x = eq_from y.house x is in
         ap (λ b. suc (length (if b then others_of x ys else y.house ∷ others_of x ys))) is
@@ -451,7 +490,8 @@ begin_row me mine ms t phase n lawful here does = by (length ms == 1) refl does 
     by : (b : Bool) → (length ms == 1) ≡ b → MatchBool b ((phase ≡ skulk.Idle) × (n ≡ next.Complete t)) (IsGathering t (only mine) phase × (n ≡ next.Nothing))
         → (hs : List ℕ) → others_of me ms ≡ hs → BeginRow me ms t phase n
     by true one does [] is = complete is does.0 does.1
-    by true one does (y ∷ ys) is = absurd (let many : suc (suc (length ys)) ≡ length ms = ap (λ hs. suc (length hs)) (sym is) ∙ counted in grind (arith, nat_tests))
+    by true one does (y ∷ ys) is = absurd (let many : suc (suc (length ys)) ≡ length ms = ap (λ hs. suc (length hs)) (sym is)
+        ∙ counted in grind (arith, nat_tests))
     by false one does [] is = absurd (let few : 1 ≡ length ms = ap (λ (hs : List ℕ). suc (length hs)) (sym is) ∙ counted in grind (arith, nat_tests))
     by false one does (y ∷ ys) is =
         begun y ys is

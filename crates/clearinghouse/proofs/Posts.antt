@@ -1,5 +1,6 @@
 -- What a house posts: the loop over its members, and the messages of the model for which posted ones stand.
-use Rattle.std.proofs.Common.{◌≡◌, ℕ, true, false, cond, List, [], ◌∷◌, ◌++◌, Option, Some, None, Result, Ok, refl, sym, ap, subst, ◌∙◌, append_assoc, append-nil}
+use Rattle.std.proofs.Common.{◌≡◌, ℕ, true, false, cond, List, [], ◌∷◌, ◌++◌, Option, Some, None, Result, Ok, refl, sym, ap, subst, ◌∙◌, append_assoc}
+use Rattle.std.proofs.Common.{append-nil}
 use Rattle.std.specs.Prelude.{◌==◌}
 use Rattle.cds_stamps.specs.declared.members.Member.{Member}
 use Rattle.cds_stamps.specs.declared.numbers.EpochNo.{EpochNo}
@@ -22,7 +23,8 @@ use Rattle.clearinghouse.specs.declared.house.Clearinghouse.{Clearinghouse}
 use Rattle.clearinghouse.specs.declared.skulks.Begun.{Begun}
 use Rattle.clearinghouse.specs.declared.skulks.Begun.TheVariants as begun
 use Rattle.clearinghouse.specs.Stepping.{begun_outgoing}
-use Rattle.clearinghouse.specs.Posting.{posts_at, sender_of, posts_to, posts_of, posts_if, body_of, message_of, leave_of, receivers_of, receiver_of, numbers_of, StandsBody, StandEach}
+use Rattle.clearinghouse.specs.Posting.{posts_at, sender_of, posts_to, posts_of, posts_if, body_of, message_of, leave_of, receivers_of, receiver_of}
+use Rattle.clearinghouse.specs.Posting.{numbers_of, StandsBody, StandEach}
 
 -- what is posted to the members so far and to the rest is all
 pub record PostsRest (m : Message) (all rest : List Member) (posted : List Posted) : Type 0 where

@@ -1,8 +1,9 @@
 -- A house that starts of an image.
-use Rattle.std.proofs.Common.{◌≡◌, ℕ, ◌<◌, ◌≤◌, Bool, true, false, cond, List, [], ◌∷◌, length, max, Option, Some, None, Result, Ok, Err, refl, sym, ap, subst, ◌∙◌, arith}
+use Rattle.std.proofs.Common.{◌≡◌, ℕ, ◌<◌, ◌≤◌, Bool, true, false, cond, List, [], ◌∷◌, length, max, Option, Some, None, Result, Ok, Err, refl, sym}
+use Rattle.std.proofs.Common.{ap, subst, ◌∙◌, arith}
 use Rattle.std.specs.Prelude.{◌+◌, IfOk, IfSome, map, if◌then◌else◌}
 use Rattle.std.specs.Option.{option_map}
-use Rattle.std.specs.FinMap.{entries, find, get, get-entries}
+use Rattle.std.specs.FinMap.{FinMap, entries, find, from_entries, get, get-entries}
 use Rattle.std.specs.BTreeMap.{is_at}
 use Rattle.cds_stamps.specs.declared.alloc_or.AllocOr.{AllocOr}
 use Rattle.cds_stamps.specs.declared.alloc_or.AllocOr.TheVariants.{Fault}
@@ -30,14 +31,15 @@ use Rattle.clearinghouse.specs.declared.house.Clearinghouse.{Clearinghouse}
 use Rattle.clearinghouse.specs.declared.images.StartFault.TheVariants.{BadImage}
 use Rattle.clearinghouse.specs.declared.states.DirState.{DirState}
 use Rattle.clearinghouse.specs.declared.states.DirState.TheVariants as state
-use Rattle.clearinghouse.specs.Imaging.{image_of, kept_of, started, started_from, started_of, starting}
+use Rattle.clearinghouse.specs.Imaging.{image_of, kept_of, restarted, started, started_from, started_of, starting}
 use Rattle.clearinghouse.specs.Lawful.{IsLawful, IsLawfulHeld}
 use Rattle.clearinghouse.specs.Times.{latest_in_image, latest_in_kept}
 
 -- ---- answers
 
 -- a fault is handed on
-pub fault_is : (octets : List ℕ) (r : Result (Image × ℕ) (AllocOr RecordFault)) (e : AllocOr RecordFault) (fault : RecordFault) → Decodes image octets r → r ≡ Err e → e ≡ Fault fault
+pub fault_is : (octets : List ℕ) (r : Result (Image × ℕ) (AllocOr RecordFault)) (e : AllocOr RecordFault) (fault : RecordFault) → Decodes image octets r
+    → r ≡ Err e → e ≡ Fault fault
     → started octets ≡ Err (BadImage fault)
 fault_is octets r e fault decodes is named =
     ap (starting octets) (subst (λ r. Answers r (decoding image octets)) (is ∙ ap Err named) (answers_decoding image octets r decodes))
@@ -81,21 +83,34 @@ found_below f q (e ∷ es) x is = by (is_at (dir_cmp q) e.0) (found_below f q es
     by true rest is = let same : e.1 ≡ x = cc in subst (λ y. f y ≤ max (f e.1) (greatest_of (λ e. f e.1) es)) same (omega arith)
     by false rest is = let w = rest is in omega (arith, w)
 
-abbrev IsLawfulState : ℕ → DirState → Type 0
-IsLawfulState n (state.Held h) = IsLawfulHeld n h
-IsLawfulState n (state.Gone e) = Unit {0}
+abbrev IsLawfulState : (me n : ℕ) → DirState → Type 0
+IsLawfulState me n (state.Held h) = IsLawfulHeld me n h
+IsLawfulState me n (state.Gone e) = Unit {0}
+
+-- what a map of mapped values has at a directory
+got_mapped : {X Y : Type 0} (f : X → Y) (m : FinMap dir_cmp X) (q : DirId)
+    → get (from_entries {R = dir_cmp} (map (λ e. (e.0, f e.1)) (entries m))) q ≡ option_map f (get m q)
+got_mapped f m q =
+    get-entries (from_entries {R = dir_cmp} (map (λ e. (e.0, f e.1)) (entries m))) q
+    ∙ ap (find dir_cmp q) (entries_mapped dir_total dir_exact f m)
+    ∙ find_mapped f q (entries m) ∙ ap (option_map f) (sym (get-entries m q))
+
+-- what the image of a clearinghouse keeps of a directory
+pub got_kept : (c : Clearinghouse) (q : DirId) → get (image_of c).dirs q ≡ option_map kept_of (get c.dirs q)
+got_kept c q = got_mapped kept_of c.dirs q
+
+-- what the clearinghouse that starts of an image has of a directory
+pub got_started : (i : Image) (q : DirId) → get (started_from i).dirs q ≡ option_map started_of (get i.dirs q)
+got_started i q = got_mapped started_of i.dirs q
 
 -- a house that starts is lawful
 pub started_lawful : (i : Image) → IsValidImage i → IsLawful (started_from i)
 started_lawful i valid dir h got = at (get i.dirs dir) refl
   where
     read : get (started_from i).dirs dir ≡ option_map started_of (get i.dirs dir)
-    read =
-        get-entries (started_from i).dirs dir
-        ∙ ap (find dir_cmp dir) (entries_mapped dir_total dir_exact started_of i.dirs)
-        ∙ find_mapped started_of dir (entries i.dirs) ∙ ap (option_map started_of) (sym (get-entries i.dirs dir))
+    read = got_started i dir
 
-    at : (o : Option ImageDir) → get i.dirs dir ≡ o → IsLawfulHeld (latest_in_image i) h
+    at : (o : Option ImageDir) → get i.dirs dir ≡ o → IsLawfulHeld i.house.0 (latest_in_image i) h
     at None is = absurd (let e : None ≡ Some (state.Held h) = sym (read ∙ ap (option_map started_of) is) ∙ got in cc)
     at (Some (kept.Gone k)) is = absurd (let e : Some (state.Gone k) ≡ Some (state.Held h) = sym (read ∙ ap (option_map started_of) is) ∙ got in cc)
     at (Some (kept.Held k ms r)) is =
@@ -104,9 +119,9 @@ started_lawful i valid dir h got = at (get i.dirs dir) refl
         let low = found_below latest_in_kept dir (entries i.dirs) (kept.Held k ms r) (sym (get-entries i.dirs dir) ∙ is) in
         let fine : IsValidDir (kept.Held k ms r) = subst (λ o. IfSome o IsValidDir) is (valid dir) in
         let le : latest_time r ≤ latest_in_image i = omega (arith, low) in
-        let own : IsLawfulState (latest_in_image i) (started_of (kept.Held k ms r)) =
+        let own : IsLawfulState i.house.0 (latest_in_image i) (started_of (kept.Held k ms r)) =
         record { valid = fine; replica = (latest_time-≤ (latest_in_image i) r).0 le; skulk = λ t e. absurd (cc) } in
-        subst (IsLawfulState (latest_in_image i)) same own
+        subst (IsLawfulState i.house.0 (latest_in_image i)) same own
 
 -- ---- its own image
 
@@ -121,18 +136,14 @@ whole_starts i octets whole =
     by (Err f) h = absurd (cc)
 
 -- the image of a lawful house is valid
-image_valid : (c : Clearinghouse) → IsLawful c → IsValidImage (image_of c)
-image_valid c lawful q = subst (λ o. IfSome o IsValidDir) (sym read) (at (get c.dirs q) refl)
+pub image_valid : (c : Clearinghouse) → IsLawful c → IsValidImage (image_of c)
+image_valid c lawful q = subst (λ o. IfSome o IsValidDir) (sym (got_kept c q)) (at (get c.dirs q) refl)
   where
-    read : get (image_of c).dirs q ≡ option_map kept_of (get c.dirs q)
-    read =
-        get-entries (image_of c).dirs q ∙ ap (find dir_cmp q) (entries_mapped dir_total dir_exact kept_of c.dirs) ∙ find_mapped kept_of q (entries c.dirs)
-        ∙ ap (option_map kept_of) (sym (get-entries c.dirs q))
-
     at : (o : Option DirState) → get c.dirs q ≡ o → IfSome (option_map kept_of o) IsValidDir
     at None is = tt
     at (Some (state.Gone e)) is = tt
     at (Some (state.Held h)) is = (lawful q h is).valid
 
-pub image_starts : (c : Clearinghouse) → IsLawful c → FitsImage (image_of c) → started (image_octets (image_of c)) ≡ Ok (started_from (image_of c))
+-- the octets of the image of a lawful house start it again, if its numbers fit
+pub image_starts : (c : Clearinghouse) → IsLawful c → FitsImage (image_of c) → started (image_octets (image_of c)) ≡ Ok (restarted c)
 image_starts c lawful fits = whole_starts (image_of c) (image_octets (image_of c)) (the_image_whole (image_of c) (image_valid c lawful) fits)

@@ -43,7 +43,8 @@ use Rattle.clearinghouse.specs.declared.outgoing.Sender.{Sender}
 use Rattle.clearinghouse.specs.declared.taking.Taken.{Taken}
 use Rattle.clearinghouse.specs.declared.taking.Taken.TheVariants as taken
 use Rattle.clearinghouse.specs.Posting as posting
-use Rattle.clearinghouse.specs.Posting.{StandsBody, StandsCopy, StandsHead, StandsMessage, LooksBody, LooksMessage, StandEach, posts_if, receivers_of, receiver_of}
+use Rattle.clearinghouse.specs.Posting.{StandsBody, StandsCopy, StandsHead, StandsMessage, LooksBody, LooksMessage, StandEach, posts_if, receivers_of}
+use Rattle.clearinghouse.specs.Posting.{receiver_of}
 use Rattle.clearinghouse.specs.Standing.{LooksHeld, StandsHeld, StandsPhase}
 use Rattle.clearinghouse.specs.Stepping.{IsTakeAnswer}
 use Rattle.clearinghouse.specs.Times.{BodyUpTo, latest_in_body, latest_in_message}
@@ -146,12 +147,14 @@ module _ (me : HouseNo) (dir : DirId) (sender : HouseNo) (k fl : ℕ) (now : mod
   first : (t : Stamp) (rep : Replica) (c : model.Copy) → TakesFirst me from t rep old new a o
       → Core (body.Gathered t rep) (model.Gathered t c) (take_gathered now (message (model.Gathered t c)) t c r r.phase)
   first t rep c w = by_row
-      (gather_row now (message (model.Gathered t c)) t r from (place_in me old.members) (ap members_fault looks.members ∙ w.lawful) here own_place c old.skulk w.phase r.phase w.next refl
+      (gather_row now (message (model.Gathered t c)) t r from (place_in me old.members) (ap members_fault looks.members ∙ w.lawful)
+      here own_place c old.skulk w.phase r.phase w.next refl
       (subst (λ ms. StandsPhase me.0 ms old.skulk r.phase) (sym looks.members) looks.phase)
       (subst (λ n. TakesGathered t from n (place_in me old.members) old.skulk w.phase w.next) count w.does))
     where
       joins : (n : Next) (q : model.Phase) → JoinsAnswer t rep w.phase n old new a o → StandsPhase me.0 r.members w.phase q → (posts : List model.Message)
-          → take_gathered now (gathered_message t c) t c r r.phase ≡ takes now (gathered_message t c) (model.Held (record (merged r c) { phase = q })) posts command.Taken
+          → take_gathered now (gathered_message t c) t c r r.phase
+          ≡ takes now (gathered_message t c) (model.Held (record (merged r c) { phase = q })) posts command.Taken
           → (new.replica ≡ replica_of (merged r c).history (merged r c).all_up_to → StandEach (posts_if who (Some (state.Held new)) o) posts)
           → Core (body.Gathered t rep) (model.Gathered t c) (take_gathered now (gathered_message t c) t c r r.phase)
       joins n q j phase posts is each =
@@ -165,7 +168,8 @@ module _ (me : HouseNo) (dir : DirId) (sender : HouseNo) (k fl : ℕ) (now : mod
       by_row : GatherRow now (gathered_message t c) t c r r.phase old.skulk w.phase w.next
           → Core (body.Gathered t rep) (model.Gathered t c) (take_gathered now (gathered_message t c) t c r r.phase)
       by_row (phases.stale is n) =
-          let z : AfterGathered t rep w.phase (next.Stale (turn.running r.phase)) old new a o = subst (λ x. AfterGathered t rep w.phase x old new a o) n w.after in
+          let z : AfterGathered t rep w.phase (next.Stale (turn.running r.phase)) old new a o =
+          subst (λ x. AfterGathered t rep w.phase x old new a o) n w.after in
           stays (command.Stale t (turn.running r.phase)) is
           (subst (λ x. IsTakeAnswer x (command.Stale t (turn.running r.phase))) (sym z.1) (refl, refl))
           z.0 (ap (λ x. floor_taken x now.floor fl) z.1) z.2
@@ -183,7 +187,8 @@ module _ (me : HouseNo) (dir : DirId) (sender : HouseNo) (k fl : ℕ) (now : mod
   second : (t : Stamp) → TakesSecond from t old new a o
       → Core (body.SpreadAck t) (model.SpreadAck t) (take_ack now (message (model.SpreadAck t)) t r r.phase)
   second t w = by_row
-      (ack_row now (message (model.SpreadAck t)) t r from (place_in me old.members) (ap members_fault looks.members ∙ w.lawful) here own_place old.skulk new.skulk r.phase w.next refl
+      (ack_row now (message (model.SpreadAck t)) t r from (place_in me old.members) (ap members_fault looks.members ∙ w.lawful)
+      here own_place old.skulk new.skulk r.phase w.next refl
       (subst (λ ms. StandsPhase me.0 ms old.skulk r.phase) (sym looks.members) looks.phase)
       (subst (λ n. TakesSpread t from n old.skulk new.skulk w.next) count w.does))
     where
@@ -212,7 +217,8 @@ module _ (me : HouseNo) (dir : DirId) (sender : HouseNo) (k fl : ℕ) (now : mod
             phase = subst (λ x. StandsPhase me.0 (members_of old.members) x model.Idle) (sym idle) tt;
           }))
           (λ stands carries can held. replica_advanced old.replica new.replica r.history r.all_up_to t stands z.0)
-          (λ _. posts_others (out.Advance t) (model.SpreadAck t) (model.Advance t) z.3 refl (ap (λ (h : Held). h.epoch) z.1) (ap (λ (h : Held). h.members) z.1) refl)
+          (λ _. posts_others (out.Advance t) (model.SpreadAck t) (model.Advance t) z.3 refl (ap (λ (h : Held). h.epoch) z.1)
+          (ap (λ (h : Held). h.members) z.1) refl)
 
   -- ---- all of them
 
@@ -246,7 +252,8 @@ module _ (me : HouseNo) (dir : DirId) (sender : HouseNo) (k fl : ℕ) (now : mod
       turns (record r { all_up_to = raised r.all_up_to u }) [] command.Taken refl (answered z.2) (raises z.2)
       (looks_as (record old { replica = new.replica }) (record r { all_up_to = raised r.all_up_to u }) z.1
       (record { epoch = looks.epoch; members = looks.members; phase = looks.phase }))
-      (λ stands carries can held. replica_advanced old.replica new.replica r.history r.all_up_to u stands (subst (λ v. Advances old.replica v new.replica) w z.0))
+      (λ stands carries can held. replica_advanced old.replica new.replica r.history r.all_up_to u stands
+      (subst (λ v. Advances old.replica v new.replica) w z.0))
       (λ _. posts_nothing z.3)
   core (body.Join ms rep) (model.Join ns c) w z =
       stays command.Foreign refl (subst (λ x. IsTakeAnswer x command.Foreign) (sym z.1) tt) z.0.0 (ap (λ x. floor_taken x now.floor fl) z.1) z.0.1
@@ -270,10 +277,15 @@ module _ (me : HouseNo) (dir : DirId) (sender : HouseNo) (k fl : ℕ) (now : mod
       let replica = rep stands.replica carries can held in
       let w : FineSlot floor ((turn.holding now dir.0 floor (model.Held q)).slots dir.0) = subst (FineAfter dir.0) is fine in
       let f : Fine floor q = w q (put_same now.slots dir.0 (model.Held q)) in
+      let after : Turn = record { house = turn.holding now dir.0 floor (model.Held q); posts = posts; answer = answer; accepted = [] } in
       subst (λ x. HeldStep (IsTakeAnswer a) x now me dir old new (floor_taken a now.floor fl) o) (sym is) (
         ans,
-        subst (λ n. HeldTurn (record { house = turn.holding now dir.0 floor (model.Held q); posts = posts; answer = answer; accepted = [] }) now me dir new n o) (sym high)
-            (record { replica = q; house = refl; stands = record { looks = looks'; replica = replica; history = f.history; below = f.below }; each = each replica }),
+        subst (λ n. HeldTurn after now me dir new n o) (sym high) (record {
+          replica = q;
+          house = refl;
+          stands = record { looks = looks'; replica = replica; history = f.history; below = f.below };
+          each = each replica;
+        }),
       )
 
   looks_by : (b : Body) (c : model.Body) (s : HouseStep) → Core b c s → LooksAfter (IsTakeAnswer a) s now me.0 dir.0 new

@@ -17,7 +17,7 @@ use Rattle.clearinghouse.specs.declared.states.Held.{Held}
 use Rattle.clearinghouse.specs.declared.outgoing.Outgoing.{Outgoing}
 use Rattle.clearinghouse.specs.declared.taking.Taken.{Taken}
 use Rattle.clearinghouse.specs.declared.taking.Taken.TheVariants as answers
-use Rattle.clearinghouse.specs.PrivateTurns.{AfterGathered, JoinsAnswer, copy_of, held_in}
+use Rattle.clearinghouse.specs.PrivateTurns.{AfterGathered, AfterSpread, JoinsAnswer, copy_of, held_in}
 use Rattle.clearinghouse.specs.PrivateTaking.{HasCopy, Merges, Copies, join_foreign}
 use Rattle.clearinghouse.proofs.Phases.{placed, unlisted}
 
@@ -41,6 +41,14 @@ joins_answer t r phase next.Nothing old new a o fresh j = j
 joins_answer t r phase next.SendSpread old new a o fresh j = j
 joins_answer t r phase (next.Complete u) old new a o fresh j = j
 joins_answer t r phase (next.Stale s) old new a o fresh j = absurd (fresh s refl)
+
+-- an answer of the second round after which the house waits on
+pub waits_answer : (t : Stamp) (n : Next) (old new : Held) (a : Taken) (o : Option Outgoing) → ((s : Option Stamp) → n ≡ next.Stale s → ⊥)
+    → ((u : Stamp) → n ≡ next.Complete u → ⊥) → new ≡ record old { skulk = new.skulk } → a ≡ answers.Taken → o ≡ None → AfterSpread t n old new a o
+waits_answer t next.Nothing old new a o fresh more rest is none = (rest, is, none)
+waits_answer t next.SendSpread old new a o fresh more rest is none = (rest, is, none)
+waits_answer t (next.Stale s) old new a o fresh more rest is none = absurd (fresh s refl)
+waits_answer t (next.Complete u) old new a o fresh more rest is none = absurd (more u refl)
 
 -- what holds anyway holds after an error
 pub on_err_of : {T E : Type 0} (r : Result T E) (P : Type 0) → P → OnErr r P

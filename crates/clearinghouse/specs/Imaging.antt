@@ -41,6 +41,10 @@ started_from i =
       spent = false;
     }
 
+-- the clearinghouse that a crash and a start leave: it starts of what it kept (own)
+abbrev pub restarted : Clearinghouse → Clearinghouse
+restarted c = started_from (image_of c)
+
 -- what comes of octets that are to be the whole of an image: the house that starts of it, or the first fault; that octets follow it is the last (own)
 abbrev pub starting : List ℕ → Result (Image × ℕ) RecordFault → Result Clearinghouse StartFault
 starting octets (Err fault) = Err (BadImage fault)

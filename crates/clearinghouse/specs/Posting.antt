@@ -5,6 +5,11 @@ use Rattle.cds_stamps.specs.declared.numbers.DirId.{DirId}
 use Rattle.cds_stamps.specs.declared.numbers.EpochNo.{EpochNo}
 use Rattle.cds_stamps.specs.declared.numbers.HouseNo.{HouseNo}
 use Rattle.cds_stamps.specs.Members.{members_of, others_of}
+use Rattle.cds_records.specs.Decoding.{IsWhole}
+use Rattle.cds_records.specs.Octets.{message_octets}
+use Rattle.cds_records.specs.Records as records
+use Rattle.cds_records.specs.Validity.{IsValidMessage}
+use Rattle.cds_records.specs.declared.message.Head.{Head}
 use Rattle.cds_records.specs.declared.message.Message.{Message}
 use Rattle.cds_records.specs.declared.message.Body.{Body}
 use Rattle.cds_records.specs.declared.message.Body.TheVariants as body
@@ -12,6 +17,7 @@ use Rattle.purge_rule.specs.declared.replica.Replica.{Replica}
 use Rattle.purge_rule.specs.Replicas.{replica_of, IsFragmentOf}
 use Rattle.cell_model.specs.Cells as model
 use Rattle.clearinghouse.specs.declared.epochs.EpochRefusal.{EpochRefusal}
+use Rattle.clearinghouse.specs.declared.letters.Letters.{Letters}
 use Rattle.clearinghouse.specs.declared.posted.Posted.{Posted}
 use Rattle.clearinghouse.specs.declared.outgoing.Outgoing.{Outgoing}
 use Rattle.clearinghouse.specs.declared.outgoing.Outgoing.TheVariants as out
@@ -85,6 +91,17 @@ posts_at c dir o = posts_if (sender_of c dir) (get c.dirs dir) o
 abbrev pub epoch_posts_at : Clearinghouse → DirId → EpochNo → List HouseNo → Option EpochRefusal → List Posted
 epoch_posts_at c dir k leaving None = posts_at c dir (Some out.Join) ++ posts_to (numbers_of leaving) (leave_of (sender_of c dir) k)
 epoch_posts_at c dir k leaving (Some r) = []
+
+-- what stands before what a message of this epoch carries (own)
+abbrev pub head_from : Sender → EpochNo → Head
+head_from s k = record { dir = s.dir; from = s.house; epoch = k; floor = s.floor }
+
+-- a message to each of the receivers, whose octets these are: they are the whole of it if it is valid (own)
+pub record AreLetters (ls : Letters) (ps : List Posted) : Type 0 where
+  pub message : Message
+  pub posts : ps ≡ posts_to (numbers_of ls.receivers.items) message
+  pub octets : ls.octets.items ≡ message_octets message
+  pub whole : IsValidMessage message → IsWhole records.message message ls.octets.items
 
 -- ---- what it stands for
 

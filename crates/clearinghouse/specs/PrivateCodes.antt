@@ -108,10 +108,23 @@ body_code =
     (coded⊎ copied_code (coded⊎ stamp_code (coded⊎ stamp_code (coded⊎ (coded× (coded_list member_code) replica_code) coded_ℕ)))))))
     carried carrying carried_back
 
+-- a posted message with these numbers and what it carries (own)
+abbrev pub posted_with : ℕ × (ℕ × (ℕ × (ℕ × (ℕ × Body)))) → Posted
+posted_with q = record {
+  to = record { 0 = q.0 };
+  message = record {
+    dir = record { 0 = q.1.0 };
+    from = record { 0 = q.1.1.0 };
+    epoch = record { 0 = q.1.1.1.0 };
+    floor = q.1.1.1.1.0;
+    body = q.1.1.1.1.1;
+  };
+}
+
 -- a posted message by its numbers and what it carries (own)
 abbrev pub posted_code : Coded Posted
 posted_code =
     code_by (ℕ × (ℕ × (ℕ × (ℕ × (ℕ × Body))))) (coded× coded_ℕ (coded× coded_ℕ (coded× coded_ℕ (coded× coded_ℕ (coded× coded_ℕ body_code)))))
     (λ p. (p.to.0, (p.message.dir.0, (p.message.from.0, (p.message.epoch.0, (p.message.floor, p.message.body))))))
-    (λ q. record { to = record { 0 = q.0 }; message = record { dir = record { 0 = q.1.0 }; from = record { 0 = q.1.1.0 }; epoch = record { 0 = q.1.1.1.0 }; floor = q.1.1.1.1.0; body = q.1.1.1.1.1 } })
+    posted_with
     (λ _. refl)

@@ -6,10 +6,10 @@ use Rattle.cds_stamps.specs.declared.numbers.EpochNo.{EpochNo}
 use Rattle.cds_stamps.specs.declared.numbers.HouseNo.{HouseNo}
 use Rattle.cds_stamps.specs.declared.members.Member as declared
 use Rattle.cds_stamps.specs.declared.stamp.Stamp.{Stamp}
-use Rattle.cds_stamps.specs.Members.{members_fault, members_of, place_of}
+use Rattle.cds_stamps.specs.Members.{members_fault, members_of, others_of, place_of}
 use Rattle.directory.specs.declared.entry.Fragment.{Fragment}
 use Rattle.directory.specs.Entries.{IsValidEntry, IsValidTable}
-use Rattle.directory.specs.Histories.{Mark, CanMerge}
+use Rattle.directory.specs.Histories.{Mark, CanMerge, entry_of}
 use Rattle.directory.specs.Shown.{shown, marks_of}
 use Rattle.directory.specs.Updates.{Change, changed_name}
 use Rattle.purge_rule.specs.declared.replica.Replica.{Replica}
@@ -19,7 +19,7 @@ use Rattle.skulk_core.specs.declared.skulk.Skulk.{Skulk}
 use Rattle.skulk_core.specs.declared.skulk.Skulk.TheVariants as skulk
 use Rattle.skulk_core.specs.declared.skulk.Next.{Next}
 use Rattle.skulk_core.specs.declared.skulk.Next.TheVariants as next
-use Rattle.skulk_core.specs.Rounds.{TakesGathered, TakesSpread}
+use Rattle.skulk_core.specs.Rounds.{IsPhaseOf, TakesGathered, TakesSpread}
 use Rattle.cds_records.specs.declared.message.Body.{Body}
 use Rattle.cds_records.specs.declared.message.Body.TheVariants as body
 use Rattle.cell_model.specs.Cells as model
@@ -95,10 +95,20 @@ LooksAfter Answers (Turns turn) now me dir new = ((ns : List ℕ) → Answers (t
 abbrev pub new_marks : model.Replica → Change → Stamp → List Mark
 new_marks r u s = marks_of (shown r.history (changed_name u)) u s
 
--- what is held stands for the replica with the marks of the update, which the fragment has (own)
-pub record AddsMarks (me : ℕ) (r : model.Replica) (u : Change) (s : Stamp) (new : Held) (f : Fragment) : Type 0 where
+-- the marks of an update of this name are to be posted, where there is another house (own)
+abbrev pub PostsMarks : (others : List ℕ) → (name : List ℕ) → List Mark → Option Outgoing → Type 0
+PostsMarks others name marks None = others ≡ []
+PostsMarks others name marks (Some o) = (f : Fragment) × (o ≡ out.Update f) × (f.name ≡ name) × (entry_of marks f.name ≡ Some f.entry)
+
+-- a fragment with these marks is to be posted, where there is another house (own)
+abbrev pub PostsFragment : (others : List ℕ) → List Mark → Option Outgoing → Type 0
+PostsFragment others marks None = others ≡ []
+PostsFragment others marks (Some o) = (f : Fragment) × (o ≡ out.Update f) × IsFragmentOf marks f
+
+-- what is held stands for the replica with the marks of the update, which are to be posted (own)
+pub record AddsMarks (me : ℕ) (r : model.Replica) (u : Change) (s : Stamp) (new : Held) (o : Option Outgoing) : Type 0 where
   pub stands : StandsHeld me s.time new (grown r (new_marks r u s))
-  pub fragment : IsFragmentOf (new_marks r u s) f
+  pub posts : PostsFragment (others_of me r.members) (new_marks r u s) o
 
 -- a replica into which a fragment is merged (own)
 pub record TakesFragment (old : Replica) (f : Fragment) (new : Replica) : Type 0 where
@@ -149,6 +159,7 @@ pub record TakesFirst (me : HouseNo) (from : ℕ) (t : Stamp) (r : Replica) (old
   pub next : Next
   pub phase : Skulk
   pub does : TakesGathered t from (length old.members) (place_in me old.members) old.skulk phase next
+  pub keeps : IsPhaseOf (length old.members) (place_in me old.members) old.skulk → IsPhaseOf (length old.members) (place_in me old.members) phase
   pub after : AfterGathered t r phase next old new a o
 
 -- what comes of an answer of the second round, by what is next (own)
@@ -164,6 +175,7 @@ pub record TakesSecond (from : ℕ) (t : Stamp) (old new : Held) (a : Taken) (o 
   pub lawful : members_fault (members_of old.members) ≡ None
   pub next : Next
   pub does : TakesSpread t from (length old.members) old.skulk new.skulk next
+  pub keeps : (me : ℕ) → IsPhaseOf (length old.members) me old.skulk → IsPhaseOf (length old.members) me new.skulk
   pub after : AfterSpread t next old new a o
 
 -- nothing is changed or posted (own)

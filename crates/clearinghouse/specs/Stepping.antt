@@ -88,7 +88,8 @@ abbrev pub epoch_result : EpochSet → Option EpochRefusal
 epoch_result (epoch_set.Done posted) = None
 epoch_result (epoch_set.Refused r) = Some r
 
--- a new epoch k that a house takes, or refuses for this reason, is what the model answers; one that is not later than the held one is not asked of the model (own)
+-- a new epoch k that a house takes, or refuses for this reason, is what the model answers; of the model none is asked that is not later
+-- than the held one (own)
 abbrev pub IsEpochAnswer : (k : ℕ) → Option EpochRefusal → command.Answer → Type 0
 IsEpochAnswer k None (command.NewEpoch e ns) = k ≡ e
 IsEpochAnswer k (Some epoch_refusal.NoReplica) (command.Refused (command.Update why.NoReplica)) = Unit {0}

@@ -188,7 +188,8 @@ impl Clearinghouse {
             ≡ accept_answer self.old.house.0 (next_stamp clock self.old.floor.time self.old.node) (change_of update.now) (map.get self.old.dirs dir)) }
         ensures refused { IfOk result (λ turn. OnErr turn.answer ((self.new ≡ self.old) × (turn.outgoing ≡ None))) }
         ensures step { (now : model.House) → StandsHouse self.old now → now.clock ≡ clock
-            → IfOk result (λ turn. IsStep (IsStampAnswer turn.answer) (accept self.old.house.0 now dir.0 (change_of update.now)) self.old self.new (posts_at self.new dir turn.outgoing)) }
+            → IfOk result (λ turn. IsStep (IsStampAnswer turn.answer) (accept self.old.house.0 now dir.0 (change_of update.now))
+            self.old self.new (posts_at self.new dir turn.outgoing)) }
     {
         self.usable()?;
         let done = self.accept_at(alloc, clock, dir, update);
@@ -209,7 +210,8 @@ impl Clearinghouse {
             ≡ accept_answer self.old.house.0 (next_stamp clock self.old.floor.time self.old.node) (change_of update.now) (map.get self.old.dirs dir)) }
         ensures refused { IfOk result (λ turn. OnErr turn.answer ((self.new ≡ self.old) × (turn.outgoing ≡ None))) }
         ensures step { (now : model.House) → StandsHouse self.old now → now.clock ≡ clock
-            → IfOk result (λ turn. IsStep (IsStampAnswer turn.answer) (accept self.old.house.0 now dir.0 (change_of update.now)) self.old self.new (posts_at self.new dir turn.outgoing)) }
+            → IfOk result (λ turn. IsStep (IsStampAnswer turn.answer) (accept self.old.house.0 now dir.0 (change_of update.now))
+            self.old self.new (posts_at self.new dir turn.outgoing)) }
     {
         let by = self.issuer(clock);
         match self.dirs.held_mut(dir) {
@@ -228,7 +230,8 @@ impl Clearinghouse {
     ) -> Result<Skulked, AllocError>
         ensures call { IsCall self.old self.new result }
         ensures kept { IsLawful self.old → IsLawful self.new }
-        ensures answer { IfOk result (λ s. skulk_result s ≡ skulk_answer self.old.house.0 (next_stamp clock self.old.floor.time self.old.node) (map.get self.old.dirs dir)) }
+        ensures answer { IfOk result (λ s. skulk_result s
+            ≡ skulk_answer self.old.house.0 (next_stamp clock self.old.floor.time self.old.node) (map.get self.old.dirs dir)) }
         ensures refused { IfOk result (λ s. OnErr (skulk_result s) (self.new ≡ self.old)) }
         ensures step { (now : model.House) → StandsHouse self.old now → now.clock ≡ clock
             → IfOk result (λ s. IsStep (IsSkulkAnswer s) (skulk self.old.house.0 now dir.0) self.old self.new (skulk_posts s)) }
@@ -251,11 +254,13 @@ impl Clearinghouse {
         ensures call { IsCall self.old self.new result }
         ensures usable { is_err result ≡ self.old.spent }
         ensures kept { IsLawful self.old → IsLawful self.new }
-        ensures answer { IfOk result (λ turn. turn.answer ≡ skulk_answer self.old.house.0 (next_stamp clock self.old.floor.time self.old.node) (map.get self.old.dirs dir)) }
+        ensures answer { IfOk result (λ turn. turn.answer
+            ≡ skulk_answer self.old.house.0 (next_stamp clock self.old.floor.time self.old.node) (map.get self.old.dirs dir)) }
         ensures posts { IfOk result (λ turn. turn.outgoing ≡ begun_outgoing turn.answer) }
         ensures refused { IfOk result (λ turn. OnErr turn.answer ((self.new ≡ self.old) × (turn.outgoing ≡ None))) }
         ensures step { (now : model.House) → StandsHouse self.old now → now.clock ≡ clock
-            → IfOk result (λ turn. IsStep (IsBegunAnswer turn.answer) (skulk self.old.house.0 now dir.0) self.old self.new (posts_at self.new dir turn.outgoing)) }
+            → IfOk result (λ turn. IsStep (IsBegunAnswer turn.answer) (skulk self.old.house.0 now dir.0)
+            self.old self.new (posts_at self.new dir turn.outgoing)) }
     {
         self.usable()?;
         Ok(self.begin_at(clock, dir))
@@ -326,7 +331,8 @@ impl Clearinghouse {
         ensures held { IfOk result (λ e. OnOk e (Enters self.old self.new dir epoch members.now)) }
         ensures step { (now : model.House) (leaving : List house_no.HouseNo) → StandsHouse self.old now → IsLater epoch.0 (map.get self.old.dirs dir)
             → IfOk result (λ e. IsStep (IsEpochAnswer epoch.0 (result_err e))
-            (new_epoch self.old.house.0 now dir.0 epoch.0 (members_of members.now) (numbers_of leaving)) self.old self.new (epoch_posts_at self.new dir epoch leaving (result_err e))) }
+            (new_epoch self.old.house.0 now dir.0 epoch.0 (members_of members.now) (numbers_of leaving))
+            self.old self.new (epoch_posts_at self.new dir epoch leaving (result_err e))) }
     {
         self.usable()?;
         let done = self.enter_at(alloc, dir, epoch, members);
@@ -385,7 +391,7 @@ impl Clearinghouse {
         }
     }
 
-    fn sender(&self, dir: DirId) -> Sender
+    pub(crate) fn sender(&self, dir: DirId) -> Sender
         ensures { result ≡ sender_of self.now dir }
     {
         Sender {

@@ -1,9 +1,11 @@
 // What a house keeps over a crash, and how it starts of that.
-ghost use Rattle.std.specs.Prelude.{◌≡◌, ◌++◌, false, IfOk, OnOk, map as list_map};
+ghost use Rattle.std.specs.Prelude.{◌≡◌, ◌++◌, ◌<◌, ◌^◌, false, Ok, IfOk, OnOk, map as list_map};
 ghost use Rattle.std.specs.FinMap as map;
 ghost use Rattle.cds_stamps.specs.Outcomes.{Answers};
+ghost use Rattle.cds_stamps.specs.declared.numbers.DirId as number;
 ghost use Rattle.cds_records.specs.Octets.{dir_octets, image_octets, items_octets, kept_octets};
-ghost use Rattle.clearinghouse.specs.Imaging.{image_of, kept_of, started, started_from, started_of};
+ghost use Rattle.cds_records.specs.Ranges.{FitsDir, FitsImage, ItemsFit};
+ghost use Rattle.clearinghouse.specs.Imaging.{image_of, kept_of, restarted, started, started_from, started_of};
 ghost use Rattle.clearinghouse.specs.Lawful.{IsLawful};
 
 use crate::house::Clearinghouse;
@@ -51,7 +53,8 @@ fn started_dirs(alloc: Global, kept: ImageDirs) -> Result<DirStates, AllocError>
 impl DirState {
     /// Writes what is kept of the directory of this number behind the others of an image.
     fn write(&self, image: &mut ImageWriter, dir: DirId) -> Result<(), AllocError>
-        ensures { OnOk result (image.new ≡ image.old ++ (dir_octets dir ++ kept_octets (kept_of self.now))) }
+        ensures octets { OnOk result (image.new ≡ image.old ++ (dir_octets dir ++ kept_octets (kept_of self.now))) }
+        ensures fits { OnOk result ((dir.0 < 2 ^ 32) × FitsDir (kept_of self.now)) }
     {
         match self {
             DirState::Held(held) => image.held(dir, held.epoch, &held.members, &held.replica),
@@ -63,7 +66,8 @@ impl DirState {
 impl DirStates {
     /// Writes what is kept of the directories behind the head of an image.
     fn write(&self, image: &mut ImageWriter) -> Result<(), AllocError>
-        ensures { OnOk result (image.new ≡ image.old ++ items_octets dir_octets (λ s. kept_octets (kept_of s)) (map.entries self.now)) }
+        ensures octets { OnOk result (image.new ≡ image.old ++ items_octets dir_octets (λ s. kept_octets (kept_of s)) (map.entries self.now)) }
+        ensures fits { OnOk result (ItemsFit (λ (d : number.DirId). d.0 < 2 ^ 32) (λ s. FitsDir (kept_of s)) (map.entries self.now)) }
     {
         for (dir, state) in self.iter() {
             state.write(image, *dir)?;
@@ -73,10 +77,12 @@ impl DirStates {
 }
 
 impl Clearinghouse {
-    /// The octets of what it keeps over a crash.
+    /// The octets of what it keeps over a crash. `start` makes of them the clearinghouse that a crash and a start leave.
     pub fn image(&self, alloc: Global) -> Result<Vec<u8>, AllocError>
         ensures usable { IfOk result (λ _. self.now.spent ≡ false) }
         ensures octets { IfOk result (λ v. v.items ≡ image_octets (image_of self.now)) }
+        ensures fits { IfOk result (λ _. FitsImage (image_of self.now)) }
+        ensures starts { IfOk result (λ v. IsLawful self.now → started v.items ≡ Ok (restarted self.now)) }
     {
         self.usable()?;
         let count = self.dirs.len() as u64;

@@ -48,7 +48,7 @@ pub(crate) struct Sender {
 
 impl Outgoing {
     /// The house that alone gets it; none, where each other member does.
-    fn receiver(&self) -> Option<HouseNo>
+    pub(crate) fn receiver(&self) -> Option<HouseNo>
         ensures { option_map (λ h. h.0) result ≡ receiver_of self.now }
     {
         match self {

@@ -1,7 +1,9 @@
 // What a house holds of directories.
-ghost use Rattle.std.specs.Prelude.{◌≡◌, ℕ, ◌<◌, ◌≤◌, length, None, IfOk, OnOk, OnErr, option_copied};
+ghost use Rattle.std.specs.Prelude.{◌≡◌, ℕ, ◌<◌, ◌≤◌, ◌==◌, length, None, IfOk, OnOk, OnErr, option_copied};
 ghost use Rattle.std.specs.FinMap as map;
+ghost use Rattle.std.specs.List.{list_all};
 ghost use Rattle.std.specs.Option.{option_copied_mut};
+ghost use Rattle.cds_stamps.specs.declared.members.Member as declared;
 ghost use Rattle.cds_stamps.specs.Members.{is_accepting, members_fault, members_of, most_members, since_in};
 ghost use Rattle.clearinghouse.specs.PrivateTurns.{held_in, held_of, place_in};
 
@@ -179,6 +181,16 @@ impl Held {
     {
         self.members.list().iter().any(|member| member.house == house
             && member.kind == MemberKind::Master)
+    }
+
+    /// Whether no other house is a member.
+    pub(crate) fn is_alone(&self, house: HouseNo) -> bool
+        ensures { result ≡ list_all (λ (m : declared.Member). m.house.0 == house.0) self.now.members }
+    {
+        self.members
+            .list()
+            .iter()
+            .all(|member| member.house == house)
     }
 
     /// The place of this house in the member list; 0 where it is not listed, and then it runs no skulk.

@@ -1,22 +1,23 @@
 // Updates of a directory at its master.
 ghost use Rattle.std.specs.Prelude.{◌≡◌, ◌≤◌, ◌<◌, ℕ, None, Err, IfOk, OnOk, OnErr};
 ghost use Rattle.cds_stamps.specs.declared.numbers.DirId as number;
+ghost use Rattle.cds_stamps.specs.Members.{members_of, others_of};
 ghost use Rattle.cds_stamps.specs.Stamps.{next_stamp};
-ghost use Rattle.directory.specs.Shown.{shown_in, refusal_of};
+ghost use Rattle.directory.specs.Shown.{marks_of, refusal_of, shown_in};
 ghost use Rattle.directory.specs.Updates.{change_of, changed_name};
 ghost use Rattle.cell_model.specs.Cells as model;
 ghost use Rattle.cell_model.specs.Turns.{accept_in, accept_at, stamp_at};
 ghost use Rattle.clearinghouse.specs.Lawful.{IsLawfulHeld};
 ghost use Rattle.clearinghouse.specs.Refusing.{held_refusal, stamp_unless};
 ghost use Rattle.clearinghouse.specs.Stepping.{IsStampAnswer};
-ghost use Rattle.clearinghouse.specs.PrivateTurns.{AddsMarks, HeldStep, IssuesAt};
+ghost use Rattle.clearinghouse.specs.PrivateTurns.{AddsMarks, HeldStep, IssuesAt, PostsMarks};
 ghost use Rattle.clearinghouse.specs.Standing.{StandsHeld};
 
 use crate::outgoing::{Outgoing, Turn};
 use crate::posted::PostedList;
 use crate::states::Held;
 use cds_stamps::{Floor, HouseNo, Node, Stamp};
-use directory::{Fragment, Update, UpdateRefusal};
+use directory::{Update, UpdateRefusal};
 use std::alloc::{AllocError, Global};
 
 /// What comes of an update.
@@ -58,7 +59,7 @@ impl Held {
             ≡ stamp_unless (held_refusal by.house.0 (change_of update.now) self.old) (next_stamp by.clock floor.old.time by.node)) }
         ensures refused { IfOk result (λ turn. OnErr turn.answer ((self.new ≡ self.old) × (floor.new ≡ floor.old) × (turn.outgoing ≡ None))) }
         ensures rises { floor.old.time ≤ floor.new.time }
-        ensures kept { OnOk result (IsLawfulHeld floor.old.time self.old → IsLawfulHeld floor.new.time self.new) }
+        ensures kept { OnOk result (IsLawfulHeld by.house.0 floor.old.time self.old → IsLawfulHeld by.house.0 floor.new.time self.new) }
         ensures err { OnErr result (self.new ≡ self.old) }
         ensures err_floor { OnErr result (floor.new ≡ floor.old) }
         ensures step { (now : model.House) (dir : number.DirId) (r : model.Replica) → IssuesAt now by floor.old.time dir self.old r
@@ -86,7 +87,7 @@ impl Held {
         ensures answer { IfOk result (λ turn. turn.answer ≡ stamp_unless None (next_stamp by.clock floor.old.time by.node)) }
         ensures refused { IfOk result (λ turn. OnErr turn.answer ((self.new ≡ self.old) × (floor.new ≡ floor.old) × (turn.outgoing ≡ None))) }
         ensures rises { floor.old.time ≤ floor.new.time }
-        ensures kept { OnOk result (IsLawfulHeld floor.old.time self.old → IsLawfulHeld floor.new.time self.new) }
+        ensures kept { OnOk result (IsLawfulHeld by.house.0 floor.old.time self.old → IsLawfulHeld by.house.0 floor.new.time self.new) }
         ensures err { OnErr result (self.new ≡ self.old) }
         ensures err_floor { OnErr result (floor.new ≡ floor.old) }
         ensures step { (now : model.House) (dir : number.DirId) (r : model.Replica) → IssuesAt now by floor.old.time dir self.old r
@@ -96,32 +97,52 @@ impl Held {
         let mut raised = *floor;
         match raised.issue(by.clock, by.node) {
             Some(stamp) => {
-                let fragment = self.add_marks(alloc, &stamp, update)?;
+                let outgoing = self.add_marks(alloc, by.house, &stamp, update)?;
                 *floor = raised;
                 Ok(Turn {
                     answer: Ok(stamp),
-                    outgoing: Some(Outgoing::Update(fragment)),
+                    outgoing,
                 })
             }
             None => Ok(refused(UpdateRefusal::StampsSpent)),
         }
     }
 
-    /// Takes the marks of an update with this stamp, which are to be posted.
+    /// Takes the marks of an update with this stamp, in place. What is to be posted.
     fn add_marks(
         &mut self,
         alloc: Global,
+        house: HouseNo,
         stamp: &Stamp,
         update: &Update,
-    ) -> Result<Fragment, AllocError>
+    ) -> Result<Option<Outgoing>, AllocError>
         requires { refusal_of (shown_in self.old.replica.table (changed_name (change_of update.now))) (change_of update.now) ≡ None }
-        ensures adds { (r : model.Replica) (floor : ℕ) (me : ℕ) → StandsHeld me floor self.old r → floor < stamp.now.time
-            → IfOk result (λ f. AddsMarks me r (change_of update.now) stamp.now self.new f) }
-        ensures kept { OnOk result ((floor : ℕ) → IsLawfulHeld floor self.old → floor < stamp.now.time → IsLawfulHeld stamp.now.time self.new) }
+        ensures adds { (r : model.Replica) (floor : ℕ) → StandsHeld house.0 floor self.old r → floor < stamp.now.time
+            → IfOk result (λ o. AddsMarks house.0 r (change_of update.now) stamp.now self.new o) }
+        ensures kept { OnOk result ((me floor : ℕ) → IsLawfulHeld me floor self.old → floor < stamp.now.time → IsLawfulHeld me stamp.now.time self.new) }
         ensures err { OnErr result (self.new ≡ self.old) }
     {
+        let outgoing = self.marks_to_post(alloc, house, stamp, update)?;
+        self.replica.table.apply(alloc, update, *stamp)?;
+        Ok(outgoing)
+    }
+
+    /// The marks of an update with this stamp, which are to be posted, where there is another member.
+    fn marks_to_post(
+        &self,
+        alloc: Global,
+        house: HouseNo,
+        stamp: &Stamp,
+        update: &Update,
+    ) -> Result<Option<Outgoing>, AllocError>
+        requires { refusal_of (shown_in self.now.replica.table (changed_name (change_of update.now))) (change_of update.now) ≡ None }
+        ensures { IfOk result (λ o. PostsMarks (others_of house.0 (members_of self.now.members)) (changed_name (change_of update.now))
+            (marks_of (shown_in self.now.replica.table (changed_name (change_of update.now))) (change_of update.now) stamp.now) o) }
+    {
+        if self.is_alone(house) {
+            return Ok(None);
+        }
         let fragment = self.replica.table.fragment(alloc, update, *stamp)?;
-        self.replica.take_marks(alloc, &fragment)?;
-        Ok(fragment)
+        Ok(Some(Outgoing::Update(fragment)))
     }
 }

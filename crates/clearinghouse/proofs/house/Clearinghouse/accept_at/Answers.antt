@@ -1,10 +1,11 @@
 use Rattle.std.proofs.Common.{sym, ap, subst}
-use Rattle.std.specs.Prelude.{IfOk}
+use Rattle.std.specs.Prelude.{IfOk, OnOk}
 use Rattle.std.proofs.lemmas.Result.{on_err_weaker}
 use Rattle.cds_stamps.specs.declared.stamp.Floor.{Floor}
 use Rattle.directory.specs.Updates.{change_of}
 use Rattle.cell_model.specs.Turns.{accept_in}
 use Rattle.cell_model.specs.Cells as model
+use Rattle.clearinghouse.specs.Lawful.{IsLawfulHeld}
 use Rattle.clearinghouse.specs.PrivateTurns.{HeldStep, IssuesAt}
 use Rattle.clearinghouse.specs.Stepping.{IsStampAnswer}
 use Rattle.clearinghouse.specs.declared.updates.Issuer.{Issuer}
@@ -14,15 +15,21 @@ use Rattle.clearinghouse.proofs.house.Clearinghouse.accept_at.Goals as goal
 
 pub returns-in-Some-clause-kept : goal.returns-in-Some-clause-kept
 returns-in-Some-clause-kept c =
+    let kept = subst (λ (b : Issuer). OnOk c.accept.result (IsLawfulHeld b.house.0 c.args.self.now.floor.time c.in-Some.held.now
+    → IsLawfulHeld b.house.0 c.accept.new.floor.time c.accept.new.self)) c.issuer-by.ensures c.accept.ensures.kept in
     kept_at c.args.self.now c.args.dir c.in-Some.held.now c.accept.new.self c.accept.new.floor c.in-Some.ensures.value c.accept.ensures.rises
-    (kept_by c.accept.result _ _ _ _ c.accept.ensures.kept c.accept.ensures.err
+    (kept_by c.accept.result _ _ _ _ _ kept c.accept.ensures.err
     (on_err_weaker c.accept.result (λ e. ap (λ (f : Floor). f.time) e) c.accept.ensures.err_floor))
 
 pub returns-in-Some-clause-refused : goal.returns-in-Some-clause-refused
 returns-in-Some-clause-refused c =
     if_ok_map _ _ c.accept.result
     (λ turn refused. on_err_weaker turn.answer
-    (λ same. (same_house c.args.self.now c.args.dir c.in-Some.held.now c.accept.new.self c.accept.new.floor c.in-Some.ensures.value same.0 same.1, same.2)) refused)
+    (λ same. (
+      same_house c.args.self.now c.args.dir c.in-Some.held.now c.accept.new.self c.accept.new.floor
+          c.in-Some.ensures.value same.0 same.1,
+      same.2,
+    )) refused)
     c.accept.ensures.refused
 
 pub returns-in-Some-clause-step : goal.returns-in-Some-clause-step

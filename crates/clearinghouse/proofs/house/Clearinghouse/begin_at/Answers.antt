@@ -2,6 +2,7 @@ use Rattle.std.proofs.Common.{sym, subst}
 use Rattle.std.proofs.lemmas.Result.{on_err_weaker}
 use Rattle.cell_model.specs.Cells as model
 use Rattle.cell_model.specs.Turns.{skulk_in}
+use Rattle.clearinghouse.specs.Lawful.{IsLawfulHeld}
 use Rattle.clearinghouse.specs.PrivateTurns.{HeldStep, IssuesAt}
 use Rattle.clearinghouse.specs.Stepping.{IsBegunAnswer}
 use Rattle.clearinghouse.specs.declared.updates.Issuer.{Issuer}
@@ -11,12 +12,17 @@ use Rattle.clearinghouse.proofs.house.Clearinghouse.begin_at.Goals as goal
 pub returns-in-Some-clause-kept : goal.returns-in-Some-clause-kept
 returns-in-Some-clause-kept c =
     kept_at c.args.self.now c.args.dir c.in-Some.held.now c.begin_skulk.new.self c.begin_skulk.new.floor c.in-Some.ensures.value c.begin_skulk.ensures.rises
-    c.begin_skulk.ensures.kept
+    (subst (λ (b : Issuer). IsLawfulHeld b.house.0 c.args.self.now.floor.time c.in-Some.held.now
+    → IsLawfulHeld b.house.0 c.begin_skulk.new.floor.time c.begin_skulk.new.self) c.issuer-by.ensures c.begin_skulk.ensures.kept)
 
 pub returns-in-Some-clause-refused : goal.returns-in-Some-clause-refused
 returns-in-Some-clause-refused c =
     on_err_weaker c.begin_skulk.result.answer
-    (λ same. (same_house c.args.self.now c.args.dir c.in-Some.held.now c.begin_skulk.new.self c.begin_skulk.new.floor c.in-Some.ensures.value same.0 same.1, same.2))
+    (λ same. (
+      same_house c.args.self.now c.args.dir c.in-Some.held.now c.begin_skulk.new.self c.begin_skulk.new.floor
+          c.in-Some.ensures.value same.0 same.1,
+      same.2,
+    ))
     c.begin_skulk.ensures.refused
 
 pub returns-in-Some-clause-step : goal.returns-in-Some-clause-step

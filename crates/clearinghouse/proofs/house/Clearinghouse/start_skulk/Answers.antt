@@ -17,7 +17,8 @@ returns-in-Ok-Complete-clause-kept c = λ lawful.
 
 pub returns-in-Ok-Complete-clause-step : goal.returns-in-Ok-Complete-clause-step
 returns-in-Ok-Complete-clause-step c = λ now stands ticks.
-    posted_step _ _ c.args.self.now c.begin_skulk.new.self c.posted.new.self _ [] c.posted.result c.in_ok-posted.posted c.in_ok-posted.was c.posted.ensures.heeds
+    posted_step _ _ c.args.self.now c.begin_skulk.new.self c.posted.new.self _ [] c.posted.result c.in_ok-posted.posted c.in_ok-posted.was
+    c.posted.ensures.heeds
     (completed_posts c.begin_skulk.new.self c.args.dir c.in_ok-answer.field-0.answer c.in-Ok-Complete.t c.in_ok-answer.field-0.outgoing
     (c.in-Ok-Complete.is ∙ ap Ok c.in-Ok-Complete.field-0-is) c.in_ok-answer.ensures.posts)
     (rw (c.in-Ok-Complete.is, c.in-Ok-Complete.field-0-is) at c.in_ok-answer.ensures.step now stands ticks)

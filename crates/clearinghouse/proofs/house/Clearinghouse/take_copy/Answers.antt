@@ -53,7 +53,8 @@ returns-in_default-clause-ok c =
       | in_default-via-in-None-1 w ↦ on_ok_map c.copy_in.result
           (copied_over c.args.message.now c.args.members.now c.args.replica.now c.args.self.now c.in_default.self c.copy_in.new.self w.self-is
           (of_none (λ h. nat_le (since_in (members_of c.args.members.now) c.args.self.now.house.0 0) h.epoch.0 ≡ false)
-          (held_in (map.get c.args.self.now.dirs c.args.message.now.dir)) (let value = c.held_mut.ensures.value in let none : None ≡ c.held_mut.result = search in ap option_copied_mut none ∙ value))) c.copy_in.ensures.ok
+          (held_in (map.get c.args.self.now.dirs c.args.message.now.dir))
+          (let value = c.held_mut.ensures.value in let none : None ≡ c.held_mut.result = search in ap option_copied_mut none ∙ value))) c.copy_in.ensures.ok
     ]
 
 pub returns-in_default-clause-err : goal.returns-in_default-clause-err

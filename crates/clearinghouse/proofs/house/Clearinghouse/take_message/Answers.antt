@@ -18,7 +18,8 @@ does c = elim c.match-message.branch [
   | in-Leave w ↦ done_leave c.args.message.now c.args.self.now w.take_leave-done.new.self c.match-message.self
       w.take_leave-done.result c.match-message.done w.self-is w.done-is w.in-Leave.is w.take_leave-done.ensures.ok w.take_leave-done.ensures.err
   | in_default w ↦ done_other c.args.message.now c.args.self.now w.take_other-done.new.self c.match-message.self
-      w.take_other-done.result c.match-message.done w.self-is w.done-is w.in_default.not-Join w.in_default.not-Leave w.take_other-done.ensures.ok w.take_other-done.ensures.err
+      w.take_other-done.result c.match-message.done w.self-is w.done-is w.in_default.not-Join w.in_default.not-Leave w.take_other-done.ensures.ok
+      w.take_other-done.ensures.err
 ]
 
 pub returns-clause-call : goal.returns-clause-call
@@ -40,19 +41,22 @@ returns-clause-same c =
 
 pub returns-clause-others : goal.returns-clause-others
 returns-clause-others c =
-    or_others c.args.message.now c.args.self.now c.match-message.self c.heed.new.self c.match-message.done c.heed.result c.heed.ensures.result c.heed.ensures.heeds (does c)
+    or_others c.args.message.now c.args.self.now c.match-message.self c.heed.new.self c.match-message.done c.heed.result c.heed.ensures.result
+    c.heed.ensures.heeds (does c)
 
 pub returns-clause-looks : goal.returns-clause-looks
 returns-clause-looks c now m looks carries =
     heed_ok c.match-message.self c.heed.new.self c.match-message.done c.heed.result c.heed.ensures.result c.heed.ensures.heeds
     (λ (t : Turn Taken) (x : Clearinghouse). LooksStep (IsTakeAnswer t.answer) (take now m) c.args.message.now.dir x)
     (or_told c.args.message.now c.args.self.now c.match-message.self c.match-message.done
-    (λ (t : Turn Taken). LooksStep (IsTakeAnswer t.answer) (take now m) c.args.message.now.dir c.match-message.self) (λ t d. d.looks now m looks carries) (does c))
+    (λ (t : Turn Taken). LooksStep (IsTakeAnswer t.answer) (take now m) c.args.message.now.dir c.match-message.self) (λ t d. d.looks now m looks carries)
+    (does c))
 
 pub returns-clause-step : goal.returns-clause-step
 returns-clause-step c now m stands carries can =
     heed_ok c.match-message.self c.heed.new.self c.match-message.done c.heed.result c.heed.ensures.result c.heed.ensures.heeds
     (λ (t : Turn Taken) (x : Clearinghouse). IsStep (IsTakeAnswer t.answer) (take now m) c.args.self.now x (posts_at x c.args.message.now.dir t.outgoing))
     (or_told c.args.message.now c.args.self.now c.match-message.self c.match-message.done
-    (λ (t : Turn Taken). IsStep (IsTakeAnswer t.answer) (take now m) c.args.self.now c.match-message.self (posts_at c.match-message.self c.args.message.now.dir t.outgoing))
+    (λ (t : Turn Taken). IsStep (IsTakeAnswer t.answer) (take now m) c.args.self.now c.match-message.self
+    (posts_at c.match-message.self c.args.message.now.dir t.outgoing))
     (λ t d. d.step now m stands carries can) (does c))

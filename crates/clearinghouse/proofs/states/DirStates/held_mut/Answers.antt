@@ -14,7 +14,8 @@ returns-in-Some c =
       same_ends _ _ _ _ _
           (λ w. written c.args.self.now c.self.inside.states.entries (c.get_mut.follows.lender (state.Held w)).entries c.args.dir (state.Held w) c.self.view_is
           ((c.get_mut.follows.holds (state.Held w)).3 (rw (← c.in-Some.ensures.value) refl)).0)
-          (written c.args.self.now c.self.inside.states.entries (c.get_mut.follows.lender c.in-Some.state.now).entries c.args.dir c.in-Some.state.now c.self.view_is
+          (written c.args.self.now c.self.inside.states.entries (c.get_mut.follows.lender c.in-Some.state.now).entries
+          c.args.dir c.in-Some.state.now c.self.view_is
           ((c.get_mut.follows.holds c.in-Some.state.now).3 (rw (← c.in-Some.ensures.value) refl)).0 ∙ unchanged _ _ _ here),
       record { writes_back = tt; value = c.held_mut.ensures.value ∙ ap held_in (sym here) },
     )

@@ -1,4 +1,6 @@
-use Rattle.std.proofs.Common.{refl}
+use Rattle.std.proofs.Common.{refl, subst}
+use Rattle.skulk_core.specs.Rounds.{IsPhaseOf}
+use Rattle.clearinghouse.specs.PrivateTurns.{place_in}
 use Rattle.clearinghouse.proofs.Beginning.{row_begins, completed_step, completed_lawful, begun_answer, begun_step, begun_lawful}
 use Rattle.clearinghouse.proofs.states.Held.begin_with.Goals as goal
 
@@ -27,6 +29,8 @@ returns-in_default c =
           begun_answer c.args.t.now c.args.self.now.members _ _ c.begin.new.self c.begin.result c.count-count.ensures.count c.begin.ensures.does
           c.in_default.not-Complete;
       posts = refl;
-      kept = begun_lawful c.args.by c.args.t.now c.args.self.now c.begin.new.self c.begin.result row c.in_default.not-Complete;
+      kept = begun_lawful c.args.by c.args.t.now c.args.self.now c.begin.new.self c.begin.result row c.in_default.not-Complete
+          (subst (λ n. IsPhaseOf n (place_in c.args.by.house c.args.self.now.members) c.begin.new.self) c.count-count.ensures.count
+          (subst (λ n. IsPhaseOf c.count-count.result n c.begin.new.self) c.own_place-me.ensures.place c.begin.ensures.phase));
       step = begun_step c.args.by c.args.t.now c.args.self.now c.begin.new.self c.begin.result row c.in_default.not-Complete;
     }

@@ -1,0 +1,168 @@
+// Messages as octets, encoded from what a house holds. Nothing is copied for them.
+ghost use Rattle.std.specs.Prelude.{◌≡◌, ◌≤◌, ◌∷◌, [], false, Some, IfOk, IfSome, MatchOption, length};
+ghost use Rattle.cds_records.specs.Decoding.{IsWhole};
+ghost use Rattle.cds_records.specs.Octets.{message_octets, message_with};
+ghost use Rattle.cds_records.specs.Records as records;
+ghost use Rattle.cds_records.specs.Validity.{IsValidMessage};
+ghost use Rattle.cds_stamps.specs.Members.{members_of, most_members, others_of};
+ghost use Rattle.clearinghouse.specs.Posting.{AreLetters, body_of, head_from, leave_of, numbers_of, posts_at, posts_of, posts_to};
+ghost use Rattle.clearinghouse.specs.Posting.{receiver_of, receivers_of, sender_of};
+
+use crate::house::Clearinghouse;
+use crate::outgoing::{Outgoing, Sender};
+use crate::states::Held;
+use cds_records::{
+    Body, Head, Message, encode, encode_gathered, encode_join, encode_spread, encode_update,
+};
+use cds_stamps::{DirId, EpochNo, HouseNo};
+use std::alloc::{AllocError, Global};
+
+/// A message as octets, and the houses that it goes to, in ascending order: all get the same octets.
+#[derive(Drop)]
+pub struct Letters {
+    pub receivers: Vec<HouseNo>,
+    pub octets: Vec<u8>,
+}
+
+impl Clearinghouse {
+    /// The message about a directory that says this, and its receivers; none, where nobody is to be told.
+    pub fn letters(
+        &self,
+        alloc: Global,
+        dir: DirId,
+        outgoing: &Outgoing,
+    ) -> Result<Option<Letters>, AllocError>
+        ensures usable { IfOk result (λ _. self.now.spent ≡ false) }
+        ensures few { IfOk result (λ o. IfSome o (λ l. length l.receivers.items ≤ most_members)) }
+        ensures posts { IfOk result (λ o. MatchOption o (posts_at self.now dir (Some outgoing.now) ≡ [])
+            (λ l. AreLetters l (posts_at self.now dir (Some outgoing.now)))) }
+    {
+        self.usable()?;
+        match self.dirs.held(&dir) {
+            Some(held) => held.letters(alloc, self.sender(dir), outgoing),
+            None => Ok(None),
+        }
+    }
+
+    /// The Leave of an epoch to each of these houses.
+    pub fn leaves(
+        &self,
+        alloc: Global,
+        dir: DirId,
+        epoch: EpochNo,
+        leaving: &[HouseNo],
+    ) -> Result<Letters, AllocError>
+        ensures usable { IfOk result (λ _. self.now.spent ≡ false) }
+        ensures few { IfOk result (λ l. length l.receivers.items ≡ length leaving.now) }
+        ensures posts { IfOk result (λ l. AreLetters l (posts_to (numbers_of leaving.now) (leave_of (sender_of self.now dir) epoch))) }
+    {
+        self.usable()?;
+        let receivers = Vec::from_slice(alloc, leaving)?;
+        let head = self.sender(dir).head(epoch);
+        let octets = encoded_with(alloc, &head, Body::Leave)?;
+        Ok(Letters { receivers, octets })
+    }
+}
+
+impl Sender {
+    /// What stands before what its message of an epoch carries.
+    fn head(&self, epoch: EpochNo) -> Head
+        ensures { result ≡ head_from self.now epoch }
+    {
+        Head {
+            dir: self.dir,
+            from: self.house,
+            epoch,
+            floor: self.floor,
+        }
+    }
+}
+
+/// The octets of a message with this head that carries this.
+fn encoded_with(alloc: Global, head: &Head, body: Body) -> Result<Vec<u8>, AllocError>
+    ensures octets { IfOk result (λ v. v.items ≡ message_octets (message_with head.now body)) }
+    ensures whole { IfOk result (λ v. IsValidMessage (message_with head.now body)
+        → IsWhole records.message (message_with head.now body) v.items) }
+{
+    let message = Message {
+        dir: head.dir,
+        from: head.from,
+        epoch: head.epoch,
+        floor: head.floor,
+        body,
+    };
+    encode(alloc, &message)
+}
+
+impl Held {
+    /// The message that says this, and its receivers, if there are any.
+    fn letters(
+        &self,
+        alloc: Global,
+        sender: Sender,
+        outgoing: &Outgoing,
+    ) -> Result<Option<Letters>, AllocError>
+        ensures few { IfOk result (λ o. IfSome o (λ l. length l.receivers.items ≤ most_members)) }
+        ensures posts { IfOk result (λ o. MatchOption o (posts_of sender self.now outgoing.now ≡ [])
+            (λ l. AreLetters l (posts_of sender self.now outgoing.now))) }
+    {
+        let receivers = self.receivers(alloc, sender.house, outgoing)?;
+        if receivers.is_empty() {
+            return Ok(None);
+        }
+        let octets = self.encoded(alloc, &sender.head(self.epoch), outgoing)?;
+        Ok(Some(Letters { receivers, octets }))
+    }
+
+    /// The houses to which this is said by a house.
+    fn receivers(
+        &self,
+        alloc: Global,
+        house: HouseNo,
+        outgoing: &Outgoing,
+    ) -> Result<Vec<HouseNo>, AllocError>
+        ensures houses { IfOk result (λ v. numbers_of v.items ≡ receivers_of (receiver_of outgoing.now) (others_of house.0 (members_of self.now.members))) }
+        ensures few { IfOk result (λ v. length v.items ≤ most_members) }
+    {
+        match outgoing.receiver() {
+            Some(to) => Vec::from_slice(alloc, &[to]),
+            None => self.others(alloc, house),
+        }
+    }
+
+    /// The members but this house.
+    fn others(&self, alloc: Global, house: HouseNo) -> Result<Vec<HouseNo>, AllocError>
+        ensures houses { IfOk result (λ v. numbers_of v.items ≡ others_of house.0 (members_of self.now.members)) }
+        ensures few { IfOk result (λ v. length v.items ≤ most_members) }
+    {
+        let mut others = Vec::new(alloc);
+        for member in self.members.list() {
+            if member.house != house {
+                others.push(member.house)?;
+            }
+        }
+        Ok(others)
+    }
+
+    /// The octets of a message with this head that says this.
+    fn encoded(
+        &self,
+        alloc: Global,
+        head: &Head,
+        outgoing: &Outgoing,
+    ) -> Result<Vec<u8>, AllocError>
+        ensures octets { IfOk result (λ v. v.items ≡ message_octets (message_with head.now (body_of self.now outgoing.now))) }
+        ensures whole { IfOk result (λ v. IsValidMessage (message_with head.now (body_of self.now outgoing.now))
+            → IsWhole records.message (message_with head.now (body_of self.now outgoing.now)) v.items) }
+    {
+        match outgoing {
+            Outgoing::Update(fragment) => encode_update(alloc, head, fragment),
+            Outgoing::Gather(t) => encoded_with(alloc, head, Body::Gather(*t)),
+            Outgoing::Gathered(t, _) => encode_gathered(alloc, head, t, &self.replica),
+            Outgoing::Spread(t) => encode_spread(alloc, head, t, &self.replica),
+            Outgoing::SpreadAck(t, _) => encoded_with(alloc, head, Body::SpreadAck(*t)),
+            Outgoing::Advance(t) => encoded_with(alloc, head, Body::Advance(*t)),
+            Outgoing::Join => encode_join(alloc, head, &self.members, &self.replica),
+        }
+    }
+}
