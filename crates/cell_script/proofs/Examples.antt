@@ -1,8 +1,12 @@
 -- The definitions at single words, lines and answers, by computing.
-use Rattle.std.proofs.Common.{◌≡◌, true, [], ◌∷◌, ◌++◌, refl, List, ℕ}
+use Rattle.std.proofs.Common.{◌≡◌, true, false, [], ◌∷◌, ◌++◌, refl, List, ℕ}
 use Rattle.std.specs.Prelude.{Some, None, Ok, Err, Result, Option, codes}
 use Rattle.std.specs.Fmt.{digits}
+use Rattle.std.specs.FinMap.{empty}
 use Rattle.hex.specs.Hex.{decode_pairs, encode_with}
+use Rattle.cds_stamps.specs.declared.members.MemberKind.TheVariants.{Master, ReadOnly}
+use Rattle.attr_sets.specs.declared.mark.ValueMark.{ValueMark}
+use Rattle.directory.specs.declared.entry.Kind.TheVariants.{Link}
 use Rattle.cell_script.specs.declared.command.ScriptLine.{ScriptLine}
 use Rattle.cell_script.specs.declared.command.ScriptLine.TheVariants as line
 use Rattle.cell_script.specs.declared.command.Command.TheVariants as command
@@ -14,7 +18,8 @@ use Rattle.cell_script.specs.declared.fault.ParseFault.TheVariants.{UnknownComma
 use Rattle.cell_script.specs.Words.{words_of, number_of, number_to, most_house}
 use Rattle.cell_script.specs.Forms.{counted, taken}
 use Rattle.cell_script.specs.Commands.{said_in, said_by, is_later}
-use Rattle.cell_script.specs.Texts.{answer_text, line_text, parse_fault_text}
+use Rattle.cell_script.specs.Texts.{answer_line, line_text, lines_text, parse_fault_text, dump_line, entry_line, attr_line, value_line}
+use Rattle.cell_script.specs.Texts.{lines_of_each, value_lines}
 
 -- ---- words
 
@@ -59,7 +64,7 @@ unknown : says (codes "hous 1") ≡ Err (UnknownCommand 1)
 unfolding said_by is_later
 unknown = refl
 
-later : says (codes "skulk") ≡ Err (NotBuilt 1)
+later : says (codes "export") ≡ Err (NotBuilt 1)
 unfolding said_by is_later
 later = refl
 
@@ -77,11 +82,7 @@ bad_house : says (codes "root 1 0") ≡ Err (BadWord 3)
 unfolding said_by counted taken number_of
 bad_house = refl
 
-other_house : says (codes "root 2 1") ≡ Err (NotBuilt 3)
-unfolding said_by counted taken number_of
-other_house = refl
-
-root_is : says (codes "root 2") ≡ Ok (Some (line.Cell (command.Root (record { 0 = 2 }) [])))
+root_is : says (codes "root 2 1") ≡ Ok (Some (line.Cell (command.Root (record { 0 = 2 }) (record { 0 = 1 } ∷ []))))
 unfolding said_by counted taken number_of
 root_is = refl
 
@@ -89,6 +90,18 @@ repoint_is : says (codes "repoint 1 2 s 3 4 5") ≡ Ok
     (Some (line.Cell (command.Repoint (record { 0 = 1 }) (record { 0 = 2 }) (codes "s") (record { 0 = 3 }) (record { 0 = 4 } ∷ record { 0 = 5 } ∷ []))))
 unfolding said_by counted taken number_of
 repoint_is = refl
+
+epoch_is : says (codes "epoch 2 3 1") ≡ Ok (Some (line.Cell (command.Epoch (record { 0 = 2 }) (record { 0 = 3 }) (record { 0 = 1 } ∷ []))))
+unfolding said_by counted taken number_of
+epoch_is = refl
+
+deliver_is : says (codes "deliver 18446744073709551615") ≡ Ok (Some (line.Cell (command.Deliver 18446744073709551615)))
+unfolding said_by counted taken number_of
+deliver_is = refl
+
+no_serial : says (codes "lose 0") ≡ Err (BadWord 2)
+unfolding said_by counted taken number_of
+no_serial = refl
 
 house_is : says (codes "house 1 00000000000a") ≡ Ok (Some (line.Cell (command.House (record { 0 = 1 }) 10)))
 unfolding said_by counted taken number_of decode_pairs
@@ -107,6 +120,27 @@ read_is : says (codes "read 1 high /.:/sub/lpr A") ≡ Ok
 unfolding said_by counted taken number_of
 read_is = refl
 
+dump_is : says (codes "dump 1 2") ≡ Ok (Some (line.Question (question.Dump (record { 0 = 1 }) (record { 0 = 2 }))))
+unfolding said_by counted taken number_of
+dump_is = refl
+
+octets_of_a_message : says (codes "octets msg 256") ≡ Ok (Some (line.Question (question.OctetsMsg 256)))
+unfolding said_by counted taken number_of
+octets_of_a_message = refl
+
+-- the third word has the form that the second asks for
+octets_of_a_house : says (codes "octets house 256") ≡ Err (BadWord 3)
+unfolding said_by counted taken number_of
+octets_of_a_house = refl
+
+octets_of_another : says (codes "octets image 1") ≡ Err (BadWord 2)
+unfolding said_by counted taken
+octets_of_another = refl
+
+octets_of_none : says (codes "octets msg") ≡ Err (WrongCount 2)
+unfolding said_by counted
+octets_of_none = refl
+
 decode_is : says (codes "decode 0aFF") ≡ Ok (Some (line.Question (question.Decode (10 ∷ 255 ∷ []))))
 unfolding said_by counted taken decode_pairs
 decode_is = refl
@@ -117,36 +151,87 @@ odd_digits = refl
 
 -- ---- texts
 
-posted : answer_text (answer.Posted (1 ∷ 2 ∷ [])) ≡ codes "ok posted 1 2"
+posted : answer_line (answer.Posted (1 ∷ 2 ∷ [])) ≡ codes "ok posted 1 2"
 unfolding digits
 posted = refl
 
-made : answer_text (answer.Made (record { 0 = 2 }) (record { time = 100; node = 10 }) (7 ∷ [])) ≡ codes "ok 2 100@00000000000a posted 7"
+made : answer_line (answer.Made (record { 0 = 2 }) (record { time = 100; node = 10 }) (7 ∷ [])) ≡ codes "ok 2 100@00000000000a posted 7"
 unfolding digits encode_with
 made = refl
 
-shown : answer_text (answer.Values ((80 ∷ 114 ∷ []) ∷ (0 ∷ []) ∷ [])) ≡ codes "ok 2 5072 00"
+epoch_text : answer_line (answer.Epoch (record { 0 = 2 }) (3 ∷ 4 ∷ [])) ≡ codes "ok 2 posted 3 4"
+unfolding digits
+epoch_text = refl
+
+late : answer_line (answer.Late (record { 0 = 1 }) (record { 0 = 2 })) ≡ codes "ok late 1 2"
+unfolding digits
+late = refl
+
+stale : answer_line (answer.Stale (record { time = 1; node = 10 }) None) ≡ codes "ok stale 1@00000000000a none"
+unfolding digits encode_with
+stale = refl
+
+complete : answer_line (answer.Complete (record { time = 2; node = 10 }) (15 ∷ [])) ≡ codes "ok complete 2@00000000000a posted 15"
+unfolding digits encode_with
+complete = refl
+
+octets : answer_line (answer.Octets (1 ∷ 255 ∷ [])) ≡ codes "ok 2 01ff"
+unfolding digits encode_with
+octets = refl
+
+shown : answer_line (answer.Values ((80 ∷ 114 ∷ []) ∷ (0 ∷ []) ∷ [])) ≡ codes "ok 2 5072 00"
 unfolding digits encode_with
 shown = refl
 
-target : answer_text (answer.Target (codes "sub" ∷ codes "lpr" ∷ [])) ≡ codes "ok /.:/sub/lpr"
+target : answer_line (answer.Target (codes "sub" ∷ codes "lpr" ∷ [])) ≡ codes "ok /.:/sub/lpr"
 target = refl
 
-message : answer_text (answer.Decoded 1 78) ≡ codes "ok Update 78"
+message : answer_line (answer.Decoded 1 78) ≡ codes "ok Update 78"
 unfolding digits
 message = refl
 
-no_message : answer_text (answer.Refused (why.BadTag 2)) ≡ codes "refused BadTag 2"
+no_message : answer_line (answer.Refused (why.BadTag 2)) ≡ codes "refused BadTag 2"
 unfolding digits
 no_message = refl
 
-refused : answer_text (answer.Refused (why.NoSuchName 1)) ≡ codes "refused NoSuchName 1"
+refused : answer_line (answer.Refused (why.NoSuchName 1)) ≡ codes "refused NoSuchName 1"
 unfolding digits
 refused = refl
 
-spent : answer_text (answer.Refused (why.StampsSpent (Some 2) (5 ∷ []))) ≡ codes "refused StampsSpent 2 posted 5"
+not_joined : answer_line (answer.Refused (why.NotJoined (record { 0 = 1 }) (record { 0 = 3 }))) ≡ codes "refused NotJoined 1 3"
+unfolding digits
+not_joined = refl
+
+spent : answer_line (answer.Refused (why.StampsSpent (Some 2) (5 ∷ []))) ≡ codes "refused StampsSpent 2 posted 5"
 unfolding digits
 spent = refl
+
+a_dump : dump_line (record { 0 = 3 }) None
+    (record { house = record { 0 = 1 }; since = record { 0 = 3 }; kind = ReadOnly } ∷ record { house = record { 0 = 2 }; since = record { 0 = 1 }; kind = Master } ∷ [])
+    ≡ codes "dump epoch 3 allupto none members 1:3:r 2:1:m"
+unfolding digits
+a_dump = refl
+
+dead : entry_line (codes "e") (record { birth = record { time = 1; node = 10 }; kind = Link; death = Some (record { time = 2; node = 10 }); attrs = empty })
+    ≡ codes "entry e link 1@00000000000a 2@00000000000a"
+unfolding digits encode_with
+dead = refl
+
+cleared_never : attr_line (codes "A") None ≡ codes "attr A none"
+cleared_never = refl
+
+absent : value_line (10 ∷ []) (record { present = false; stamp = record { time = 2; node = 10 } }) ≡ codes "value 0a absent 2@00000000000a"
+unfolding digits encode_with
+absent = refl
+
+each_value : (m n : ValueMark) → lines_of_each value_lines ((10 ∷ [], m) ∷ (11 ∷ [], n) ∷ []) ≡ value_line (10 ∷ []) m ∷ value_line (11 ∷ []) n ∷ []
+unfolding lines_of_each
+each_value m n = refl
+
+-- each line has the number of its script line
+two_lines : lines_text 14 (codes "dump" ∷ codes "end" ∷ []) ≡ codes "14 dump" ++ (10 ∷ (codes "14 end" ++ 10 ∷ []))
+unfolding digits
+two_lines = refl
 
 a_line : line_text 12 (codes "ok") ≡ codes "12 ok" ++ 10 ∷ []
 unfolding digits

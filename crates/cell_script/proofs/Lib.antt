@@ -3,4 +3,5 @@ pub mod Splitting
 pub mod Reading
 pub mod Families
 pub mod Printing
+pub mod DumpLoops
 mod Examples

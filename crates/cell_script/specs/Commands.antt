@@ -11,8 +11,8 @@ use Rattle.cell_script.specs.declared.command.ScriptLine.{ScriptLine}
 use Rattle.cell_script.specs.declared.command.ScriptLine.TheVariants as line
 use Rattle.cell_script.specs.declared.fault.ParseFault.{ParseFault}
 use Rattle.cell_script.specs.declared.fault.ParseFault.TheVariants.{UnknownCommand, NotBuilt}
-use Rattle.cell_script.specs.Forms.{◌>>=◌, Form, House, Directory, Time, Node, SimpleName, FullName, AttrName, Value, Octets, Confidence, Houses, NoHouses}
-use Rattle.cell_script.specs.Forms.{Words, Builds, followed_by, read_as}
+use Rattle.cell_script.specs.Forms.{◌>>=◌, Form, House, Directory, Serial, Time, Node, SimpleName, FullName, AttrName, Value, Octets, Confidence, Encoded}
+use Rattle.cell_script.specs.Forms.{Houses, Words, Builds, followed_by, read_as}
 
 -- a command of any type of line: its first word, the forms of the words behind it, and what a line of them says (own)
 pub record RowOf (Line : Type 0) : Type 0 where
@@ -43,8 +43,8 @@ abbrev pub making_rows : List Row
 making_rows =
     step (codes "house") (House ∷ Node ∷ []) command.House
     ∷ step (codes "clock") (House ∷ Time ∷ []) command.Clock
-    ∷ step (codes "root") (House ∷ NoHouses ∷ []) command.Root
-    ∷ step (codes "mkdir") (House ∷ Directory ∷ SimpleName ∷ House ∷ NoHouses ∷ []) command.Mkdir
+    ∷ step (codes "root") (House ∷ Houses ∷ []) command.Root
+    ∷ step (codes "mkdir") (House ∷ Directory ∷ SimpleName ∷ House ∷ Houses ∷ []) command.Mkdir
     ∷ step (codes "repoint") (House ∷ Directory ∷ SimpleName ∷ House ∷ Houses ∷ []) command.Repoint
     ∷ []
 
@@ -65,21 +65,39 @@ value_rows =
     ∷ step (codes "clear") (House ∷ Directory ∷ SimpleName ∷ AttrName ∷ []) command.Clear
     ∷ []
 
+-- the commands about all replicas of a directory (own)
+abbrev pub replica_rows : List Row
+replica_rows =
+    step (codes "epoch") (Directory ∷ House ∷ Houses ∷ []) command.Epoch
+    ∷ step (codes "skulk") (House ∷ Directory ∷ []) command.Skulk
+    ∷ []
+
+-- what befalls messages and houses (own)
+abbrev pub event_rows : List Row
+event_rows =
+    step (codes "deliver") (Serial ∷ []) command.Deliver
+    ∷ step (codes "lose") (Serial ∷ []) command.Lose
+    ∷ step (codes "crash") (House ∷ []) command.Crash
+    ∷ step (codes "start") (House ∷ []) command.Start
+    ∷ []
+
 -- the questions (own)
 abbrev pub question_rows : List Row
 question_rows =
     asks (codes "read") (House ∷ Confidence ∷ FullName ∷ AttrName ∷ []) question.Read
     ∷ asks (codes "readlink") (House ∷ Confidence ∷ FullName ∷ []) question.Readlink
+    ∷ asks (codes "dump") (House ∷ Directory ∷ []) question.Dump
+    ∷ asks (codes "octets") (Encoded ∷ []) (λ q. q)
     ∷ asks (codes "decode") (Octets ∷ []) question.Decode
     ∷ []
 
 -- the commands (own)
 abbrev pub rows : List Row
-rows = making_rows ++ (entry_rows ++ (value_rows ++ question_rows))
+rows = making_rows ++ (entry_rows ++ (value_rows ++ (replica_rows ++ (event_rows ++ question_rows))))
 
 -- the commands that are not built yet (own)
 abbrev pub later_commands : List (List ℕ)
-later_commands = slice_split (λ b. b == 32) (codes "epoch skulk deliver lose crash start export unexport groupadd groupdel profadd profdel import dump octets")
+later_commands = slice_split (λ b. b == 32) (codes "export unexport groupadd groupdel profadd profdel import")
 
 unfoldable pub is_later : List ℕ → Bool
 is_later name = list_any (bytes_eq name) later_commands

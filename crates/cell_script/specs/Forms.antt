@@ -4,15 +4,17 @@ use Rattle.cds_stamps.specs.declared.numbers.HouseNo.{HouseNo}
 use Rattle.cds_stamps.specs.declared.numbers.DirId.{DirId}
 use Rattle.cds_stamps.specs.declared.alloc_or.AllocOr.{AllocOr}
 use Rattle.cds_stamps.specs.declared.alloc_or.AllocOr.TheVariants.{Fault, OutOfMemory}
+use Rattle.cell_script.specs.declared.command.Question.{Question}
 use Rattle.cell_script.specs.declared.fault.ParseFault.{ParseFault}
-use Rattle.cell_script.specs.declared.fault.ParseFault.TheVariants.{WrongCount, BadWord, NotBuilt}
-use Rattle.cell_script.specs.Words.{number_of, house_of, directory_of, node_of, simple_name_of, full_name_of, attr_name_of, octets_value_of, octets_of}
-use Rattle.cell_script.specs.Words.{confidence_of}
+use Rattle.cell_script.specs.declared.fault.ParseFault.TheVariants.{WrongCount, BadWord}
+use Rattle.cell_script.specs.Words.{number_of, house_of, directory_of, serial_of, node_of, simple_name_of, full_name_of, attr_name_of, octets_value_of}
+use Rattle.cell_script.specs.Words.{octets_of, confidence_of, octets_asked}
 
--- the forms of words; the last two stand for any number of words (own)
+-- the forms of words; the last but one stands for two words, and the last for any number of them (own)
 pub data Form : Type 0 where
   House : Form
   Directory : Form
+  Serial : Form
   Time : Form
   Node : Form
   SimpleName : Form
@@ -21,14 +23,14 @@ pub data Form : Type 0 where
   Value : Form
   Octets : Form
   Confidence : Form
+  Encoded : Form
   Houses : Form
-  -- the same, as long as commands with such words are not built
-  NoHouses : Form
 
 -- what words of a form say (own)
 abbrev pub Said : Form → Type 0
 Said House = HouseNo
 Said Directory = DirId
+Said Serial = ℕ
 Said Time = ℕ
 Said Node = ℕ
 Said SimpleName = List ℕ
@@ -37,8 +39,8 @@ Said AttrName = List ℕ
 Said Value = List ℕ
 Said Octets = List ℕ
 Said Confidence = Bool
+Said Encoded = Question
 Said Houses = List HouseNo
-Said NoHouses = List HouseNo
 
 -- the words of a line that are still to be read, and how many were read before them (own)
 pub record Words : Type 0 where
@@ -76,17 +78,15 @@ all_houses read ws = do
   hs ← houses_in read ws
   Ok (hs, record { read = read + length ws; rest = [] })
 
--- the same where no such word is built: the first is at fault either way (own)
-abbrev pub no_houses : ℕ → List (List ℕ) → Result (List HouseNo × Words) ParseFault
-no_houses read [] = Ok ([], record { read = read; rest = [] })
-no_houses read (w ∷ ws) = do
-  h ← said_at (read + 1) (house_of w)
-  Err (NotBuilt (read + 1))
+-- a word that tells what the next one asks for, and that one (own)
+abbrev pub two_words : ℕ → List (List ℕ) → Result (Question × Words) ParseFault
+two_words read ws = next_word octets_asked read ws >>= λ t. next_word t.0 t.1.read t.1.rest
 
 -- the words of a form, and those behind them (own)
 unfoldable pub taken : (f : Form) → Words → Result (Said f × Words) ParseFault
 taken House s = next_word house_of s.read s.rest
 taken Directory s = next_word directory_of s.read s.rest
+taken Serial s = next_word serial_of s.read s.rest
 taken Time s = next_word number_of s.read s.rest
 taken Node s = next_word node_of s.read s.rest
 taken SimpleName s = next_word simple_name_of s.read s.rest
@@ -95,8 +95,8 @@ taken AttrName s = next_word attr_name_of s.read s.rest
 taken Value s = next_word octets_value_of s.read s.rest
 taken Octets s = next_word octets_of s.read s.rest
 taken Confidence s = next_word confidence_of s.read s.rest
+taken Encoded s = two_words s.read s.rest
 taken Houses s = all_houses s.read s.rest
-taken NoHouses s = no_houses s.read s.rest
 
 -- ---- lines of several forms
 
@@ -104,13 +104,12 @@ taken NoHouses s = no_houses s.read s.rest
 abbrev pub least_of : List Form → ℕ
 least_of [] = 0
 least_of (Houses ∷ fs) = least_of fs
-least_of (NoHouses ∷ fs) = least_of fs
+least_of (Encoded ∷ fs) = least_of fs + 2
 least_of (f ∷ fs) = least_of fs + 1
 
 abbrev pub is_open : List Form → Bool
 is_open [] = false
 is_open (Houses ∷ fs) = true
-is_open (NoHouses ∷ fs) = true
 is_open (f ∷ fs) = is_open fs
 
 -- there are as many words as wanted, or at least so many (own)

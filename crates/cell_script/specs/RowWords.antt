@@ -3,14 +3,22 @@ use Rattle.std.specs.Prelude.{ℕ, List, Result}
 use Rattle.cell_script.specs.declared.command.ScriptLine.{ScriptLine}
 use Rattle.cell_script.specs.declared.fault.ParseFault.{ParseFault}
 use Rattle.cell_script.specs.Forms.{Words}
-use Rattle.cell_script.specs.Commands.{said_among, no_command, making_rows, entry_rows, value_rows, question_rows}
+use Rattle.cell_script.specs.Commands.{said_among, no_command, making_rows, entry_rows, value_rows, replica_rows}
+use Rattle.cell_script.specs.Commands.{event_rows, question_rows}
 
--- what the words behind a first word say that no family before has: a question, a change of values, an update, any command (own)
+-- what the words behind a first word say that no family before has: a question, an event, a command about all
+-- replicas, a change of values, an update, any command (own)
 unfoldable pub asked_by : List ℕ → Words → Result ScriptLine ParseFault
 asked_by word = said_among question_rows (no_command word) word
 
+unfoldable pub befallen_by : List ℕ → Words → Result ScriptLine ParseFault
+befallen_by word s = said_among event_rows (asked_by word s) word s
+
+unfoldable pub replicated_by : List ℕ → Words → Result ScriptLine ParseFault
+replicated_by word s = said_among replica_rows (befallen_by word s) word s
+
 unfoldable pub changed_by : List ℕ → Words → Result ScriptLine ParseFault
-changed_by word s = said_among value_rows (asked_by word s) word s
+changed_by word s = said_among value_rows (replicated_by word s) word s
 
 unfoldable pub updated_by : List ℕ → Words → Result ScriptLine ParseFault
 updated_by word s = said_among entry_rows (changed_by word s) word s

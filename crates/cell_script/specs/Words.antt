@@ -14,6 +14,8 @@ use Rattle.cds_stamps.specs.Names.{simple_name_fault, attr_fault}
 use Rattle.cds_stamps.specs.Outcomes.{ok_unless}
 use Rattle.cell_names.specs.FullNames.{name_fault, components_of}
 use Rattle.attr_sets.specs.Values.{value_fault}
+use Rattle.cell_script.specs.declared.command.Question.{Question}
+use Rattle.cell_script.specs.declared.command.Question.TheVariants as question
 
 -- the words of a line, between its spaces (own)
 abbrev pub words_of : List ℕ → List (List ℕ)
@@ -46,12 +48,15 @@ number_to most w = option_and_then (λ n. if nat_le 1 n && nat_le n most then So
 
 -- ---- what a word of each form says
 
--- the greatest number of a house, which has an octet, and of a directory, which has 32 bits (own)
+-- the greatest number of a house, which has an octet, of a directory, which has 32 bits, and of a message, which has 64 (own)
 abbrev pub most_house : ℕ
 most_house = 255
 
 abbrev pub most_directory : ℕ
 most_directory = 4294967295
+
+abbrev pub most_serial : ℕ
+most_serial = 18446744073709551615
 
 -- the number of a house (own)
 abbrev pub house_of : List ℕ → Option HouseNo
@@ -60,6 +65,10 @@ house_of w = option_map (λ n. record { 0 = n }) (number_to most_house w)
 -- the number of a directory (own)
 abbrev pub directory_of : List ℕ → Option DirId
 directory_of w = option_map (λ n. record { 0 = n }) (number_to most_directory w)
+
+-- the serial number of a message (own)
+abbrev pub serial_of : List ℕ → Option ℕ
+serial_of = number_to most_serial
 
 -- a node of 48 bits, in twelve hexadecimal digits of either case (own)
 abbrev pub node_of : List ℕ → Option ℕ
@@ -89,3 +98,14 @@ octets_of w = result_ok (decode_of w)
 -- how much the answer of a replica is trusted: `high` is true (own, after C705, confidence of a clerk's lookups)
 abbrev pub confidence_of : List ℕ → Option Bool
 confidence_of w = if bytes_eq w (codes "low") then Some false else (if bytes_eq w (codes "high") then Some true else None)
+
+-- what is asked by `octets` and two words: the octets of a message, or those of a house's image (own)
+abbrev pub message_asked : List ℕ → Option Question
+message_asked w = option_map question.OctetsMsg (serial_of w)
+
+abbrev pub image_asked : List ℕ → Option Question
+image_asked w = option_map question.OctetsHouse (house_of w)
+
+-- the first of these words tells what the second asks for (own)
+abbrev pub octets_asked : List ℕ → Option (List ℕ → Option Question)
+octets_asked w = if bytes_eq w (codes "msg") then Some message_asked else (if bytes_eq w (codes "house") then Some image_asked else None)

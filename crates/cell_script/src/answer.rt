@@ -1,7 +1,8 @@
 // What the cell answers to a line.
-use crate::lists::{Serials, Values};
-use cds_stamps::{DirId, Stamp};
+use crate::lists::{Octets, Serials, Values};
+use cds_stamps::{DirId, EpochNo, Members, Stamp};
 use cell_names::FullName;
+use directory::Table;
 
 /// What the cell answers to a line.
 #[derive(Drop)]
@@ -14,10 +15,28 @@ pub enum Answer {
     Made(DirId, Stamp, Serials),
     /// The stamp of an update, and the messages that were posted.
     Stamped(Stamp, Serials),
+    /// The number of a new epoch, and the messages that were posted.
+    Epoch(EpochNo, Serials),
+    /// A message was taken, and these were posted.
+    Taken(Serials),
+    /// A message of an epoch before that of the house: its epoch, and the house's.
+    Late(EpochNo, EpochNo),
+    /// A message of an epoch behind that of the house: its epoch, and the house's.
+    Early(EpochNo, EpochNo),
+    /// A message of another skulk than the one that runs: its stamp, and the running one's.
+    Stale(Stamp, Option<Stamp>),
+    /// The house holds no replica that the message could be for.
+    NoReplica,
+    /// A skulk is complete: its stamp, and the messages that were posted.
+    Complete(Stamp, Serials),
     /// The values that show, in ascending order.
     Values(Values),
     /// The name that a link leads to.
     Target(FullName),
+    /// What a house holds of a directory: the epoch, AllUpTo, the members, and the table.
+    Dump(EpochNo, Option<Stamp>, Members, Table),
+    /// The octets of a message or of an image.
+    Octets(Octets),
     /// The message at the front of octets: its tag, and how many octets it has.
     Decoded(u8, usize),
     Refused(ScriptRefusal),
@@ -31,7 +50,10 @@ pub enum ScriptRefusal {
     NoDirectory,
     DirectoryExists,
     BadMembers,
+    NotMember,
     Down,
+    Up,
+    NoMessage,
     NoReplica,
     NotMaster,
     NoSuchEntry,
@@ -39,6 +61,8 @@ pub enum ScriptRefusal {
     WrongKind,
     /// Of a command that makes several updates: how many were accepted before, and the messages that they posted.
     StampsSpent(Option<u64>, Serials),
+    /// The epoch that the house holds, and the one that began its present term.
+    NotJoined(EpochNo, EpochNo),
     /// How many components of the name were found.
     NoSuchName(u32),
     /// The number of the component that is no directory.

@@ -20,6 +20,14 @@ pub enum Command {
     Remove(HouseNo, DirId, SimpleName, AttrName, Value),
     Put(HouseNo, DirId, SimpleName, AttrName, Value),
     Clear(HouseNo, DirId, SimpleName, AttrName),
+    /// A new epoch of a directory: its master, and the other houses.
+    Epoch(DirId, HouseNo, HouseNos),
+    Skulk(HouseNo, DirId),
+    /// A message is delivered, or lost, by its serial number.
+    Deliver(u64),
+    Lose(u64),
+    Crash(HouseNo),
+    Start(HouseNo),
 }
 
 /// A command that asks and changes nothing. The `bool` is the confidence, true for high.
@@ -27,6 +35,12 @@ pub enum Command {
 pub enum Question {
     Read(HouseNo, bool, FullName, AttrName),
     Readlink(HouseNo, bool, FullName),
+    /// What a house holds of a directory.
+    Dump(HouseNo, DirId),
+    /// The octets of a message, by its serial number.
+    OctetsMsg(u64),
+    /// The octets of a house's image.
+    OctetsHouse(HouseNo),
     /// Which message stands at the front of these octets.
     Decode(Octets),
 }

@@ -27,7 +27,7 @@ pub(crate) fn root(alloc: Global, words: &mut Words<'_>) -> Parsed<ScriptLine>
     ensures { Answers result (made_by (codes "root") words.old) }
 {
     words.at_least(1)?;
-    Ok(ScriptLine::Cell(Command::Root(words.house()?, words.no_houses(alloc)?)))
+    Ok(ScriptLine::Cell(Command::Root(words.house()?, words.houses(alloc)?)))
 }
 
 pub(crate) fn mkdir(alloc: Global, words: &mut Words<'_>) -> Parsed<ScriptLine>
@@ -39,7 +39,7 @@ pub(crate) fn mkdir(alloc: Global, words: &mut Words<'_>) -> Parsed<ScriptLine>
         words.directory()?,
         words.simple_name(alloc)?,
         words.house()?,
-        words.no_houses(alloc)?,
+        words.houses(alloc)?,
     )))
 }
 

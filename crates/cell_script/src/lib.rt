@@ -4,11 +4,15 @@
 mod answer;
 mod command;
 mod commands;
+mod dump;
 mod fault;
 mod lists;
 mod parse;
+mod pieces;
 mod print;
 mod questions;
+mod refusals;
+mod replicas;
 mod updates;
 mod word;
 mod words;

@@ -128,7 +128,7 @@ impl Values {
     }
 }
 
-/// Octets that are asked about.
+/// Octets that are asked about, or told.
 #[derive(Drop)]
 pub struct Octets {
     items: Vec<u8>,

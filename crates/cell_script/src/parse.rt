@@ -3,18 +3,17 @@ ghost use Rattle.std.specs.Prelude.{◌≡◌, ◌∷◌, Ok, None};
 ghost use Rattle.cds_stamps.specs.Outcomes.{Answers};
 ghost use Rattle.cell_script.specs.Words.{words_of};
 ghost use Rattle.cell_script.specs.Commands.{is_later, said_in};
-ghost use Rattle.cell_script.specs.RowWords.{made_by, updated_by, changed_by, asked_by};
+ghost use Rattle.cell_script.specs.RowWords.{made_by, updated_by, changed_by, replicated_by, befallen_by, asked_by};
 
 use crate::command::ScriptLine;
 use crate::fault::ParseFault;
 use crate::words::{Parsed, Words};
-use crate::{commands, questions, updates};
+use crate::{commands, questions, replicas, updates};
 use cds_stamps::AllocOr;
 use std::alloc::Global;
 
 // The commands that are not built yet.
-const LATER: &[u8] =
-    b"epoch skulk deliver lose crash start export unexport groupadd groupdel profadd profdel import dump octets";
+const LATER: &[u8] = b"export unexport groupadd groupdel profadd profdel import";
 
 fn comes_later(word: &[u8]) -> bool
     ensures { result ≡ is_later word.now }
@@ -45,7 +44,7 @@ fn said(alloc: Global, word: &[u8], words: &mut Words<'_>) -> Parsed<ScriptLine>
     updated(alloc, word, words)
 }
 
-// The same of an update of an entry, or of its values, or of a question.
+// The same of an update of an entry, or of another.
 #[tactic(auto, unfolding(crate::specs::RowWords::updated_by))]
 fn updated(alloc: Global, word: &[u8], words: &mut Words<'_>) -> Parsed<ScriptLine>
     ensures { Answers result (updated_by word.now words.old) }
@@ -62,7 +61,7 @@ fn updated(alloc: Global, word: &[u8], words: &mut Words<'_>) -> Parsed<ScriptLi
     changed(alloc, word, words)
 }
 
-// The same of a change of an entry's values, or of a question.
+// The same of a change of an entry's values, or of another.
 #[tactic(auto, unfolding(crate::specs::RowWords::changed_by))]
 fn changed(alloc: Global, word: &[u8], words: &mut Words<'_>) -> Parsed<ScriptLine>
     ensures { Answers result (changed_by word.now words.old) }
@@ -79,6 +78,40 @@ fn changed(alloc: Global, word: &[u8], words: &mut Words<'_>) -> Parsed<ScriptLi
     if word == b"clear".as_slice() {
         return updates::clear(alloc, words);
     }
+    replicated(alloc, word, words)
+}
+
+// The same of a command about all replicas of a directory, or of another.
+#[tactic(auto, unfolding(crate::specs::RowWords::replicated_by))]
+fn replicated(alloc: Global, word: &[u8], words: &mut Words<'_>) -> Parsed<ScriptLine>
+    ensures { Answers result (replicated_by word.now words.old) }
+{
+    if word == b"epoch".as_slice() {
+        return replicas::epoch(alloc, words);
+    }
+    if word == b"skulk".as_slice() {
+        return replicas::skulk(words);
+    }
+    befallen(alloc, word, words)
+}
+
+// The same of what befalls a message or a house, or of a question.
+#[tactic(auto, unfolding(crate::specs::RowWords::befallen_by))]
+fn befallen(alloc: Global, word: &[u8], words: &mut Words<'_>) -> Parsed<ScriptLine>
+    ensures { Answers result (befallen_by word.now words.old) }
+{
+    if word == b"deliver".as_slice() {
+        return replicas::deliver(words);
+    }
+    if word == b"lose".as_slice() {
+        return replicas::lose(words);
+    }
+    if word == b"crash".as_slice() {
+        return replicas::crash(words);
+    }
+    if word == b"start".as_slice() {
+        return replicas::start(words);
+    }
     asked(alloc, word, words)
 }
 
@@ -92,6 +125,12 @@ fn asked(alloc: Global, word: &[u8], words: &mut Words<'_>) -> Parsed<ScriptLine
     }
     if word == b"readlink".as_slice() {
         return questions::readlink(alloc, words);
+    }
+    if word == b"dump".as_slice() {
+        return questions::dump(words);
+    }
+    if word == b"octets".as_slice() {
+        return questions::octets(words);
     }
     if word == b"decode".as_slice() {
         return questions::decode(alloc, words);

@@ -1,76 +1,22 @@
 // Answers and faults to text.
 ghost use Rattle.std.specs.Prelude.{◌≡◌, ◌++◌, ◌∷◌, length, take, IfOk, OnOk, OnErr, codes, decimal};
-ghost use Rattle.hex.specs.Hex.{encode_lower};
-ghost use Rattle.cell_names.specs.FullNames.{spelling};
-ghost use Rattle.cell_script.specs.Texts.{line_text, spaced, stamp_text, posted_text, values_text, accepted_text, refusal_name, refusal_numbers};
-ghost use Rattle.cell_script.specs.Texts.{stamped_text, message_name, answer_text, fault_text, parse_fault_text};
+ghost use Rattle.cell_script.specs.Texts.{line_text, posted_text, stamp_text, stamp_or, epochs_text, stamped_text, values_text, counted_octets};
+ghost use Rattle.cell_script.specs.Texts.{message_name, answer_line, answer_text, fault_text, parse_fault_text};
 
-use crate::answer::{Answer, ScriptRefusal};
+use crate::answer::Answer;
+use crate::dump::dump_text;
 use crate::fault::ParseFault;
+use crate::pieces::{
+    push_epochs, push_hex, push_number, push_posted, push_spaced, push_stamp, push_stamp_or,
+    push_stamped,
+};
+use crate::refusals::push_refusal;
 use attr_sets::Value;
-use cds_stamps::{DirId, Stamp};
-use itoa::Buffer;
+use cds_stamps::{DirId, EpochNo, Stamp};
 use std::alloc::{AllocError, Global};
 
 // Room for the line of a fault.
 const USUAL_LINE: usize = 80;
-
-// A number, in decimal digits.
-fn push_number(line: &mut Vec<u8>, number: u64) -> Result<(), AllocError>
-    ensures ok { OnOk result (line.new.items ≡ line.old.items ++ decimal number) }
-    ensures err { OnErr result (take (length line.old.items) line.new.items ≡ line.old.items) }
-{
-    let mut digits = Buffer::new();
-    line.extend_from_slice(digits.format(number).as_bytes())
-}
-
-// The same behind a space.
-fn push_spaced(line: &mut Vec<u8>, number: u64) -> Result<(), AllocError>
-    ensures ok { OnOk result (line.new.items ≡ line.old.items ++ 32 ∷ decimal number) }
-    ensures err { OnErr result (take (length line.old.items) line.new.items ≡ line.old.items) }
-{
-    line.push(b' ')?;
-    push_number(line, number)
-}
-
-// Octets, each in two hexadecimal digits.
-fn push_hex(line: &mut Vec<u8>, octets: &[u8]) -> Result<(), AllocError>
-    ensures ok { OnOk result (line.new.items ≡ line.old.items ++ encode_lower octets.now) }
-    ensures err { OnErr result (take (length line.old.items) line.new.items ≡ line.old.items) }
-{
-    let start = line.len();
-    let end = start.checked_add(2 * octets.len()).ok_or(AllocError)?;
-    line.resize(end, 0)?;
-    match hex::encode_to_slice(octets, &mut line[start..]) {
-        Ok(()) => Ok(()),
-        Err(_) => unreachable!(),
-    }
-}
-
-// A stamp: its time, `@` and its node.
-fn push_stamp(line: &mut Vec<u8>, stamp: &Stamp) -> Result<(), AllocError>
-    ensures ok { OnOk result (line.new.items ≡ line.old.items ++ stamp_text stamp.now) }
-    ensures err { OnErr result (take (length line.old.items) line.new.items ≡ line.old.items) }
-{
-    push_number(line, stamp.time)?;
-    line.push(b'@')?;
-    push_hex(line, &stamp.node.number().to_be_bytes()[2..])
-}
-
-// The serial numbers of the messages that were posted, if any.
-fn push_posted(line: &mut Vec<u8>, serials: &[u64]) -> Result<(), AllocError>
-    ensures ok { OnOk result (line.new.items ≡ line.old.items ++ posted_text serials.now) }
-    ensures err { OnErr result (take (length line.old.items) line.new.items ≡ line.old.items) }
-{
-    if serials.is_empty() {
-        return Ok(());
-    }
-    line.extend_from_slice(b" posted")?;
-    for serial in serials {
-        push_spaced(line, *serial)?;
-    }
-    Ok(())
-}
 
 // How many values, and each in hexadecimal digits.
 fn push_values(line: &mut Vec<u8>, values: &[Value]) -> Result<(), AllocError>
@@ -83,74 +29,6 @@ fn push_values(line: &mut Vec<u8>, values: &[Value]) -> Result<(), AllocError>
         push_hex(line, value.octets())?;
     }
     Ok(())
-}
-
-// The name of a refusal.
-fn name_of(refusal: &ScriptRefusal) -> &'static [u8]
-    ensures { result.now ≡ refusal_name refusal.now }
-{
-    match refusal {
-        ScriptRefusal::HouseExists => b"HouseExists",
-        ScriptRefusal::NoHouse => b"NoHouse",
-        ScriptRefusal::NoDirectory => b"NoDirectory",
-        ScriptRefusal::DirectoryExists => b"DirectoryExists",
-        ScriptRefusal::BadMembers => b"BadMembers",
-        ScriptRefusal::Down => b"Down",
-        ScriptRefusal::NoReplica => b"NoReplica",
-        ScriptRefusal::NotMaster => b"NotMaster",
-        ScriptRefusal::NoSuchEntry => b"NoSuchEntry",
-        ScriptRefusal::EntryExists => b"EntryExists",
-        ScriptRefusal::WrongKind => b"WrongKind",
-        ScriptRefusal::StampsSpent(_, _) => b"StampsSpent",
-        ScriptRefusal::NoSuchName(_) => b"NoSuchName",
-        ScriptRefusal::NotDirectory(_) => b"NotDirectory",
-        ScriptRefusal::Unreachable(_) => b"Unreachable",
-        ScriptRefusal::LinkCycle => b"LinkCycle",
-        ScriptRefusal::TooManyLinks => b"TooManyLinks",
-        ScriptRefusal::NameTooLong => b"NameTooLong",
-        ScriptRefusal::RootName => b"RootName",
-        ScriptRefusal::NotLink => b"NotLink",
-        ScriptRefusal::Short(_) => b"Short",
-        ScriptRefusal::BadTag(_) => b"BadTag",
-        ScriptRefusal::BadLength(_) => b"BadLength",
-        ScriptRefusal::BadName(_) => b"BadName",
-        ScriptRefusal::OutOfOrder(_) => b"OutOfOrder",
-        ScriptRefusal::BadFlag(_) => b"BadFlag",
-    }
-}
-
-// The numbers of a refusal.
-fn push_numbers(line: &mut Vec<u8>, refusal: &ScriptRefusal) -> Result<(), AllocError>
-    ensures ok { OnOk result (line.new.items ≡ line.old.items ++ refusal_numbers refusal.now) }
-    ensures err { OnErr result (take (length line.old.items) line.new.items ≡ line.old.items) }
-{
-    match refusal {
-        ScriptRefusal::StampsSpent(accepted, serials) => {
-            push_accepted(line, *accepted)?;
-            push_posted(line, serials.list())
-        }
-        ScriptRefusal::NoSuchName(done) => push_spaced(line, u64::from(*done)),
-        ScriptRefusal::NotDirectory(number) => push_spaced(line, u64::from(*number)),
-        ScriptRefusal::Unreachable(dir) => push_spaced(line, u64::from(dir.0)),
-        ScriptRefusal::Short(place) => push_spaced(line, *place as u64),
-        ScriptRefusal::BadTag(place) => push_spaced(line, *place as u64),
-        ScriptRefusal::BadLength(place) => push_spaced(line, *place as u64),
-        ScriptRefusal::BadName(place) => push_spaced(line, *place as u64),
-        ScriptRefusal::OutOfOrder(place) => push_spaced(line, *place as u64),
-        ScriptRefusal::BadFlag(place) => push_spaced(line, *place as u64),
-        _ => Ok(()),
-    }
-}
-
-// How many updates were accepted, if that is said.
-fn push_accepted(line: &mut Vec<u8>, accepted: Option<u64>) -> Result<(), AllocError>
-    ensures ok { OnOk result (line.new.items ≡ line.old.items ++ accepted_text accepted) }
-    ensures err { OnErr result (take (length line.old.items) line.new.items ≡ line.old.items) }
-{
-    match accepted {
-        None => Ok(()),
-        Some(count) => push_spaced(line, count),
-    }
 }
 
 // The name of a message by its tag.
@@ -170,15 +48,6 @@ fn message_of(tag: u8) -> &'static [u8]
     }
 }
 
-// The stamp of an update, and the messages that were posted.
-fn push_stamped(line: &mut Vec<u8>, stamp: &Stamp, serials: &[u64]) -> Result<(), AllocError>
-    ensures ok { OnOk result (line.new.items ≡ line.old.items ++ stamped_text stamp.now serials.now) }
-    ensures err { OnErr result (take (length line.old.items) line.new.items ≡ line.old.items) }
-{
-    push_stamp(line, stamp)?;
-    push_posted(line, serials)
-}
-
 // The name of a message by its tag, and how many octets it has.
 fn push_message(line: &mut Vec<u8>, tag: u8, used: usize) -> Result<(), AllocError>
     ensures ok { OnOk result (line.new.items ≡ line.old.items ++ (message_name tag ++ 32 ∷ decimal used)) }
@@ -186,15 +55,6 @@ fn push_message(line: &mut Vec<u8>, tag: u8, used: usize) -> Result<(), AllocErr
 {
     line.extend_from_slice(message_of(tag))?;
     push_spaced(line, used as u64)
-}
-
-// The name of a refusal, and its numbers.
-fn push_refusal(line: &mut Vec<u8>, refusal: &ScriptRefusal) -> Result<(), AllocError>
-    ensures ok { OnOk result (line.new.items ≡ line.old.items ++ (refusal_name refusal.now ++ refusal_numbers refusal.now)) }
-    ensures err { OnErr result (take (length line.old.items) line.new.items ≡ line.old.items) }
-{
-    line.extend_from_slice(name_of(refusal))?;
-    push_numbers(line, refusal)
 }
 
 // The number of a new directory, the stamp of its entry, and the messages that were posted.
@@ -212,24 +72,103 @@ fn push_made(
     push_stamped(line, stamp, serials)
 }
 
-// What an answer says.
+// The messages that were posted, behind a word.
+fn push_posted_behind(line: &mut Vec<u8>, word: &[u8], serials: &[u64]) -> Result<(), AllocError>
+    ensures ok { OnOk result (line.new.items ≡ line.old.items ++ (word.now ++ posted_text serials.now)) }
+    ensures err { OnErr result (take (length line.old.items) line.new.items ≡ line.old.items) }
+{
+    line.extend_from_slice(word)?;
+    push_posted(line, serials)
+}
+
+// The number of a new epoch, and the messages that were posted.
+fn push_epoch(line: &mut Vec<u8>, epoch: EpochNo, serials: &[u64]) -> Result<(), AllocError>
+    ensures ok { OnOk result (line.new.items ≡ line.old.items ++ (decimal epoch.0 ++ posted_text serials.now)) }
+    ensures err { OnErr result (take (length line.old.items) line.new.items ≡ line.old.items) }
+{
+    push_number(line, epoch.0)?;
+    push_posted(line, serials)
+}
+
+// A stamp and the messages that were posted, behind words.
+fn push_stamped_behind(
+    line: &mut Vec<u8>,
+    words: &[u8],
+    stamp: &Stamp,
+    serials: &[u64],
+) -> Result<(), AllocError>
+    ensures ok { OnOk result (line.new.items ≡ line.old.items ++ (words.now ++ stamped_text stamp.now serials.now)) }
+    ensures err { OnErr result (take (length line.old.items) line.new.items ≡ line.old.items) }
+{
+    line.extend_from_slice(words)?;
+    push_stamped(line, stamp, serials)
+}
+
+// Two epochs, behind words.
+fn push_epochs_behind(
+    line: &mut Vec<u8>,
+    words: &[u8],
+    a: EpochNo,
+    b: EpochNo,
+) -> Result<(), AllocError>
+    ensures ok { OnOk result (line.new.items ≡ line.old.items ++ (words.now ++ epochs_text a b)) }
+    ensures err { OnErr result (take (length line.old.items) line.new.items ≡ line.old.items) }
+{
+    line.extend_from_slice(words)?;
+    push_epochs(line, a, b)
+}
+
+// The stamp of a skulk, and that of the skulk that runs.
+fn push_stale(line: &mut Vec<u8>, stamp: &Stamp, running: Option<Stamp>) -> Result<(), AllocError>
+    ensures ok { OnOk result (line.new.items ≡ line.old.items ++ (stamp_text stamp.now ++ 32 ∷ stamp_or (codes "none") running)) }
+    ensures err { OnErr result (take (length line.old.items) line.new.items ≡ line.old.items) }
+{
+    push_stamp(line, stamp)?;
+    line.push(b' ')?;
+    push_stamp_or(line, b"none", running)
+}
+
+// How many octets, and they in hexadecimal digits.
+fn push_octets(line: &mut Vec<u8>, octets: &[u8]) -> Result<(), AllocError>
+    ensures ok { OnOk result (line.new.items ≡ line.old.items ++ counted_octets octets.now) }
+    ensures err { OnErr result (take (length line.old.items) line.new.items ≡ line.old.items) }
+{
+    push_number(line, octets.len() as u64)?;
+    line.push(b' ')?;
+    push_hex(line, octets)
+}
+
+// What an answer says that has one line.
 fn push_answer(alloc: Global, line: &mut Vec<u8>, answer: &Answer) -> Result<(), AllocError>
-    ensures ok { OnOk result (line.new.items ≡ line.old.items ++ answer_text answer.now) }
+    ensures ok { OnOk result (line.new.items ≡ line.old.items ++ answer_line answer.now) }
     ensures err { OnErr result (take (length line.old.items) line.new.items ≡ line.old.items) }
 {
     match answer {
         Answer::Done => line.extend_from_slice(b"ok"),
-        Answer::Posted(serials) => {
-            line.extend_from_slice(b"ok")?;
-            push_posted(line, serials.list())
-        }
+        Answer::Posted(serials) => push_posted_behind(line, b"ok", serials.list()),
         Answer::Made(dir, stamp, serials) => {
             line.extend_from_slice(b"ok ")?;
             push_made(line, *dir, stamp, serials.list())
         }
-        Answer::Stamped(stamp, serials) => {
+        Answer::Stamped(stamp, serials) => push_stamped_behind(line, b"ok ", stamp, serials.list()),
+        Answer::Epoch(epoch, serials) => {
             line.extend_from_slice(b"ok ")?;
-            push_stamped(line, stamp, serials.list())
+            push_epoch(line, *epoch, serials.list())
+        }
+        Answer::Taken(serials) => push_posted_behind(line, b"ok taken", serials.list()),
+        Answer::Late(of_message, of_house) => {
+            push_epochs_behind(line, b"ok late", *of_message, *of_house)
+        }
+        Answer::Early(of_message, of_house) => {
+            push_epochs_behind(line, b"ok early", *of_message, *of_house)
+        }
+        Answer::Stale(stamp, running) => {
+            line.extend_from_slice(b"ok stale ")?;
+            push_stale(line, stamp, *running)
+        }
+        Answer::NoReplica => line.extend_from_slice(b"ok noreplica"),
+        Answer::Complete(stamp, serials) => {
+            push_stamped_behind(line, b"ok complete ", stamp, serials.list())
         }
         Answer::Values(values) => {
             line.extend_from_slice(b"ok ")?;
@@ -238,6 +177,11 @@ fn push_answer(alloc: Global, line: &mut Vec<u8>, answer: &Answer) -> Result<(),
         Answer::Target(name) => {
             line.extend_from_slice(b"ok ")?;
             line.extend_from_slice(&name.print(alloc)?)
+        }
+        Answer::Dump(_, _, _, _) => Ok(()),
+        Answer::Octets(octets) => {
+            line.extend_from_slice(b"ok ")?;
+            push_octets(line, octets.list())
         }
         Answer::Decoded(tag, used) => {
             line.extend_from_slice(b"ok ")?;
@@ -250,14 +194,14 @@ fn push_answer(alloc: Global, line: &mut Vec<u8>, answer: &Answer) -> Result<(),
     }
 }
 
-// The line of an answer. After want of memory the text may have grown.
+// The line of an answer that has one. After want of memory the text may have grown.
 fn push_line(
     alloc: Global,
     line: &mut Vec<u8>,
     number: u32,
     answer: &Answer,
 ) -> Result<(), AllocError>
-    ensures ok { OnOk result (line.new.items ≡ line.old.items ++ line_text number (answer_text answer.now)) }
+    ensures ok { OnOk result (line.new.items ≡ line.old.items ++ line_text number (answer_line answer.now)) }
     ensures err { OnErr result (take (length line.old.items) line.new.items ≡ line.old.items) }
 {
     push_number(line, u64::from(number))?;
@@ -267,18 +211,38 @@ fn push_line(
     Ok(())
 }
 
-/// Puts the line of an answer behind the text. After want of memory the text is as it was.
+// The lines of an answer.
+fn push_lines(
+    alloc: Global,
+    text: &mut Vec<u8>,
+    number: u32,
+    answer: &Answer,
+) -> Result<(), AllocError>
+    ensures ok { OnOk result (text.new.items ≡ text.old.items ++ answer_text number answer.now) }
+    ensures err { OnErr result (take (length text.old.items) text.new.items ≡ text.old.items) }
+{
+    match answer {
+        Answer::Dump(epoch, all_up_to, members, table) => {
+            let dump = dump_text(alloc, number, *epoch, *all_up_to, members, table)?;
+            text.extend_from_slice(&dump)
+        }
+        _ => push_line(alloc, text, number, answer),
+    }
+}
+
+/// Puts the lines of an answer behind the text, each with the number of the script line. After want of memory the text is as
+/// it was.
 pub fn append_answer(
     alloc: Global,
     text: &mut Vec<u8>,
     number: u32,
     answer: &Answer,
 ) -> Result<(), AllocError>
-    ensures ok { OnOk result (text.new.items ≡ text.old.items ++ line_text number (answer_text answer.now)) }
+    ensures ok { OnOk result (text.new.items ≡ text.old.items ++ answer_text number answer.now) }
     ensures err { OnErr result (text.new.items ≡ text.old.items) }
 {
     let before = text.len();
-    if let Err(error) = push_line(alloc, text, number, answer) {
+    if let Err(error) = push_lines(alloc, text, number, answer) {
         text.truncate(before);
         return Err(error);
     }

@@ -32,6 +32,20 @@ pub(crate) fn readlink(alloc: Global, words: &mut Words<'_>) -> Parsed<ScriptLin
     )))
 }
 
+pub(crate) fn dump(words: &mut Words<'_>) -> Parsed<ScriptLine>
+    ensures { Answers result (asked_by (codes "dump") words.old) }
+{
+    words.exactly(2)?;
+    Ok(ScriptLine::Question(Question::Dump(words.house()?, words.directory()?)))
+}
+
+pub(crate) fn octets(words: &mut Words<'_>) -> Parsed<ScriptLine>
+    ensures { Answers result (asked_by (codes "octets") words.old) }
+{
+    words.exactly(2)?;
+    Ok(ScriptLine::Question(words.encoded()?))
+}
+
 pub(crate) fn decode(alloc: Global, words: &mut Words<'_>) -> Parsed<ScriptLine>
     ensures { Answers result (asked_by (codes "decode") words.old) }
 {

@@ -2,8 +2,10 @@
 ghost use Rattle.std.specs.Prelude.{◌≡◌, ◌≢◌, ◌*◌, ◌%◌, ◌≤◌, ℕ, List, ◌∷◌, true, false, length, None, IfOk};
 ghost use Rattle.std.specs.Int.{from_be_bytes, w64};
 ghost use Rattle.attr_sets.specs.Values.{longest_value};
-ghost use Rattle.cell_script.specs.Words.{number_of, number_to, house_of, directory_of, node_of, octets_value_of, octets_of, confidence_of};
+ghost use Rattle.cell_script.specs.Words.{number_of, number_to, house_of, directory_of, serial_of, node_of, octets_value_of, octets_of, confidence_of};
+ghost use Rattle.cell_script.specs.Words as asked;
 
+use crate::command::Question;
 use crate::lists::Octets;
 use attr_sets::{LONGEST_VALUE, Value};
 use cds_stamps::{AllocOr, DirId, HouseNo, Node};
@@ -19,6 +21,9 @@ const MOST_HOUSE: u64 = 255;
 
 // The greatest number of a directory.
 const MOST_DIRECTORY: u64 = 4_294_967_295;
+
+// The greatest number of a message.
+const MOST_SERIAL: u64 = u64::MAX;
 
 // The most digits of a value.
 const MOST_DIGITS: usize = 2 * LONGEST_VALUE;
@@ -85,6 +90,33 @@ pub(crate) fn directory(word: &[u8]) -> Option<DirId>
 {
     match number_up_to(word, MOST_DIRECTORY) {
         Some(number) => Some(DirId(number as u32)),
+        None => None,
+    }
+}
+
+/// The serial number of a message.
+pub(crate) fn serial(word: &[u8]) -> Option<u64>
+    ensures { result ≡ serial_of word.now }
+{
+    number_up_to(word, MOST_SERIAL)
+}
+
+/// The question for the octets of the message of this number.
+pub(crate) fn message_asked(word: &[u8]) -> Option<Question>
+    ensures { result ≡ asked.message_asked word.now }
+{
+    match serial(word) {
+        Some(serial) => Some(Question::OctetsMsg(serial)),
+        None => None,
+    }
+}
+
+/// The question for the octets of the image of the house of this number.
+pub(crate) fn image_asked(word: &[u8]) -> Option<Question>
+    ensures { result ≡ asked.image_asked word.now }
+{
+    match house(word) {
+        Some(house) => Some(Question::OctetsHouse(house)),
         None => None,
     }
 }

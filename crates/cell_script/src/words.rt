@@ -11,6 +11,7 @@ ghost use Rattle.cell_script.specs.Words.{words_of};
 ghost use Rattle.cell_script.specs.Forms as form;
 ghost use Rattle.cell_script.specs.Forms.{Takes, taken, counted, said_at};
 
+use crate::command::Question;
 use crate::fault::ParseFault;
 use crate::lists::{HouseNos, Octets};
 use crate::word;
@@ -195,6 +196,14 @@ impl<'a> Words<'a> {
         self.said(word::directory(word))
     }
 
+    /// The serial number of a message, from 1 on.
+    pub(crate) fn serial(&mut self) -> Parsed<u64>
+        ensures { Takes result self.new (taken form.Serial self.old) }
+    {
+        let word = self.needed()?;
+        self.said(word::serial(word))
+    }
+
     /// A time.
     pub(crate) fn time(&mut self) -> Parsed<u64>
         ensures { Takes result self.new (taken form.Time self.old) }
@@ -261,6 +270,22 @@ impl<'a> Words<'a> {
         self.said(octets)
     }
 
+    /// Whose octets are asked for: `msg` and the number of a message, or `house` and that of a house.
+    pub(crate) fn encoded(&mut self) -> Parsed<Question>
+        ensures { Takes result self.new (taken form.Encoded self.old) }
+    {
+        let word = self.needed()?;
+        if word == b"msg".as_slice() {
+            let number = self.needed()?;
+            return self.said(word::message_asked(number));
+        }
+        if word == b"house".as_slice() {
+            let number = self.needed()?;
+            return self.said(word::image_asked(number));
+        }
+        Err(AllocOr::Fault(ParseFault::BadWord(self.read)))
+    }
+
     /// Numbers of houses, as many as there are words.
     pub(crate) fn houses(&mut self, alloc: Global) -> Parsed<HouseNos>
         ensures { Takes result self.new (taken form.Houses self.old) }
@@ -270,18 +295,5 @@ impl<'a> Words<'a> {
             houses.push(self.said(word::house(word))?)?;
         }
         Ok(houses)
-    }
-
-    /// No further house: one that is there is not built yet.
-    pub(crate) fn no_houses(&mut self, alloc: Global) -> Parsed<HouseNos>
-        ensures { Takes result self.new (taken form.NoHouses self.old) }
-    {
-        match self.next() {
-            None => Ok(HouseNos::new(alloc)),
-            Some(word) => {
-                self.said(word::house(word))?;
-                Err(AllocOr::Fault(ParseFault::NotBuilt(self.read)))
-            }
-        }
     }
 }

@@ -8,7 +8,7 @@ use Rattle.cell_script.proofs.parse.comes_later.Goals as goal
 pub returns : goal.returns
 unfolding is_later
 returns c =
-    let later : List ℕ = codes "epoch skulk deliver lose crash start export unexport groupadd groupdel profadd profdel import dump octets" in
+    let later : List ℕ = codes "export unexport groupadd groupdel profadd profdel import" in
     any_from_yields_List (bytes_eq c.args.word.now) _ _ c.any.result c.any.ensures.ran
     (YieldsList-from_slice_split _ (λ b. eqb b 32) later (cc) (cc) (cc) (λ x r q k. search (rules, tests)))
     (λ x b q k. search (rules, tests))

@@ -1,7 +1,7 @@
 use Rattle.std.proofs.Common.{[], ◌∷◌, ◌++◌, ◌∙◌, ap, append_assoc}
 use Rattle.std.proofs.lemmas.Result.{on_err_weaker}
 use Rattle.cell_script.proofs.Printing.{still_begins}
-use Rattle.cell_script.proofs.print.push_stamp.Goals as goal
+use Rattle.cell_script.proofs.pieces.push_stamp.Goals as goal
 
 pub returns-clause-err : goal.returns-clause-err
 returns-clause-err c =

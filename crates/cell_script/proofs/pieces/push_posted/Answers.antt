@@ -1,5 +1,5 @@
 use Rattle.cell_script.proofs.Printing.{on_err, still_begins}
-use Rattle.cell_script.proofs.print.push_posted.Goals as goal
+use Rattle.cell_script.proofs.pieces.push_posted.Goals as goal
 
 pub returns-in_err-push_spaced-clause-err : goal.returns-in_err-push_spaced-clause-err
 returns-in_err-push_spaced-clause-err c =
