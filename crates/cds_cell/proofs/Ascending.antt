@@ -117,7 +117,8 @@ has_inserted z x (y ∷ ys) = go (nat_lt y x) (has_inserted z x ys)
         swap false b c = refl
     go false rest = refl
 
-has_ascending : (z : ℕ) (xs : List ℕ) → has z (ascending xs) ≡ has z xs
+-- and the same numbers stand in it
+pub has_ascending : (z : ℕ) (xs : List ℕ) → has z (ascending xs) ≡ has z xs
 has_ascending z [] = refl
 has_ascending z (x ∷ xs) = has_inserted z x (ascending xs) ∙ ap (λ (b : Bool). (z == x) || b) (has_ascending z xs)
 
@@ -139,7 +140,8 @@ twice_inserted x (y ∷ ys) = go (nat_lt y x) (twice_inserted x ys) (has_inserte
     go true rest there = rw (rest, there, flip) (mix (x == y) (has y ys) (has x ys) (stands_twice ys))
     go false rest there = refl
 
-twice_ascending : (xs : List ℕ) → stands_twice (ascending xs) ≡ stands_twice xs
+-- a house stands twice in ascending order exactly where it did before
+pub twice_ascending : (xs : List ℕ) → stands_twice (ascending xs) ≡ stands_twice xs
 twice_ascending [] = refl
 twice_ascending (x ∷ xs) = twice_inserted x (ascending xs) ∙ ap (λ (b : Bool). b || stands_twice (ascending xs)) (has_ascending x xs)
     ∙ ap (λ (b : Bool). has x xs || b) (twice_ascending xs)
@@ -152,7 +154,8 @@ length_inserted x (y ∷ ys) = go (nat_lt y x) (length_inserted x ys)
     go true rest = ap suc rest
     go false rest = refl
 
-length_ascending : (xs : List ℕ) → length (ascending xs) ≡ length xs
+-- they are as many
+pub length_ascending : (xs : List ℕ) → length (ascending xs) ≡ length xs
 length_ascending [] = refl
 length_ascending (x ∷ xs) = length_inserted x (ascending xs) ∙ ap suc (length_ascending xs)
 
@@ -183,7 +186,8 @@ short m least x (y ∷ ys) less there = go ((y == m) || nat_lt y least) refl (λ
         let behind : has x ys ≡ true = (let at = there in rw other at at) in
         one_more_each (count_in_order m (y + 1) ys) (length ys) ∙ rest under behind
 
-above_all : (x : ℕ) (ys : List ℕ) → AllByRecursion (λ y. x ≤ y) ys → has x ys ≡ false → AllByRecursion (λ y. x + 1 ≤ y) ys
+-- in order, all are above a number that is not among those from it on
+pub above_all : (x : ℕ) (ys : List ℕ) → AllByRecursion (λ y. x ≤ y) ys → has x ys ≡ false → AllByRecursion (λ y. x + 1 ≤ y) ys
 above_all x [] all out = tt
 above_all x (y ∷ ys) all out =
     let more = all.0 in
@@ -212,7 +216,8 @@ in_order m least (x ∷ xs) rises all = go (x == m) refl (has x xs) refl (λ hig
         let other : (m == x) ≡ false = grind (arith, nat_tests, off) in
         rw (under, other) (one_more_each (count_in_order m (x + 1) xs) (length xs) ∙ rest (above_all x xs rises.0 is))
 
-all_from_zero : (xs : List ℕ) → AllByRecursion (λ y. 0 ≤ y) xs
+-- no number is below 0
+pub all_from_zero : (xs : List ℕ) → AllByRecursion (λ y. 0 ≤ y) xs
 all_from_zero [] = tt
 all_from_zero (x ∷ xs) = (omega arith, all_from_zero xs)
 

@@ -1,7 +1,7 @@
 -- The houses of a cell, by number and by place.
 use Rattle.std.proofs.Common.{◌≡◌, ◌≢◌, ℕ, zero, suc, ◌+◌, List, [], ◌∷◌, ◌++◌, Bool, true, false, cond, slice_set, length, ◌<◌, subst, refl, sym}
 use Rattle.std.proofs.Common.{◌∙◌, ap, arith}
-use Rattle.std.specs.Prelude.{Option, Some, None, MatchOption, is_some, if◌then◌else◌, ◌==◌, ◌||◌}
+use Rattle.std.specs.Prelude.{Option, Some, None, MatchOption, is_some, if◌then◌else◌, ◌==◌, ◌||◌, slice_get}
 use Rattle.std.specs.List.{position_from, list_any}
 use Rattle.std.proofs.Math.ListN.{get_or}
 use Rattle.cell_model.specs.Cells.{Cell}
@@ -9,19 +9,19 @@ use Rattle.std.proofs.lemmas.Bool.Decides.{nat_tests}
 use Rattle.cds_stamps.specs.Keyed.{no_value}
 use Rattle.cell_model.specs.Sets.{has}
 use Rattle.cell_model.specs.Steps.{stands_twice}
-use Rattle.cds_cell.specs.declared.house.LocalHouse.{LocalHouse}
+use Rattle.cds_cell.specs.declared.house.CellHouse.{CellHouse}
 use Rattle.cds_cell.specs.Standing.{numbers_of, house_of, IsPlaceOf, MaybeStandsHouse}
 
 -- a house of this number
-abbrev pub is_house : ℕ → LocalHouse → Bool
+abbrev pub is_house : ℕ → CellHouse → Bool
 is_house x h = h.house.0 == x
 
 -- what a search for a number finds
-abbrev pub Place : List LocalHouse → (x k : ℕ) → Option ℕ → Type 0
+abbrev pub Place : List CellHouse → (x k : ℕ) → Option ℕ → Type 0
 Place hs x k None = house_of hs x ≡ None
 Place hs x k (Some i) = (j : ℕ) × (i ≡ k + j) × IsPlaceOf hs x j
 
-pub place_found : (x k : ℕ) (hs : List LocalHouse) → Place hs x k (position_from (is_house x) k hs)
+pub place_found : (x k : ℕ) (hs : List CellHouse) → Place hs x k (position_from (is_house x) k hs)
 place_found x k [] = refl
 place_found x k (h ∷ hs) = go (h.house.0 == x) refl (place_found x (k + 1) hs)
   where
@@ -35,7 +35,7 @@ place_found x k (h ∷ hs) = go (h.house.0 == x) refl (place_found x (k + 1) hs)
     go false off rest = behind (grind (arith, nat_tests, off)) (position_from (is_house x) (k + 1) hs) rest off
 
 -- a house of a list has its number among theirs
-pub has_number : (hs : List LocalHouse) (x : ℕ) → has x (numbers_of hs) ≡ is_some (house_of hs x)
+pub has_number : (hs : List CellHouse) (x : ℕ) → has x (numbers_of hs) ≡ is_some (house_of hs x)
 has_number [] x = refl
 has_number (h ∷ hs) x = go (h.house.0 == x) refl (has_number hs x)
   where
@@ -45,13 +45,13 @@ has_number (h ∷ hs) x = go (h.house.0 == x) refl (has_number hs x)
     go false off rest = grind (arith, nat_tests, off, rest)
 
 -- one house of the list changes, and keeps its number
-pub numbers_kept : (hs : List LocalHouse) (x i : ℕ) (w : LocalHouse) → w.house.0 ≡ x → IsPlaceOf hs x i → numbers_of (slice_set hs i w) ≡ numbers_of hs
+pub numbers_kept : (hs : List CellHouse) (x i : ℕ) (w : CellHouse) → w.house.0 ≡ x → IsPlaceOf hs x i → numbers_of (slice_set hs i w) ≡ numbers_of hs
 numbers_kept [] x i w is there = absurd there
 numbers_kept (h ∷ hs) x zero w is there = ap (λ n. n ∷ numbers_of hs) (is ∙ sym there)
 numbers_kept (h ∷ hs) x (suc i) w is there = ap (λ ns. h.house.0 ∷ ns) (numbers_kept hs x i w is there.1)
 
 -- the houses after a change of one
-pub house_changed : (hs : List LocalHouse) (x i : ℕ) (w : LocalHouse) → w.house.0 ≡ x → IsPlaceOf hs x i → (y : ℕ)
+pub house_changed : (hs : List CellHouse) (x i : ℕ) (w : CellHouse) → w.house.0 ≡ x → IsPlaceOf hs x i → (y : ℕ)
     → house_of (slice_set hs i w) y ≡ (if w.house.0 == y then Some w else house_of hs y)
 house_changed [] x i w is there y = absurd there
 house_changed (h ∷ hs) x zero w is there y = go (w.house.0 == y) refl
@@ -67,20 +67,20 @@ house_changed (h ∷ hs) x (suc i) w is there y = go (h.house.0 == y) refl (hous
     go false off rest = rest
 
 -- the house at the place of a number
-pub house_at : (hs : List LocalHouse) (x i : ℕ) → IsPlaceOf hs x i → (h : LocalHouse) × (house_of hs x ≡ Some h) × (h.house.0 ≡ x)
+pub house_at : (hs : List CellHouse) (x i : ℕ) → IsPlaceOf hs x i → (h : CellHouse) × (house_of hs x ≡ Some h) × (h.house.0 ≡ x)
 house_at [] x i there = absurd there
 house_at (h ∷ hs) x zero there = let on : (h.house.0 == x) ≡ true = grind (arith, nat_tests, there) in (h, rw on refl, there)
 house_at (h ∷ hs) x (suc i) there = let apart = there.0 in let off : (h.house.0 == x) ≡ false = grind (arith, nat_tests, apart) in
     let rest = house_at hs x i there.1 in (rest.0, rw off rest.1, rest.2)
 
 -- one house more
-new_behind : (h w : LocalHouse) (hs : List LocalHouse) (b : Bool) → (h.house.0 == w.house.0) ≡ b → (if b then Some h else house_of hs w.house.0) ≡ None
+new_behind : (h w : CellHouse) (hs : List CellHouse) (b : Bool) → (h.house.0 == w.house.0) ≡ b → (if b then Some h else house_of hs w.house.0) ≡ None
     → (house_of hs w.house.0 ≡ None) × (b ≡ false)
 new_behind h w hs true on new = absurd (cc)
 new_behind h w hs false off new = (new, refl)
 
 -- the houses after one more
-pub house_added : (hs : List LocalHouse) (w : LocalHouse) → house_of hs w.house.0 ≡ None → (y : ℕ)
+pub house_added : (hs : List CellHouse) (w : CellHouse) → house_of hs w.house.0 ≡ None → (y : ℕ)
     → house_of (hs ++ w ∷ []) y ≡ (if w.house.0 == y then Some w else house_of hs y)
 house_added [] w new y = refl
 house_added (h ∷ hs) w new y =
@@ -93,12 +93,12 @@ house_added (h ∷ hs) w new y =
     go false off apart rest = rest
 
 -- and their numbers
-pub numbers_added : (hs : List LocalHouse) (w : LocalHouse) → numbers_of (hs ++ w ∷ []) ≡ numbers_of hs ++ w.house.0 ∷ []
+pub numbers_added : (hs : List CellHouse) (w : CellHouse) → numbers_of (hs ++ w ∷ []) ≡ numbers_of hs ++ w.house.0 ∷ []
 numbers_added [] w = refl
 numbers_added (h ∷ hs) w = ap (λ ns. h.house.0 ∷ ns) (numbers_added hs w)
 
 -- what a search from the front finds
-pub found_from_front : (hs : List LocalHouse) (x : ℕ) (r : Option ℕ) → r ≡ position_from (is_house x) 0 hs
+pub found_from_front : (hs : List CellHouse) (x : ℕ) (r : Option ℕ) → r ≡ position_from (is_house x) 0 hs
     → MatchOption r (house_of hs x ≡ None) (IsPlaceOf hs x)
 found_from_front hs x r is = at r (subst (Place hs x 0) (sym is) (place_found x 0 hs))
   where
@@ -107,28 +107,28 @@ found_from_front hs x r is = at r (subst (Place hs x 0) (sym is) (place_found x 
     at (Some i) found = let j = found.0 in let same : j ≡ i = (let is = found.1 in omega (arith, is)) in subst (IsPlaceOf hs x) same found.2
 
 -- a place is within the list
-pub place_within : (hs : List LocalHouse) (x i : ℕ) → IsPlaceOf hs x i → i < length hs
+pub place_within : (hs : List CellHouse) (x i : ℕ) → IsPlaceOf hs x i → i < length hs
 place_within [] x i there = absurd there
 place_within (h ∷ hs) x zero there = omega arith
 place_within (h ∷ hs) x (suc i) there = let less = place_within hs x i there.1 in omega (arith, less)
 
 -- the house at a place, as an index gives it
-pub get_at_place : (hs : List LocalHouse) (x i : ℕ) (d : LocalHouse) → IsPlaceOf hs x i → house_of hs x ≡ Some (get_or hs i d)
+pub get_at_place : (hs : List CellHouse) (x i : ℕ) (d : CellHouse) → IsPlaceOf hs x i → house_of hs x ≡ Some (get_or hs i d)
 get_at_place [] x i d there = absurd there
 get_at_place (h ∷ hs) x zero d there = let on : (h.house.0 == x) ≡ true = grind (arith, nat_tests, there) in rw on refl
 get_at_place (h ∷ hs) x (suc i) d there = let apart = there.0 in let off : (h.house.0 == x) ≡ false = grind (arith, nat_tests, apart) in
     rw off (get_at_place hs x i d there.1)
 
 -- the house that an index reads at the place of a number
-pub house_there : (hs : List LocalHouse) (x i : ℕ) (h : LocalHouse) → IsPlaceOf hs x i → h ≡ get_or hs i h → (house_of hs x ≡ Some h) × (h.house.0 ≡ x)
+pub house_there : (hs : List CellHouse) (x i : ℕ) (h : CellHouse) → IsPlaceOf hs x i → h ≡ get_or hs i h → (house_of hs x ≡ Some h) × (h.house.0 ≡ x)
 house_there hs x i h place is =
     let known = house_at hs x i place in
     let there : house_of hs x ≡ Some h = get_at_place hs x i h place ∙ ap Some (sym is) in
     let same : known.0 ≡ h = cc (known.1, there) in
-    (there, ap (λ (h : LocalHouse). h.house.0) (sym same) ∙ known.2)
+    (there, ap (λ (h : CellHouse). h.house.0) (sym same) ∙ known.2)
 
 -- a number that none has is no house's
-pub not_there : (hs : List LocalHouse) (y : ℕ) → has y (numbers_of hs) ≡ false → house_of hs y ≡ None
+pub not_there : (hs : List CellHouse) (y : ℕ) → has y (numbers_of hs) ≡ false → house_of hs y ≡ None
 not_there hs y off = no_value (house_of hs y) (sym (has_number hs y) ∙ off)
 
 -- numbers that stand once, of which the first is taken off
@@ -140,11 +140,11 @@ abbrev pub is_either : Cell → (x node : ℕ) → ℕ → Bool
 is_either g x node y = (y == x) || ((g.house y).node == node)
 
 -- the house has this number or this node
-abbrev pub has_either : (x node : ℕ) → LocalHouse → Bool
+abbrev pub has_either : (x node : ℕ) → CellHouse → Bool
 has_either x node h = (h.house.0 == x) || (h.node == node)
 
 -- the program and the model find the number or the node taken alike
-pub taken_alike : (g : Cell) (x node : ℕ) (hs : List LocalHouse) → stands_twice (numbers_of hs) ≡ false
+pub taken_alike : (g : Cell) (x node : ℕ) (hs : List CellHouse) → stands_twice (numbers_of hs) ≡ false
     → ((y : ℕ) → MaybeStandsHouse (house_of hs y) (g.house y)) → list_any (has_either x node) hs ≡ list_any (is_either g x node) (numbers_of hs)
 taken_alike g x node [] once stands = refl
 taken_alike g x node (h ∷ hs) once stands =
@@ -178,6 +178,19 @@ once_added (y ∷ xs) x once new =
     has_added (z ∷ zs) = let rest = has_added zs in grind (arith, nat_tests, rest)
 
 -- whether a search found a house
-pub found_is : (hs : List LocalHouse) (x : ℕ) (r : Option ℕ) → MatchOption r (house_of hs x ≡ None) (IsPlaceOf hs x) → is_some r ≡ is_some (house_of hs x)
+pub found_is : (hs : List CellHouse) (x : ℕ) (r : Option ℕ) → MatchOption r (house_of hs x ≡ None) (IsPlaceOf hs x) → is_some r ≡ is_some (house_of hs x)
 found_is hs x None found = ap is_some (sym found)
 found_is hs x (Some i) found = let at = house_at hs x i found in ap is_some (sym at.1)
+
+-- the house that stands at the place of a number is that of the number
+pub house_of_place : (hs : List CellHouse) (x i : ℕ) (h : CellHouse) → IsPlaceOf hs x i → slice_get hs i ≡ Some h → (house_of hs x ≡ Some h) × (h.house.0 ≡ x)
+house_of_place [] x i h there is = absurd there
+house_of_place (k ∷ hs) x zero h there is =
+    let same : k ≡ h = cc in
+    let on : (k.house.0 == x) ≡ true = grind (arith, nat_tests, there) in
+    (rw on is, ap (λ (h : CellHouse). h.house.0) (sym same) ∙ there)
+house_of_place (k ∷ hs) x (suc i) h there is =
+    let apart = there.0 in
+    let off : (k.house.0 == x) ≡ false = grind (arith, nat_tests, apart) in
+    let rest = house_of_place hs x i h there.1 is in
+    (rw off rest.0, rest.1)

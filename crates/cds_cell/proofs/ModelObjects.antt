@@ -1,15 +1,12 @@
 -- What a cell of the model shows: no objects but those of a finite list.
 use Rattle.std.proofs.Common.{◌≡◌, ◌≢◌, ℕ, zero, suc, ◌+◌, ◌<◌, ◌≤◌, List, [], ◌∷◌, Bool, true, false, refl, sym, ap, ◌∙◌, subst, arith, ⊎_elim}
-use Rattle.std.specs.Prelude.{Option, Some, None, if◌then◌else◌, ◌==◌, ◌||◌, nat_lt}
+use Rattle.std.specs.Prelude.{Option, Some, None, is_some, if◌then◌else◌, ◌==◌, ◌||◌, nat_lt}
 use Rattle.std.specs.List.{Contains, flat_map, range_with_len}
-use Rattle.std.specs.Option.{option_or, option_map, option_and_then}
 use Rattle.std.proofs.lemmas.Bool.Decides.{nat_tests}
-use Rattle.std.proofs.lemmas.List.Elements.{Contains-append_left, Contains-append_right}
-use Rattle.cds_stamps.proofs.ListMembers.{Contains-head, Contains-tail, Contains-cases, Contains-map}
-use Rattle.cds_stamps.specs.Members.{master_of}
+use Rattle.cds_stamps.proofs.ListMembers.{Contains-head, Contains-tail, Contains-map}
 use Rattle.directory.specs.Histories.{Birth, name_in}
 use Rattle.directory.specs.Shown.{Shown, shown}
-use Rattle.cell_model.specs.Cells.{Cell, Slot, Absent, Gone, Held}
+use Rattle.cell_model.specs.Cells.{Cell, Replica, Slot, Absent, Gone, Held}
 use Rattle.cell_model.specs.Commands.{Command}
 use Rattle.cell_model.specs.Sets.{In, has}
 use Rattle.cell_model.specs.Steps.{replay, accepted}
@@ -22,19 +19,11 @@ use Rattle.cell_model.proofs.Runs.{roll_of}
 use Rattle.cell_model.proofs.Wholes.{Plain, up_made, run_onward, empty_plain}
 use Rattle.cell_model.specs.Cells.{empty_cell}
 use Rattle.resolver.specs.Readers.{Object, ShowsOnly, object_found}
-use Rattle.cds_cell.specs.Asking.{Asked, held_in, answering, answering_as_master, first_some, preferring, asked}
-use Rattle.cds_cell.specs.Readings.{shown_sight, sight_at, reading, objects_in, objects_of}
-use Rattle.cds_cell.specs.TellingProofs.{shown_object}
+use Rattle.cds_cell.specs.Asking.{Asked, View, asked}
+use Rattle.cds_cell.specs.AskingProofs.{Contains-flat_map, asked_shows, shown_object}
+use Rattle.cds_cell.specs.Readings.{sight_at, slot_view, view_of, views_of, reading, objects_in, objects_of}
 
 -- ---- lists
-
--- an item of what an item of the list gives is an item of what the list gives
-Contains-flat_map : {A B : Type 0} (f : A → List B) (xs : List A) (x : A) (y : B) → Contains xs x → Contains (f x) y → Contains (flat_map f xs) y
-Contains-flat_map f [] x y at there = absurd (omega (arith, at.1))
-Contains-flat_map f (z ∷ zs) x y at there = ⊎_elim
-    (λ is. Contains-append_left (f z) (flat_map f zs) y (subst (λ w. Contains (f w) y) (sym is) there))
-    (λ later. Contains-append_right (f z) (flat_map f zs) y (Contains-flat_map f zs x y later there))
-    (Contains-cases z zs x at)
 
 Contains-from_In : {A : Type 0} (x : A) (xs : List A) → In x xs → Contains xs x
 Contains-from_In x [] i = elim i [ ]
@@ -60,52 +49,26 @@ Contains-range a (suc n) d low high = by_test (a == d) refl (Contains-range (a +
         let apart : a ≢ d = grind (arith, nat_tests, off) in
         Contains-tail a (range_with_len (a + 1) n) d (rest (omega (arith, low, apart)) (omega (arith, high)))
 
--- ---- who is asked
+-- ---- who answers
 
--- a house answers with what it holds, and is up
-record Answers (g : Cell) (d : ℕ) (a : Asked) : Type 0 where
-  up : (g.house a.house).up ≡ true
-  held : (g.house a.house).slots d ≡ Held a.replica
+-- a house that shows something is up, and holds a replica of which that shows
+record Shows (g : Cell) (d x : ℕ) (v : View) : Type 0 where
+  replica : Replica
+  up : (g.house x).up ≡ true
+  held : (g.house x).slots d ≡ Held replica
+  seen : view_of replica ≡ v
 
-answers_at : (g : Cell) (d x : ℕ) (a : Asked) → answering g d x ≡ Some a → Answers g d a
-answers_at g d x a is = by_up ((g.house x).up) refl is
+shows_at : (g : Cell) (d x : ℕ) (v : View) → views_of g d x ≡ Some v → Shows g d x v
+shows_at g d x v is = by_up ((g.house x).up) refl is
   where
-    by_up : (b : Bool) → (g.house x).up ≡ b → (if b then option_map (λ r. record { house = x; replica = r }) (held_in ((g.house x).slots d)) else None)
-        ≡ Some a → Answers g d a
+    by_up : (b : Bool) → (g.house x).up ≡ b → (if b then slot_view ((g.house x).slots d) else None) ≡ Some v → Shows g d x v
     by_up false off h = cc
     by_up true on h = by_slot ((g.house x).slots d) refl h
       where
-        by_slot : (s : Slot) → (g.house x).slots d ≡ s → option_map {U = Asked} (λ r. record { house = x; replica = r }) (held_in s) ≡ Some a → Answers g d a
+        by_slot : (s : Slot) → (g.house x).slots d ≡ s → slot_view s ≡ Some v → Shows g d x v
         by_slot Absent at h = cc
         by_slot (Gone e) at h = cc
-        by_slot (Held r) at h =
-            let same : record { house = x; replica = r } ≡ a = cc in
-            subst (λ (z : Asked). Answers g d z) same (record { up = on; held = at })
-
-master_answers : (g : Cell) (d x : ℕ) (a : Asked) → answering_as_master g d x ≡ Some a → Answers g d a
-master_answers g d x a is = by_answer (answering g d x) refl is
-  where
-    by_answer : (o : Option Asked) → answering g d x ≡ o
-        → option_and_then {U = Asked} (λ b. if master_of b.replica.members == x then Some b else None) o ≡ Some a → Answers g d a
-    by_answer None at h = cc
-    by_answer (Some b) at h = by_test (master_of b.replica.members == x) h
-      where
-        by_test : (t : Bool) → (if t then Some b else None) ≡ Some a → Answers g d a
-        by_test true h = let same : b ≡ a = cc in subst (λ (z : Asked). Answers g d z) same (answers_at g d x b at)
-        by_test false h = cc
-
-first_answers : (g : Cell) (d : ℕ) (f : ℕ → Option Asked) → ((x : ℕ) (a : Asked) → f x ≡ Some a → Answers g d a) → (xs : List ℕ) (a : Asked)
-    → first_some f xs ≡ Some a → Answers g d a
-first_answers g d f each [] a h = cc
-first_answers g d f each (x ∷ xs) a h = by_first (f x) refl (first_answers g d f each xs a) h
-  where
-    by_first : (o : Option Asked) → f x ≡ o → (first_some f xs ≡ Some a → Answers g d a) → option_or o (first_some f xs) ≡ Some a → Answers g d a
-    by_first None is rest h = rest h
-    by_first (Some b) is rest h = let same : b ≡ a = cc in each x a (is ∙ ap Some same)
-
-asked_answers : (g : Cell) (d : ℕ) (prefer : Option ℕ) (high : Bool) (houses : List ℕ) (a : Asked) → asked g d prefer high houses ≡ Some a → Answers g d a
-asked_answers g d prefer true houses a h = first_answers g d (answering_as_master g d) (master_answers g d) houses a h
-asked_answers g d prefer false houses a h = first_answers g d (answering g d) (answers_at g d) (preferring prefer houses) a h
+        by_slot (Held r) at h = record { replica = r; up = on; held = at; seen = cc }
 
 -- ---- what shows
 
@@ -116,49 +79,53 @@ module _ (commands : List Command) where
   plain : Plain g
   plain = (run_onward commands empty_cell empty_plain).plain
 
-  -- an object that an answering house shows is listed
-  listed : (d : ℕ) (name : List ℕ) (a : Asked) (e : Shown) → Answers g d a → shown a.replica.history name ≡ Some e
-      → Contains (objects_of g) (object_found d a.house name)
-  listed d name a e there shows =
-      Contains-flat_map (λ x. flat_map (λ k. objects_in x k ((g.house x).slots k)) (range_with_len 0 g.next_dir)) g.made a.house _
-      (Contains-from_has a.house g.made (up_made g a.house plain there.up))
-      (Contains-flat_map (λ k. objects_in a.house k ((g.house a.house).slots k)) (range_with_len 0 g.next_dir) d _ known among)
-    where
-      sound : Reaching (roll_of d commands) (view d g) (accepted commands)
-      sound = reaching_last commands d
+  module _ (d x : ℕ) (name : List ℕ) (v : View) (there : Shows g d x v) where
+    sound : Reaching (roll_of d commands) (view d g) (accepted commands)
+    sound = reaching_last commands d
 
-      top : 1 ≤ g.top d
-      top =
-          let low : 1 ≤ a.replica.epoch = held_low (roll_of d commands) (view d g) a.house a.replica sound.sound there.held in
-          let high : a.replica.epoch ≤ g.top d = (sound.sound.held a.house a.replica there.held).top in
-          omega (arith, low, high)
+    top : 1 ≤ g.top d
+    top =
+        let low : 1 ≤ there.replica.epoch = held_low (roll_of d commands) (view d g) x there.replica sound.sound there.held in
+        let high : there.replica.epoch ≤ g.top d = (sound.sound.held x there.replica there.held).top in
+        omega (arith, low, high)
 
-      known : Contains (range_with_len 0 g.next_dir) d
-      known = by_test (nat_lt d g.next_dir) refl
-        where
-          by_test : (b : Bool) → nat_lt d g.next_dir ≡ b → Contains (range_with_len 0 g.next_dir) d
-          by_test true on = Contains-range 0 g.next_dir d (omega arith) (grind (arith, nat_tests, on))
-          by_test false off = let beyond : g.next_dir ≤ d = grind (arith, nat_tests, off) in absurd (omega (arith, top, plain.unknown d beyond))
+    known : Contains (range_with_len 0 g.next_dir) d
+    known = by_test (nat_lt d g.next_dir) refl
+      where
+        by_test : (b : Bool) → nat_lt d g.next_dir ≡ b → Contains (range_with_len 0 g.next_dir) d
+        by_test true on = Contains-range 0 g.next_dir d (omega arith) (grind (arith, nat_tests, on))
+        by_test false off = let beyond : g.next_dir ≤ d = grind (arith, nat_tests, off) in absurd (omega (arith, top, plain.unknown d beyond))
 
-      among : Contains (objects_in a.house d ((g.house a.house).slots d)) (object_found d a.house name)
-      among =
-          let mark = Contains-map (λ m. object_found d a.house (name_in m)) a.replica.history (Birth name e.kind e.birth)
-          (Contains-from_In _ a.replica.history (shown_birth a.replica.history name e shows)) in
-          subst (λ s. Contains (objects_in a.house d s) (object_found d a.house name)) (sym there.held) mark
+    among : (e : Shown) → shown there.replica.history name ≡ Some e → Contains (objects_in x d ((g.house x).slots d)) (object_found d x name)
+    among e shows =
+        let mark = Contains-map (λ m. object_found d x (name_in m)) there.replica.history (Birth name e.kind e.birth)
+        (Contains-from_In _ there.replica.history (shown_birth there.replica.history name e shows)) in
+        subst (λ s. Contains (objects_in x d s) (object_found d x name)) (sym there.held) mark
+
+    -- an object that a house shows is listed
+    listed : (e : Shown) → shown there.replica.history name ≡ Some e → Contains (objects_of g) (object_found d x name)
+    listed e shows =
+        Contains-flat_map (λ y. flat_map (λ k. objects_in y k ((g.house y).slots k)) (range_with_len 0 g.next_dir)) g.made x _
+        (Contains-from_has x g.made (up_made g x plain there.up))
+        (Contains-flat_map (λ k. objects_in x k ((g.house x).slots k)) (range_with_len 0 g.next_dir) d _ known (among e shows))
+
+    listed_shown : (o : Option Shown) → shown there.replica.history name ≡ o → is_some o ≡ true → Contains (objects_of g) (object_found d x name)
+    listed_shown None none h = cc
+    listed_shown (Some e) shows h = listed e shows
+
+    -- the same, where something shows
+    listed_view : is_some (v.shows name) ≡ true → Contains (objects_of g) (object_found d x name)
+    listed_view h = listed_shown (shown there.replica.history name) refl (ap (λ (w : View). is_some (w.shows name)) there.seen ∙ h)
 
   -- each object that a cell of a run shows is listed
   pub reading_shows_only : (prefer : Option ℕ) (high : Bool) → ShowsOnly (reading g prefer high) (objects_of g)
-  reading_shows_only prefer high at house name h = by_asked (asked g at.dir prefer high (at.master ∷ at.others)) refl h
+  reading_shows_only prefer high at house name h = by_asked (asked (views_of g) at.dir prefer high (at.master ∷ at.others)) refl h
     where
-      by_asked : (o : Option Asked) → asked g at.dir prefer high (at.master ∷ at.others) ≡ o → sight_at name o ≡ Object house
+      by_asked : (o : Option Asked) → asked (views_of g) at.dir prefer high (at.master ∷ at.others) ≡ o → sight_at name o ≡ Object house
           → Contains (objects_of g) (object_found at.dir house name)
       by_asked None is h = cc
-      by_asked (Some a) is h = by_shown (shown a.replica.history name) refl h
-        where
-          by_shown : (o : Option Shown) → shown a.replica.history name ≡ o → shown_sight a.house o ≡ Object house
-              → Contains (objects_of g) (object_found at.dir house name)
-          by_shown None none h = cc
-          by_shown (Some e) shows h =
-              let same = (shown_object a.house house (Some e) h).0 in
-              subst (λ x. Contains (objects_of g) (object_found at.dir x name)) same
-              (listed at.dir name a e (asked_answers g at.dir prefer high (at.master ∷ at.others) a is) shows)
+      by_asked (Some a) is h =
+          let shows = shown_object a.house house (a.view.shows name) h in
+          subst (λ x. Contains (objects_of g) (object_found at.dir x name)) shows.0
+          (listed_view at.dir a.house name a.view
+          (shows_at g at.dir a.house a.view (asked_shows (views_of g) at.dir prefer high (at.master ∷ at.others) a is)) shows.1)

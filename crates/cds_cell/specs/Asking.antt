@@ -1,28 +1,32 @@
 -- Which house is asked about a directory (own, after C705, confidence of lookups).
-use Rattle.std.specs.Prelude.{ℕ, Bool, if◌then◌else◌, ◌==◌, List, [], ◌∷◌, Option, Some, None}
-use Rattle.std.specs.Option.{option_or, option_map, option_and_then}
-use Rattle.cds_stamps.specs.Members.{master_of}
-use Rattle.cell_model.specs.Cells.{Cell, Replica, Slot, Absent, Gone, Held}
+use Rattle.std.specs.Prelude.{ℕ, Bool, not, ◌||◌, if◌then◌else◌, ◌==◌, List, [], ◌∷◌, Option, Some, None}
+use Rattle.std.specs.Option.{option_or, option_and_then}
+use Rattle.cds_stamps.specs.Members.{Member, master_of}
+use Rattle.directory.specs.Shown.{Shown}
 use Rattle.cell_model.specs.Sets.{has}
 
--- a replica, and the house that holds it (own)
+-- what a house shows of a directory: the members that it knows, and what shows of each name (own)
+pub record View : Type 0 where
+  pub members : List Member
+  pub shows : List ℕ → Option Shown
+
+-- what each house shows of each directory: nothing, where it is down or holds no replica (own)
+abbrev pub Views : Type 0
+Views = (d x : ℕ) → Option View
+
+-- a house that is asked, and what it shows (own)
 pub record Asked : Type 0 where
   pub house : ℕ
-  pub replica : Replica
+  pub view : View
 
--- the replica that a house holds of a directory, if it holds one (own)
-abbrev pub held_in : Slot → Option Replica
-held_in Absent = None
-held_in (Gone e) = None
-held_in (Held r) = Some r
+-- a house answers with what it shows; at high confidence only where it is the master by its own member list (own, after C705,
+-- confidence of lookups)
+abbrev pub answers_with : (high : Bool) → (x : ℕ) → View → Option Asked
+answers_with high x v = if not high || (master_of v.members == x) then Some (record { house = x; view = v }) else None
 
--- a house that is up and holds a replica can be asked (own)
-abbrev pub answering : Cell → (d x : ℕ) → Option Asked
-answering g d x = if (g.house x).up then option_map (λ r. record { house = x; replica = r }) (held_in ((g.house x).slots d)) else None
-
--- the same, where the house is the master of its replica (own)
-abbrev pub answering_as_master : Cell → (d x : ℕ) → Option Asked
-answering_as_master g d x = option_and_then (λ a. if master_of a.replica.members == x then Some a else None) (answering g d x)
+-- the same of a house that shows something of the directory, if it does (own)
+abbrev pub answering : Views → (high : Bool) → (d x : ℕ) → Option Asked
+answering views high d x = option_and_then (answers_with high x) (views d x)
 
 -- the first that there is (own)
 abbrev pub first_some : {A B : Type 0} → (A → Option B) → List A → Option B
@@ -34,9 +38,10 @@ abbrev pub preferring : Option ℕ → List ℕ → List ℕ
 preferring None houses = houses
 preferring (Some x) houses = if has x houses then x ∷ houses else houses
 
--- of the listed houses of a directory, the one that is asked: at high confidence the first that is the master, at low
--- confidence the preferred one, and else the first (own, after C705, confidence of lookups)
-abbrev pub asked : Cell → (d : ℕ) → (prefer : Option ℕ) → (high : Bool) → List ℕ → Option Asked
-asked g d prefer high houses =
-    if high then first_some (answering_as_master g d) houses
-    else first_some (answering g d) (preferring prefer houses)
+-- the order in which the listed houses are asked: no house is preferred at high confidence (own, after C705, confidence of lookups)
+abbrev pub in_turn : (prefer : Option ℕ) → (high : Bool) → List ℕ → List ℕ
+in_turn prefer high houses = if high then houses else preferring prefer houses
+
+-- of the listed houses of a directory, the one that is asked: the first that answers (own, after C705, confidence of lookups)
+abbrev pub asked : Views → (d : ℕ) → (prefer : Option ℕ) → (high : Bool) → List ℕ → Option Asked
+asked views d prefer high houses = first_some (answering views high d) (in_turn prefer high houses)

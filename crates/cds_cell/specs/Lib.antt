@@ -1,5 +1,12 @@
 pub mod Asking
+pub mod AskingProofs
+pub mod Bags
+pub mod Houses
+pub mod PrivateActs
+pub mod PrivateBags
+pub mod PrivateTelling
 pub mod Readings
+pub mod Recorded
 pub mod Scripted
 pub mod Standing
 pub mod Telling

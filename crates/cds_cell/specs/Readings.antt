@@ -9,11 +9,11 @@ use Rattle.directory.specs.declared.entry.Kind.{Kind}
 use Rattle.directory.specs.declared.entry.Kind.TheVariants as kind
 use Rattle.directory.specs.Histories.{name_in}
 use Rattle.directory.specs.Shown.{Shown, shown, lead_of}
-use Rattle.cell_model.specs.Cells.{Cell, Slot}
+use Rattle.cell_model.specs.Cells.{Cell, Replica, Slot}
 use Rattle.cell_model.specs.Cells as slot
 use Rattle.resolver.specs.declared.seen.Found.{Found}
 use Rattle.resolver.specs.Readers.{Reader, Sight, Unreachable, Absent, Object, Link, Child, object_found}
-use Rattle.cds_cell.specs.Asking.{Asked, answering, asked}
+use Rattle.cds_cell.specs.Asking.{Asked, View, Views, asked}
 
 -- a directory and the houses of its member list (own)
 abbrev pub pointer_to : (d : ℕ) → List Member → Pointer
@@ -50,25 +50,44 @@ shown_sight house (Some e) = led_sight e.kind house (lead_of e)
 -- what is seen of a name at the house that is asked, if one can be (own)
 abbrev pub sight_at : List ℕ → Option Asked → Sight
 sight_at name None = Unreachable
-sight_at name (Some a) = shown_sight a.house (shown a.replica.history name)
+sight_at name (Some a) = shown_sight a.house (a.view.shows name)
 
 -- the values that show of an attribute (own)
 abbrev pub values_of : List ℕ → Option Shown → List (List ℕ)
 values_of attr None = []
 values_of attr (Some e) = e.values attr
 
--- the values of an entry at its house, where that can be asked (own)
-abbrev pub values_at : Found → List ℕ → Option Asked → List (List ℕ)
+-- the values of an entry by what its house shows, if it shows anything (own)
+abbrev pub values_at : Found → List ℕ → Option View → List (List ℕ)
 values_at at attr None = []
-values_at at attr (Some a) = values_of attr (shown a.replica.history at.name)
+values_at at attr (Some v) = values_of attr (v.shows at.name)
 
--- what a cell tells a reader that prefers a house, or none, and trusts any replica or the master's alone (own)
-abbrev pub reading : Cell → (prefer : Option ℕ) → (high : Bool) → Reader
-reading g prefer high = record {
-  root = root_pointer g;
-  sees = λ p name. sight_at name (asked g p.dir prefer high (p.master ∷ p.others));
-  values = λ at attr. values_at at attr (answering g at.dir.0 at.house.0);
+-- a reader that prefers a house, or none, and trusts any replica or the master's alone, by where the root directory is and what each
+-- house shows (own)
+abbrev pub reader_of : Option Pointer → Views → (prefer : Option ℕ) → (high : Bool) → Reader
+reader_of root views prefer high = record {
+  root = root;
+  sees = λ p name. sight_at name (asked views p.dir prefer high (p.master ∷ p.others));
+  values = λ at attr. values_at at attr (views at.dir.0 at.house.0);
 }
+
+-- what shows of a history, to those members (own)
+abbrev pub view_of : Replica → View
+view_of r = record { members = r.members; shows = shown r.history }
+
+-- what a house shows by what it has of a directory (own)
+abbrev pub slot_view : Slot → Option View
+slot_view slot.Absent = None
+slot_view (slot.Gone e) = None
+slot_view (slot.Held r) = Some (view_of r)
+
+-- what each house shows of each directory, if it is up (own)
+abbrev pub views_of : Cell → Views
+views_of g d x = if (g.house x).up then slot_view ((g.house x).slots d) else None
+
+-- what a cell tells such a reader (own, after C705, lookups of clerks)
+abbrev pub reading : Cell → (prefer : Option ℕ) → (high : Bool) → Reader
+reading g prefer high = reader_of (root_pointer g) (views_of g) prefer high
 
 -- an object for each mark that a house has of a directory: more than show, but finitely many (own)
 abbrev pub objects_in : (x d : ℕ) → Slot → List Found

@@ -1,6 +1,8 @@
 -- The commands and answers of the script, as steps and answers of a cell of the model (own).
-use Rattle.std.specs.Prelude.{◌≡◌, ℕ, List, [], map, None}
+use Rattle.std.specs.Prelude.{◌≡◌, ℕ, List, [], map, Option, Some, None}
 use Rattle.cds_stamps.specs.declared.numbers.HouseNo.{HouseNo}
+use Rattle.cds_stamps.specs.declared.numbers.DirId.{DirId}
+use Rattle.cds_stamps.specs.declared.numbers.EpochNo.{EpochNo}
 use Rattle.directory.specs.declared.update.UpdateRefusal.{UpdateRefusal}
 use Rattle.directory.specs.declared.update.UpdateRefusal.TheVariants as update
 use Rattle.directory.specs.Updates as updates
@@ -30,6 +32,12 @@ step_of (command.Add h d n a v) = model.Accept h.0 d.0 (updates.Add n a v)
 step_of (command.Remove h d n a v) = model.Accept h.0 d.0 (updates.Remove n a v)
 step_of (command.Put h d n a v) = model.Accept h.0 d.0 (updates.Put n a v)
 step_of (command.Clear h d n a) = model.Accept h.0 d.0 (updates.Clear n a)
+step_of (command.Epoch d m rs) = model.Epoch d.0 m.0 (numbers rs)
+step_of (command.Skulk h d) = model.Skulk h.0 d.0
+step_of (command.Deliver n) = model.Deliver n
+step_of (command.Lose n) = model.Lose n
+step_of (command.Crash h) = model.Crash h.0
+step_of (command.Start h) = model.Start h.0
 
 -- why the script says that an update is refused (own)
 abbrev pub update_refusal_of : UpdateRefusal → ScriptRefusal
@@ -40,49 +48,32 @@ update_refusal_of update.EntryExists = why.EntryExists
 update_refusal_of update.WrongKind = why.WrongKind
 update_refusal_of update.StampsSpent = why.StampsSpent None []
 
--- why the script says that a command is refused. NotMember, Up, NoMessage and NotJoined belong to commands that are not
--- built yet (own)
+-- why the script says that a command is refused (own)
 abbrev pub refusal_of : model.Refusal → ScriptRefusal
 refusal_of model.HouseExists = why.HouseExists
 refusal_of model.NoHouse = why.NoHouse
 refusal_of model.NoDirectory = why.NoDirectory
 refusal_of model.DirectoryExists = why.DirectoryExists
 refusal_of model.BadMembers = why.BadMembers
+refusal_of model.NotMember = why.NotMember
 refusal_of model.Down = why.Down
+refusal_of model.Up = why.Up
+refusal_of model.NoMessage = why.NoMessage
 refusal_of (model.Update r) = update_refusal_of r
-refusal_of model.NotMember = why.NoReplica
-refusal_of model.Up = why.NoReplica
-refusal_of model.NoMessage = why.NoReplica
-refusal_of (model.NotJoined held since) = why.NoReplica
+refusal_of (model.NotJoined held since) = why.NotJoined (record { 0 = held }) (record { 0 = since })
 
--- the answer of the script to a command; the answers to messages, skulks and new epochs belong to commands that are not
--- built yet (own)
-abbrev pub answer_of : model.Answer → Answer
-answer_of model.Done = answer.Done
-answer_of (model.Posted ns) = answer.Posted ns
-answer_of (model.Made d s ns) = answer.Made (record { 0 = d }) s ns
-answer_of (model.Stamped s ns) = answer.Stamped s ns
-answer_of (model.Refused r) = answer.Refused (refusal_of r)
-answer_of (model.NewEpoch e ns) = answer.Done
-answer_of (model.Taken ns) = answer.Done
-answer_of (model.Late k e) = answer.Done
-answer_of (model.Early k e) = answer.Done
-answer_of (model.Stale t r) = answer.Done
-answer_of model.NoReplica = answer.Done
-answer_of model.Foreign = answer.Done
-answer_of (model.Complete t ns) = answer.Done
-
--- `root` and `mkdir` name the master alone: replicas at other houses are not built yet (own)
-abbrev pub NamesOneHouse : Command → Type 0
-NamesOneHouse (command.House h node) = Unit {0}
-NamesOneHouse (command.Clock h time) = Unit {0}
-NamesOneHouse (command.Root m rs) = rs ≡ []
-NamesOneHouse (command.Mkdir h d n m rs) = rs ≡ []
-NamesOneHouse (command.Repoint h d n m rs) = Unit {0}
-NamesOneHouse (command.Create h d n) = Unit {0}
-NamesOneHouse (command.Link h d n target) = Unit {0}
-NamesOneHouse (command.Delete h d n) = Unit {0}
-NamesOneHouse (command.Add h d n a v) = Unit {0}
-NamesOneHouse (command.Remove h d n a v) = Unit {0}
-NamesOneHouse (command.Put h d n a v) = Unit {0}
-NamesOneHouse (command.Clear h d n a) = Unit {0}
+-- the answer of the script to a command. Foreign has no text, and never comes: no message of a cell is from a house that is no member (own)
+abbrev pub answer_of : model.Answer → Option Answer
+answer_of model.Done = Some answer.Done
+answer_of (model.Posted ns) = Some (answer.Posted ns)
+answer_of (model.Made d s ns) = Some (answer.Made (record { 0 = d }) s ns)
+answer_of (model.Stamped s ns) = Some (answer.Stamped s ns)
+answer_of (model.NewEpoch e ns) = Some (answer.Epoch (record { 0 = e }) ns)
+answer_of (model.Taken ns) = Some (answer.Taken ns)
+answer_of (model.Late k e) = Some (answer.Late (record { 0 = k }) (record { 0 = e }))
+answer_of (model.Early k e) = Some (answer.Early (record { 0 = k }) (record { 0 = e }))
+answer_of (model.Stale t r) = Some (answer.Stale t r)
+answer_of model.NoReplica = Some answer.NoReplica
+answer_of model.Foreign = None
+answer_of (model.Complete t ns) = Some (answer.Complete t ns)
+answer_of (model.Refused r) = Some (answer.Refused (refusal_of r))

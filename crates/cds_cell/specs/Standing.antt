@@ -1,136 +1,151 @@
--- Which cell of the model a cell of the program stands for: each directory at one house alone (own).
-use Rattle.std.specs.Prelude.{◌≡◌, ◌≢◌, ℕ, zero, suc, ◌+◌, ◌≤◌, ◌==◌, if◌then◌else◌, max, true, false, List, [], ◌∷◌, ◌++◌, map, length, slice_get}
-use Rattle.std.specs.Prelude.{Option, Some, None}
-use Rattle.std.specs.FinMap.{FinMap}
-use Rattle.std.specs.List.{Contains}
-use Rattle.cds_stamps.specs.declared.stamp.Stamp.{Stamp}
-use Rattle.cds_stamps.specs.Octets.{octets_cmp}
-use Rattle.cds_stamps.specs.Members.{Member}
-use Rattle.directory.specs.declared.entry.EntryCell.{EntryCell}
-use Rattle.directory.specs.declared.update.UpdateRefusal.{UpdateRefusal}
-use Rattle.directory.specs.declared.update.UpdateRefusal.TheVariants as update
-use Rattle.directory.specs.Histories.{Mark, IsHistory, stamp_in, table_of}
-use Rattle.directory.specs.Shown.{shown, marks_of}
-use Rattle.directory.specs.Updates.{Change, changed_name}
-use Rattle.cell_model.specs.Cells as model
-use Rattle.cell_model.specs.Cells.{Replica, Held, Absent}
-use Rattle.cell_model.specs.Sets.{has}
-use Rattle.cell_model.specs.Steps.{Outcome, listing, stands_twice}
-use Rattle.cell_model.specs.Commands as command
-use Rattle.cell_script.specs.declared.answer.Answer.{Answer}
-use Rattle.cds_cell.specs.declared.update.Accepted.{Accepted}
-use Rattle.cds_cell.specs.declared.update.Accepted.TheVariants as accepted
-use Rattle.cds_cell.specs.declared.cell.Cell.{Cell}
-use Rattle.cds_cell.specs.declared.house.LocalHouse.{LocalHouse}
-use Rattle.cds_cell.specs.declared.house.LocalDirectory.{LocalDirectory}
+-- Which cell of the model a cell of the program stands for (own, after C705, clearinghouses and replica sets).
+use Rattle.std.specs.Prelude.{◌≡◌, ◌≢◌, ℕ, zero, suc, ◌+◌, ◌*◌, ◌≤◌, ◌<◌, ◌^◌, ◌==◌, if◌then◌else◌, max, true, false, List, [], ◌∷◌, map, length, slice_get}
+use Rattle.std.specs.Prelude.{Option, Some, None, Result, is_err, IfOk, OnOk}
+use Rattle.std.specs.declared.alloc.AllocError.{AllocError}
+use Rattle.cds_stamps.specs.Members.{members_of}
 use Rattle.directory.specs.Updates.{change_of}
+use Rattle.cell_model.specs.Cells as model
+use Rattle.cell_model.specs.Commands as command
+use Rattle.cell_model.specs.Reached.{IsReached}
+use Rattle.cell_model.specs.Steps.{Outcome, stands_twice}
+use Rattle.cell_script.specs.declared.answer.Answer.{Answer}
+use Rattle.cell_script.specs.declared.answer.Answer.TheVariants as answer
+use Rattle.cds_cell.specs.declared.cell.Cell.{Cell}
+use Rattle.cds_cell.specs.declared.console.Listing.{Listing}
+use Rattle.cds_cell.specs.declared.house.CellHouse.{CellHouse}
 use Rattle.cds_cell.specs.declared.step.Step.{Step}
 use Rattle.cds_cell.specs.declared.step.Step.TheVariants as step
+use Rattle.cds_cell.specs.Bags.{StandsBag}
+use Rattle.cds_cell.specs.Houses.{StandsAtHouse}
 use Rattle.cds_cell.specs.Scripted.{numbers, answer_of}
 
--- the member list of a directory that one house has alone
-abbrev pub alone : ℕ → List Member
-alone x = listing [] 1 x []
+-- ---- houses
 
--- no mark is later than the floor
-abbrev pub IsBelow : List Mark → ℕ → Type 0
-IsBelow h floor = (m : Mark) → Contains h m → (stamp_in m).time ≤ floor
-
--- a house is up, and has the node, clock and floor of the model's
-pub record StandsHouse (h : LocalHouse) (m : model.House) : Type 0 where
-  pub up : m.up ≡ true
-  pub node : m.node ≡ h.node
-  pub clock : m.clock ≡ h.clock
-  pub floor : m.floor ≡ h.floor.time
-
--- the same, where there is a house (own)
-abbrev pub MaybeStandsHouse : Option LocalHouse → model.House → Type 0
-MaybeStandsHouse None m = Unit {0}
-MaybeStandsHouse (Some h) m = StandsHouse h m
-
--- a directory: its master holds it alone, its table is that of the history there, and the console knows it so
-pub record StandsDirectory (l : LocalDirectory) (g : model.Cell) (d : ℕ) : Type 0 where
-  pub made : has l.master.0 g.made ≡ true
-  pub replica : Replica
-  pub held : (g.house l.master.0).slots d ≡ Held replica
-  pub members : replica.members ≡ alone l.master.0
-  pub table : l.table ≡ table_of replica.history
-  pub history : IsHistory replica.history
-  pub below : IsBelow replica.history (g.house l.master.0).floor
-  pub top : g.top d ≡ 1
-  pub present : g.present d ≡ alone l.master.0
-
--- the house is not the master of the directory
-abbrev pub IsElsewhere : ℕ → Option LocalDirectory → Type 0
-IsElsewhere x None = Unit {0}
-IsElsewhere x (Some l) = l.master.0 ≢ x
-
--- the d-th directory, counted from 1, if there is one
-abbrev pub directory_of : List LocalDirectory → ℕ → Option LocalDirectory
-directory_of ls zero = None
-directory_of ls (suc i) = slice_get ls i
-
--- the same, where there is a directory; else the console knows none of that number (own)
-abbrev pub MaybeStandsDirectory : Option LocalDirectory → model.Cell → ℕ → Type 0
-MaybeStandsDirectory None g d = g.top d ≡ 0
-MaybeStandsDirectory (Some l) g d = StandsDirectory l g d
-
--- the numbers of houses, in their order
-abbrev pub numbers_of : List LocalHouse → List ℕ
+-- the numbers of houses, in their order (own)
+abbrev pub numbers_of : List CellHouse → List ℕ
 numbers_of hs = map (λ h. h.house.0) hs
 
--- the house of a number, if it was made
-abbrev pub house_of : List LocalHouse → ℕ → Option LocalHouse
+-- the house of a number, if it was made (own)
+abbrev pub house_of : List CellHouse → ℕ → Option CellHouse
 house_of [] x = None
 house_of (h ∷ hs) x = if h.house.0 == x then Some h else house_of hs x
 
--- the house of a number stands at this place, and none before it
-abbrev pub IsPlaceOf : List LocalHouse → ℕ → ℕ → Type 0
+-- the house of a number stands at this place, and none before it (own)
+abbrev pub IsPlaceOf : List CellHouse → ℕ → ℕ → Type 0
 IsPlaceOf [] x i = ⊥
 IsPlaceOf (h ∷ hs) x zero = h.house.0 ≡ x
 IsPlaceOf (h ∷ hs) x (suc i) = (h.house.0 ≢ x) × IsPlaceOf hs x i
 
--- the cell has the model's houses, in the order in which they were made, and the directories 1, 2, 3 and so on
-pub record Stands (c : Cell) (g : model.Cell) : Type 0 where
+-- a house that was made stands for the model's (own)
+abbrev pub MaybeStandsHouse : Option CellHouse → model.House → Type 0
+MaybeStandsHouse None now = Unit {0}
+MaybeStandsHouse (Some h) now = StandsAtHouse h now
+
+-- ---- directories
+
+-- the d-th directory, counted from 1, if there is one (own)
+abbrev pub directory_of : List Listing → ℕ → Option Listing
+directory_of ls zero = None
+directory_of ls (suc i) = slice_get ls i
+
+-- the console knows a directory by its last epoch and its list, or knows none of that number (own)
+abbrev pub StandsListing : Option Listing → model.Cell → ℕ → Type 0
+StandsListing None g d = g.top d ≡ 0
+StandsListing (Some l) g d = (1 ≤ l.epoch.0) × (g.top d ≡ l.epoch.0) × (g.present d ≡ members_of l.members)
+
+-- ---- cells
+
+-- the cell has the model's houses, in the order in which they were made; its console knows the directories 1, 2, 3 and so on as the
+-- model's does; its bag has the model's messages; and it is not spent (own)
+pub record StandsAs (c : Cell) (g : model.Cell) : Type 0 where
   pub made : g.made ≡ numbers_of c.houses.items
   pub once : stands_twice g.made ≡ false
   pub houses : (x : ℕ) → MaybeStandsHouse (house_of c.houses.items x) (g.house x)
-  pub directories : (d : ℕ) → MaybeStandsDirectory (directory_of c.directories.items d) g d
-  pub elsewhere : (x d : ℕ) → IsElsewhere x (directory_of c.directories.items d) → (g.house x).slots d ≡ Absent
+  pub directories : (d : ℕ) → StandsListing (directory_of c.directories.items d) g d
   pub next : g.next_dir ≡ max 2 (length c.directories.items + 1)
+  pub bag : StandsBag c.bag g
+  pub usable : c.spent ≡ false
 
--- the step of the model that a step of the program is
+-- so it stands for a cell that a list of commands leads to (own)
+pub record Stands (c : Cell) (g : model.Cell) : Type 0 where
+  pub reached : IsReached g
+  pub stands : StandsAs c g
+
+-- ---- steps
+
+-- the command of the model that a step of the program is (own)
 abbrev pub step_meant : Step → command.Command
 step_meant (step.House h node) = command.House h.0 node
 step_meant (step.Clock h time) = command.Clock h.0 time
-step_meant (step.Root m) = command.Root m.0 []
-step_meant (step.Mkdir h d n m) = command.Mkdir h.0 d.0 n m.0 []
+step_meant (step.Root m rs) = command.Root m.0 (numbers rs)
+step_meant (step.Mkdir h d n m rs) = command.Mkdir h.0 d.0 n m.0 (numbers rs)
 step_meant (step.Repoint h d n m rs) = command.Repoint h.0 d.0 n m.0 (numbers rs)
 step_meant (step.Update h d u) = command.Accept h.0 d.0 (change_of u)
+step_meant (step.Epoch d m rs) = command.Epoch d.0 m.0 (numbers rs)
+step_meant (step.Skulk h d) = command.Skulk h.0 d.0
+step_meant (step.Deliver n) = command.Deliver n
+step_meant (step.Lose n) = command.Lose n
+step_meant (step.Crash h) = command.Crash h.0
+step_meant (step.Start h) = command.Start h.0
 
--- an answer and a cell are those of a step of the model
+-- an answer and a cell are those of a step of the model (own)
 pub record IsStep (a : Answer) (c : Cell) (o : Outcome) : Type 0 where
-  pub answer : a ≡ answer_of o.answer
+  pub answer : answer_of o.answer ≡ Some a
   pub stands : Stands c o.cell
 
--- what the model answers to an update
-abbrev pub accepted_answer : Accepted → command.Answer
-accepted_answer (accepted.Stamped s) = command.Stamped s []
-accepted_answer (accepted.Refused r) = command.Refused (command.Update r)
+-- the same, where it is not said that a list of commands leads there (own)
+pub record IsStepAs (a : Answer) (c : Cell) (o : Outcome) : Type 0 where
+  pub answer : answer_of o.answer ≡ Some a
+  pub stands : StandsAs c o.cell
 
--- what comes of an update, and a cell, are those of a step of the model
-pub record IsAccepted (a : Accepted) (c : Cell) (o : Outcome) : Type 0 where
-  pub answer : o.answer ≡ accepted_answer a
-  pub stands : Stands c o.cell
+-- ---- what a step leaves
 
--- an update of a table: refused, or taken with the stamp that is issued; the floor and the table after it
-pub record Took (h : List Mark) (time : ℕ) (expected : Accepted) (marks : List Mark) (a : Accepted) (t : FinMap octets_cmp EntryCell) (time' : ℕ) : Type 0 where
-  pub answer : a ≡ expected
-  pub table : t ≡ table_of (h ++ marks)
-  pub floor : time' ≡ time
+-- these answers change nothing: refusals, and those to messages that were not taken (own)
+abbrev pub UnlessDone : Answer → Type 0 → Type 0
+UnlessDone (answer.Refused r) P = P
+UnlessDone (answer.Late k e) P = P
+UnlessDone (answer.Early k e) P = P
+UnlessDone (answer.Stale t r) P = P
+UnlessDone answer.NoReplica P = P
+UnlessDone _ P = Unit {0}
 
--- what comes of an update, by whether it is refused and which stamp is issued (own)
-abbrev pub Updates : List Mark → Change → (floor : ℕ) → Option UpdateRefusal → Option Stamp → Accepted → FinMap octets_cmp EntryCell → ℕ → Type 0
-Updates h u floor (Some r) stamp a table' floor' = Took h floor (accepted.Refused r) [] a table' floor'
-Updates h u floor None None a table' floor' = Took h floor (accepted.Refused update.StampsSpent) [] a table' floor'
-Updates h u floor None (Some s) a table' floor' = Took h s.time (accepted.Stamped s) (marks_of (shown h (changed_name u)) u s) a table' floor'
+-- a cell is spent exactly after want of memory, and a cell that is spent answers nothing (own)
+pub record IsCall {T : Type 0} (old new : Cell) (result : Result T AllocError) : Type 0 where
+  pub spent : new.spent ≡ is_err result
+  pub usable : IfOk result (λ _. old.spent ≡ false)
+
+-- ---- bounds
+
+-- the greatest epoch number of directories; 0 where there is none (own)
+abbrev pub greatest_epoch : List Listing → ℕ
+greatest_epoch [] = 0
+greatest_epoch (l ∷ ls) = max l.epoch.0 (greatest_epoch ls)
+
+-- there is room for a step: for the serial numbers of its messages, a directory and an epoch more (own)
+pub record HasRoom (c : Cell) : Type 0 where
+  pub messages : c.bag.posted ≤ 2 ^ 62
+  pub directories : length c.directories.items + 1 < 2 ^ 32
+  pub epochs : greatest_epoch c.directories.items < 2 ^ 62
+
+-- a step posts at most 128 messages, and gives at most one directory and one epoch more (own)
+pub record GrowsBy (old new : Cell) : Type 0 where
+  pub messages : new.bag.posted ≤ old.bag.posted + 128
+  pub directories : length new.directories.items ≤ length old.directories.items + 1
+  pub epochs : greatest_epoch new.directories.items ≤ greatest_epoch old.directories.items + 1
+
+-- a cell after so many steps, at most (own)
+pub record IsWithin (n : ℕ) (c : Cell) : Type 0 where
+  pub messages : c.bag.posted ≤ 128 * n
+  pub directories : length c.directories.items ≤ n
+  pub epochs : greatest_epoch c.directories.items ≤ n
+
+-- what an act leaves, whichever cell it stands for: it spends nothing, grows the cell by a step at most, and changes nothing where its
+-- answer says so (own)
+pub record Leaves (old new : Cell) (result : Result Answer AllocError) : Type 0 where
+  pub spent : new.spent ≡ old.spent
+  pub grows : OnOk result (GrowsBy old new)
+  pub same : IfOk result (λ a. UnlessDone a (new ≡ old))
+
+-- what comes of an act is this outcome, or memory ran out (own)
+abbrev pub ComesTo : Result Answer AllocError → Cell → Outcome → Type 0
+ComesTo result c o = IfOk result (λ a. IsStepAs a c o)

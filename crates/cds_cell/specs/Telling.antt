@@ -1,45 +1,65 @@
 -- What a cell of the program tells a reader (own).
-use Rattle.std.specs.Prelude.{ℕ, ◌+◌, if◌then◌else◌, ◌==◌, List, [], ◌∷◌, ◌++◌, map, Option, Some, None}
-use Rattle.std.specs.FinMap.{keys}
+use Rattle.std.specs.Prelude.{ℕ, Bool, List, [], ◌∷◌, map, Option, Some, None}
+use Rattle.std.specs.FinMap.{get, keys}
+use Rattle.std.specs.List.{flat_map}
+use Rattle.std.specs.Option.{option_map, option_and_then}
+use Rattle.cds_stamps.specs.declared.numbers.DirId.{DirId}
+use Rattle.cds_stamps.specs.Members.{members_of}
 use Rattle.cds_stamps.specs.Numbers.{root_dir}
 use Rattle.cell_names.specs.ChildPointers.{Pointer}
+use Rattle.clearinghouse.specs.declared.states.Held.{Held}
+use Rattle.clearinghouse.specs.declared.states.DirState.{DirState}
+use Rattle.clearinghouse.specs.declared.states.DirState.TheVariants as dir
 use Rattle.directory.specs.Shown.{shown_in}
-use Rattle.cell_model.specs.Sets.{has}
 use Rattle.resolver.specs.declared.seen.Found.{Found}
-use Rattle.resolver.specs.Readers.{Reader, Sight, Unreachable, object_found}
+use Rattle.resolver.specs.Readers.{Reader, object_found}
 use Rattle.cds_cell.specs.declared.cell.Cell.{Cell}
-use Rattle.cds_cell.specs.declared.house.LocalDirectory.{LocalDirectory}
-use Rattle.cds_cell.specs.Readings.{shown_sight, values_of}
-use Rattle.cds_cell.specs.Standing.{directory_of}
+use Rattle.cds_cell.specs.declared.console.Listing.{Listing}
+use Rattle.cds_cell.specs.declared.house.HouseState.{HouseState}
+use Rattle.cds_cell.specs.declared.house.HouseState.TheVariants as state
+use Rattle.cds_cell.specs.Asking.{View, Views}
+use Rattle.cds_cell.specs.Readings.{pointer_to, reader_of}
+use Rattle.cds_cell.specs.Standing.{house_of}
 
--- where the first directory is, if there is one
-abbrev pub first_pointer : List LocalDirectory → Option Pointer
+-- where the first directory is, if there is one (own)
+abbrev pub first_pointer : List Listing → Option Pointer
 first_pointer [] = None
-first_pointer (l ∷ ls) = Some (record { dir = root_dir; master = l.master.0; others = [] })
+first_pointer (l ∷ ls) = Some (pointer_to root_dir (members_of l.members))
 
--- what is seen of a name in a directory, where the pointer lists its house
-abbrev pub told_sight : List ℕ → Pointer → Option LocalDirectory → Sight
-told_sight name p None = Unreachable
-told_sight name p (Some l) = if has l.master.0 (p.master ∷ p.others) then shown_sight l.master.0 (shown_in l.table name) else Unreachable
+-- what shows of the table of what is held, to its members (own)
+abbrev pub held_view : Held → View
+held_view h = record { members = members_of h.members; shows = shown_in h.replica.table }
 
--- the values at a place, where its house holds the directory
-abbrev pub told_values : Found → List ℕ → Option LocalDirectory → List (List ℕ)
-told_values at attr None = []
-told_values at attr (Some l) = if l.master.0 == at.house.0 then values_of attr (shown_in l.table at.name) else []
+-- what a house shows of a directory by what it has of it (own)
+abbrev pub dir_view : Option DirState → Option View
+dir_view None = None
+dir_view (Some (dir.Gone e)) = None
+dir_view (Some (dir.Held h)) = Some (held_view h)
 
--- an object of each name in the directories from this number on: more than show, but finitely many
-abbrev pub objects_from : (first : ℕ) → List LocalDirectory → List Found
-objects_from first [] = []
-objects_from first (l ∷ ls) = map (object_found first l.master.0) (keys l.table) ++ objects_from (first + 1) ls
+-- what there is of a house shows so much of a directory: nothing, where it is down (own)
+abbrev pub state_view : DirId → HouseState → Option View
+state_view d (state.Up c) = dir_view (get c.dirs d)
+state_view d (state.Down octets) = None
 
--- objects, all that a cell of the program shows among them
+-- what each house of a cell of the program shows of each directory (own)
+abbrev pub told_views : Cell → Views
+told_views c d x = option_and_then (state_view (record { 0 = d })) (option_map (λ h. h.state) (house_of c.houses.items x))
+
+-- what a cell of the program tells a reader that prefers a house, or none, and trusts any replica or the master's alone (own)
+abbrev pub told : Cell → (prefer : Option ℕ) → (high : Bool) → Reader
+told c prefer high = reader_of (first_pointer c.directories.items) (told_views c) prefer high
+
+-- an object for each name in the table of what is held: more than show, but finitely many (own)
+abbrev pub objects_held : (x : ℕ) → DirId → Option DirState → List Found
+objects_held x d None = []
+objects_held x d (Some (dir.Gone e)) = []
+objects_held x d (Some (dir.Held h)) = map (object_found d.0 x) (keys h.replica.table)
+
+-- the same of all that a house has, if it is up (own)
+abbrev pub objects_at : (x : ℕ) → HouseState → List Found
+objects_at x (state.Up c) = flat_map (λ d. objects_held x d (get c.dirs d)) (keys c.dirs)
+objects_at x (state.Down octets) = []
+
+-- objects, all that a cell of the program shows among them (own)
 abbrev pub told_objects : Cell → List Found
-told_objects c = objects_from 1 c.directories.items
-
--- what a cell of the program tells any reader: there is one house to ask
-abbrev pub told : Cell → Reader
-told c = record {
-  root = first_pointer c.directories.items;
-  sees = λ p name. told_sight name p (directory_of c.directories.items p.dir);
-  values = λ at attr. told_values at attr (directory_of c.directories.items at.dir.0);
-}
+told_objects c = flat_map (λ h. objects_at h.house.0 h.state) c.houses.items

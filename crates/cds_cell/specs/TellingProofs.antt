@@ -1,34 +1,54 @@
 -- Proofs alone: what a cell of the program tells a reader ascends, and it shows no objects but those of the list.
-use Rattle.std.specs.Prelude.{◌≡◌, ℕ, zero, suc, ◌+◌, Bool, true, false, ◌&&◌, ◌||◌, ◌==◌, if◌then◌else◌, List, [], ◌∷◌, map, slice_get}
+use Rattle.std.specs.Prelude.{◌≡◌, ℕ, Bool, true, false, ◌&&◌, ◌||◌, ◌==◌, if◌then◌else◌, List, [], ◌∷◌}
 use Rattle.std.specs.Prelude.{Option, Some, None, is_some, is_none, refl}
-use Rattle.std.specs.FinMap.{get, keys, contains_key-keys}
-use Rattle.std.specs.List.{Contains, list_any}
+use Rattle.std.specs.FinMap.{FinMap, IsAntisymmetric, get, keys, contains_key-keys}
+use Rattle.std.specs.List.{Contains, flat_map, list_any}
 use Rattle.std.specs.List.Sorted.{IsStrictlySortedBy}
-use Rattle.std.specs.Option.{option_and_then, option_map_or}
+use Rattle.std.specs.Option.{option_map, option_and_then, option_map_or}
+use Rattle.std.specs.declared.cmp.Ordering.{Ordering}
 use Rattle.std.specs.Ordering.{eq_by_cmp}
-use Rattle.std.proofs.Common.{sym, ◌∙◌, subst, arith}
+use Rattle.std.proofs.Common.{sym, ◌∙◌, ap, subst, arith}
+use Rattle.std.proofs.lemmas.Bool.Decides.{nat_tests}
 use Rattle.std.proofs.lemmas.List.Elements.{Contains-append_left, Contains-append_right}
 use Rattle.attr_sets.specs.declared.cell.AttrCell.{AttrCell}
 use Rattle.attr_sets.specs.Cells.{cell_values}
 use Rattle.attr_sets.proofs.ShownLaws.{cell_values-ascending}
+use Rattle.cds_records.specs.Dirs.{dir_exact}
 use Rattle.cds_stamps.proofs.ListMembers.{Contains-head, Contains-tail, Contains-map}
+use Rattle.cds_stamps.specs.declared.numbers.DirId.{DirId}
 use Rattle.cds_stamps.specs.Keyed.{tied}
 use Rattle.cds_stamps.specs.Octets.{octets_cmp, octets_exact}
-use Rattle.cell_names.specs.FullNames.{is_full_name, components_of}
-use Rattle.cell_names.specs.ChildPointers.{Pointer, pointer_of}
+use Rattle.clearinghouse.specs.declared.states.DirState.{DirState}
+use Rattle.clearinghouse.specs.declared.states.DirState.TheVariants as dir
 use Rattle.directory.specs.declared.entry.EntryCell.{EntryCell}
-use Rattle.directory.specs.declared.entry.Kind.{Kind}
-use Rattle.directory.specs.declared.entry.Kind.TheVariants as kind
 use Rattle.directory.specs.Entries.{Entries}
-use Rattle.directory.specs.Shown.{Shown, shown_entry, shown_in, entry_values, face_of, leads, lead_of}
-use Rattle.cell_model.specs.Sets.{has}
+use Rattle.directory.specs.Shown.{Shown, shown_entry, shown_in, entry_values, face_of, leads}
 use Rattle.resolver.specs.declared.seen.Found.{Found}
-use Rattle.resolver.specs.Readers.{Object, Absent, Link, Unreachable, ShowsOnly, object_found}
+use Rattle.resolver.specs.Readers.{Object, ShowsOnly, object_found}
 use Rattle.cds_cell.specs.declared.cell.Cell.{Cell}
-use Rattle.cds_cell.specs.declared.house.LocalDirectory.{LocalDirectory}
-use Rattle.cds_cell.specs.Readings.{child_sight, led_sight, shown_sight, values_of}
-use Rattle.cds_cell.specs.Standing.{directory_of}
-use Rattle.cds_cell.specs.Telling.{told_sight, told_values, told, objects_from, told_objects}
+use Rattle.cds_cell.specs.declared.house.CellHouse.{CellHouse}
+use Rattle.cds_cell.specs.declared.house.HouseState.{HouseState}
+use Rattle.cds_cell.specs.declared.house.HouseState.TheVariants as state
+use Rattle.cds_cell.specs.Asking.{Asked, View, asked}
+use Rattle.cds_cell.specs.AskingProofs.{Contains-flat_map, asked_shows, shown_object}
+use Rattle.cds_cell.specs.Readings.{sight_at, values_of, values_at}
+use Rattle.cds_cell.specs.Standing.{house_of}
+use Rattle.cds_cell.specs.Telling.{dir_view, state_view, told_views, told, objects_held, objects_at, told_objects}
+
+-- ---- maps
+
+-- what has a value in a map is one of its keys
+any_has : {K : Type 0} {R : K → K → Ordering} → IsAntisymmetric R → (k : K) (ks : List K) → list_any (eq_by_cmp R k) ks ≡ true → Contains ks k
+any_has exact k [] h = cc
+any_has {K = K} {R = R} exact k (j ∷ ks) h = by_test (eq_by_cmp R k j) refl (any_has exact k ks) h
+  where
+    by_test : (b : Bool) → eq_by_cmp R k j ≡ b → (list_any (eq_by_cmp R k) ks ≡ true → Contains ks k)
+        → (b || list_any (eq_by_cmp R k) ks) ≡ true → Contains (j ∷ ks) k
+    by_test true is rest h = subst (λ (n : K). Contains (j ∷ ks) n) (sym (tied exact k j is)) (Contains-head j ks)
+    by_test false is rest h = Contains-tail j ks k (rest h)
+
+listed_key : {K X : Type 0} {R : K → K → Ordering} → IsAntisymmetric R → (m : FinMap R X) (k : K) → is_some (get m k) ≡ true → Contains (keys m) k
+listed_key exact m k h = any_has exact k (keys m) (sym (contains_key-keys m k) ∙ h)
 
 -- ---- values ascend
 
@@ -54,91 +74,81 @@ shown_rise attr (Some e) = by_test (is_none e.death && leads e.kind (entry_value
     by_test true = entry_rises e attr
     by_test false = none_rise
 
+dir_rise : (at : Found) (attr : List ℕ) (o : Option DirState) → Rises (values_at at attr (dir_view o))
+dir_rise at attr None = none_rise
+dir_rise at attr (Some (dir.Gone e)) = none_rise
+dir_rise at attr (Some (dir.Held h)) = shown_rise attr (get h.replica.table at.name)
+
+state_rise : (at : Found) (attr : List ℕ) (d : DirId) (o : Option HouseState) → Rises (values_at at attr (option_and_then (state_view d) o))
+state_rise at attr d None = none_rise
+state_rise at attr d (Some (state.Up c)) = dir_rise at attr (get c.dirs d)
+state_rise at attr d (Some (state.Down octets)) = none_rise
+
 -- the values that a cell tells ascend, each once
-pub told_values_rise : (at : Found) (attr : List ℕ) (o : Option LocalDirectory) → Rises (told_values at attr o)
-told_values_rise at attr None = none_rise
-told_values_rise at attr (Some l) = by_test (l.master.0 == at.house.0)
-  where
-    by_test : (b : Bool) → Rises (if b then values_of attr (shown_in l.table at.name) else [])
-    by_test true = shown_rise attr (get l.table at.name)
-    by_test false = none_rise
+pub told_values_rise : (c : Cell) (at : Found) (attr : List ℕ) → Rises (values_at at attr (told_views c at.dir.0 at.house.0))
+told_values_rise c at attr = state_rise at attr at.dir (option_map (λ h. h.state) (house_of c.houses.items at.house.0))
 
 -- ---- the objects that show
 
-led_object : (m house : ℕ) (k : Kind) (lead : Option (List ℕ)) → led_sight k m lead ≡ Object house → m ≡ house
-led_object m house kind.Object lead h = cc
-led_object m house kind.Link None h = cc
-led_object m house kind.Link (Some v) h = by_test (is_full_name v) h
-  where
-    by_test : (b : Bool) → (if b then Link m (components_of v) else Absent m) ≡ Object house → m ≡ house
-    by_test true h = cc
-    by_test false h = cc
-led_object m house kind.Child None h = cc
-led_object m house kind.Child (Some v) h = by_pointer (pointer_of v) h
-  where
-    by_pointer : (o : Option Pointer) → child_sight m o ≡ Object house → m ≡ house
-    by_pointer None h = cc
-    by_pointer (Some p) h = cc
-
--- what is seen as an object is seen so at this house, and shows there
-pub shown_object : (m house : ℕ) (o : Option Shown) → shown_sight m o ≡ Object house → (m ≡ house) × (is_some o ≡ true)
-shown_object m house None h = cc
-shown_object m house (Some e) h = (led_object m house e.kind (lead_of e) h, refl)
-
 -- a name that shows is a key of the table
-any_has : (name : List ℕ) (names : List (List ℕ)) → list_any (eq_by_cmp octets_cmp name) names ≡ true → Contains names name
-any_has name [] h = cc
-any_has name (k ∷ ks) h = by_test (eq_by_cmp octets_cmp name k) refl (any_has name ks) h
-  where
-    by_test : (b : Bool) → eq_by_cmp octets_cmp name k ≡ b → (list_any (eq_by_cmp octets_cmp name) ks ≡ true → Contains ks name)
-        → (b || list_any (eq_by_cmp octets_cmp name) ks) ≡ true → Contains (k ∷ ks) name
-    by_test true is rest h = subst (λ n. Contains (k ∷ ks) n) (sym (tied octets_exact name k is)) (Contains-head k ks)
-    by_test false is rest h = Contains-tail k ks name (rest h)
-
 shown_key : (t : Entries) (name : List ℕ) → is_some (shown_in t name) ≡ true → Contains (keys t) name
-shown_key t name h = any_has name (keys t) (sym (contains_key-keys t name) ∙ by_entry (get t name) h)
+shown_key t name h = listed_key octets_exact t name (by_entry (get t name) h)
   where
     by_entry : (o : Option EntryCell) → is_some (option_and_then shown_entry o) ≡ true → is_some o ≡ true
     by_entry None h = cc
     by_entry (Some e) h = refl
 
--- an object of a name of the directory at place i is listed
-listed_at : (first i : ℕ) (ls : List LocalDirectory) (l : LocalDirectory) (name : List ℕ) → slice_get ls i ≡ Some l → Contains (keys l.table) name
-    → Contains (objects_from first ls) (object_found (first + i) l.master.0 name)
-listed_at first i [] l name at there = cc
-listed_at first zero (k ∷ ks) l name at there =
-    let is : k ≡ l = cc in
-    let here = Contains-append_left (map (object_found first l.master.0) (keys l.table)) (objects_from (first + 1) ks) _
-    (Contains-map (object_found first l.master.0) (keys l.table) name there) in
-    let listed = subst (λ (x : LocalDirectory). Contains (objects_from first (x ∷ ks)) (object_found first l.master.0 name)) (sym is) here in
-    let same : first ≡ first + 0 = omega arith in
-    subst (λ d. Contains (objects_from first (k ∷ ks)) (object_found d l.master.0 name)) same listed
-listed_at first (suc i) (k ∷ ks) l name at there =
-    let rest = listed_at (first + 1) i ks l name at there in
-    let same : first + 1 + i ≡ first + suc i = omega arith in
-    Contains-append_right (map (object_found first k.master.0) (keys k.table)) (objects_from (first + 1) ks) _
-    (subst (λ d. Contains (objects_from (first + 1) ks) (object_found d l.master.0 name)) same rest)
+-- an object that what is had of a directory shows is listed
+held_listed : (x : ℕ) (d : DirId) (name : List ℕ) (o : Option DirState) (v : View) → dir_view o ≡ Some v → is_some (v.shows name) ≡ true
+    → Contains (objects_held x d o) (object_found d.0 x name)
+held_listed x d name None v is h = cc
+held_listed x d name (Some (dir.Gone e)) v is h = cc
+held_listed x d name (Some (dir.Held held)) v is h =
+    let shows : shown_in held.replica.table ≡ v.shows = cc in
+    Contains-map (object_found d.0 x) (keys held.replica.table) name
+    (shown_key held.replica.table name (ap (λ (f : List ℕ → Option Shown). is_some (f name)) shows ∙ h))
 
-listed_in : (d : ℕ) (ls : List LocalDirectory) (l : LocalDirectory) (name : List ℕ) → directory_of ls d ≡ Some l → Contains (keys l.table) name
-    → Contains (objects_from 1 ls) (object_found d l.master.0 name)
-listed_in zero ls l name at there = cc
-listed_in (suc i) ls l name at there =
-    let same : 1 + i ≡ suc i = omega arith in
-    subst (λ d. Contains (objects_from 1 ls) (object_found d l.master.0 name)) same (listed_at 1 i ls l name at there)
+some_view : (o : Option DirState) (v : View) → dir_view o ≡ Some v → is_some o ≡ true
+some_view None v is = cc
+some_view (Some s) v is = refl
+
+-- an object that there is at a house is listed
+state_listed : (x : ℕ) (d : DirId) (name : List ℕ) (s : HouseState) (v : View) → state_view d s ≡ Some v → is_some (v.shows name) ≡ true
+    → Contains (objects_at x s) (object_found d.0 x name)
+state_listed x d name (state.Down octets) v is h = cc
+state_listed x d name (state.Up c) v is h =
+    Contains-flat_map (λ k. objects_held x k (get c.dirs k)) (keys c.dirs) d (object_found d.0 x name)
+    (listed_key dir_exact c.dirs d (some_view (get c.dirs d) v is)) (held_listed x d name (get c.dirs d) v is h)
+
+-- and an object of a house of the cell is listed
+house_listed : (x : ℕ) (d : DirId) (name : List ℕ) (hs : List CellHouse) (v : View)
+    → option_and_then (state_view d) (option_map (λ h. h.state) (house_of hs x)) ≡ Some v → is_some (v.shows name) ≡ true
+    → Contains (flat_map (λ h. objects_at h.house.0 h.state) hs) (object_found d.0 x name)
+house_listed x d name [] v is h = cc
+house_listed x d name (k ∷ ks) v is h = by_test (k.house.0 == x) refl is (λ there. house_listed x d name ks v there h)
+  where
+    by_test : (b : Bool) → (k.house.0 == x) ≡ b
+        → option_and_then (state_view d) (option_map (λ h. h.state) (if b then Some k else house_of ks x)) ≡ Some v
+        → (option_and_then (state_view d) (option_map (λ h. h.state) (house_of ks x)) ≡ Some v
+        → Contains (flat_map (λ h. objects_at h.house.0 h.state) ks) (object_found d.0 x name))
+        → Contains (flat_map (λ h. objects_at h.house.0 h.state) (k ∷ ks)) (object_found d.0 x name)
+    by_test true on is rest =
+        let same : k.house.0 ≡ x = grind (arith, nat_tests, on) in
+        let here : Contains (objects_at k.house.0 k.state) (object_found d.0 k.house.0 name) = state_listed k.house.0 d name k.state v is h in
+        Contains-append_left (objects_at k.house.0 k.state) (flat_map (λ h. objects_at h.house.0 h.state) ks) (object_found d.0 x name)
+        (subst (λ y. Contains (objects_at k.house.0 k.state) (object_found d.0 y name)) same here)
+    by_test false off is rest =
+        Contains-append_right (objects_at k.house.0 k.state) (flat_map (λ h. objects_at h.house.0 h.state) ks) (object_found d.0 x name) (rest is)
 
 -- each object that a cell shows is listed
-pub told_shows_only : (c : Cell) → ShowsOnly (told c) (told_objects c)
-told_shows_only c at house name h = by_directory (directory_of c.directories.items at.dir) refl h
+pub told_shows_only : (c : Cell) (prefer : Option ℕ) (high : Bool) → ShowsOnly (told c prefer high) (told_objects c)
+told_shows_only c prefer high at house name h = by_asked (asked (told_views c) at.dir prefer high (at.master ∷ at.others)) refl h
   where
-    by_directory : (o : Option LocalDirectory) → directory_of c.directories.items at.dir ≡ o → told_sight name at o ≡ Object house
+    by_asked : (o : Option Asked) → asked (told_views c) at.dir prefer high (at.master ∷ at.others) ≡ o → sight_at name o ≡ Object house
         → Contains (told_objects c) (object_found at.dir house name)
-    by_directory None is h = cc
-    by_directory (Some l) is h = by_list (has l.master.0 (at.master ∷ at.others)) h
-      where
-        by_list : (b : Bool) → (if b then shown_sight l.master.0 (shown_in l.table name) else Unreachable) ≡ Object house
-            → Contains (told_objects c) (object_found at.dir house name)
-        by_list true h =
-            let shows = shown_object l.master.0 house (shown_in l.table name) h in
-            subst (λ x. Contains (told_objects c) (object_found at.dir x name)) shows.0
-            (listed_in at.dir c.directories.items l name is (shown_key l.table name shows.1))
-        by_list false h = cc
+    by_asked None is h = cc
+    by_asked (Some a) is h =
+        let shows = shown_object a.house house (a.view.shows name) h in
+        subst (λ x. Contains (told_objects c) (object_found at.dir x name)) shows.0
+        (house_listed a.house (record { 0 = at.dir }) name c.houses.items a.view
+        (asked_shows (told_views c) at.dir prefer high (at.master ∷ at.others) a is) shows.1)

@@ -1,13 +1,21 @@
-//! A cell: its houses and directories, and what a reader is told of them.
+//! A cell: its houses, its console and the messages between them, and what a reader is told of it.
 #![tactic(auto)]
 
+mod acting;
+mod answers;
+mod bag;
 mod cell;
+mod console;
 mod house;
 pub mod laws;
+mod making;
+mod members;
+mod messages;
 mod pointing;
 mod reader;
+mod refusing;
 mod step;
-mod update;
 
 pub use cell::Cell;
+pub use house::HouseState;
 pub use reader::CellReader;

@@ -3,6 +3,7 @@ ghost use Rattle.std.specs.Prelude.{◌≡◌, ◌∷◌, [], true, false, IfOk,
 ghost use Rattle.cell_model.specs.Steps.{ascending, is_bad_list};
 ghost use Rattle.cds_cell.specs.Scripted.{numbers};
 
+use crate::members::in_order;
 use cds_stamps::{AllocOr, HouseNo};
 use cell_names::HouseList;
 use std::alloc::{AllocError, Global};
@@ -13,22 +14,14 @@ pub(crate) fn house_list(
     master: HouseNo,
     others: &[HouseNo],
 ) -> Result<Option<HouseList>, AllocError>
-    ensures { IfOk result (λ o. MatchOption o (is_bad_list (master.0 ∷ numbers others.now) ≡ true) (λ h. (is_bad_list (master.0 ∷ numbers others.now) ≡ false)
+    ensures { IfOk result (λ o. MatchOption o (is_bad_list (master.0 ∷ numbers others.now) ≡ true)
+        (λ h. (is_bad_list (master.0 ∷ numbers others.now) ≡ false)
         × (h ≡ record { master = master.0; others = ascending (numbers others.now) }))) }
 {
-    let others = in_order(alloc, others)?;
+    let others = in_order(Vec::from_slice(alloc, others)?);
     match HouseList::new(alloc, master, &others) {
         Ok(houses) => Ok(Some(houses)),
         Err(AllocOr::Fault(_)) => Ok(None),
         Err(AllocOr::OutOfMemory) => Err(AllocError),
     }
-}
-
-// The houses in ascending order.
-fn in_order(alloc: Global, houses: &[HouseNo]) -> Result<Vec<HouseNo>, AllocError>
-    ensures { IfOk result (λ v. numbers v.items ≡ ascending (numbers houses.now)) }
-{
-    let mut sorted = Vec::from_slice(alloc, houses)?;
-    sorted.sort_unstable();
-    Ok(sorted)
 }

@@ -1,42 +1,56 @@
 // What the cell tells a reader.
-ghost use Rattle.std.specs.Prelude.{◌≡◌, IfOk, if◌then◌else◌, ◌==◌, [], ◌∷◌, option_copied};
+ghost use Rattle.std.specs.Prelude.{◌≡◌, ℕ, ◌∷◌, not, ◌||◌, ◌==◌, Option, Some, None, IfOk, option_copied};
 ghost use Rattle.std.specs.Option.{option_map};
+ghost use Rattle.cds_stamps.specs.Members.{master_of, members_fault, members_of, others_of};
 ghost use Rattle.cell_names.specs.ChildPointers.{pointer_of};
 ghost use Rattle.directory.specs.Shown.{shown_in};
 ghost use Rattle.cell_model.specs.Sets.{has};
-ghost use Rattle.resolver.specs.Readers.{Unreachable, sight_of};
-ghost use Rattle.cds_cell.specs.Readings.{led_sight, link_sight, child_sight, shown_sight, values_of};
-ghost use Rattle.cds_cell.specs.Telling.{told, told_objects};
+ghost use Rattle.resolver.specs.Readers.{sight_of};
+ghost use Rattle.cds_cell.specs.Asking.{answering, asked, first_some};
+ghost use Rattle.cds_cell.specs.PrivateTelling.{asked_of};
+ghost use Rattle.cds_cell.specs.Readings.{child_sight, led_sight, link_sight, shown_sight, values_of};
+ghost use Rattle.cds_cell.specs.Scripted.{numbers};
+ghost use Rattle.cds_cell.specs.Telling.{held_view, told, told_objects, told_views};
 ghost use Rattle.cds_cell.specs.TellingProofs.{told_shows_only};
 
 use crate::cell::Cell;
-use crate::house::LocalDirectory;
+use crate::house::HouseState;
 use attr_sets::Value;
-use cds_stamps::{AllocOr, AttrName, DirId, HouseNo, SimpleName};
+use cds_stamps::{AllocOr, AttrName, DirId, HouseNo, Members, SimpleName};
 use cell_names::{ChildPointer, FullName, HouseList};
-use directory::Kind;
+use clearinghouse::{DirState, Held};
+use directory::{Kind, Table};
 use resolver::{EntryReader, Found, Seen};
 use std::alloc::{AllocError, Global};
 
-/// A reader of a cell. Each directory stands at one house, so that house is asked wherever the pointer lists it, whichever
-/// house is preferred and however far a replica is trusted.
+/// A reader of a cell. Of the houses that a pointer lists it asks the first that is up and holds a replica: at high confidence
+/// only a master, and else the preferred house before all others.
 #[derive(Clone, Copy)]
 pub struct CellReader<'a> {
     pub cell: &'a Cell,
+    pub prefer: Option<HouseNo>,
+    pub high: bool,
+}
+
+// What is held of a directory, and the house that holds it.
+#[derive(Clone, Copy)]
+struct Holder<'a> {
+    house: HouseNo,
+    held: &'a Held,
 }
 
 impl EntryReader for CellReader<'_> {
-    ghost tells = { λ r. told r.cell.now };
+    ghost tells = { λ r. told r.cell.now (option_map (λ h. h.0) r.prefer) r.high };
 
     ghost objects = { λ r. told_objects r.cell.now };
 
-    ghost shows_only = { λ r. told_shows_only r.cell.now };
+    ghost shows_only = { λ r. told_shows_only r.cell.now (option_map (λ h. h.0) r.prefer) r.high };
 
     fn root(&self, alloc: Global) -> Result<Option<ChildPointer>, AllocError> {
-        match self.cell.root_master() {
-            Some(master) => Ok(Some(ChildPointer {
+        match self.cell.directories.first() {
+            Some(listing) => Ok(Some(ChildPointer {
                 dir: DirId::ROOT,
-                houses: HouseList::alone(alloc, master)?,
+                houses: houses_in(alloc, &listing.members)?,
             })),
             None => Ok(None),
         }
@@ -48,51 +62,133 @@ impl EntryReader for CellReader<'_> {
         at: &ChildPointer,
         name: &SimpleName,
     ) -> Result<Seen, AllocError> {
-        match self.cell.directory(at.dir) {
-            Some(directory) => look_up(alloc, directory, &at.houses, name),
+        match asked(self.cell, at, self.prefer, self.high) {
+            Some(holder) => see(alloc, holder.house, &holder.held.replica.table, name),
             None => Ok(Seen::Unreachable),
         }
     }
 
     fn values(&self, alloc: Global, at: &Found, attr: &AttrName) -> Result<Vec<Value>, AllocError> {
-        match self.cell.directory(at.dir) {
-            Some(directory) => values_at(alloc, directory, at, attr),
+        match held(self.cell, at.dir, at.house) {
+            Some(held) => values_in(alloc, &held.replica.table, &at.name, attr),
             None => Ok(Vec::new(alloc)),
         }
     }
 }
 
-// What is seen of a name in a directory, where its house is listed.
-fn look_up(
-    alloc: Global,
-    directory: &LocalDirectory,
-    houses: &HouseList,
-    name: &SimpleName,
-) -> Result<Seen, AllocError>
-    ensures { IfOk result (λ seen. sight_of seen
-        ≡ (if has directory.now.master.0 (houses.now.master ∷ houses.now.others) then shown_sight directory.now.master.0 (shown_in directory.now.table name.now)
-        else Unreachable)) }
+// The houses of a member list: the master, and the others.
+fn houses_in(alloc: Global, members: &Members) -> Result<HouseList, AllocError>
+    ensures { let ms = members_of members.now in
+        IfOk result (λ houses. houses ≡ record { master = master_of ms; others = others_of (master_of ms) ms }) }
 {
-    if is_listed(houses, directory.master) {
-        see(alloc, directory, name)
-    } else {
-        Ok(Seen::Unreachable)
+    let others = others_in(alloc, members)?;
+    match HouseList::new(alloc, members.master(), &others) {
+        Ok(houses) => Ok(houses),
+        Err(AllocOr::OutOfMemory) => Err(AllocError),
+        Err(AllocOr::Fault(_)) => unreachable!(),
     }
 }
 
+// The members but the master, in their order.
+fn others_in(alloc: Global, members: &Members) -> Result<Vec<HouseNo>, AllocError>
+    ensures others { let ms = members_of members.now in
+        IfOk result (λ others. numbers others.items ≡ others_of (master_of ms) ms) }
+    ensures lawful { members_fault (members_of members.now) ≡ None }
+{
+    let master = members.master();
+    let mut others = Vec::new(alloc);
+    for member in members.list() {
+        if member.house != master {
+            others.push(member.house)?;
+        }
+    }
+    Ok(others)
+}
+
+// The house that is asked about a directory.
+fn asked<'a>(
+    cell: &'a Cell,
+    at: &ChildPointer,
+    prefer: Option<HouseNo>,
+    high: bool,
+) -> Option<Holder<'a>>
+    ensures { option_map asked_of result
+        ≡ asked (told_views cell.now) at.now.dir.0 (option_map (λ h. h.0) prefer) high (at.now.houses.master ∷ at.now.houses.others) }
+{
+    match prefer {
+        Some(house) if !high && is_listed(&at.houses, house) => {
+            match answering(cell, at.dir, house, high) {
+                Some(holder) => Some(holder),
+                None => first_answering(cell, at, high),
+            }
+        }
+        _ => first_answering(cell, at, high),
+    }
+}
+
+// Whether a house is one of these.
 fn is_listed(houses: &HouseList, house: HouseNo) -> bool
     ensures { result ≡ has house.0 (houses.now.master ∷ houses.now.others) }
 {
     houses.master() == house || houses.others().contains(&house)
 }
 
-// What the house of a directory shows of a name.
-fn see(alloc: Global, directory: &LocalDirectory, name: &SimpleName) -> Result<Seen, AllocError>
-    ensures { IfOk result (λ seen. sight_of seen ≡ shown_sight directory.now.master.0 (shown_in directory.now.table name.now)) }
+// The first of the listed houses that answers.
+fn first_answering<'a>(cell: &'a Cell, at: &ChildPointer, high: bool) -> Option<Holder<'a>>
+    ensures { option_map asked_of result
+        ≡ first_some (answering (told_views cell.now) high at.now.dir.0) (at.now.houses.master ∷ at.now.houses.others) }
 {
-    match directory.table.live(name) {
-        Some(entry) => see_led(alloc, directory.master, entry.kind, entry.lead()),
-        None => Ok(Seen::Absent(directory.master)),
+    match answering(cell, at.dir, at.houses.master(), high) {
+        Some(holder) => Some(holder),
+        None => first_of(cell, at.dir, at.houses.others(), high),
+    }
+}
+
+// The first of these houses that answers.
+fn first_of<'a>(cell: &'a Cell, dir: DirId, houses: &[HouseNo], high: bool) -> Option<Holder<'a>>
+    ensures { option_map asked_of result
+        ≡ first_some (answering (told_views cell.now) high dir.0) (numbers houses.now) }
+{
+    for house in houses {
+        if let Some(holder) = answering(cell, dir, *house, high) {
+            return Some(holder);
+        }
+    }
+    None
+}
+
+// What a house answers with: at high confidence only a master does.
+fn answering<'a>(cell: &'a Cell, dir: DirId, house: HouseNo, high: bool) -> Option<Holder<'a>>
+    ensures { option_map asked_of result ≡ answering (told_views cell.now) high dir.0 house.0 }
+{
+    let held = held(cell, dir, house)?;
+    if !high || held.members.master() == house {
+        Some(Holder { house, held })
+    } else {
+        None
+    }
+}
+
+// What a house that is up holds of a directory.
+fn held(cell: &Cell, dir: DirId, house: HouseNo) -> Option<&Held>
+    ensures { option_map held_view (option_copied result) ≡ told_views cell.now dir.0 house.0 }
+{
+    match cell.house(house)? {
+        HouseState::Up(home) => match home.state(dir)? {
+            DirState::Held(held) => Some(held),
+            DirState::Gone(_) => None,
+        },
+        HouseState::Down(_) => None,
+    }
+}
+
+// What a house shows of a name.
+fn see(alloc: Global, house: HouseNo, table: &Table, name: &SimpleName) -> Result<Seen, AllocError>
+    ensures { IfOk result (λ seen. sight_of seen ≡ shown_sight house.0 (shown_in table.now name.now)) }
+{
+    match table.live(name) {
+        Some(entry) => see_led(alloc, house, entry.kind, entry.lead()),
+        None => Ok(Seen::Absent(house)),
     }
 }
 
@@ -134,32 +230,16 @@ fn see_child(alloc: Global, house: HouseNo, value: &Value) -> Result<Seen, Alloc
     }
 }
 
-// The values at a place, where its house holds the directory.
-fn values_at(
+// The values of an attribute that show of a name.
+fn values_in(
     alloc: Global,
-    directory: &LocalDirectory,
-    at: &Found,
-    attr: &AttrName,
-) -> Result<Vec<Value>, AllocError>
-    ensures { IfOk result
-        (λ found. found.items ≡ (if directory.now.master.0 == at.now.house.0 then values_of attr.now (shown_in directory.now.table at.now.name) else [])) }
-{
-    if directory.master == at.house {
-        values(alloc, directory, &at.name, attr)
-    } else {
-        Ok(Vec::new(alloc))
-    }
-}
-
-fn values(
-    alloc: Global,
-    directory: &LocalDirectory,
+    table: &Table,
     name: &SimpleName,
     attr: &AttrName,
 ) -> Result<Vec<Value>, AllocError>
-    ensures { IfOk result (λ found. found.items ≡ values_of attr.now (shown_in directory.now.table name.now)) }
+    ensures { IfOk result (λ found. found.items ≡ values_of attr.now (shown_in table.now name.now)) }
 {
-    match directory.table.values(alloc, name, attr)? {
+    match table.values(alloc, name, attr)? {
         Some(values) => Ok(values),
         None => Ok(Vec::new(alloc)),
     }

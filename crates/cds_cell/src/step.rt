@@ -1,6 +1,6 @@
 // The steps of a cell, by what they change.
 ghost use Rattle.std.specs.Prelude.{◌≡◌};
-ghost use Rattle.cds_cell.specs.Scripted.{NamesOneHouse, step_of};
+ghost use Rattle.cds_cell.specs.Scripted.{step_of};
 ghost use Rattle.cds_cell.specs.Standing.{step_meant};
 
 use cds_stamps::{DirId, HouseNo, Node, SimpleName};
@@ -12,22 +12,29 @@ use directory::Update;
 pub(crate) enum Step {
     House(HouseNo, Node),
     Clock(HouseNo, u64),
-    Root(HouseNo),
-    Mkdir(HouseNo, DirId, SimpleName, HouseNo),
+    Root(HouseNo, HouseNos),
+    Mkdir(HouseNo, DirId, SimpleName, HouseNo, HouseNos),
     Repoint(HouseNo, DirId, SimpleName, HouseNo, HouseNos),
     Update(HouseNo, DirId, Update),
+    Epoch(DirId, HouseNo, HouseNos),
+    Skulk(HouseNo, DirId),
+    Deliver(u64),
+    Lose(u64),
+    Crash(HouseNo),
+    Start(HouseNo),
 }
 
 /// The step that a command is.
 pub(crate) fn step_in(command: Command) -> Step
-    requires { NamesOneHouse command }
     ensures { step_meant result ≡ step_of command }
 {
     match command {
         Command::House(house, node) => Step::House(house, node),
         Command::Clock(house, time) => Step::Clock(house, time),
-        Command::Root(master, _) => Step::Root(master),
-        Command::Mkdir(house, dir, name, master, _) => Step::Mkdir(house, dir, name, master),
+        Command::Root(master, others) => Step::Root(master, others),
+        Command::Mkdir(house, dir, name, master, others) => {
+            Step::Mkdir(house, dir, name, master, others)
+        }
         Command::Repoint(house, dir, name, master, others) => {
             Step::Repoint(house, dir, name, master, others)
         }
@@ -48,5 +55,11 @@ pub(crate) fn step_in(command: Command) -> Step
         Command::Clear(house, dir, name, attr) => {
             Step::Update(house, dir, Update::Clear(name, attr))
         }
+        Command::Epoch(dir, master, others) => Step::Epoch(dir, master, others),
+        Command::Skulk(house, dir) => Step::Skulk(house, dir),
+        Command::Deliver(serial) => Step::Deliver(serial),
+        Command::Lose(serial) => Step::Lose(serial),
+        Command::Crash(house) => Step::Crash(house),
+        Command::Start(house) => Step::Start(house),
     }
 }

@@ -10,7 +10,9 @@ returns-in-Ok c =
     let m : ℕ = c.args.master.0 in
     let rs : List ℕ = numbers c.args.others.now in
     let ns : List ℕ = numbers c.deref.result.now in
-    let order : ns ≡ ascending rs = ap numbers c.deref.ensures.value ∙ c.in_ok-others.ensures in
+    let order : ns ≡ ascending rs =
+    ap numbers c.deref.ensures.value
+    ∙ c.in_order-others.ensures ∙ ap (λ hs. ascending (numbers hs)) c.in_ok-from_slice.ensures.items in
     let said = made_houses m ns c.in-Ok.houses c.in-Ok.ensures.answer in
     (good_where_none m rs (ap (list_fault m) (sym order) ∙ said.0), said.1 ∙ ap (λ xs. record { master = m; others = xs }) order)
 
@@ -19,6 +21,8 @@ returns-in-Err-Fault c =
     let m : ℕ = c.args.master.0 in
     let rs : List ℕ = numbers c.args.others.now in
     let ns : List ℕ = numbers c.deref.result.now in
-    let order : ns ≡ ascending rs = ap numbers c.deref.ensures.value ∙ c.in_ok-others.ensures in
+    let order : ns ≡ ascending rs =
+    ap numbers c.deref.ensures.value
+    ∙ c.in_order-others.ensures ∙ ap (λ hs. ascending (numbers hs)) c.in_ok-from_slice.ensures.items in
     let said = rw c.in-Err-Fault.field-0-is at c.in-Err-Fault.ensures.answer in
     bad_where_fault m rs _ (ap (list_fault m) (sym order) ∙ refused_houses m ns _ said)

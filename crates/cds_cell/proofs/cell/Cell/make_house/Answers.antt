@@ -1,22 +1,14 @@
-use Rattle.std.proofs.Common.{rules, tests, ◌∙◌, refl, sym}
-use Rattle.std.proofs.lemmas.Iterator.{YieldsList-from_slice}
-use Rattle.std.proofs.lemmas.Iterator.Search.{any_from_yields_List}
-use Rattle.cds_cell.specs.declared.house.LocalHouse.{LocalHouse}
-use Rattle.cds_cell.proofs.Houses.{has_either}
-use Rattle.cds_cell.proofs.HouseSteps.{taken_step, made_step}
+use Rattle.std.proofs.Common.{ap, inl, refl}
+use Rattle.cell_model.specs.Commands as command
+use Rattle.cell_model.specs.Steps.{is_taken, refusals_of}
+use Rattle.cds_cell.specs.declared.house.HouseState.TheVariants as state
+use Rattle.cds_cell.proofs.ActSteps.{passed}
+use Rattle.cds_cell.proofs.MadeHouses.{made_comes}
 use Rattle.cds_cell.proofs.cell.Cell.make_house.Goals as goal
 
-pub returns-then-any : goal.returns-then-any
-returns-then-any c g s =
-    let w : LocalHouse = record { house = c.args.house; node = c.args.node; clock = 0; floor = record { time = 0 } } in
-    taken_step c.args.self.now c.args.self.now g s w
-    (sym (any_from_yields_List (has_either c.args.house.0 c.args.node) _ _ c.any.result c.any.ensures.ran
-    (YieldsList-from_slice c.args.self.now.houses.items (cc)) (λ x b q k. search (rules, tests))) ∙ c.if-any.true)
-
-pub returns : goal.returns
-returns c g s =
-    let w : LocalHouse = record { house = c.args.house; node = c.args.node; clock = 0; floor = record { time = 0 } } in
-    made_step c.args.self.now (record { houses = c.push.new.self; directories = c.args.self.now.directories }) g s w
-    (sym (any_from_yields_List (has_either c.args.house.0 c.args.node) _ _ c.any.result c.any.ensures.ran
-    (YieldsList-from_slice c.args.self.now.houses.items (cc)) (λ x b q k. search (rules, tests))) ∙ c.if-any.false)
-    c.in_ok-push.ensures.items refl refl refl
+pub returns-clause-step : goal.returns-clause-step
+returns-clause-step c g s none =
+    let x = c.args.house.0 in
+    made_comes c.args.self.now _ g (record { house = c.args.house; node = c.args.node; clock = 0; state = state.Up c.new.result }) s
+    (passed (refusals_of g (command.House x c.args.node)) (is_taken g x c.args.node) command.HouseExists (inl refl) none) refl
+    (ap state.Up c.new.ensures) c.in_ok-push.ensures.items refl refl refl

@@ -1,0 +1,92 @@
+-- What a house of the cell does, from what its clearinghouse does.
+use Rattle.std.proofs.Common.{◌≡◌, ℕ, true, false, List, ◌<◌, Option, Some, None, Result, Ok, Err, refl, sym, ap, subst, ◌∙◌}
+use Rattle.std.specs.Prelude.{IfOk}
+use Rattle.std.specs.declared.alloc.AllocError.{AllocError}
+use Rattle.cds_stamps.specs.declared.numbers.HouseNo.{HouseNo}
+use Rattle.cell_model.specs.Cells as model
+use Rattle.cell_model.specs.Commands as command
+use Rattle.cell_model.specs.Turns.{Turn, HouseStep, Stays, Turns, crashed_house}
+use Rattle.clearinghouse.specs.declared.house.Clearinghouse.{Clearinghouse}
+use Rattle.clearinghouse.specs.declared.posted.Posted.{Posted}
+use Rattle.clearinghouse.specs.declared.states.DirState.{DirState}
+use Rattle.clearinghouse.specs.declared.states.DirState.TheVariants as dir_state
+use Rattle.clearinghouse.specs.Imaging.{restarted}
+use Rattle.clearinghouse.specs.Lawful.{IsLawful}
+use Rattle.clearinghouse.specs.Refusing.{IsLater}
+use Rattle.clearinghouse.specs.Standing.{StandsHouse, StandsSlot}
+use Rattle.clearinghouse.specs.Stepping.{IsCall, IsStep, IsTurn}
+use Rattle.cds_cell.specs.declared.house.CellHouse.{CellHouse}
+use Rattle.cds_cell.specs.declared.house.HouseState.TheVariants as state
+use Rattle.cds_cell.proofs.KeptNodes.{KeepsNode, SameNode}
+use Rattle.cds_cell.specs.Houses.{Asks, IsNewEpoch, IsTurnAt, KeepsImage, StandsAtHouse, StandsState, StandsUp}
+
+-- ---- what a house has
+
+-- a house whose clearinghouse is this one
+abbrev pub with_up : CellHouse → Clearinghouse → CellHouse
+with_up h c = record h { state = state.Up c }
+
+-- the clearinghouse of a house that is up stands for the model's
+pub stands_up : (h : CellHouse) (c : Clearinghouse) (now : model.House) → h.state ≡ state.Up c → StandsAtHouse h now → StandsUp h.house c now
+stands_up h c now is stands = (subst (λ s. StandsState h.house s now) is stands.state).1
+
+-- ---- calls
+
+module _ (h : CellHouse) (c new : Clearinghouse) (was : h.state ≡ state.Up c) (now : model.House) (stands : StandsAtHouse h now) (up : now.up ≡ true) where
+  -- it stands for the house after a turn where its clearinghouse does
+  pub stands_turned : (after : model.House) → SameNode now after → StandsHouse new after → new.house ≡ c.house → IsLawful new → new.spent ≡ false
+      → StandsAtHouse (with_up h new) after
+  stands_turned after same there number lawful usable = record {
+    node = same.node ∙ stands.node;
+    clock = same.clock ∙ stands.clock;
+    state = (same.up ∙ up, record { number = number ∙ (stands_up h c now was stands).number; stands = there; lawful = lawful; usable = usable });
+  }
+
+  -- a step of the clearinghouse is one of the house
+  asks_step : (Answers : command.Answer → Type 0) (s : HouseStep) (posted : List Posted) → KeepsNode now s → new.house ≡ c.house → IsLawful new
+      → new.spent ≡ false → IsStep Answers s c new posted → Asks Answers s h (with_up h new) posted
+  asks_step Answers (Stays answer) posted keeps number lawful usable step =
+      (step.0, ap (with_up h) step.1 ∙ ap (λ s. record h { state = s }) (sym was), step.2)
+  asks_step Answers (Turns turn) posted keeps number lawful usable step =
+      (step.0, record { stands = stands_turned turn.house keeps step.1.stands number lawful usable; each = step.1.each })
+
+  -- a call of the clearinghouse that is a step is one of the house
+  pub asks_call : {T : Type 0} (result : Result T AllocError) (Answers : T → command.Answer → Type 0) (posts : T → List Posted) (step : ℕ → HouseStep)
+      → IsCall c new result → (IsLawful c → IsLawful new) → KeepsNode now (step h.house.0)
+      → IfOk result (λ t. IsStep (Answers t) (step c.house.0) c new (posts t))
+      → IfOk result (λ t. Asks (Answers t) (step h.house.0) h (with_up h new) (posts t))
+  asks_call (Err e) Answers posts step call kept keeps steps = tt
+  asks_call (Ok t) Answers posts step call kept keeps steps =
+      let here = stands_up h c now was stands in
+      asks_step (Answers t) (step h.house.0) (posts t) keeps call.house (kept here.lawful) call.spent
+      (subst (λ (x : HouseNo). IsStep (Answers t) (step x.0) c new (posts t)) here.number steps)
+
+  -- a turn of the clearinghouse is one of the house
+  pub turned_call : {T : Type 0} (result : Result T AllocError) (t : T) (posted : List Posted) (turn : ℕ → Turn) → result ≡ Ok t → IsCall c new result
+      → (IsLawful c → IsLawful new) → SameNode now (turn h.house.0).house → IsTurn (turn c.house.0) new posted
+      → IsTurnAt (turn h.house.0) (with_up h new) posted
+  turned_call (Ok s) t posted turn is call kept same turned =
+      let here = stands_up h c now was stands in
+      let done = subst (λ (x : HouseNo). IsTurn (turn x.0) new posted) here.number turned in
+      record { stands = stands_turned (turn h.house.0).house same done.stands call.house (kept here.lawful) call.spent; each = done.each }
+  turned_call (Err e) t posted turn is call kept same turned = cc
+
+-- an epoch that is new to the model is later than the one that is held
+pub later_epoch : (me floor k : ℕ) (o : Option DirState) (s : model.Slot) → StandsSlot me floor o s → IsNewEpoch k s → IsLater k o
+later_epoch me floor k None s stands new = tt
+later_epoch me floor k (Some (dir_state.Gone e)) s stands new = tt
+later_epoch me floor k (Some (dir_state.Held h)) (model.Held r) stands new = subst (λ e. e < k) stands.looks.epoch new
+later_epoch me floor k (Some (dir_state.Held h)) model.Absent stands new = elim stands [ ]
+later_epoch me floor k (Some (dir_state.Held h)) (model.Gone e) stands new = elim stands [ ]
+
+-- ---- crashes
+
+-- a house that keeps the octets of its image stands for one that is down
+pub crashed_stands : (h : CellHouse) (c : Clearinghouse) (octets : List ℕ) (now : model.House) → h.state ≡ state.Up c → StandsAtHouse h now
+    → KeepsImage octets (restarted c) → StandsHouse (restarted c) (crashed_house now) → IsLawful (restarted c)
+    → StandsAtHouse (record h { state = state.Down octets }) (crashed_house now)
+crashed_stands h c octets now is stands kept there lawful = record {
+  node = stands.node;
+  clock = stands.clock;
+  state = (refl, (restarted c, kept, record { number = (stands_up h c now is stands).number; stands = there; lawful = lawful; usable = refl }));
+}

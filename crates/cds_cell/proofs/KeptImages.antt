@@ -1,0 +1,42 @@
+-- What a clearinghouse keeps over a crash is what it keeps after it.
+use Rattle.std.proofs.Common.{◌≡◌, List, ℕ, Option, Some, None, Ok, refl, sym, ap, subst, ◌∙◌}
+use Rattle.std.specs.FinMap.{get, same_map}
+use Rattle.std.specs.Option.{option_map}
+use Rattle.cds_records.specs.Dirs.{dir_exact, dir_total}
+use Rattle.cds_records.specs.Octets.{image_octets}
+use Rattle.cds_records.specs.declared.image.Image.{Image}
+use Rattle.cds_records.specs.declared.image.ImageDir.{ImageDir}
+use Rattle.cds_records.specs.declared.image.ImageDir.TheVariants as kept
+use Rattle.cds_stamps.specs.declared.stamp.Floor.{Floor}
+use Rattle.cds_stamps.specs.declared.numbers.DirId.{DirId}
+use Rattle.clearinghouse.specs.Imaging.{image_of, kept_of, restarted, started, started_of}
+use Rattle.clearinghouse.specs.Lawful.{IsLawful}
+use Rattle.clearinghouse.specs.declared.house.Clearinghouse.{Clearinghouse}
+use Rattle.clearinghouse.specs.declared.states.DirState.{DirState}
+use Rattle.clearinghouse.specs.declared.states.DirState.TheVariants as state
+use Rattle.clearinghouse.proofs.Restarting.{floor_stays}
+use Rattle.clearinghouse.proofs.Starting.{got_kept, got_started}
+use Rattle.cds_cell.specs.Houses.{KeepsImage}
+
+kept_again : (d : ImageDir) → kept_of (started_of d) ≡ d
+kept_again (kept.Held e ms r) = refl
+kept_again (kept.Gone e) = refl
+
+each_again : (o : Option ImageDir) → option_map kept_of (option_map started_of o) ≡ o
+each_again None = refl
+each_again (Some d) = ap Some (kept_again d)
+
+-- the image of a lawful clearinghouse that crashed and started is the same
+pub image_again : (c : Clearinghouse) → IsLawful c → image_of (restarted c) ≡ image_of c
+image_again c lawful i = record {
+  house = c.house;
+  node = c.node;
+  floor = ap (λ (f : Floor). f.time) (floor_stays c lawful) i;
+  dirs = same_map dir_total dir_exact (image_of (restarted c)).dirs (image_of c).dirs
+      (λ q. got_kept (restarted c) q ∙ ap (option_map kept_of) (got_started (image_of c) q) ∙ each_again (get (image_of c).dirs q)) i;
+}
+
+-- so octets of its image are kept
+pub keeps_image : (c : Clearinghouse) (octets : List ℕ) → IsLawful c → octets ≡ image_octets (image_of c) → started octets ≡ Ok (restarted c)
+    → KeepsImage octets (restarted c)
+keeps_image c octets lawful is starts = record { starts = starts; image = is ∙ ap image_octets (sym (image_again c lawful)) }

@@ -1,0 +1,160 @@
+-- Member lists as a console names them: where they have no fault, and what the loops that make them have so far.
+use Rattle.std.proofs.Common.{◌≡◌, ℕ, suc, add-one, get_or, ◌+◌, ◌≤◌, ◌<◌, Bool, true, false, cond, eqb, List, [], ◌∷◌, ◌++◌}
+use Rattle.std.proofs.Common.{length, map, drop, Some, None, refl, sym, ◌∙◌, ap, arith, append_assoc, append-nil}
+use Rattle.std.specs.Prelude.{nat_lt, is_some, ◌==◌, ◌||◌, if◌then◌else◌}
+use Rattle.std.specs.List.{AllByRecursion, list_any, position_from}
+use Rattle.std.proofs.Math.Seq.{drop-cons}
+use Rattle.std.proofs.lemmas.Bool.Decides.{nat_tests}
+use Rattle.std.proofs.lemmas.List.{length-map, map-append}
+use Rattle.std.proofs.lemmas.List.Sums.{sum_by-cons}
+use Rattle.cds_stamps.specs.declared.members.Member as declared
+use Rattle.cds_stamps.specs.declared.members.MemberKind.TheVariants.{Master, ReadOnly}
+use Rattle.cds_stamps.specs.declared.numbers.HouseNo.{HouseNo}
+use Rattle.cds_stamps.specs.Members.{Member, is_master, is_listed, since_in, members_of, masters_in, most_members, first_unordered, members_fault}
+use Rattle.cell_model.specs.Sets.{has}
+use Rattle.cell_model.specs.Steps.{ascending, is_bad_list, kind_among, leaving, listing, stands_twice}
+use Rattle.cds_cell.specs.Scripted.{numbers}
+use Rattle.cds_cell.proofs.Ascending.{Rises, above_all, all_from_zero, ascending_rises, ascending_times, length_ascending, one_if, times, twice_ascending}
+
+-- ---- tests
+
+-- a house stands among others exactly where its number does
+pub contains_number : (x : ℕ) (hs : List HouseNo) → list_any (λ (h : HouseNo). eqb h.0 x) hs ≡ has x (numbers hs)
+contains_number x [] = refl
+contains_number x (h ∷ hs) = let flip : eqb h.0 x ≡ (x == h.0) = grind (arith, nat_tests) in cc (flip, contains_number x hs)
+
+-- a house is listed exactly where a place of it is found
+pub listed_by_place : (x i : ℕ) (ms : List Member) → is_listed x ms ≡ is_some (position_from (λ (m : Member). m.house == x) i ms)
+listed_by_place x i [] = refl
+listed_by_place x i (m ∷ ms) = go (m.house == x) (listed_by_place x (i + 1) ms)
+  where
+    go : (b : Bool) → is_listed x ms ≡ is_some (position_from (λ (y : Member). y.house == x) (i + 1) ms)
+        → (b || is_listed x ms) ≡ is_some (cond b (Some i) (position_from (λ (y : Member). y.house == x) (i + 1) ms))
+    go true rest = refl
+    go false rest = rest
+
+-- a house stands twice where it stands behind its place, or where one behind it does
+pub twice_behind : (h : HouseNo) (behind : List HouseNo) (b : Bool) → b ≡ list_any (λ (x : HouseNo). eqb x.0 h.0) behind
+    → stands_twice (numbers (h ∷ behind)) ≡ (b || stands_twice (numbers behind))
+twice_behind h behind b is = ap (λ (x : Bool). x || stands_twice (numbers behind)) (sym (is ∙ contains_number h.0 behind))
+
+-- with too many others a list is bad
+pub bad_by_number : (m : ℕ) (hs : List HouseNo) → most_members ≤ length hs → is_bad_list (m ∷ numbers hs) ≡ true
+bad_by_number m hs many =
+    let count = length-map hs (λ (h : HouseNo). h.0) in
+    let over : nat_lt most_members (suc (length (numbers hs))) ≡ true = grind (arith, nat_tests, count, many) in
+    rw over (either (stands_twice (m ∷ numbers hs)))
+  where
+    either : (b : Bool) → (b || true) ≡ true
+    either true = refl
+    either false = refl
+
+-- with no more than that, it is where a house stands twice
+pub bad_by_houses : (m : ℕ) (hs : List HouseNo) (b : Bool) → length hs < most_members → b ≡ list_any (λ (x : HouseNo). eqb x.0 m) hs
+    → is_bad_list (m ∷ numbers hs) ≡ (b || stands_twice (numbers hs))
+bad_by_houses m hs b few is =
+    let count = length-map hs (λ (h : HouseNo). h.0) in
+    let within : nat_lt most_members (suc (length (numbers hs))) ≡ false = grind (arith, nat_tests, count, few) in
+    rw within (plain (has m (numbers hs) || stands_twice (numbers hs)) ∙ ap (λ (x : Bool). x || stands_twice (numbers hs)) (sym (is ∙ contains_number m hs)))
+  where
+    plain : (x : Bool) → (x || false) ≡ x
+    plain true = refl
+    plain false = refl
+
+neither : (a b : Bool) → (a || b) ≡ false → (a ≡ false) × (b ≡ false)
+neither true b off = cc
+neither false b off = (refl, off)
+
+-- ---- lists without a fault
+
+none_stands : (z : ℕ) (xs : List ℕ) → has z xs ≡ false → times z xs ≡ 0
+unfolding times
+none_stands z [] out = refl
+none_stands z (x ∷ xs) out =
+    let apart = neither (z == x) (has z xs) out in
+    let first = apart.0 in
+    let other : (x == z) ≡ false = grind (arith, nat_tests, first) in
+    let rest = none_stands z xs apart.1 in
+    rw other (omega (arith, rest))
+
+stands_first : (z : ℕ) (xs : List ℕ) → has z xs ≡ false → times z (z ∷ xs) ≡ 1
+unfolding times
+stands_first z xs out = let same : (z == z) ≡ true = grind (arith, nat_tests) in rw (same, none_stands z xs out) refl
+
+module _ (old : List Member) (k m : ℕ) where
+  -- the member that a house is, in a new list
+  abbrev pub listed_as : ℕ → Member
+  listed_as x = record { house = x; since = since_in old x k; kind = kind_among m x }
+
+  rising_is_ordered : (place least : ℕ) (xs : List ℕ) → Rises xs → AllByRecursion (λ y. least ≤ y) xs → stands_twice xs ≡ false
+      → first_unordered place least (map listed_as xs) ≡ None
+  rising_is_ordered place least [] rises all once = refl
+  rising_is_ordered place least (x ∷ xs) rises all once =
+      let more = all.0 in
+      let apart = neither (has x xs) (stands_twice xs) once in
+      let below : nat_lt x least ≡ false = grind (arith, nat_tests, more) in
+      rw below (rising_is_ordered (place + 1) (x + 1) xs rises.1 (above_all x xs rises.0 apart.0) apart.1)
+
+  masters_listed : (xs : List ℕ) → masters_in (map listed_as xs) ≡ times m xs
+  unfolding times
+  masters_listed [] = refl
+  masters_listed (x ∷ xs) =
+      sum_by-cons (λ (y : Member). cond (is_master y.kind) 1 0) (listed_as x) (map listed_as xs)
+      ∙ cc (is_one (x == m), masters_listed xs)
+    where
+      is_one : (b : Bool) → cond (is_master (if b then Master else ReadOnly)) 1 0 ≡ one_if b
+      is_one true = refl
+      is_one false = refl
+
+  -- a list that is not bad has no fault
+  pub good_listing : (rs : List ℕ) → is_bad_list (m ∷ rs) ≡ false → members_fault (listing old k m rs) ≡ None
+  good_listing rs good =
+      let tests = neither (stands_twice (m ∷ rs)) (nat_lt most_members (length (m ∷ rs))) good in
+      let lone = neither (has m rs) (stands_twice rs) tests.0 in
+      let count : length (listing old k m rs) ≡ suc (length rs) = length-map (ascending (m ∷ rs)) listed_as ∙ length_ascending (m ∷ rs) in
+      let few = tests.1 in
+      let counted : ((length (listing old k m rs) == 0) || nat_lt most_members (length (listing old k m rs))) ≡ false = grind (arith, nat_tests, count, few) in
+      let ordered = rising_is_ordered 1 0 (ascending (m ∷ rs)) (ascending_rises (m ∷ rs)) (all_from_zero (ascending (m ∷ rs)))
+      (twice_ascending (m ∷ rs) ∙ tests.0) in
+      let one : masters_in (listing old k m rs) ≡ 1 = masters_listed (ascending (m ∷ rs)) ∙ ascending_times m (m ∷ rs) ∙ stands_first m rs lone.0 in
+      rw (counted, ordered, one) refl
+
+-- ---- loops
+
+-- the members so far, and those that the other houses are to be, are the whole list
+pub record ListsRest (old : List Member) (k m : ℕ) (rs : List ℕ) (rest : List HouseNo) (made : List declared.Member) : Type 0 where
+  pub is : members_of made ++ map (listed_as old k m) (numbers rest) ≡ listing old k m rs
+
+-- where no house is left they are the whole list
+pub lists_end : (old : List Member) (k m : ℕ) (rs : List ℕ) (rest : List HouseNo) (made : List declared.Member) → ListsRest old k m rs rest made → rest ≡ []
+    → members_of made ≡ listing old k m rs
+lists_end old k m rs rest made h none =
+    sym (append-nil (members_of made)) ∙ ap (λ hs. members_of made ++ map (listed_as old k m) (numbers hs)) (sym none) ∙ h.is
+
+-- the houses that leave so far, and those of the rest that do, are all that leave
+pub record LeavesRest (old now : List Member) (rest : List declared.Member) (left : List HouseNo) : Type 0 where
+  pub is : numbers left ++ leaving (members_of rest) now ≡ leaving old now
+
+-- a house that is still listed does not leave
+pub leaves_pass : (old now : List Member) (before : List declared.Member) (i : ℕ) (d : declared.Member) (left : List HouseNo) → i < length before
+    → is_listed (get_or before i d).house.0 now ≡ true → LeavesRest old now (drop i before) left → LeavesRest old now (drop (i + 1) before) left
+leaves_pass old now before i d left within listed h = record {
+  is =
+      rw add-one (ap (λ b. numbers left ++ (if b then leaving (members_of (drop (suc i) before)) now
+      else (get_or before i d).house.0 ∷ leaving (members_of (drop (suc i) before)) now)) (sym listed)
+      ∙ ap (λ ms. numbers left ++ leaving (members_of ms) now) (sym (drop-cons before i d within)) ∙ h.is);
+}
+
+-- one that is not does
+pub leaves_on : (old now : List Member) (before : List declared.Member) (i : ℕ) (d : declared.Member) (left more : List HouseNo) → i < length before
+    → is_listed (get_or before i d).house.0 now ≡ false → more ≡ left ++ (get_or before i d).house ∷ [] → LeavesRest old now (drop i before) left
+    → LeavesRest old now (drop (i + 1) before) more
+leaves_on old now before i d left more within unlisted pushed h =
+    let rest : List ℕ = leaving (members_of (drop (suc i) before)) now in
+    let goes : numbers more ++ rest ≡ leaving old now =
+    ap (λ hs. numbers hs ++ rest) pushed
+    ∙ ap (λ ns. ns ++ rest) (map-append (λ (x : HouseNo). x.0) left ((get_or before i d).house ∷ []))
+    ∙ append_assoc (numbers left) ((get_or before i d).house.0 ∷ []) rest
+    ∙ ap (λ b. numbers left ++ (if b then rest else (get_or before i d).house.0 ∷ rest)) (sym unlisted)
+    ∙ ap (λ ms. numbers left ++ leaving (members_of ms) now) (sym (drop-cons before i d within)) ∙ h.is in
+    record { is = rw add-one goes }

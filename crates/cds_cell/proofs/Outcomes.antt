@@ -1,0 +1,38 @@
+-- What comes of a step, of what comes of its act.
+use Rattle.std.proofs.Common.{◌≡◌, ap, refl, subst, sym, ◌∙◌}
+use Rattle.std.specs.Prelude.{Option, Some, None, Result, Ok, Err, IfOk}
+use Rattle.std.specs.Option.{option_map}
+use Rattle.std.specs.declared.alloc.AllocError.{AllocError}
+use Rattle.cell_model.specs.Cells as model
+use Rattle.cell_model.specs.Commands as command
+use Rattle.cell_model.specs.Reached.{IsReached}
+use Rattle.cell_model.specs.Steps.{Outcome, effect, first_refusal, outcome, refusals_of, refused}
+use Rattle.cell_model.proofs.Standing.{reached_lem}
+use Rattle.cell_script.specs.declared.answer.Answer.{Answer}
+use Rattle.cell_script.specs.declared.answer.Answer.TheVariants as answer
+use Rattle.cell_script.specs.declared.answer.ScriptRefusal.{ScriptRefusal}
+use Rattle.cds_cell.specs.declared.cell.Cell.{Cell}
+use Rattle.cds_cell.specs.Scripted as script
+use Rattle.cds_cell.specs.Standing.{ComesTo, IsStep, Stands, StandsAs}
+
+-- what is mapped to none is none
+pub unrefused : (o : Option command.Refusal) (r : Option ScriptRefusal) → r ≡ option_map script.refusal_of o → r ≡ None → o ≡ None
+unrefused None r is none = refl
+unrefused (Some q) r is none = absurd (no (script.refusal_of q) (sym is ∙ none))
+  where
+    no : (q : ScriptRefusal) → Some q ≡ None → ⊥
+    no q is = absurd (cc)
+
+-- an act that nothing was said against is the step
+pub acted_step : (d : Cell) (g : model.Cell) (k : command.Command) (r : Result Answer AllocError) → IsReached g → first_refusal (refusals_of g k) ≡ None
+    → ComesTo r d (effect g k) → IfOk r (λ a. IsStep a d (outcome g k))
+acted_step d g k (Err e) reached none comes = tt
+acted_step d g k (Ok a) reached none comes =
+    let is : outcome g k ≡ effect g k = rw none refl in
+    record {
+      answer = ap (λ (o : Outcome). script.answer_of o.answer) is ∙ comes.answer;
+      stands = record {
+        reached = reached_lem.after g k reached;
+        stands = subst (λ (o : Outcome). StandsAs d o.cell) (sym is) comes.stands;
+      };
+    }

@@ -1,0 +1,27 @@
+use Rattle.std.proofs.Common.{ap, refl}
+use Rattle.cell_model.specs.Turns as turns
+use Rattle.clearinghouse.specs.Stepping.{IsBegunAnswer}
+use Rattle.cds_cell.specs.declared.cell.Cell.{Cell}
+use Rattle.cds_cell.specs.declared.house.CellHouse.{CellHouse}
+use Rattle.cds_cell.specs.Houses.{posted_at}
+use Rattle.cds_cell.proofs.HouseActs.{acts_at, refused_same}
+use Rattle.cds_cell.proofs.Vecs.{with_same}
+use Rattle.cds_cell.proofs.cell.Cell.skulk_at.Goals as goal
+
+pub returns-clause-refused : goal.returns-clause-refused
+returns-clause-refused c =
+    let old : Cell = c.args.self.now in
+    let h : CellHouse = c.index_mut.result.now in
+    refused_same c.in_ok-turn.turn.answer old _ c.post.new.self h c.begin_skulk.new.self c.in_ok-turn.turn.outgoing
+    c.in_ok-turn.ensures.refused c.in_ok-post.ensures.none
+    (λ same. ap (λ houses. record old { houses = houses }) (with_same old.houses c.args.at h c.begin_skulk.new.self same c.index_mut.ensures.value))
+
+pub returns-clause-acts : goal.returns-clause-acts
+returns-clause-acts c now =
+    let h : CellHouse = c.index_mut.result.now in
+    acts_at c.args.self.now _ c.post.new.self c.args.at h c.begin_skulk.new.self c.args.serials.now c.post.new.serials
+    (IsBegunAnswer c.in_ok-turn.turn.answer) now
+    (λ house. turns.skulk house now c.args.dir.0) (λ j. posted_at j c.args.dir c.in_ok-turn.turn.outgoing)
+    c.requires.house c.index_mut.ensures.value refl refl refl refl c.begin_skulk.ensures.who c.post.ensures.houses c.post.ensures.rest
+    c.in_ok-post.ensures.posts
+    (λ stands up. c.in_ok-turn.ensures.step now stands up)

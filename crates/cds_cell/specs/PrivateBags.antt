@@ -1,0 +1,11 @@
+-- Words of private functions alone: one message in a bag.
+use Rattle.std.specs.Prelude.{◌≡◌, ℕ, ◌+◌, ◌==◌, if◌then◌else◌, List, [], ◌∷◌, ◌++◌, Some}
+use Rattle.cds_cell.specs.declared.bag.Bag.{Bag}
+use Rattle.cds_cell.specs.declared.bag.Letter.{Letter}
+use Rattle.cds_cell.specs.Bags.{letter_at}
+
+-- one letter was posted behind all others, and its number was told behind those of others (own)
+pub record PostsOne (old new : Bag) (before after : List ℕ) (l : Letter) : Type 0 where
+  pub posted : new.posted ≡ old.posted + 1
+  pub told : after ≡ before ++ (old.posted + 1) ∷ []
+  pub letters : (n : ℕ) → letter_at new n ≡ (if n == old.posted + 1 then Some l else letter_at old n)

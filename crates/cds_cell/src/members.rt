@@ -1,0 +1,120 @@
+// Member lists, as a console names them: a master, and other houses in any order.
+ghost use Rattle.std.specs.Prelude.{◌≡◌, ◌∷◌, ◌≤◌, length, true, false, IfOk, MatchOption};
+ghost use Rattle.cds_stamps.specs.Members as members;
+ghost use Rattle.cds_stamps.specs.Members.{members_of};
+ghost use Rattle.cell_model.specs.Steps as model;
+ghost use Rattle.cds_cell.specs.Scripted.{numbers};
+
+use cds_stamps::{EpochNo, HouseNo, MOST_MEMBERS, Member, MemberKind, Members};
+use std::alloc::{AllocError, Global};
+
+/// Whether a house stands twice, or there are more than 64. Takes no memory.
+pub(crate) fn is_bad_list(master: HouseNo, others: &[HouseNo]) -> bool
+    ensures { result ≡ model.is_bad_list (master.0 ∷ numbers others.now) }
+{
+    others.len() >= MOST_MEMBERS || others.contains(&master) || stands_twice(others)
+}
+
+// Whether a house stands twice.
+fn stands_twice(houses: &[HouseNo]) -> bool
+    ensures { result ≡ model.stands_twice (numbers houses.now) }
+{
+    let mut rest = houses;
+    while let Some((first, behind)) = rest.split_first() {
+        if behind.contains(first) {
+            return true;
+        }
+        rest = behind;
+    }
+    false
+}
+
+/// The members of an epoch with this master and these other houses; none, where a house stands twice or they are more than
+/// 64. Who was a member before keeps the epoch since which.
+pub(crate) fn listing(
+    alloc: Global,
+    before: &[Member],
+    epoch: EpochNo,
+    master: HouseNo,
+    others: &[HouseNo],
+) -> Result<Option<Members>, AllocError>
+    ensures { IfOk result (λ o. MatchOption o (model.is_bad_list (master.0 ∷ numbers others.now) ≡ true)
+        (λ ms. (model.is_bad_list (master.0 ∷ numbers others.now) ≡ false)
+        × (members_of ms ≡ model.listing (members_of before.now) epoch.0 master.0 (numbers others.now)))) }
+{
+    if is_bad_list(master, others) {
+        return Ok(None);
+    }
+    let mut list = Vec::new(alloc);
+    for house in &all_in_order(alloc, master, others)? {
+        list.push(Member {
+            house: *house,
+            since: since_in(before, *house, epoch),
+            kind: kind_among(master, *house),
+        })?;
+    }
+    Ok(Some(Members::known(alloc, &list)?))
+}
+
+// The master and the others, in ascending order.
+fn all_in_order(
+    alloc: Global,
+    master: HouseNo,
+    others: &[HouseNo],
+) -> Result<Vec<HouseNo>, AllocError>
+    ensures { IfOk result (λ v. numbers v.items ≡ model.ascending (master.0 ∷ numbers others.now)) }
+{
+    let mut all = Vec::new(alloc);
+    all.push(master)?;
+    all.extend_from_slice(others)?;
+    Ok(in_order(all))
+}
+
+/// The houses in ascending order.
+pub(crate) fn in_order(mut houses: Vec<HouseNo>) -> Vec<HouseNo>
+    ensures { numbers result.items ≡ model.ascending (numbers houses.items) }
+{
+    houses.sort_unstable();
+    houses
+}
+
+// The epoch since which a house is a member without a break; this one, where it was none.
+fn since_in(before: &[Member], house: HouseNo, epoch: EpochNo) -> EpochNo
+    ensures { result.0 ≡ members.since_in (members_of before.now) house.0 epoch.0 }
+{
+    for member in before {
+        if member.house == house {
+            return member.since;
+        }
+    }
+    epoch
+}
+
+// What a house is, by the master of its list.
+fn kind_among(master: HouseNo, house: HouseNo) -> MemberKind
+    ensures { result ≡ model.kind_among master.0 house.0 }
+{
+    if house == master {
+        MemberKind::Master
+    } else {
+        MemberKind::ReadOnly
+    }
+}
+
+/// The houses of a list that are members no more.
+pub(crate) fn leaving(
+    alloc: Global,
+    before: &[Member],
+    now: &Members,
+) -> Result<Vec<HouseNo>, AllocError>
+    ensures few { IfOk result (λ v. length v.items ≤ length before.now) }
+    ensures houses { IfOk result (λ v. numbers v.items ≡ model.leaving (members_of before.now) (members_of now.now)) }
+{
+    let mut left = Vec::new(alloc);
+    for member in before {
+        if now.place(member.house).is_none() {
+            left.push(member.house)?;
+        }
+    }
+    Ok(left)
+}
