@@ -1,5 +1,3 @@
-pub mod Runnable
-pub mod Walked
 pub mod Scanning
 pub mod Demands
 pub mod Progress
@@ -11,5 +9,7 @@ pub mod TowerTurns
 pub mod TowerLaws
 pub mod AllForms
 pub mod RoundTrip
+mod HeadlineLaws
+mod RecordAnswers
 pub mod Scripts
 mod Examples

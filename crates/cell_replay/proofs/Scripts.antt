@@ -5,7 +5,7 @@ use Rattle.std.specs.Prelude.{Option, None, Some, Ok, Err, Result, ◌==◌}
 use Rattle.std.specs.Io.KnownBytes.{Consumes, Appends}
 use Rattle.cds_base.specs.declared.scan.LineFault.{LineFault}
 use Rattle.cds_base.specs.LineFaults.{fault_at, AreClean, IsLine}
-use Rattle.cell_model.specs.Cells.{Cell}
+use Rattle.cell_model.specs.Cells.{Cell, empty_cell}
 use Rattle.cell_script.specs.declared.command.ScriptLine.{ScriptLine}
 use Rattle.cell_script.specs.declared.fault.ParseFault.{ParseFault}
 use Rattle.cell_script.specs.Words.{words_of}
@@ -18,6 +18,7 @@ use Rattle.cell_replay.specs.Runs.{IsFront, Wrote, IsWhole}
 use Rattle.cell_replay.specs.Scripts.{text_of, Says, IsScript, IsReplay}
 use Rattle.cell_replay.proofs.Scanning.{scanned, demanded_scanned, clean_more, is_ten, no_ten}
 use Rattle.cell_replay.proofs.Demands.{demand_line, demand_part}
+use Rattle.cell_replay.proofs.HeadlineLaws.{converges}
 
 -- ---- scripts
 
@@ -208,15 +209,17 @@ demanded_fault state xs ys faulty =
 -- ---- a run that ends Ok
 
 -- what was written, of a whole input in which nothing is faulty, is the transcript of the script that was read
-pub is_replay : (g : Cell) (left left' old new : Option (List ℕ)) → Wrote (ByLines (Replaying g)) left left' old new IsWhole → IsReplay g left left' old new
-is_replay g left left' old new wrote =
-    let script = demanded_script g wrote.read (subst (λ (d : Demand). d.verdict ≡ Sound) (sym wrote.demands) wrote.due.0) in
-    let is_demand : wrote.demand ≡ whole (transcript g script.1) = sym wrote.demands ∙ ap (demanded (Replaying g)) script.2
-    ∙ script_demanded g script.0 script.1 script.3 in
+pub is_replay : (left left' old new : Option (List ℕ)) → Wrote (ByLines (Replaying empty_cell)) left left' old new IsWhole → IsReplay left left' old new
+is_replay left left' old new wrote =
+    let script = demanded_script empty_cell wrote.read (subst (λ (d : Demand). d.verdict ≡ Sound) (sym wrote.demands) wrote.due.0) in
+    let text = transcript empty_cell script.1 in
+    let is_demand : wrote.demand ≡ whole text =
+    sym wrote.demands ∙ ap (demanded (Replaying empty_cell)) script.2 ∙ script_demanded empty_cell script.0 script.1 script.3 in
     record {
       lines = script.0;
       said = script.1;
       script = script.3;
       taken = subst (Consumes left left') script.2 wrote.taken;
-      written = subst (Appends old new) (wrote.due.1 ∙ ap (λ (d : Demand). d.body ++ d.end) is_demand ∙ append-nil (transcript g script.1)) wrote.written;
+      written = subst (Appends old new) (wrote.due.1 ∙ ap (λ (d : Demand). d.body ++ d.end) is_demand ∙ append-nil text) wrote.written;
+      settled = converges script.1;
     }

@@ -1,11 +1,14 @@
 pub mod Texts
 pub mod Replies
+pub mod Headline
 pub mod TowerTexts
 pub mod Demand
 pub mod TowerDemand
 pub mod PrivateSights
 pub mod Forms
 pub mod Fillings
+pub mod PrivateSteps
+pub mod PrivateRecords
 pub mod PrivateStanding
 pub mod PrivateWaiting
 pub mod Runs

@@ -2,9 +2,7 @@
 use Rattle.std.specs.Prelude.{◌≡◌, ℕ, ◌≤◌, ◌<◌, Bool, true, false, length, List, [], ◌∷◌, ◌++◌, Option, Some, None}
 use Rattle.cell_model.specs.Cells as model
 use Rattle.cell_script.specs.declared.command.ScriptLine.{ScriptLine}
-use Rattle.cell_script.specs.declared.command.ScriptLine.TheVariants as said
 use Rattle.cell_script.specs.declared.answer.Answer.{Answer}
-use Rattle.cds_cell.specs.Scripted.{NamesOneHouse}
 use Rattle.cds_cell.specs.declared.cell.Cell.{Cell}
 use Rattle.cds_cell.specs.Standing.{Stands}
 use Rattle.tower_codec.specs.Tower.{Floor}
@@ -19,17 +17,13 @@ use Rattle.cell_replay.specs.declared.forms.Form.{Form}
 use Rattle.cell_replay.specs.declared.forms.Form.TheVariants as chosen
 use Rattle.cell_replay.specs.declared.forms.LineForm.{LineForm}
 use Rattle.cell_replay.specs.declared.forms.LineForm.TheVariants as form
+use Rattle.cell_replay.specs.declared.replayer.Replayer.{Replayer}
 use Rattle.cell_replay.specs.declared.replies.LineEnd.{LineEnd}
 use Rattle.cell_replay.specs.declared.replies.LineEnd.TheVariants as line
 
--- a line that a cell of one house a directory can run
-abbrev pub IsRunnable : ScriptLine → Type 0
-IsRunnable (said.Cell c) = NamesOneHouse c
-IsRunnable (said.Question q) = Unit {0}
-
 -- a reply and a cell are those of the model
 pub record IsReply (a : Answer) (c : Cell) (g : model.Cell) (l : ScriptLine) : Type 0 where
-  pub answer : a ≡ reply_to g l
+  pub answer : reply_to g l ≡ Some a
   pub stands : Stands c (cell_after g l)
 
 -- ---- forms
@@ -54,13 +48,13 @@ CountsTo t Spelling = ⊥
 
 -- a form stands at this state
 abbrev pub IsAt : LineForm → LineState → Type 0
-IsAt (form.Run cell) state = StandsAt cell state
+IsAt (form.Run replayer) state = StandsAt replayer.cell state
 IsAt (form.Check tally) state = CountsTo tally state
 IsAt (form.Untowers speller) state = state ≡ Spelling
 
--- the number of the last line that a form has counted
+-- how many steps a form took, or lines it counted: none more than there were lines
 abbrev pub counted : LineForm → ℕ
-counted (form.Run cell) = 0
+counted (form.Run replayer) = replayer.steps
 counted (form.Check tally) = tally.lines
 counted (form.Untowers speller) = 0
 
@@ -76,9 +70,9 @@ Ends line.NoMemory r waited waits Then = waits ≡ waited
 abbrev pub Replies : LineEnd → Response → (waited waits : List ℕ) → LineForm → Type 0
 Replies end r waited waits f = Ends end r waited waits (IsAt f)
 
--- and so do the cell of `run` and the counts of `check`
-abbrev pub Replays : LineEnd → Response → (waited waits : List ℕ) → Cell → Type 0
-Replays end r waited waits c = Ends end r waited waits (StandsAt c)
+-- and so does the cell of `run`
+abbrev pub Replays : LineEnd → Response → (waited waits : List ℕ) → Replayer → Type 0
+Replays end r waited waits replayer = Ends end r waited waits (StandsAt replayer.cell)
 
 -- the counts of `check` go on with those behind the line
 abbrev pub Counts : LineEnd → Response → (waited waits : List ℕ) → Tally → Type 0

@@ -1,13 +1,16 @@
 -- What a cell replies to a line of the script (own, after C705, lookups of clerks).
-use Rattle.std.specs.Prelude.{ℕ, Bool, true, false, if◌then◌else◌, List, [], ◌∷◌, ◌++◌, Some, Result, Ok, Err}
+use Rattle.std.specs.Prelude.{ℕ, Bool, true, false, if◌then◌else◌, List, [], ◌∷◌, ◌++◌, Option, Some, None, Result, Ok, Err}
+use Rattle.std.specs.Option.{option_and_then, option_map_or}
 use Rattle.cell_names.specs.FullNames.{components_of}
 use Rattle.directory.specs.declared.entry.Kind.{Kind}
 use Rattle.directory.specs.declared.entry.Kind.TheVariants as kind
 use Rattle.directory.specs.Kinds.{link_target}
 use Rattle.directory.specs.Shown.{targets}
-use Rattle.cell_model.specs.Cells.{Cell}
+use Rattle.cell_model.specs.Cells.{Cell, Slot, Absent, Gone, Held}
+use Rattle.cell_model.specs.Commands.{Command}
 use Rattle.cell_model.specs.Sets.{has}
-use Rattle.cell_model.specs.Steps.{outcome}
+use Rattle.cell_model.specs.Steps.{is_down, is_unknown, message_at, outcome, replay_from}
+use Rattle.purge_rule.specs.Replicas.{replica_of}
 use Rattle.resolver.specs.declared.refusal.Refusal.{Refusal}
 use Rattle.resolver.specs.declared.refusal.Refusal.TheVariants as refusal
 use Rattle.resolver.specs.declared.seen.Found.{Found}
@@ -21,10 +24,12 @@ use Rattle.cell_script.specs.declared.answer.Answer.{Answer}
 use Rattle.cell_script.specs.declared.answer.Answer.TheVariants as answer
 use Rattle.cell_script.specs.declared.answer.ScriptRefusal.{ScriptRefusal}
 use Rattle.cell_script.specs.declared.answer.ScriptRefusal.TheVariants as why
-use Rattle.cell_script.specs.Texts.{line_text, answer_text}
+use Rattle.cell_script.specs.Texts.{answer_text}
 use Rattle.cds_cell.specs.Readings.{reading}
+use Rattle.cds_cell.specs.Recorded.{declared_members, image_at, octets_of}
 use Rattle.cds_cell.specs.Scripted.{step_of, answer_of}
-use Rattle.cds_records.specs.declared.message.Message.{Message}
+use Rattle.cds_records.specs.declared.message.Message as recorded
+use Rattle.cds_records.specs.Octets.{image_octets}
 use Rattle.cds_records.specs.declared.fault.RecordFault.{RecordFault}
 use Rattle.cds_records.specs.declared.fault.RecordFault.TheVariants as fault
 use Rattle.cds_records.specs.Records.{message, tag_of}
@@ -72,7 +77,7 @@ refusal_of_octets (fault.BadFlag place) = why.BadFlag place
 refusal_of_octets (fault.Trailing place) = why.BadLength place
 
 -- the message that octets begin with, by its tag and the number of its octets, or the first fault (own)
-abbrev pub message_told : Result (Message × ℕ) RecordFault → Answer
+abbrev pub message_told : Result (recorded.Message × ℕ) RecordFault → Answer
 message_told (Ok r) = answer.Decoded (tag_of r.0.body) r.1
 message_told (Err f) = answer.Refused (refusal_of_octets f)
 
@@ -81,27 +86,59 @@ message_told (Err f) = answer.Refused (refusal_of_octets f)
 abbrev pub asked_of : Cell → (house : ℕ) → Answer → Answer
 asked_of g house said = if has house g.made then said else answer.Refused why.NoHouse
 
+-- ---- what is held, and its octets
+
+-- what a house has of a directory, told whole: its epoch, its AllUpTo, its members and its table (own)
+abbrev pub slot_told : Slot → Answer
+slot_told Absent = answer.Refused why.NoReplica
+slot_told (Gone e) = answer.Refused why.NoReplica
+slot_told (Held r) =
+    answer.Dump (record { 0 = r.epoch }) r.all_up_to (declared_members r.members) (replica_of r.history r.all_up_to).table
+
+-- the same, where there is such a directory, and the house is up (own)
+abbrev pub dump_told : Cell → (h d : ℕ) → Answer
+dump_told g h d =
+    if is_unknown g d then answer.Refused why.NoDirectory
+    else (if has h g.made then (if is_down g h then answer.Refused why.Down else slot_told ((g.house h).slots d))
+    else answer.Refused why.NoHouse)
+
+-- the octets of a record, if there is one (own)
+abbrev pub octets_told : Option (List ℕ) → Answer
+octets_told None = answer.Refused why.NoMessage
+octets_told (Some octets) = answer.Octets octets
+
+-- ---- questions
+
 -- the answer to a question (own)
 abbrev pub question_answer : Cell → Question → Answer
 question_answer g (question.Read h high name attr) =
     asked_of g h.0 (values_read (reading g (Some h.0) high) attr (walked (reading g (Some h.0) high) true name))
 question_answer g (question.Readlink h high name) =
     asked_of g h.0 (target_read (reading g (Some h.0) high) (walked (reading g (Some h.0) high) false name))
+question_answer g (question.Dump h d) = dump_told g h.0 d.0
+question_answer g (question.OctetsMsg n) = octets_told (option_and_then octets_of (message_at g n))
+question_answer g (question.OctetsHouse h) = asked_of g h.0 (answer.Octets (image_octets (image_at g h.0)))
 question_answer g (question.Decode octets) = message_told (decoding message octets)
 
--- what a cell replies to a line, and the cell after it (own)
-abbrev pub reply_to : Cell → ScriptLine → Answer
-reply_to g (line.Cell c) = answer_of (outcome g (step_of c)).answer
-reply_to g (line.Question q) = question_answer g q
+-- ---- lines
+
+-- the commands of the model that a line makes: its own, and none for a question (own)
+abbrev pub steps_of : ScriptLine → List Command
+steps_of (line.Cell c) = step_of c ∷ []
+steps_of (line.Question q) = []
 
 -- the cell behind a line (own)
 abbrev pub cell_after : Cell → ScriptLine → Cell
-cell_after g (line.Cell c) = (outcome g (step_of c)).cell
-cell_after g (line.Question q) = g
+cell_after g l = replay_from g (steps_of l)
 
--- the text of a line of the transcript (own)
+-- what a cell replies to a line; to a command that has no answer in the script nothing, and no cell of a run comes to that (own)
+abbrev pub reply_to : Cell → ScriptLine → Option Answer
+reply_to g (line.Cell c) = answer_of (outcome g (step_of c)).answer
+reply_to g (line.Question q) = Some (question_answer g q)
+
+-- the text of a reply in the transcript, with the number of its line (own)
 abbrev pub reply_text : ℕ → Cell → ScriptLine → List ℕ
-reply_text number g l = line_text number (answer_text (reply_to g l))
+reply_text number g l = option_map_or (answer_text number) (reply_to g l) []
 
 -- a line of the script, by its number
 pub record Numbered : Type 0 where

@@ -2,11 +2,12 @@
 use Rattle.std.specs.Prelude.{◌≡◌, ℕ, ◌+◌, List, [], ◌∷◌, ◌++◌, Option, Some, None, Ok, Err, Result}
 use Rattle.std.specs.Io.KnownBytes.{Consumes, Appends}
 use Rattle.cds_base.specs.LineFaults.{IsLine}
-use Rattle.cell_model.specs.Cells.{Cell}
+use Rattle.cell_model.specs.Cells.{empty_cell}
 use Rattle.cell_script.specs.declared.command.ScriptLine.{ScriptLine}
 use Rattle.cell_script.specs.declared.fault.ParseFault.{ParseFault}
 use Rattle.cell_script.specs.Words.{words_of}
 use Rattle.cell_script.specs.Commands.{said_in}
+use Rattle.cell_replay.specs.Headline.{Converges}
 use Rattle.cell_replay.specs.Replies.{Numbered, transcript}
 
 -- lines, each with its end (own)
@@ -25,10 +26,12 @@ abbrev pub IsScript : ℕ → (lines : List (List ℕ)) → List Numbered → Ty
 IsScript number [] said = said ≡ []
 IsScript number (l ∷ ls) said = IsLine number l × Says number (said_in (words_of l)) said (IsScript (number + 1) ls)
 
--- a script was read, and its transcript by the model was written, from this cell on (own)
-pub record IsReplay (g : Cell) (left left' old new : Option (List ℕ)) : Type 0 where
+-- a script was read, and its transcript by the model was written, from a cell without houses on; and each skulk that the transcript tells complete
+-- settles its directory (own, after C705, skulks)
+pub record IsReplay (left left' old new : Option (List ℕ)) : Type 0 where
   pub lines : List (List ℕ)
   pub said : List Numbered
   pub script : IsScript 1 lines said
   pub taken : Consumes left left' (text_of lines)
-  pub written : Appends old new (transcript g said)
+  pub written : Appends old new (transcript empty_cell said)
+  pub settled : Converges said

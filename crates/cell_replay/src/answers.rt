@@ -1,9 +1,12 @@
-// The lines of faults of octets.
-ghost use Rattle.std.specs.Prelude.{◌≡◌, IfOk};
+// The lines of faults, of octets and of words.
+ghost use Rattle.std.specs.Prelude.{◌≡◌, ◌++◌, IfOk, OnOk, OnErr};
+ghost use Rattle.cell_script.specs.Texts.{parse_fault_text};
 ghost use Rattle.cell_replay.specs.Texts.{line_fault_text};
+ghost use Rattle.cell_replay.specs.PrivateStanding.{Faults};
 
+use crate::replies::{LineEnd, Waiting};
 use cds_base::LineFault;
-use cell_script::print_fault;
+use cell_script::{ParseFault, print_fault, print_parse_fault};
 use std::alloc::{AllocError, Global};
 
 /// The line of a fault of octets; of a failed read nothing is told.
@@ -17,4 +20,34 @@ pub(crate) fn print_line_fault(alloc: Global, fault: LineFault) -> Result<Vec<u8
         LineFault::TooManyLines(number, place) => print_fault(alloc, number, "TooManyLines", place),
         LineFault::ReadFault => Ok(Vec::new(alloc)),
     }
+}
+
+/// A faulty line: its fault waits behind the others, and nothing follows.
+pub(crate) fn reply_to_fault(
+    alloc: Global,
+    number: u32,
+    fault: ParseFault,
+    waiting: &mut Waiting,
+) -> LineEnd
+    ensures { Faults result (parse_fault_text number fault) waiting.old waiting.new }
+{
+    match queue_fault(alloc, number, fault, waiting) {
+        Ok(()) => LineEnd::Stops,
+        Err(AllocError) => LineEnd::NoMemory,
+    }
+}
+
+// The line of a fault waits behind the others.
+fn queue_fault(
+    alloc: Global,
+    number: u32,
+    fault: ParseFault,
+    waiting: &mut Waiting,
+) -> Result<(), AllocError>
+    ensures ok { OnOk result (waiting.new ≡ waiting.old ++ parse_fault_text number fault) }
+    ensures err { OnErr result (waiting.new ≡ waiting.old) }
+{
+    let text = print_parse_fault(alloc, number, fault)?;
+    waiting.add(&text)?;
+    Ok(())
 }

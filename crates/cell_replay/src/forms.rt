@@ -1,26 +1,21 @@
 // The forms of the program, and what those that read lines make of a line.
 ghost use Rattle.std.specs.Prelude.{◌≡◌, ◌<◌, ◌≤◌, ℕ, [], ◌∷◌, ◌++◌, MatchOption, IfOk, OnOk, OnErr, map, string_bytes};
-ghost use Rattle.cell_model.specs.Cells as model;
 ghost use Rattle.cell_script.specs.Words.{words_of};
 ghost use Rattle.cell_script.specs.Commands.{said_in};
-ghost use Rattle.cell_script.specs.Texts.{parse_fault_text};
-ghost use Rattle.cds_cell.specs.Standing.{Stands};
-ghost use Rattle.cds_cell.specs.Scripted.{NamesOneHouse};
-ghost use Rattle.cell_replay.specs.Replies.{reply_text, reply_to, cell_after};
+ghost use Rattle.cds_base.specs.declared.scan.TheConstants.{MOST_LINES};
 ghost use Rattle.std.specs.Option.{option_map};
-ghost use Rattle.cell_replay.specs.Demand.{LineState, response, replayed, checked, end_text, told_fault};
+ghost use Rattle.cell_replay.specs.Demand.{LineState, response, checked, end_text, told_fault};
 ghost use Rattle.cell_replay.specs.Forms.{form_named, form_of};
-ghost use Rattle.cell_replay.specs.PrivateStanding.{IsReply, IsRunnable, Faults, IsAt, Replies, Replays, Counts, counted, start_of};
+ghost use Rattle.cell_replay.specs.PrivateStanding.{IsAt, Replies, Counts, counted, start_of};
 
-use crate::answers::print_line_fault;
+use crate::answers::{print_line_fault, reply_to_fault};
 use crate::check::Tally;
-use crate::questions::answer_question;
+use crate::replayer::Replayer;
 use crate::replies::{LineEnd, Waiting};
 use crate::untowers::Speller;
 use cds_base::LineFault;
-use cds_cell::Cell;
 use cds_stamps::AllocOr;
-use cell_script::{Answer, ParseFault, ScriptLine, parse_line, print_parse_fault};
+use cell_script::parse_line;
 use std::alloc::{AllocError, Global};
 
 /// A form of the program.
@@ -35,7 +30,7 @@ pub(crate) enum Form {
 /// A form that reads lines, in its state between two of them.
 #[derive(Drop)]
 pub(crate) enum LineForm {
-    Run(Cell),
+    Run(Replayer),
     Check(Tally),
     Untowers(Speller),
 }
@@ -71,12 +66,13 @@ impl LineForm {
         line: &[u8],
         waiting: &mut Waiting,
     ) -> LineEnd
-        requires { counted self.old < number }
+        requires fewer { counted self.old < number }
+        requires most { number ≤ MOST_LINES }
         ensures reply { (state : LineState) → IsAt self.old state → Replies result (response number state line.now) waiting.old waiting.new self.new }
         ensures counted { counted self.new ≤ number }
     {
         match self {
-            LineForm::Run(cell) => replay_line(alloc, cell, number, line, waiting),
+            LineForm::Run(replayer) => replayer.replay_line(alloc, number, line, waiting),
             LineForm::Check(tally) => check_line(alloc, tally, number, line, waiting),
             LineForm::Untowers(speller) => speller.spell_line(alloc, line, waiting),
         }
@@ -125,90 +121,4 @@ fn check_line(
         Err(AllocOr::Fault(fault)) => reply_to_fault(alloc, number, fault, waiting),
         Err(AllocOr::OutOfMemory) => LineEnd::NoMemory,
     }
-}
-
-// Replays a line on the cell.
-fn replay_line(
-    alloc: Global,
-    cell: &mut Cell,
-    number: u32,
-    line: &[u8],
-    waiting: &mut Waiting,
-) -> LineEnd
-    ensures { (g : model.Cell) → Stands cell.old g → Replays result (replayed number g (said_in (words_of line.now))) waiting.old waiting.new cell.new }
-{
-    match parse_line(alloc, line) {
-        Ok(Some(line)) => reply_to_line(alloc, cell, number, line, waiting),
-        Ok(None) => LineEnd::GoesOn,
-        Err(AllocOr::Fault(fault)) => reply_to_fault(alloc, number, fault, waiting),
-        Err(AllocOr::OutOfMemory) => LineEnd::NoMemory,
-    }
-}
-
-fn reply_to_line(
-    alloc: Global,
-    cell: &mut Cell,
-    number: u32,
-    line: ScriptLine,
-    waiting: &mut Waiting,
-) -> LineEnd
-    requires { IsRunnable line }
-    ensures { (g : model.Cell) → Stands cell.old g → Replays result (replayed number g (Ok (Some line))) waiting.old waiting.new cell.new }
-{
-    match answered(alloc, cell, number, line, waiting) {
-        Ok(()) => LineEnd::GoesOn,
-        Err(AllocError) => LineEnd::NoMemory,
-    }
-}
-
-// The reply to a line waits behind the others.
-fn answered(
-    alloc: Global,
-    cell: &mut Cell,
-    number: u32,
-    line: ScriptLine,
-    waiting: &mut Waiting,
-) -> Result<(), AllocError>
-    requires { IsRunnable line }
-    ensures ok { (g : model.Cell) → Stands cell.old g → OnOk result ((waiting.new ≡ waiting.old ++ reply_text number g line)
-        × Stands cell.new (cell_after g line)) }
-    ensures err { OnErr result (waiting.new ≡ waiting.old) }
-{
-    let answer = reply(alloc, cell, line)?;
-    waiting.add_answer(alloc, number, &answer)
-}
-
-// What the cell replies to a line.
-fn reply(alloc: Global, cell: &mut Cell, line: ScriptLine) -> Result<Answer, AllocError>
-    requires { IsRunnable line }
-    ensures { (g : model.Cell) → Stands cell.old g → IfOk result (λ a. IsReply a cell.new g line) }
-{
-    match line {
-        ScriptLine::Cell(command) => cell.step(alloc, command),
-        ScriptLine::Question(question) => answer_question(alloc, cell, &question),
-    }
-}
-
-fn reply_to_fault(alloc: Global, number: u32, fault: ParseFault, waiting: &mut Waiting) -> LineEnd
-    ensures { Faults result (parse_fault_text number fault) waiting.old waiting.new }
-{
-    match queue_fault(alloc, number, fault, waiting) {
-        Ok(()) => LineEnd::Stops,
-        Err(AllocError) => LineEnd::NoMemory,
-    }
-}
-
-// The line of a fault waits behind the others.
-fn queue_fault(
-    alloc: Global,
-    number: u32,
-    fault: ParseFault,
-    waiting: &mut Waiting,
-) -> Result<(), AllocError>
-    ensures ok { OnOk result (waiting.new ≡ waiting.old ++ parse_fault_text number fault) }
-    ensures err { OnErr result (waiting.new ≡ waiting.old) }
-{
-    let text = print_parse_fault(alloc, number, fault)?;
-    waiting.add(&text)?;
-    Ok(())
 }

@@ -1,20 +1,18 @@
 // What a cell answers to questions, which change nothing.
-ghost use Rattle.std.specs.Prelude.{◌≡◌, true, false, IfOk};
+ghost use Rattle.std.specs.Prelude.{◌≡◌, true, false, Some, IfOk};
 ghost use Rattle.cell_model.specs.Cells as model;
 ghost use Rattle.directory.specs.Kinds.{link_target};
 ghost use Rattle.cds_cell.specs.Standing.{Stands};
-ghost use Rattle.cds_cell.specs.Readings.{reading};
 ghost use Rattle.cds_cell.specs.Telling.{told};
-ghost use Rattle.cell_replay.specs.Replies.{asked_of, first_target, message_told, question_answer, refusal_of_octets, refusal_of_walk, target_of};
+ghost use Rattle.cell_replay.specs.Replies.{asked_of, first_target, question_answer, refusal_of_walk, target_of};
 ghost use Rattle.cell_replay.specs.Replies.{target_read, values_read};
 ghost use Rattle.resolver.specs.WalkEnds.{walked};
 ghost use Rattle.directory.specs.Shown.{targets};
-ghost use Rattle.cds_records.specs.Decoding.{decoding};
-ghost use Rattle.cds_records.specs.Records.{message};
 
+use crate::records::{decoded, dump, house_octets, message_octets};
 use attr_sets::Value;
+use cds_cell::laws::cells_tell_the_model;
 use cds_cell::{Cell, CellReader};
-use cds_records::RecordFault;
 use cds_stamps::{AllocOr, AttrName, HouseNo};
 use cell_names::FullName;
 use cell_script::{Answer, Question, ScriptRefusal, Values};
@@ -22,8 +20,7 @@ use directory::{Kind, LINK_TARGET};
 use resolver::{EntryReader, Found, Refusal, resolve};
 use std::alloc::{AllocError, Global};
 
-/// The answer to a question. Each directory stands at one house, so neither the preferred house nor the confidence makes
-/// a difference yet.
+/// The answer to a question.
 pub(crate) fn answer_question(
     alloc: Global,
     cell: &Cell,
@@ -31,9 +28,13 @@ pub(crate) fn answer_question(
 ) -> Result<Answer, AllocError>
     ensures { (g : model.Cell) → Stands cell.now g → IfOk result (λ a. a ≡ question_answer g question.now) }
 {
+    cells_tell_the_model();
     match question {
-        Question::Read(house, _, name, attr) => read(alloc, cell, *house, name, attr),
-        Question::Readlink(house, _, name) => read_link(alloc, cell, *house, name),
+        Question::Read(house, high, name, attr) => read(alloc, cell, *house, *high, name, attr),
+        Question::Readlink(house, high, name) => read_link(alloc, cell, *house, *high, name),
+        Question::Dump(house, dir) => dump(alloc, cell, *house, *dir),
+        Question::OctetsMsg(serial) => message_octets(alloc, cell, *serial),
+        Question::OctetsHouse(house) => house_octets(alloc, cell, *house),
         Question::Decode(octets) => decoded(alloc, octets.list()),
     }
 }
@@ -42,14 +43,16 @@ fn read(
     alloc: Global,
     cell: &Cell,
     house: HouseNo,
+    high: bool,
     name: &FullName,
     attr: &AttrName,
 ) -> Result<Answer, AllocError>
     ensures { (g : model.Cell) → Stands cell.now g → IfOk result (λ a. a ≡ asked_of g house.0
-        (values_read (told cell.now) attr.now (walked (told cell.now) true name.now))) }
+        (values_read (told cell.now (Some house.0) high) attr.now (walked (told cell.now (Some house.0) high) true name.now))) }
 {
     if cell.has_house(house) {
-        values_at(alloc, &CellReader { cell }, name, attr)
+        let prefer = Some(house);
+        values_at(alloc, &CellReader { cell, prefer, high }, name, attr)
     } else {
         Ok(Answer::Refused(ScriptRefusal::NoHouse))
     }
@@ -59,13 +62,15 @@ fn read_link(
     alloc: Global,
     cell: &Cell,
     house: HouseNo,
+    high: bool,
     name: &FullName,
 ) -> Result<Answer, AllocError>
     ensures { (g : model.Cell) → Stands cell.now g → IfOk result (λ a. a ≡ asked_of g house.0
-        (target_read (told cell.now) (walked (told cell.now) false name.now))) }
+        (target_read (told cell.now (Some house.0) high) (walked (told cell.now (Some house.0) high) false name.now))) }
 {
     if cell.has_house(house) {
-        target_at(alloc, &CellReader { cell }, name)
+        let prefer = Some(house);
+        target_at(alloc, &CellReader { cell, prefer, high }, name)
     } else {
         Ok(Answer::Refused(ScriptRefusal::NoHouse))
     }
@@ -145,30 +150,5 @@ fn refusal_in_script(refusal: Refusal) -> ScriptRefusal
         Refusal::TooManyLinks => ScriptRefusal::TooManyLinks,
         Refusal::NameTooLong => ScriptRefusal::NameTooLong,
         Refusal::RootName => ScriptRefusal::RootName,
-    }
-}
-
-// Which message stands at the front of octets.
-fn decoded(alloc: Global, octets: &[u8]) -> Result<Answer, AllocError>
-    ensures { IfOk result (λ a. a ≡ message_told (decoding message octets.now)) }
-{
-    match cds_records::decode(alloc, octets) {
-        Ok((message, used)) => Ok(Answer::Decoded(message.body.tag(), used)),
-        Err(AllocOr::Fault(fault)) => Ok(Answer::Refused(fault_in_script(fault))),
-        Err(AllocOr::OutOfMemory) => Err(AllocError),
-    }
-}
-
-fn fault_in_script(fault: RecordFault) -> ScriptRefusal
-    ensures { result ≡ refusal_of_octets fault }
-{
-    match fault {
-        RecordFault::Short(place) => ScriptRefusal::Short(place),
-        RecordFault::BadTag(place) => ScriptRefusal::BadTag(place),
-        RecordFault::BadLength(place) => ScriptRefusal::BadLength(place),
-        RecordFault::BadName(place) => ScriptRefusal::BadName(place),
-        RecordFault::OutOfOrder(place) => ScriptRefusal::OutOfOrder(place),
-        RecordFault::BadFlag(place) => ScriptRefusal::BadFlag(place),
-        RecordFault::Trailing(place) => ScriptRefusal::BadLength(place),
     }
 }

@@ -14,11 +14,11 @@ ghost use Rattle.cell_replay.specs.PrivateEndings.{StopsWith, side_of, Ended};
 use crate::check::Tally;
 use crate::endings::{Status, finish, stop_with};
 use crate::forms::{Form, LineForm, form_in};
+use crate::replayer::Replayer;
 use crate::replies::{LineEnd, Waiting};
 use crate::towers::print_towers;
 use crate::untowers::Speller;
 use cds_base::{LineFault, Lines, Sink, Source};
-use cds_cell::Cell;
 use std::alloc::{AllocError, Global};
 
 // Ends a run at the end of the input.
@@ -111,7 +111,7 @@ fn serve<S: Source, K: Sink>(alloc: Global, form: Form, source: &mut S, sink: &m
         (side_of K.written K.faults sink.new) result }
 {
     match form {
-        Form::Run => serve_lines(alloc, LineForm::Run(Cell::new(alloc)), source, sink),
+        Form::Run => serve_lines(alloc, LineForm::Run(Replayer::new(alloc)), source, sink),
         Form::Check => serve_lines(alloc, LineForm::Check(Tally::new()), source, sink),
         Form::Towers => print_towers(alloc, source, sink),
         Form::Untowers => match Speller::new(alloc) {
@@ -132,8 +132,8 @@ pub fn run<S: Source, K: Sink>(
     ensures unused { result ≡ Status.Usage → (source.new ≡ source.old) × (sink.new ≡ sink.old) }
     ensures ok { (state : FormState) → form_of (map string_bytes words.now) ≡ Some state → result ≡ Status.Ok → IsAtEnd (S.left source.new)
         × Wrote state (S.left source.old) (S.left source.new) (K.written sink.old) (K.written sink.new) IsWhole }
-    ensures transcript { (g : model.Cell) → form_of (map string_bytes words.now) ≡ Some (ByLines (Replaying g)) → result ≡ Status.Ok
-        → IsReplay g (S.left source.old) (S.left source.new) (K.written sink.old) (K.written sink.new) }
+    ensures transcript { form_of (map string_bytes words.now) ≡ Some (ByLines (Replaying model.empty_cell)) → result ≡ Status.Ok
+        → IsReplay (S.left source.old) (S.left source.new) (K.written sink.old) (K.written sink.new) }
     ensures bad { (state : FormState) → form_of (map string_bytes words.now) ≡ Some state → result ≡ Status.BadInput
         → Wrote state (S.left source.old) (S.left source.new) (K.written sink.old) (K.written sink.new) (IsFaulty (S.left source.new)) }
     ensures read { (state : FormState) → form_of (map string_bytes words.now) ≡ Some state → result ≡ Status.ReadFault

@@ -3,7 +3,7 @@ ghost use Rattle.std.specs.Prelude.{◌≡◌, ◌++◌, ◌<◌, ◌≤◌, [],
 ghost use Rattle.std.specs.Io.KnownBytes.{Appends};
 ghost use Rattle.cds_base.specs.Counts.{HasCause};
 ghost use Rattle.tower_codec.specs.Spelling.{tower_octets};
-ghost use Rattle.cell_script.specs.Texts.{answer_text, line_text};
+ghost use Rattle.cell_script.specs.Texts.{answer_text};
 ghost use Rattle.cell_replay.specs.TowerTexts.{tower_text};
 ghost use Rattle.cell_replay.specs.PrivateWaiting.{Flushes};
 ghost use Rattle.cell_replay.specs.declared.limits.TheConstants.{LONGEST_TOWER};
@@ -55,14 +55,14 @@ impl Waiting {
         self.octets.extend_from_slice(reply)
     }
 
-    /// The line of an answer more.
+    /// The lines of an answer more.
     pub(crate) fn add_answer(
         &mut self,
         alloc: Global,
         number: u32,
         answer: &Answer,
     ) -> Result<(), AllocError>
-        ensures ok { OnOk result (self.new ≡ self.old ++ line_text number (answer_text answer.now)) }
+        ensures ok { OnOk result (self.new ≡ self.old ++ answer_text number answer.now) }
         ensures err { OnErr result (self.new ≡ self.old) }
     {
         append_answer(alloc, &mut self.octets, number, answer)

@@ -1,4 +1,7 @@
 // Where full names lead in a cell.
+ghost use Rattle.std.specs.Prelude.{IsTrue};
+ghost use Rattle.cds_cell.specs.Standing.{HasRoom};
+
 use attr_sets::Value;
 use cds_cell::{Cell, CellReader};
 use cds_stamps::{AllocOr, AttrName, DirId, HouseNo, SimpleName};
@@ -21,8 +24,18 @@ static LINES: [&[u8]; 8] = [
     b"link 1 1 loop /.:/loop",
 ];
 
+// Whether there is room in a cell for a step.
+fn has_room(cell: &Cell) -> bool
+    ensures { IsTrue result → HasRoom cell.now }
+{
+    cell.posted() <= 1 << 62 && cell.directories() < 0xffff_ffff && cell.epochs() < 1 << 62
+}
+
 // Gives a cell one command.
 fn step(alloc: Global, cell: &mut Cell, line: &[u8]) -> Result<(), Fail> {
+    if !has_room(cell) {
+        return Err("no room".into());
+    }
     match parse_line(alloc, line)? {
         Some(ScriptLine::Cell(command)) => {
             cell.step(alloc, command)?;
@@ -47,9 +60,18 @@ fn houses_that_were_made(rt: HostRuntime) -> Result<(), Fail> {
     Ok(())
 }
 
+// A reader that prefers no house, and trusts masters alone.
+fn reader_of(cell: &Cell) -> CellReader<'_> {
+    CellReader {
+        cell,
+        prefer: None,
+        high: true,
+    }
+}
+
 // What a reader sees of a name in the root directory, where it stands at house 1 alone.
 fn seen_of(alloc: Global, cell: &Cell, name: &[u8]) -> Result<Seen, Fail> {
-    let reader = CellReader { cell };
+    let reader = reader_of(cell);
     match reader.root(alloc)? {
         Some(root) if root.dir == DirId::ROOT && root.houses.master() == HouseNo(1) => {
             Ok(reader.lookup(alloc, &root, &SimpleName::parse(alloc, name)?)?)
@@ -79,7 +101,7 @@ fn place_of(
     wanted: Result<(u32, &[u8], bool), Refusal>,
 ) -> Result<bool, Fail> {
     let name = FullName::parse(alloc, name)?;
-    match place(alloc, &CellReader { cell }, &name) {
+    match place(alloc, &reader_of(cell), &name) {
         Ok(place) => Ok(wanted == Ok((place.dir.0, place.name.octets(), place.kind.is_some()))),
         Err(AllocOr::Fault(refusal)) => Ok(wanted == Err(refusal)),
         Err(AllocOr::OutOfMemory) => Err("out of memory".into()),
@@ -99,7 +121,7 @@ fn places_of_names(rt: HostRuntime) -> Result<(), Fail> {
 
 // The values of an attribute of the entry that a full name leads to.
 fn values_of(alloc: Global, cell: &Cell, name: &[u8]) -> Result<Vec<Value>, Fail> {
-    let reader = CellReader { cell };
+    let reader = reader_of(cell);
     let name = FullName::parse(alloc, name)?;
     let found = resolve(alloc, &reader, &name, true)?;
     Ok(reader.values(alloc, &found, &AttrName::parse(alloc, b"A")?)?)

@@ -46,8 +46,10 @@ fn gives(
 // Each command once.
 const SCRIPT: &[u8] = b"# each command\n\
     house 1 00000000000a\n\
+    house 2 00000000000b\n\
     clock 1 100\n\
-    root 1\n\
+    root 1 2\n\
+    deliver 1\n\
     mkdir 1 1 sub 1\n\
     repoint 1 1 sub 1\n\
     create 1 2 e\n\
@@ -60,24 +62,51 @@ const SCRIPT: &[u8] = b"# each command\n\
     clear 1 2 e A\n\
     delete 1 2 e\n\
     delete 1 2 e\n\
+    skulk 1 2\n\
+    dump 1 2\n\
+    skulk 1 1\n\
+    lose 4\n\
+    crash 2\n\
+    deliver 5\n\
+    start 2\n\
+    deliver 5\n\
+    epoch 1 1\n\
+    octets msg 7\n\
+    octets house 2\n\
     decode 0108000000010100000000000000010000000000000002\n";
 
 const ANSWERS: &[u8] = b"2 ok\n\
     3 ok\n\
     4 ok\n\
-    5 ok 2 100@00000000000a\n\
-    6 ok 101@00000000000a\n\
-    7 ok 102@00000000000a\n\
-    8 ok 103@00000000000a\n\
-    9 ok 104@00000000000a\n\
-    10 ok 105@00000000000a\n\
-    11 ok 106@00000000000a\n\
-    12 ok 1 02\n\
-    13 ok /.:/sub/e\n\
-    14 ok 107@00000000000a\n\
-    15 ok 108@00000000000a\n\
-    16 refused NoSuchEntry\n\
-    17 ok Leave 23\n";
+    5 ok posted 1\n\
+    6 ok taken\n\
+    7 ok 2 100@00000000000a posted 2\n\
+    8 ok 101@00000000000a posted 3\n\
+    9 ok 102@00000000000a\n\
+    10 ok 103@00000000000a posted 4\n\
+    11 ok 104@00000000000a\n\
+    12 ok 105@00000000000a\n\
+    13 ok 106@00000000000a\n\
+    14 ok 1 02\n\
+    15 ok /.:/sub/e\n\
+    16 ok 107@00000000000a\n\
+    17 ok 108@00000000000a\n\
+    18 refused NoSuchEntry\n\
+    19 ok complete 109@00000000000a\n\
+    20 dump epoch 1 allupto 109@00000000000a members 1:1:m\n\
+    20 entry e object 102@00000000000a 108@00000000000a\n\
+    20 attr A 107@00000000000a\n\
+    20 end\n\
+    21 ok 110@00000000000a posted 5\n\
+    22 ok\n\
+    23 ok\n\
+    24 refused Down\n\
+    25 ok\n\
+    26 ok taken posted 6\n\
+    27 ok 2 posted 7\n\
+    28 ok 23 010800000001010000000000000002000000000000006e\n\
+    29 ok 68 01090200000000000b000000000000006e000000000000000100000001010000000000000001020100000000000000010102000000000000000102000000000000000000\n\
+    30 ok Leave 23\n";
 
 #[test]
 fn a_script_is_run(rt: HostRuntime) -> Result<(), Fail> {
@@ -87,7 +116,7 @@ fn a_script_is_run(rt: HostRuntime) -> Result<(), Fail> {
 
 #[test]
 fn a_script_is_checked(rt: HostRuntime) -> Result<(), Fail> {
-    assert!(rt; gives(rt.alloc(), "check", SCRIPT, b"ok 17 16\n", Status::Ok)?);
+    assert!(rt; gives(rt.alloc(), "check", SCRIPT, b"ok 30 29\n", Status::Ok)?);
     Ok(())
 }
 

@@ -1,4 +1,5 @@
 use Rattle.std.proofs.Common.{◌≡◌}
+use Rattle.cell_model.specs.Cells.{empty_cell}
 use Rattle.cell_replay.specs.Demand.{Replaying}
 use Rattle.cell_replay.specs.Forms.{ByLines}
 use Rattle.cell_replay.specs.PrivateStanding.{start_of}
@@ -6,8 +7,8 @@ use Rattle.cell_replay.proofs.Scripts.{is_replay}
 use Rattle.cell_replay.proofs.replay.run.Goals as goal
 
 pub returns-in-Some-clause-transcript : goal.returns-in-Some-clause-transcript
-returns-in-Some-clause-transcript g c cell is ok =
+returns-in-Some-clause-transcript g c is ok =
     let chosen = c.in-Some.ensures in
-    let known : start_of c.in-Some.form ≡ ByLines (Replaying cell) = cc (chosen, is) in
+    let known : start_of c.in-Some.form ≡ ByLines (Replaying empty_cell) = cc (chosen, is) in
     let ended = rw (known, ok) at c.serve.ensures in
-    is_replay cell _ _ _ _ ended.1
+    is_replay _ _ _ _ ended.1

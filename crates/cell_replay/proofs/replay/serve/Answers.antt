@@ -4,7 +4,7 @@ use Rattle.cell_replay.proofs.Turns.{unread_lines}
 use Rattle.cell_replay.proofs.replay.serve.Goals as goal
 
 pub returns-in-Run : goal.returns-in-Run
-returns-in-Run g c = rw c.in-Run.is (c.serve_lines.ensures (Replaying empty_cell) c.new.ensures)
+returns-in-Run g c = rw c.in-Run.is (c.serve_lines.ensures (Replaying empty_cell) c.new.ensures.cell)
 
 pub returns-in-Check : goal.returns-in-Check
 returns-in-Check g c = rw c.in-Check.is (c.serve_lines-in-Check.ensures (Checking 0 0) (c.new-in-Check.ensures.lines, c.new-in-Check.ensures.commands))

@@ -4,7 +4,7 @@ use Rattle.cds_records.specs.Records.{message}
 use Rattle.cds_records.specs.Decoding.{Decodes, decoding}
 use Rattle.cds_records.proofs.OneDecoding.{answers_decoding}
 use Rattle.cell_script.specs.declared.answer.Answer.TheVariants as answer
-use Rattle.cell_replay.proofs.questions.decoded.Goals as goal
+use Rattle.cell_replay.proofs.records.decoded.Goals as goal
 
 pub returns-in-Ok : goal.returns-in-Ok
 returns-in-Ok c =

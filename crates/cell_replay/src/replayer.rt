@@ -1,0 +1,125 @@
+// The form `run`: each line is replayed on a cell.
+ghost use Rattle.cell_replay.specs.PrivateSteps.{HasSteps};
+
+use crate::answers::reply_to_fault;
+use crate::questions::answer_question;
+use crate::replies::{LineEnd, Waiting};
+use cds_cell::Cell;
+use cds_stamps::AllocOr;
+use cell_script::{Answer, Command, ScriptLine, parse_line};
+use std::alloc::{AllocError, Global};
+
+/// A cell, and how many steps it took: so many that there is room for each further line of a script.
+#[derive(Drop)]
+pub(crate) struct Replayer {
+    cell: Cell,
+    steps: u32,
+    ghost few: { HasSteps steps cell },
+}
+
+impl Replayer {
+    ghost use Rattle.std.specs.Prelude.{◌≡◌, ◌++◌, ◌+◌, ◌<◌, ◌≤◌, Some, Ok, IfOk, OnOk, OnErr};
+    ghost use Rattle.cds_base.specs.declared.scan.TheConstants.{MOST_LINES};
+    ghost use Rattle.cell_model.specs.Cells as model;
+    ghost use Rattle.cell_model.specs.Steps.{outcome};
+    ghost use Rattle.cell_script.specs.Words.{words_of};
+    ghost use Rattle.cell_script.specs.Commands.{said_in};
+    ghost use Rattle.cds_cell.specs.Scripted.{step_of};
+    ghost use Rattle.cds_cell.specs.Standing.{IsStep, Stands};
+    ghost use Rattle.cell_replay.specs.Demand.{replayed};
+    ghost use Rattle.cell_replay.specs.Replies.{reply_text, cell_after};
+    ghost use Rattle.cell_replay.specs.PrivateStanding.{IsReply, Replays};
+
+    /// Over a cell without houses. Takes no memory.
+    pub(crate) fn new(alloc: Global) -> Replayer
+        ensures cell { Stands result.cell model.empty_cell }
+        ensures steps { result.steps ≡ 0 }
+    {
+        Replayer {
+            cell: Cell::new(alloc),
+            steps: 0,
+        }
+    }
+
+    /// Replays a line: its reply waits behind the others.
+    pub(crate) fn replay_line(
+        &mut self,
+        alloc: Global,
+        number: u32,
+        line: &[u8],
+        waiting: &mut Waiting,
+    ) -> LineEnd
+        requires fewer { self.old.steps < number }
+        requires most { number ≤ MOST_LINES }
+        ensures reply { (g : model.Cell) → Stands self.old.cell g
+            → Replays result (replayed number g (said_in (words_of line.now))) waiting.old waiting.new self.new }
+        ensures steps { self.new.steps ≤ number }
+    {
+        match parse_line(alloc, line) {
+            Ok(Some(line)) => self.reply_to_line(alloc, number, line, waiting),
+            Ok(None) => LineEnd::GoesOn,
+            Err(AllocOr::Fault(fault)) => reply_to_fault(alloc, number, fault, waiting),
+            Err(AllocOr::OutOfMemory) => LineEnd::NoMemory,
+        }
+    }
+
+    fn reply_to_line(
+        &mut self,
+        alloc: Global,
+        number: u32,
+        line: ScriptLine,
+        waiting: &mut Waiting,
+    ) -> LineEnd
+        requires few { self.old.steps < MOST_LINES }
+        ensures reply { (g : model.Cell) → Stands self.old.cell g → Replays result (replayed number g (Ok (Some line))) waiting.old waiting.new self.new }
+        ensures steps { self.new.steps ≤ self.old.steps + 1 }
+    {
+        match self.answer(alloc, number, line, waiting) {
+            Ok(()) => LineEnd::GoesOn,
+            Err(AllocError) => LineEnd::NoMemory,
+        }
+    }
+
+    // The reply to a line waits behind the others.
+    fn answer(
+        &mut self,
+        alloc: Global,
+        number: u32,
+        line: ScriptLine,
+        waiting: &mut Waiting,
+    ) -> Result<(), AllocError>
+        requires few { self.old.steps < MOST_LINES }
+        ensures ok { (g : model.Cell) → Stands self.old.cell g → OnOk result ((waiting.new ≡ waiting.old ++ reply_text number g line)
+            × Stands self.new.cell (cell_after g line)) }
+        ensures err { OnErr result (waiting.new ≡ waiting.old) }
+        ensures steps { self.new.steps ≤ self.old.steps + 1 }
+    {
+        let answer = self.reply(alloc, line)?;
+        waiting.add_answer(alloc, number, &answer)
+    }
+
+    // What the cell replies to a line.
+    fn reply(&mut self, alloc: Global, line: ScriptLine) -> Result<Answer, AllocError>
+        requires few { self.old.steps < MOST_LINES }
+        ensures reply { (g : model.Cell) → Stands self.old.cell g → IfOk result (λ a. IsReply a self.new.cell g line) }
+        ensures steps { self.new.steps ≤ self.old.steps + 1 }
+    {
+        match line {
+            ScriptLine::Cell(command) => self.step(alloc, command),
+            ScriptLine::Question(question) => answer_question(alloc, &self.cell, &question),
+        }
+    }
+
+    // A step of the cell, unless memory ran out before.
+    fn step(&mut self, alloc: Global, command: Command) -> Result<Answer, AllocError>
+        requires few { self.old.steps < MOST_LINES }
+        ensures step { (g : model.Cell) → Stands self.old.cell g → IfOk result (λ a. IsStep a self.new.cell (outcome g (step_of command))) }
+        ensures steps { self.new.steps ≤ self.old.steps + 1 }
+    {
+        if self.cell.is_spent() {
+            return Err(AllocError);
+        }
+        self.steps += 1;
+        self.cell.step(alloc, command)
+    }
+}
