@@ -1,13 +1,15 @@
 // Messages that no house sends: each has the answer of the table, and changes nothing unless it is taken.
-use crate::houses::{ROOT, both, message, no_entries, pair, stamp};
+use crate::houses::{Answer, ROOT, answer_to, both, entries_at, pair_of_members};
 use cds_records::{Body, Message};
-use cds_stamps::HouseNo;
-use clearinghouse::Taken;
+use cds_stamps::{EpochNo, HouseNo, Members, Node, Stamp};
+use clearinghouse::Clearinghouse;
+use directory::Table;
+use purge_rule::Replica;
 use std::alloc::Global;
 use std::test::Fail;
 
 // What a forged message carries.
-#[derive(Clone, Copy, Debug, PartialEq, Eq)]
+#[derive(Clone, Copy)]
 enum Forged {
     Gather,
     Gathered,
@@ -15,48 +17,58 @@ enum Forged {
     Ack,
     Advance,
     Join,
+    Leave,
 }
 
-// An answer without stamps.
-#[derive(Clone, Copy, Debug, PartialEq, Eq)]
-enum Answer {
-    Taken,
-    Late(u64, u64),
-    Early(u64, u64),
-    Foreign,
-    Other,
-}
-
-fn without_stamps(taken: Taken) -> Answer {
-    match taken {
-        Taken::Taken => Answer::Taken,
-        Taken::Late(sent, held) => Answer::Late(sent.0, held.0),
-        Taken::Early(sent, held) => Answer::Early(sent.0, held.0),
-        Taken::Foreign => Answer::Foreign,
-        _ => Answer::Other,
+// A replica without entries.
+fn no_entries(alloc: Global) -> Replica {
+    Replica {
+        table: Table::new(alloc),
+        all_up_to: None,
     }
 }
 
-// A message from this house, of this epoch, with stamps of this time.
-fn forge(alloc: Global, from: u8, epoch: u64, time: u64, what: Forged) -> Result<Message, Fail> {
-    let t = stamp(time)?;
-    let body = match what {
+// A body with the stamp of this time at node 10.
+fn body(alloc: Global, time: u64, what: Forged) -> Result<Body, Fail> {
+    let node = Node::new(10).ok_or("a node")?;
+    let t = Stamp { time, node };
+    Ok(match what {
         Forged::Gather => Body::Gather(t),
         Forged::Gathered => Body::Gathered(t, no_entries(alloc)),
         Forged::Spread => Body::Spread(t, no_entries(alloc)),
         Forged::Ack => Body::SpreadAck(t),
         Forged::Advance => Body::Advance(t),
-        Forged::Join => Body::Join(pair(alloc)?, no_entries(alloc)),
-    };
-    Ok(Message {
-        from: HouseNo(from),
-        ..message(epoch, 0, body)
+        Forged::Join => Body::Join(Members::new(alloc, &pair_of_members())?, no_entries(alloc)),
+        Forged::Leave => Body::Leave,
     })
 }
 
 // The sender, the epoch, the time of stamps, what it carries, the answer of house 2, and its floor then.
+type Row = (u8, u64, u64, Forged, Answer, u64);
+
+// The message of a row.
+fn message(alloc: Global, row: Row) -> Result<Message, Fail> {
+    let (from, epoch, time, what, _, _) = row;
+    Ok(Message {
+        dir: ROOT,
+        from: HouseNo(from),
+        epoch: EpochNo(epoch),
+        floor: 0,
+        body: body(alloc, time, what)?,
+    })
+}
+
+// The answer of a house to it.
+fn answered(alloc: Global, house: &mut Clearinghouse, row: Row) -> Result<Answer, Fail> {
+    let (answer, _) = answer_to(alloc, house, &message(alloc, row)?)?;
+    Ok(answer)
+}
+
 #[rattlefmt::skip]
-static FORGED: [(u8, u64, u64, Forged, Answer, u64); 10] = [
+static FORGED: [Row; 13] = [
+    (2, 1, 3, Forged::Gathered, Answer::Stale(3, None), 0),
+    (2, 1, 3, Forged::Ack, Answer::Stale(3, None), 0),
+    (1, 1, 5, Forged::Leave, Answer::Late(1, 1), 0),
     (3, 1, 5, Forged::Gather, Answer::Foreign, 0),
     (3, 2, 5, Forged::Join, Answer::Foreign, 0),
     (1, 0, 5, Forged::Gather, Answer::Late(0, 1), 0),
@@ -72,25 +84,11 @@ static FORGED: [(u8, u64, u64, Forged, Answer, u64); 10] = [
 #[test]
 fn forged_messages_have_the_answers_of_the_table(rt: HostRuntime) -> Result<(), Fail> {
     let alloc = rt.alloc();
-    let (_, mut house) = both(alloc)?;
-    for (from, epoch, time, what, wanted, floor) in FORGED {
-        let took = house.take(alloc, &forge(alloc, from, epoch, time, what)?)?;
-        assert_eq!(rt; without_stamps(took.taken), wanted);
-        assert_eq!(rt; house.floor(), floor);
+    let mut pair = both(alloc)?;
+    for row in FORGED {
+        assert_eq!(rt; answered(alloc, &mut pair.second, row)?, row.4);
+        assert_eq!(rt; pair.second.floor(), row.5);
     }
-    Ok(())
-}
-
-#[test]
-fn answers_to_no_skulk_are_stale(rt: HostRuntime) -> Result<(), Fail> {
-    let alloc = rt.alloc();
-    let (mut house, _) = both(alloc)?;
-    let t = stamp(3)?;
-    for what in [Forged::Gathered, Forged::Ack] {
-        let took = house.take(alloc, &forge(alloc, 2, 1, 3, what)?)?;
-        assert_eq!(rt; took.taken, Taken::Stale(t, None));
-        assert!(rt; took.posted.list().is_empty() && house.floor() == 0);
-    }
-    assert!(rt; house.state(ROOT).is_some());
+    assert!(rt; entries_at(&pair.second) == Some(0));
     Ok(())
 }

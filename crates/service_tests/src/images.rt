@@ -1,50 +1,59 @@
 // What a house keeps over a crash, whole and cut.
-use crate::houses::{ROOT, created, entries_at, founded};
+use crate::houses::{ROOT, both, created, entries_at};
 use cds_records::RecordFault;
 use cds_stamps::AllocOr;
 use clearinghouse::{Clearinghouse, DirState, StartFault};
 use skulk_core::Skulk;
+use std::alloc::Global;
 use std::test::Fail;
+
+// The image of a house with one entry, whose skulk runs.
+fn kept(alloc: Global) -> Result<Vec<u8>, Fail> {
+    let mut pair = both(alloc)?;
+    created(alloc, &mut pair.first, &mut pair.mail, b"kept")?;
+    pair.first.start_skulk(alloc, 9, ROOT)?;
+    Ok(pair.first.image(alloc)?)
+}
+
+// Whether no skulk of the root runs.
+fn is_idle(house: &Clearinghouse) -> bool {
+    match house.state(ROOT) {
+        Some(DirState::Held(held)) => held.skulk == Skulk::Idle,
+        _ => false,
+    }
+}
 
 #[test]
 fn a_house_starts_of_its_image(rt: HostRuntime) -> Result<(), Fail> {
     let alloc = rt.alloc();
-    let (mut house, _) = founded(alloc)?;
-    created(alloc, &mut house, b"kept")?;
-    house.start_skulk(alloc, 9, ROOT)?;
-    let image = house.image(alloc)?;
-    let Ok(started) = Clearinghouse::start(alloc, &image) else {
-        return Err("not started".into());
-    };
+    let image = kept(alloc)?;
+    let started = Clearinghouse::start(alloc, &image)?;
     assert!(rt; started.floor() == 9 && entries_at(&started) == Some(1));
-    assert!(rt; started.image(alloc)? == image && !started.is_spent());
-    let Some(DirState::Held(held)) = started.state(ROOT) else {
-        return Err("not held".into());
-    };
-    assert_eq!(rt; held.skulk, Skulk::Idle);
+    assert!(rt; is_idle(&started) && !started.is_spent());
+    assert!(rt; started.copy(alloc)?.image(alloc)? == image);
     Ok(())
+}
+
+// Why no house starts of octets.
+fn fault_of(alloc: Global, octets: &[u8]) -> Option<AllocOr<StartFault>> {
+    Clearinghouse::start(alloc, octets).err()
+}
+
+// The only fault of a start.
+fn bad_image(fault: RecordFault) -> Option<AllocOr<StartFault>> {
+    Some(AllocOr::Fault(StartFault::BadImage(fault)))
 }
 
 #[test]
 fn an_image_is_cut_at_each_octet(rt: HostRuntime) -> Result<(), Fail> {
     let alloc = rt.alloc();
-    let (mut house, _) = founded(alloc)?;
-    created(alloc, &mut house, b"kept")?;
-    let mut octets = house.image(alloc)?;
+    let mut octets = kept(alloc)?;
     for length in 0..octets.len() {
-        let Err(AllocOr::Fault(StartFault::BadImage(fault))) = Clearinghouse::start(
-            alloc,
-            &octets[..length],
-        ) else {
-            return Err("started".into());
-        };
-        assert_eq!(rt; fault, RecordFault::Short(length + 1));
+        let fault = fault_of(alloc, &octets[..length]);
+        assert_eq!(rt; fault, bad_image(RecordFault::Short(length + 1)));
     }
     octets.push(0)?;
-    let Err(AllocOr::Fault(StartFault::BadImage(fault))) = Clearinghouse::start(alloc, &octets)
-    else {
-        return Err("started".into());
-    };
-    assert_eq!(rt; fault, RecordFault::Trailing(octets.len()));
+    let fault = fault_of(alloc, &octets);
+    assert_eq!(rt; fault, bad_image(RecordFault::Trailing(octets.len())));
     Ok(())
 }
