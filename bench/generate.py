@@ -8,6 +8,9 @@
     generate.py check N      N commands of several kinds, for the form `check`
     generate.py towers N     the octets of N RPC towers of five floors, 75 octets each, for the form `towers`
     generate.py untowers N   the text of the same towers, a line each, for the form `untowers`
+    generate.py bag N        a directory at three houses, and N updates whose messages are delivered twice and then lost
+    generate.py skulks N     a directory of 10,000 entries with four values each at four houses, and N skulks of it
+    generate.py crashes N    a house with 10,000 entries that goes down and starts again N times
 
 The same kind and size is the same input, always.
 """
@@ -67,6 +70,93 @@ def check(count):
             yield f"{'add' if kind == 2 else 'remove'} 1 1 {name} Attribute {i:08x}\n"
 
 
+def houses(count):
+    """Houses from 1 on, and the root directory at the first."""
+    for house in range(1, count + 1):
+        yield f"house {house} {house:012x}\n"
+    yield "root 1\n"
+
+
+def pseudorandom(seed):
+    """Numbers below 2048 that look random."""
+    while True:
+        seed = (seed * 1103515245 + 12345) % 2147483648
+        yield seed >> 20
+
+
+def replicate(count):
+    """The root directory comes to all houses, by the first messages of the cell."""
+    others = range(2, count + 1)
+    yield f"epoch 1 1 {' '.join(map(str, others))}\n"
+    yield from delivered(range(1, count), 1)
+
+
+def delivered(serials, times):
+    """Messages that are each delivered so many times, and then lost."""
+    for _ in range(times):
+        for serial in serials:
+            yield f"deliver {serial}\n"
+    for serial in serials:
+        yield f"lose {serial}\n"
+
+
+def bag(count):
+    yield from houses(3)
+    for i in range(16):
+        yield f"create 1 1 entry-{i:02}\n"
+    yield from replicate(3)
+    serial = 3
+    random = pseudorandom(count)
+    for _ in range(count):
+        x = next(random)
+        command = "add" if x & 3 else "remove"
+        yield f"{command} 1 1 entry-{x >> 2 & 15:02} Attribute 0000{x >> 6 & 7:02x}ff\n"
+        yield from delivered(range(serial, serial + 2), 2)
+        serial += 2
+    for house in 1, 2, 3:
+        yield f"dump {house} 1\n"
+
+
+# The entries of the directory that is skulked, or kept over crashes.
+ENTRIES = 10_000
+
+
+def skulks(count):
+    yield from houses(4)
+    for i in mixed(ENTRIES):
+        yield f"create 1 1 entry-{i:08}\n"
+        for value in range(4):
+            yield f"add 1 1 entry-{i:08} Attribute {i:08x}{value:02x}\n"
+    yield from replicate(4)
+    serial = 4
+    random = pseudorandom(count)
+    for _ in range(count):
+        # Of each update the first other house gets the message at once, and the two others by the skulk alone.
+        for _ in range(4):
+            x = next(random)
+            yield f"{'add' if x & 3 else 'remove'} 1 1 entry-{x:08} Attribute {x:08x}{x >> 2 & 3:02x}\n"
+            yield from delivered([serial], 1)
+            yield from delivered(range(serial + 1, serial + 3), 0)
+            serial += 3
+        yield "skulk 1 1\n"
+        # The two rounds with their answers, and what follows the last.
+        for _ in range(5):
+            yield from delivered(range(serial, serial + 3), 1)
+            serial += 3
+    for house in 1, 4:
+        yield f"octets house {house}\n"
+
+
+def crashes(count):
+    yield from houses(1)
+    for i in mixed(ENTRIES):
+        yield f"create 1 1 entry-{i:08}\n"
+        yield f"add 1 1 entry-{i:08} Attribute {i:08x}\n"
+    for _ in range(count):
+        yield "crash 1\nstart 1\n"
+    yield "octets house 1\n"
+
+
 def coprime(a, b):
     while b:
         a, b = b, a % b
@@ -104,6 +194,9 @@ KINDS = {
     "check": lambda count: encoded(check(count)),
     "towers": towers,
     "untowers": untowers,
+    "bag": lambda count: encoded(bag(count)),
+    "skulks": lambda count: encoded(skulks(count)),
+    "crashes": lambda count: encoded(crashes(count)),
 }
 
 

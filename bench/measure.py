@@ -35,6 +35,9 @@ SIZES = {
     "check": 300_000,
     "towers": 700_000,
     "untowers": 700_000,
+    "bag": 100_000,
+    "skulks": 200,
+    "crashes": 1_000,
 }
 FORMS = {"check": "check", "towers": "towers", "untowers": "untowers"}
 # GNU time has a small peak of its own; this process would lend its children a greater one.

@@ -1,0 +1,125 @@
+//! The lines of answers.
+
+use std::fmt::{self, Display, Formatter};
+use std::io::{self, Write};
+
+use crate::cell::Answer;
+use crate::house::{Held, Refusal, Said};
+use crate::tables::{Entry, Kind, Stamp};
+
+const DIGITS: &[u8; 16] = b"0123456789abcdef";
+
+pub fn push_hex(text: &mut Vec<u8>, octets: &[u8]) {
+    for b in octets {
+        text.push(DIGITS[usize::from(b >> 4)]);
+        text.push(DIGITS[usize::from(b & 15)]);
+    }
+}
+
+impl Display for Stamp {
+    fn fmt(&self, f: &mut Formatter) -> fmt::Result {
+        write!(f, "{}@{:012x}", self.time, self.node)
+    }
+}
+
+/// A stamp, or what stands where there is none.
+fn stamp_or(stamp: Option<Stamp>, none: &str) -> String {
+    stamp.map_or(none.to_string(), |stamp| stamp.to_string())
+}
+
+impl Display for Said {
+    fn fmt(&self, f: &mut Formatter) -> fmt::Result {
+        match self {
+            Said::Done => write!(f, "ok"),
+            Said::Stamped(stamp) => write!(f, "ok {stamp}"),
+            Said::Made(dir, stamp) => write!(f, "ok {dir} {stamp}"),
+            Said::Epoch(epoch) => write!(f, "ok {epoch}"),
+            Said::Taken => write!(f, "ok taken"),
+            Said::Late(epoch, held) => write!(f, "ok late {epoch} {held}"),
+            Said::Early(epoch, held) => write!(f, "ok early {epoch} {held}"),
+            Said::Stale(stamp, running) => write!(f, "ok stale {stamp} {}", stamp_or(*running, "none")),
+            Said::NoReplica => write!(f, "ok noreplica"),
+            Said::Complete(stamp) => write!(f, "ok complete {stamp}"),
+        }
+    }
+}
+
+impl Display for Refusal {
+    fn fmt(&self, f: &mut Formatter) -> fmt::Result {
+        match self {
+            Refusal::Because(reason) => write!(f, "refused {reason}"),
+            Refusal::At(reason, number) => write!(f, "refused {reason} {number}"),
+            Refusal::NotJoined(held, since) => write!(f, "refused NotJoined {held} {since}"),
+        }
+    }
+}
+
+/// Adds the answer to the command of a line.
+pub fn write_answer(text: &mut Vec<u8>, number: u32, answer: Result<Answer, Refusal>) -> io::Result<()> {
+    match answer {
+        Ok(Answer::Dump(held)) => return write_dump(text, number, held),
+        Ok(Answer::Step(said, posted)) => {
+            write!(text, "{number} {said}")?;
+            if !posted.is_empty() {
+                write!(text, " posted")?;
+            }
+            for serial in posted {
+                write!(text, " {serial}")?;
+            }
+        }
+        Ok(Answer::Values(values)) => {
+            write!(text, "{number} ok {}", values.len())?;
+            for value in values {
+                text.push(b' ');
+                push_hex(text, value);
+            }
+        }
+        Ok(Answer::Target(name)) => {
+            write!(text, "{number} ok ")?;
+            text.extend(name);
+        }
+        Ok(Answer::Octets(octets)) => {
+            write!(text, "{number} ok {} ", octets.len())?;
+            push_hex(text, &octets);
+        }
+        Ok(Answer::Message(name, size)) => write!(text, "{number} ok {name} {size}")?,
+        Err(refusal) => write!(text, "{number} {refusal}")?,
+    }
+    text.push(b'\n');
+    Ok(())
+}
+
+fn write_dump(text: &mut Vec<u8>, number: u32, held: &Held) -> io::Result<()> {
+    let all_up_to = stamp_or(held.replica.all_up_to, "none");
+    write!(text, "{number} dump epoch {} allupto {all_up_to} members", held.term.epoch)?;
+    for member in &held.term.members {
+        write!(text, " {}:{}:{}", member.house, member.since, if member.is_master { 'm' } else { 'r' })?;
+    }
+    text.push(b'\n');
+    for (name, entry) in &held.replica.entries {
+        write_entry(text, number, name, entry)?;
+    }
+    writeln!(text, "{number} end")
+}
+
+fn write_entry(text: &mut Vec<u8>, number: u32, name: &[u8], entry: &Entry) -> io::Result<()> {
+    let kind = match entry.kind {
+        Kind::Object => "object",
+        Kind::Link => "link",
+        Kind::Child => "child",
+    };
+    write!(text, "{number} entry ")?;
+    text.extend(name);
+    writeln!(text, " {kind} {} {}", entry.birth, stamp_or(entry.death, "live"))?;
+    for (name, attribute) in &entry.attributes {
+        write!(text, "{number} attr ")?;
+        text.extend(name);
+        writeln!(text, " {}", stamp_or(attribute.cleared, "none"))?;
+        for (value, mark) in &attribute.marks {
+            write!(text, "{number} value ")?;
+            push_hex(text, value);
+            writeln!(text, " {} {}", if mark.present { "present" } else { "absent" }, mark.stamp)?;
+        }
+    }
+    Ok(())
+}

@@ -1,0 +1,372 @@
+//! A cell: its houses, the messages between them, and what its console knows; and what it answers to commands.
+
+use std::borrow::Cow;
+use std::collections::{BTreeMap, HashMap};
+use std::ops::RangeInclusive;
+use std::rc::Rc;
+
+use crate::house::Refusal::{At, Because};
+use crate::house::{Clearinghouse, Held, Letters, Refusal, Said, Term, Update};
+use crate::names::LONGEST_NAME;
+use crate::records::{self, Member};
+use crate::script::{Ask, Command};
+use crate::tables::{Entry, Kind, Pointer, Stamp};
+
+const MOST_MEMBERS: usize = 64;
+const MOST_LINKS: usize = 64;
+
+enum State {
+    Up(Clearinghouse),
+    /// A house that is down is the octets of its image.
+    Down(Vec<u8>),
+}
+
+struct House {
+    node: u64,
+    clock: u64,
+    state: State,
+}
+
+struct Letter {
+    to: u8,
+    octets: Rc<Vec<u8>>,
+}
+
+#[derive(Default)]
+pub struct Cell {
+    houses: BTreeMap<u8, House>,
+    /// The last epoch of each directory, that of the number 1 first.
+    directories: Vec<Term>,
+    bag: HashMap<u64, Letter>,
+    posted: u64,
+}
+
+/// The members of an epoch with these houses, the master first; who was a member before keeps its term.
+fn listing(before: &[Member], epoch: u64, houses: &[u8]) -> Term {
+    let mut ordered = houses.to_vec();
+    ordered.sort_unstable();
+    let since = |house| before.iter().find(|member| member.house == house).map_or(epoch, |member| member.since);
+    let member = |house| Member { house, since: since(house), is_master: house == houses[0] };
+    Term { epoch, members: ordered.into_iter().map(member).collect() }
+}
+
+/// The houses with the master first, and the others ascending.
+fn pointed(houses: &[u8]) -> Vec<u8> {
+    let mut ordered = houses.to_vec();
+    ordered[1..].sort_unstable();
+    ordered
+}
+
+/// That no house stands twice, and that they are not too many.
+fn listable(houses: &[u8]) -> Result<(), Refusal> {
+    let twice = houses.iter().enumerate().any(|(at, house)| houses[at + 1..].contains(house));
+    if twice || houses.len() > MOST_MEMBERS { Err(Because("BadMembers")) } else { Ok(()) }
+}
+
+// Steps.
+impl Cell {
+    fn known(&self, dir: u32) -> Result<&Term, Refusal> {
+        self.directories.get(dir as usize - 1).ok_or(Because("NoDirectory"))
+    }
+
+    fn made(&self, houses: &[u8]) -> Result<(), Refusal> {
+        let all = houses.iter().all(|house| self.houses.contains_key(house));
+        if all { Ok(()) } else { Err(Because("NoHouse")) }
+    }
+
+    fn house(&mut self, house: u8) -> Result<&mut House, Refusal> {
+        self.houses.get_mut(&house).ok_or(Because("NoHouse"))
+    }
+
+    /// A house that is up, and its clock.
+    fn up(&mut self, house: u8) -> Result<(&mut Clearinghouse, u64), Refusal> {
+        match self.house(house)? {
+            House { state: State::Up(home), clock, .. } => Ok((home, *clock)),
+            House { state: State::Down(_), .. } => Err(Because("Down")),
+        }
+    }
+
+    fn post(&mut self, letters: Option<Letters>) {
+        let Some(Letters { to, octets }) = letters else {
+            return;
+        };
+        let octets = Rc::new(octets);
+        for to in to {
+            self.posted += 1;
+            self.bag.insert(self.posted, Letter { to, octets: octets.clone() });
+        }
+    }
+
+    fn make_house(&mut self, number: u8, node: u64) -> Result<Said, Refusal> {
+        if self.houses.iter().any(|(other, house)| *other == number || house.node == node) {
+            return Err(Because("HouseExists"));
+        }
+        let state = State::Up(Clearinghouse::new(number, node));
+        self.houses.insert(number, House { node, clock: 0, state });
+        Ok(Said::Done)
+    }
+
+    /// A new directory, by its number.
+    fn found(&mut self, houses: &[u8]) -> Result<u32, Refusal> {
+        let term = listing(&[], 1, houses);
+        self.directories.push(term.clone());
+        let dir = self.directories.len() as u32;
+        let letters = self.up(houses[0])?.0.found(dir, term);
+        self.post(letters);
+        Ok(dir)
+    }
+
+    fn make_root(&mut self, houses: &[u8]) -> Result<Said, Refusal> {
+        if !self.directories.is_empty() {
+            return Err(Because("DirectoryExists"));
+        }
+        self.made(houses)?;
+        listable(houses)?;
+        self.up(houses[0])?;
+        self.found(houses)?;
+        Ok(Said::Done)
+    }
+
+    fn accept(&mut self, house: u8, dir: u32, name: &[u8], update: Update) -> Result<Stamp, Refusal> {
+        self.known(dir)?;
+        let (home, clock) = self.up(house)?;
+        let (stamp, letters) = home.accept(clock, dir, name, update)?;
+        self.post(letters);
+        Ok(stamp)
+    }
+
+    fn make_directory(&mut self, house: u8, dir: u32, name: &[u8], houses: &[u8]) -> Result<Said, Refusal> {
+        self.known(dir)?;
+        self.made(&[house])?;
+        self.made(houses)?;
+        listable(houses)?;
+        self.up(house)?;
+        self.up(houses[0])?;
+        let child = self.directories.len() as u32 + 1;
+        let value = Pointer { dir: child, houses: pointed(houses) }.octets();
+        let stamp = self.accept(house, dir, name, Update::New(Kind::Child, Some(value)))?;
+        Ok(Said::Made(self.found(houses)?, stamp))
+    }
+
+    fn repoint(&mut self, house: u8, dir: u32, name: &[u8], houses: &[u8]) -> Result<Said, Refusal> {
+        self.known(dir)?;
+        self.made(&[house])?;
+        self.made(houses)?;
+        listable(houses)?;
+        self.accept(house, dir, name, Update::Repoint(pointed(houses))).map(Said::Stamped)
+    }
+
+    fn new_epoch(&mut self, dir: u32, houses: &[u8]) -> Result<Said, Refusal> {
+        let last = self.known(dir)?;
+        let (epoch, is_member) = (last.epoch + 1, last.place(houses[0]).is_some());
+        let term = listing(&last.members, epoch, houses);
+        let left = last.members.iter().map(|member| member.house).filter(|house| term.place(*house).is_none()).collect();
+        self.made(houses)?;
+        listable(houses)?;
+        if !is_member {
+            return Err(Because("NotMember"));
+        }
+        let letters = self.up(houses[0])?.0.enter(dir, term.clone(), left)?;
+        for letters in letters {
+            self.post(letters);
+        }
+        self.directories[dir as usize - 1] = term;
+        Ok(Said::Epoch(epoch))
+    }
+
+    fn begin_skulk(&mut self, house: u8, dir: u32) -> Result<Said, Refusal> {
+        self.known(dir)?;
+        let (home, clock) = self.up(house)?;
+        let (said, letters) = home.begin_skulk(clock, dir)?;
+        self.post(letters);
+        Ok(said)
+    }
+
+    fn letter(&self, serial: u64) -> Result<&Letter, Refusal> {
+        self.bag.get(&serial).ok_or(Because("NoMessage"))
+    }
+
+    fn deliver(&mut self, serial: u64) -> Result<Said, Refusal> {
+        let Letter { to, octets } = self.letter(serial)?;
+        let (to, octets) = (*to, octets.clone());
+        let (home, _) = self.up(to)?;
+        let (message, _) = records::read_message(&octets).map_err(|_| Because("NoMessage"))?;
+        let (said, letters) = home.take(message);
+        self.post(letters);
+        Ok(said)
+    }
+
+    fn crash(&mut self, house: u8) -> Result<Said, Refusal> {
+        let image = self.up(house)?.0.image();
+        self.house(house)?.state = State::Down(image);
+        Ok(Said::Done)
+    }
+
+    fn start(&mut self, house: u8) -> Result<Said, Refusal> {
+        let house = self.house(house)?;
+        let State::Down(image) = &house.state else {
+            return Err(Because("Up"));
+        };
+        house.state = State::Up(records::read_image(image).map_err(|_| Because("NoHouse"))?);
+        Ok(Said::Done)
+    }
+
+    fn step(&mut self, command: Command) -> Result<Said, Refusal> {
+        match command {
+            Command::House(house, node) => self.make_house(house, node),
+            Command::Clock(house, time) => self.house(house).map(|house| house.clock = time).map(|_| Said::Done),
+            Command::Root(houses) => self.make_root(&houses),
+            Command::Mkdir(house, dir, name, houses) => self.make_directory(house, dir, name, &houses),
+            Command::Repoint(house, dir, name, houses) => self.repoint(house, dir, name, &houses),
+            Command::Update(house, dir, name, update) => self.accept(house, dir, name, update).map(Said::Stamped),
+            Command::Epoch(dir, houses) => self.new_epoch(dir, &houses),
+            Command::Skulk(house, dir) => self.begin_skulk(house, dir),
+            Command::Deliver(serial) => self.deliver(serial),
+            Command::Lose(serial) => self.bag.remove(&serial).map(|_| Said::Done).ok_or(Because("NoMessage")),
+            Command::Crash(house) => self.crash(house),
+            Command::Start(house) => self.start(house),
+            _ => Ok(Said::Done),
+        }
+    }
+}
+
+/// Where the walk of a full name comes to: an entry, or a link, which is followed, and what stands behind it.
+enum Pass<'a, 'n> {
+    Found(&'a Entry),
+    Link(&'a [u8], &'n [u8]),
+}
+
+// Questions.
+impl Cell {
+    /// What a house that is up holds of a directory.
+    fn held(&self, dir: u32, house: u8) -> Option<&Held> {
+        match &self.houses.get(&house)?.state {
+            State::Up(home) => home.held(dir),
+            State::Down(_) => None,
+        }
+    }
+
+    /// What is held of a directory by the house that is asked about it.
+    fn asked(&self, at: &Pointer, ask: Ask) -> Option<&Held> {
+        let answers = |house: &u8| {
+            let held = self.held(at.dir, *house)?;
+            if !ask.high || held.term.master() == Some(*house) { Some(held) } else { None }
+        };
+        let preferred = at.houses.iter().find(|house| !ask.high && **house == ask.house);
+        preferred.and_then(answers).or_else(|| at.houses.iter().find_map(answers))
+    }
+
+    fn root(&self) -> Result<Pointer, Refusal> {
+        let term = self.directories.first().ok_or(At("Unreachable", 1))?;
+        let master = term.master().unwrap_or(0);
+        let houses = std::iter::once(master).chain(term.others(master)).collect();
+        Ok(Pointer { dir: 1, houses })
+    }
+
+    /// Walks one full name from the root directory on.
+    fn pass<'n>(&self, ask: Ask, name: &'n [u8], follows_last: bool) -> Result<Pass<'_, 'n>, Refusal> {
+        let mut rest = &name[3..];
+        if rest.is_empty() {
+            return Err(Because("RootName"));
+        }
+        let mut at = self.root()?;
+        let mut done = 0;
+        loop {
+            let names = &rest[1..];
+            let (component, behind) = names.split_at(names.iter().position(|b| *b == b'/').unwrap_or(names.len()));
+            let held = self.asked(&at, ask).ok_or(At("Unreachable", u64::from(at.dir)))?;
+            let entry = held.replica.live(component).ok_or(At("NoSuchName", done))?;
+            match (entry.kind, entry.lead()) {
+                (Kind::Link, Some(target)) if follows_last || !behind.is_empty() => return Ok(Pass::Link(target, behind)),
+                _ if behind.is_empty() => return Ok(Pass::Found(entry)),
+                (Kind::Child, Some(lead)) => at = Pointer::read(lead).ok_or(At("NoSuchName", done))?,
+                _ => return Err(At("NotDirectory", done + 1)),
+            }
+            rest = behind;
+            done += 1;
+        }
+    }
+
+    fn walk(&self, ask: Ask, name: &[u8], follows_last: bool) -> Result<&Entry, Refusal> {
+        let mut later: Vec<Vec<u8>> = Vec::new();
+        loop {
+            let present = later.last().map_or(name, Vec::as_slice);
+            let next = match self.pass(ask, present, follows_last)? {
+                Pass::Found(entry) => return Ok(entry),
+                Pass::Link(target, behind) => [target, behind].concat(),
+            };
+            if later.len() >= MOST_LINKS {
+                return Err(Because("TooManyLinks"));
+            }
+            if next.len() > LONGEST_NAME {
+                return Err(Because("NameTooLong"));
+            }
+            if next == name || later.contains(&next) {
+                return Err(Because("LinkCycle"));
+            }
+            later.push(next);
+        }
+    }
+}
+
+/// The answer to a command that is not refused.
+pub enum Answer<'a> {
+    /// What comes of a step, and the messages that it posted.
+    Step(Said, RangeInclusive<u64>),
+    Values(Vec<&'a [u8]>),
+    Target(&'a [u8]),
+    Dump(&'a Held),
+    Octets(Cow<'a, [u8]>),
+    Message(&'static str, usize),
+}
+
+// Answers.
+impl Cell {
+    pub fn answer(&mut self, command: Command) -> Result<Answer<'_>, Refusal> {
+        match command {
+            Command::Read(ask, name, attribute) => self.read(ask, name, attribute),
+            Command::ReadLink(ask, name) => self.read_link(ask, name),
+            Command::Dump(house, dir) => self.dump(house, dir),
+            Command::OctetsOfMessage(serial) => Ok(Answer::Octets(Cow::Borrowed(&self.letter(serial)?.octets))),
+            Command::OctetsOfHouse(house) => self.octets_of(house),
+            Command::Decode(octets) => match records::read_message(&octets) {
+                Ok((message, size)) => Ok(Answer::Message(message.body.name(), size)),
+                Err(fault) => Err(At(fault.rule, fault.place as u64)),
+            },
+            step => {
+                let before = self.posted;
+                let said = self.step(step)?;
+                Ok(Answer::Step(said, before + 1..=self.posted))
+            }
+        }
+    }
+
+    fn read(&self, ask: Ask, name: &[u8], attribute: &[u8]) -> Result<Answer<'_>, Refusal> {
+        self.made(&[ask.house])?;
+        let entry = self.walk(ask, name, true)?;
+        let values = entry.attributes.get(attribute).map(|attribute| attribute.values().collect());
+        Ok(Answer::Values(values.unwrap_or_default()))
+    }
+
+    fn read_link(&self, ask: Ask, name: &[u8]) -> Result<Answer<'_>, Refusal> {
+        self.made(&[ask.house])?;
+        let entry = self.walk(ask, name, false)?;
+        match entry.lead() {
+            Some(target) if entry.kind == Kind::Link => Ok(Answer::Target(target)),
+            _ => Err(Because("NotLink")),
+        }
+    }
+
+    fn dump(&mut self, house: u8, dir: u32) -> Result<Answer<'_>, Refusal> {
+        self.known(dir)?;
+        self.up(house)?;
+        self.held(dir, house).map(Answer::Dump).ok_or(Because("NoReplica"))
+    }
+
+    fn octets_of(&mut self, house: u8) -> Result<Answer<'_>, Refusal> {
+        Ok(Answer::Octets(match &self.house(house)?.state {
+            State::Up(home) => Cow::Owned(home.image()),
+            State::Down(image) => Cow::Borrowed(image),
+        }))
+    }
+}

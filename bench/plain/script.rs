@@ -1,0 +1,244 @@
+//! The lines of a script: what they say, or the first fault of one.
+
+use std::io::{self, BufRead, BufReader, Read};
+
+use crate::house::Update;
+use crate::names;
+use crate::tables::{Change, Kind};
+
+pub const LONGEST_LINE: usize = 4096;
+const MOST_LINES: u32 = 16_777_216;
+
+/// Why a line is faulty, and the place.
+pub struct Fault(pub &'static str, pub usize);
+
+/// Which house a question prefers, and whether it asks masters alone.
+#[derive(Clone, Copy)]
+pub struct Ask {
+    pub house: u8,
+    pub high: bool,
+}
+
+/// What a line says; its names are those of the line. In a list of houses the master stands first, as in the line.
+pub enum Command<'a> {
+    House(u8, u64),
+    Clock(u8, u64),
+    Root(Vec<u8>),
+    Mkdir(u8, u32, &'a [u8], Vec<u8>),
+    Repoint(u8, u32, &'a [u8], Vec<u8>),
+    Update(u8, u32, &'a [u8], Update<'a>),
+    Epoch(u32, Vec<u8>),
+    Skulk(u8, u32),
+    Deliver(u64),
+    Lose(u64),
+    Crash(u8),
+    Start(u8),
+    Read(Ask, &'a [u8], &'a [u8]),
+    ReadLink(Ask, &'a [u8]),
+    Dump(u8, u32),
+    OctetsOfMessage(u64),
+    OctetsOfHouse(u8),
+    Decode(Vec<u8>),
+}
+
+fn number(word: &[u8]) -> Option<u64> {
+    let digits = word.iter().all(u8::is_ascii_digit) && (word.len() == 1 || !word.starts_with(b"0"));
+    if digits { std::str::from_utf8(word).ok()?.parse().ok() } else { None }
+}
+
+fn house(word: &[u8]) -> Option<u8> {
+    u8::try_from(number(word)?).ok().filter(|house| *house > 0)
+}
+
+fn directory(word: &[u8]) -> Option<u32> {
+    u32::try_from(number(word)?).ok().filter(|dir| *dir > 0)
+}
+
+fn serial(word: &[u8]) -> Option<u64> {
+    number(word).filter(|serial| *serial > 0)
+}
+
+/// The octets of a word of hexadecimal digits, two an octet.
+pub fn hex(word: &[u8]) -> Option<Vec<u8>> {
+    let digit = |b: u8| (b as char).to_digit(16).map(|d| d as u8);
+    if word.len() % 2 != 0 {
+        return None;
+    }
+    word.chunks_exact(2).map(|pair| Some(digit(pair[0])? << 4 | digit(pair[1])?)).collect()
+}
+
+fn node(word: &[u8]) -> Option<u64> {
+    let [a, b, c, d, e, f] = hex(word)?.try_into().ok()?;
+    Some(u64::from_be_bytes([0, 0, a, b, c, d, e, f]))
+}
+
+fn value(word: &[u8]) -> Option<Vec<u8>> {
+    hex(word).filter(|octets| (1..=1024).contains(&octets.len()))
+}
+
+fn octets(word: &[u8]) -> Option<Vec<u8>> {
+    hex(word).filter(|octets| !octets.is_empty())
+}
+
+fn simple(word: &[u8]) -> Option<&[u8]> {
+    Some(word).filter(|word| names::is_simple(word))
+}
+
+fn full(word: &[u8]) -> Option<&[u8]> {
+    Some(word).filter(|word| names::is_full(word))
+}
+
+fn attribute(word: &[u8]) -> Option<&[u8]> {
+    Some(word).filter(|word| names::is_attribute(word))
+}
+
+fn is_high(word: &[u8]) -> Option<bool> {
+    match word {
+        b"low" => Some(false),
+        b"high" => Some(true),
+        _ => None,
+    }
+}
+
+/// The words of a line, and how many are read.
+struct Words<'a> {
+    words: Vec<&'a [u8]>,
+    read: usize,
+}
+
+impl<'a> Words<'a> {
+    /// The next word, in this form.
+    fn next<T>(&mut self, form: impl FnOnce(&'a [u8]) -> Option<T>) -> Result<T, Fault> {
+        self.read += 1;
+        form(self.words[self.read - 1]).ok_or(Fault("BadWord", self.read))
+    }
+
+    /// All that are left are houses.
+    fn houses(&mut self) -> Result<Vec<u8>, Fault> {
+        (self.read..self.words.len()).map(|_| self.next(house)).collect()
+    }
+
+    fn ask(&mut self) -> Result<Ask, Fault> {
+        Ok(Ask { house: self.next(house)?, high: self.next(is_high)? })
+    }
+
+    fn change(&mut self, clears: bool, present: bool) -> Result<Update<'a>, Fault> {
+        let attribute = self.next(attribute)?;
+        let value = Some((self.next(value)?, present));
+        Ok(Update::Change(Change { attribute, clears, value }))
+    }
+
+    /// The house, directory and entry of an update, and what it is.
+    fn update(&mut self, update: impl FnOnce(&mut Self) -> Result<Update<'a>, Fault>) -> Result<Command<'a>, Fault> {
+        Ok(Command::Update(self.next(house)?, self.next(directory)?, self.next(simple)?, update(self)?))
+    }
+}
+
+/// How many words a command has at least and at most.
+fn counts(word: &[u8]) -> Result<(usize, usize), Fault> {
+    Ok(match word {
+        b"deliver" | b"lose" | b"crash" | b"start" | b"decode" => (2, 2),
+        b"house" | b"clock" | b"skulk" | b"dump" | b"octets" => (3, 3),
+        b"create" | b"delete" | b"readlink" => (4, 4),
+        b"link" | b"clear" | b"read" => (5, 5),
+        b"add" | b"remove" | b"put" => (6, 6),
+        b"root" => (2, usize::MAX),
+        b"epoch" => (3, usize::MAX),
+        b"mkdir" | b"repoint" => (5, usize::MAX),
+        b"export" | b"unexport" | b"groupadd" | b"groupdel" | b"profadd" | b"profdel" | b"import" => {
+            return Err(Fault("NotBuilt", 1));
+        }
+        _ => return Err(Fault("UnknownCommand", 1)),
+    })
+}
+
+/// What the words of a line say.
+fn command(words: Vec<&[u8]>) -> Result<Command<'_>, Fault> {
+    let (least, most) = counts(words[0])?;
+    if words.len() < least || most < words.len() {
+        return Err(Fault("WrongCount", words.len()));
+    }
+    let mut words = Words { words, read: 1 };
+    let w = &mut words;
+    Ok(match w.words[0] {
+        b"house" => Command::House(w.next(house)?, w.next(node)?),
+        b"clock" => Command::Clock(w.next(house)?, w.next(number)?),
+        b"root" => Command::Root(w.houses()?),
+        b"mkdir" => Command::Mkdir(w.next(house)?, w.next(directory)?, w.next(simple)?, w.houses()?),
+        b"repoint" => Command::Repoint(w.next(house)?, w.next(directory)?, w.next(simple)?, w.houses()?),
+        b"create" => w.update(|_| Ok(Update::New(Kind::Object, None)))?,
+        b"link" => w.update(|w| Ok(Update::New(Kind::Link, Some(w.next(full)?.to_vec()))))?,
+        b"delete" => w.update(|_| Ok(Update::Delete))?,
+        b"add" => w.update(|w| w.change(false, true))?,
+        b"remove" => w.update(|w| w.change(false, false))?,
+        b"put" => w.update(|w| w.change(true, true))?,
+        b"clear" => w.update(|w| Ok(Update::Change(Change { attribute: w.next(attribute)?, clears: true, value: None })))?,
+        b"epoch" => Command::Epoch(w.next(directory)?, w.houses()?),
+        b"skulk" => Command::Skulk(w.next(house)?, w.next(directory)?),
+        b"deliver" => Command::Deliver(w.next(serial)?),
+        b"lose" => Command::Lose(w.next(serial)?),
+        b"crash" => Command::Crash(w.next(house)?),
+        b"start" => Command::Start(w.next(house)?),
+        b"read" => Command::Read(w.ask()?, w.next(full)?, w.next(attribute)?),
+        b"readlink" => Command::ReadLink(w.ask()?, w.next(full)?),
+        b"dump" => Command::Dump(w.next(house)?, w.next(directory)?),
+        b"octets" => match w.next(|word| [&b"msg"[..], b"house"].iter().position(|name| *name == word))? {
+            0 => Command::OctetsOfMessage(w.next(serial)?),
+            _ => Command::OctetsOfHouse(w.next(house)?),
+        },
+        _ => Command::Decode(w.next(octets)?),
+    })
+}
+
+/// The text of a line without its end.
+pub fn text_of(line: &[u8]) -> Result<&[u8], Fault> {
+    let text = line.strip_suffix(b"\n").unwrap_or(line);
+    let seen = &text[..text.len().min(LONGEST_LINE)];
+    if !seen.iter().all(|b| matches!(b, b' '..=b'~')) {
+        let place = seen.iter().position(|b| !matches!(b, b' '..=b'~')).unwrap_or(0) + 1;
+        return Err(Fault("NotAscii", place));
+    }
+    if text.len() > LONGEST_LINE {
+        return Err(Fault("LineTooLong", LONGEST_LINE + 1));
+    }
+    if text.len() == line.len() {
+        return Err(Fault("NoLineEnd", text.len() + 1));
+    }
+    Ok(text)
+}
+
+/// What a line with its end says, if it says anything.
+fn parse(line: &[u8]) -> Result<Option<Command<'_>>, Fault> {
+    let text = text_of(line)?;
+    if text.trim_ascii_start().starts_with(b"#") {
+        return Ok(None);
+    }
+    let words: Vec<&[u8]> = text.split(|b| *b == b' ').filter(|word| !word.is_empty()).collect();
+    if words.is_empty() { Ok(None) } else { command(words).map(Some) }
+}
+
+/// Takes each line by its number, with what it says; the first faulty one is the last.
+pub fn each_line(
+    source: impl Read,
+    mut take: impl FnMut(u32, Result<Option<Command>, Fault>) -> io::Result<()>,
+) -> io::Result<bool> {
+    let mut source = BufReader::new(source);
+    let mut line = Vec::new();
+    let mut number = 0;
+    loop {
+        line.clear();
+        if source.read_until(b'\n', &mut line)? == 0 {
+            return Ok(true);
+        }
+        number += 1;
+        let said = match number > MOST_LINES && matches!(line[0], b' '..=b'~' | b'\n') {
+            true => Err(Fault("TooManyLines", 1)),
+            false => parse(&line),
+        };
+        let is_faulty = said.is_err();
+        take(number, said)?;
+        if is_faulty {
+            return Ok(false);
+        }
+    }
+}

@@ -1,0 +1,230 @@
+//! What a replica of a directory holds: entries, attributes and values, with the stamps of their marks, and how they are merged.
+
+use std::collections::BTreeMap;
+use std::collections::btree_map::Entry::{Occupied, Vacant};
+
+use crate::names;
+
+pub const LINK_TARGET: &[u8] = b"CDS_LinkTarget";
+pub const REPLICAS: &[u8] = b"CDS_Replicas";
+
+#[derive(Clone, Copy, PartialEq, Eq, PartialOrd, Ord)]
+pub struct Stamp {
+    pub time: u64,
+    pub node: u64,
+}
+
+#[derive(Clone, Copy, PartialEq, Eq, PartialOrd, Ord)]
+pub enum Kind {
+    Object = 1,
+    Link = 2,
+    Child = 3,
+}
+
+#[derive(Clone, Copy)]
+pub struct Mark {
+    pub present: bool,
+    pub stamp: Stamp,
+}
+
+impl Mark {
+    /// A mark gives way to a later one; of two with one stamp the absent one stays.
+    fn raise(&mut self, other: Mark) {
+        if (self.stamp, !self.present) < (other.stamp, !other.present) {
+            *self = other;
+        }
+    }
+}
+
+#[derive(Default)]
+pub struct Attribute {
+    pub cleared: Option<Stamp>,
+    pub marks: BTreeMap<Vec<u8>, Mark>,
+}
+
+impl Attribute {
+    fn clear(&mut self, stamp: Stamp) {
+        if self.cleared < Some(stamp) {
+            self.cleared = Some(stamp);
+            self.marks.retain(|_, mark| stamp <= mark.stamp);
+        }
+    }
+
+    fn mark(&mut self, value: Vec<u8>, mark: Mark) {
+        if Some(mark.stamp) < self.cleared {
+            return;
+        }
+        match self.marks.entry(value) {
+            Occupied(mut own) => own.get_mut().raise(mark),
+            Vacant(place) => {
+                place.insert(mark);
+            }
+        }
+    }
+
+    fn join(&mut self, other: Attribute) {
+        if let Some(stamp) = other.cleared {
+            self.clear(stamp);
+        }
+        for (value, mark) in other.marks {
+            self.mark(value, mark);
+        }
+    }
+
+    /// The values that are present, ascending.
+    pub fn values(&self) -> impl Iterator<Item = &[u8]> {
+        self.marks.iter().filter(|(_, mark)| mark.present).map(|(value, _)| value.as_slice())
+    }
+}
+
+/// What an update changes of an attribute: it clears it, marks a value, or does both.
+pub struct Change<'a> {
+    pub attribute: &'a [u8],
+    pub clears: bool,
+    pub value: Option<(Vec<u8>, bool)>,
+}
+
+/// What an update does to an entry that there is.
+pub enum Marks<'a> {
+    Death,
+    Change(Change<'a>),
+}
+
+pub struct Entry {
+    pub kind: Kind,
+    pub birth: Stamp,
+    pub death: Option<Stamp>,
+    pub attributes: BTreeMap<Vec<u8>, Attribute>,
+}
+
+impl Entry {
+    /// A new entry; a link or a child with the value that says where it leads.
+    pub fn born(kind: Kind, birth: Stamp, lead: Option<Vec<u8>>) -> Entry {
+        let mut entry = Entry { kind, birth, death: None, attributes: BTreeMap::new() };
+        if let Some(value) = lead {
+            let change = Change { attribute: entry.lead_attribute(), clears: false, value: Some((value, true)) };
+            entry.apply(Marks::Change(change), birth);
+        }
+        entry
+    }
+
+    pub fn apply(&mut self, marks: Marks, stamp: Stamp) {
+        match marks {
+            Marks::Death => self.death = Some(stamp),
+            Marks::Change(change) => {
+                let attribute = match self.attributes.get_mut(change.attribute) {
+                    Some(attribute) => attribute,
+                    None => self.attributes.entry(change.attribute.to_vec()).or_default(),
+                };
+                if change.clears {
+                    attribute.clear(stamp);
+                }
+                if let Some((value, present)) = change.value {
+                    attribute.mark(value, Mark { present, stamp });
+                }
+            }
+        }
+    }
+
+    /// Of two entries of one name the one that was born later stays; those of one birth are joined.
+    fn join(&mut self, other: Entry) {
+        if self.birth < other.birth {
+            *self = other;
+        } else if self.birth == other.birth {
+            self.kind = self.kind.max(other.kind);
+            self.death = self.death.into_iter().chain(other.death).min();
+            join_maps(&mut self.attributes, other.attributes, Attribute::join);
+        }
+    }
+
+    pub fn is_live(&self) -> bool {
+        self.death.is_none() && (self.kind == Kind::Object || self.lead().is_some())
+    }
+
+    fn lead_attribute(&self) -> &'static [u8] {
+        if self.kind == Kind::Link { LINK_TARGET } else { REPLICAS }
+    }
+
+    /// The value that says where a link or a child leads, if it is the only one that reads so.
+    pub fn lead(&self) -> Option<&[u8]> {
+        let reads = |value: &&[u8]| match self.kind {
+            Kind::Object => false,
+            Kind::Link => names::is_full(value),
+            Kind::Child => Pointer::read(value).is_some(),
+        };
+        let mut values = self.attributes.get(self.lead_attribute())?.values().filter(reads);
+        let first = values.next()?;
+        if values.next().is_none() { Some(first) } else { None }
+    }
+}
+
+fn join_maps<V>(own: &mut BTreeMap<Vec<u8>, V>, other: BTreeMap<Vec<u8>, V>, join: impl Fn(&mut V, V)) {
+    for (key, value) in other {
+        match own.entry(key) {
+            Occupied(mut own) => join(own.get_mut(), value),
+            Vacant(place) => {
+                place.insert(value);
+            }
+        }
+    }
+}
+
+#[derive(Default)]
+pub struct Replica {
+    pub all_up_to: Option<Stamp>,
+    pub entries: BTreeMap<Vec<u8>, Entry>,
+}
+
+impl Replica {
+    pub fn live(&self, name: &[u8]) -> Option<&Entry> {
+        self.entries.get(name).filter(|entry| entry.is_live())
+    }
+
+    pub fn live_mut(&mut self, name: &[u8]) -> Option<&mut Entry> {
+        self.entries.get_mut(name).filter(|entry| entry.is_live())
+    }
+
+    pub fn join_entry(&mut self, name: Vec<u8>, entry: Entry) {
+        match self.entries.entry(name) {
+            Occupied(mut own) => own.get_mut().join(entry),
+            Vacant(place) => {
+                place.insert(entry);
+            }
+        }
+    }
+
+    pub fn join(&mut self, other: Replica) {
+        join_maps(&mut self.entries, other.entries, Entry::join);
+        self.all_up_to = self.all_up_to.max(other.all_up_to);
+    }
+
+    pub fn advance(&mut self, stamp: Stamp) {
+        self.all_up_to = self.all_up_to.max(Some(stamp));
+    }
+}
+
+/// Where a child leads: a directory, and its houses, the master first and the others ascending.
+pub struct Pointer {
+    pub dir: u32,
+    pub houses: Vec<u8>,
+}
+
+impl Pointer {
+    pub fn octets(&self) -> Vec<u8> {
+        let mut octets = self.dir.to_be_bytes().to_vec();
+        octets.push(self.houses.len() as u8);
+        octets.extend(&self.houses);
+        octets
+    }
+
+    pub fn read(octets: &[u8]) -> Option<Pointer> {
+        let (dir, rest) = octets.split_first_chunk()?;
+        let (count, houses) = rest.split_first()?;
+        let (master, others) = houses.split_first()?;
+        let fits = (1..=64).contains(count) && houses.len() == usize::from(*count);
+        if !fits || others.contains(master) || !others.is_sorted_by(|a, b| a < b) {
+            return None;
+        }
+        Some(Pointer { dir: u32::from_be_bytes(*dir), houses: houses.to_vec() })
+    }
+}
