@@ -1,14 +1,11 @@
-// Answers as text, above all those of several lines or many parts; and lines that are parsed.
-use attr_sets::{AttrCell, Value};
-use cds_stamps::{
-    AttrName, DirId, EpochNo, HouseNo, Member, MemberKind, Members, Node, SimpleName, Stamp,
-};
+// Answers as text; and lines that are parsed.
+use attr_sets::Value;
+use cds_stamps::{DirId, EpochNo, Node, Stamp};
 use cell_names::FullName;
 use cell_script::{
-    Answer, Command, Octets, ParseFault, Question, ScriptLine, ScriptRefusal, Serials, Values,
+    Answer, Command, ParseFault, Question, ScriptLine, ScriptRefusal, Serials, Values,
     append_answer, parse_line, print_fault, print_parse_fault,
 };
-use directory::{AttrMap, EntryCell, Kind, Table};
 use std::alloc::Global;
 use std::test::Fail;
 
@@ -73,84 +70,6 @@ fn messages_have_their_names(rt: HostRuntime) -> Result<(), Fail> {
         told(rt.alloc(), Answer::Decoded(tag, 46), text)?;
     }
     Ok(())
-}
-
-#[test]
-fn what_comes_of_messages(rt: HostRuntime) -> Result<(), Fail> {
-    let alloc = rt.alloc();
-    let epoch = Answer::Epoch(EpochNo(2), serials(alloc, &[3, 4])?);
-    told(alloc, epoch, "7 ok 2 posted 3 4\n")?;
-    told(
-        alloc,
-        Answer::Taken(serials(alloc, &[9])?),
-        "7 ok taken posted 9\n",
-    )?;
-    told(
-        alloc,
-        Answer::Late(EpochNo(2), EpochNo(3)),
-        "7 ok late 2 3\n",
-    )?;
-    told(
-        alloc,
-        Answer::Early(EpochNo(3), EpochNo(1)),
-        "7 ok early 3 1\n",
-    )?;
-    let stale = Answer::Stale(stamp()?, None);
-    told(alloc, stale, "7 ok stale 100@000000000a0b none\n")?;
-    told(alloc, Answer::NoReplica, "7 ok noreplica\n")?;
-    let complete = Answer::Complete(stamp()?, serials(alloc, &[15, 16])?);
-    told(
-        alloc,
-        complete,
-        "7 ok complete 100@000000000a0b posted 15 16\n",
-    )
-}
-
-#[test]
-fn octets_are_counted(rt: HostRuntime) -> Result<(), Fail> {
-    let alloc = rt.alloc();
-    let mut octets = Octets::new(alloc);
-    octets.push(1)?;
-    octets.push(255)?;
-    told(alloc, Answer::Octets(octets), "7 ok 2 01ff\n")
-}
-
-// A table of one entry, which is dead, with a value.
-fn table(alloc: Global) -> Result<Table, Fail> {
-    let mut cell = AttrCell::new(alloc);
-    let value = Value::new(alloc, &[10])?;
-    cell.add(alloc, &value, stamp()?)?;
-    let mut attrs = AttrMap::new(alloc);
-    attrs.insert(AttrName::parse(alloc, b"A")?, cell)?;
-    let entry = EntryCell {
-        birth: stamp()?,
-        kind: Kind::Link,
-        death: Some(stamp()?),
-        attrs,
-    };
-    let mut table = Table::new(alloc);
-    table.insert(SimpleName::parse(alloc, b"e")?, entry)?;
-    Ok(table)
-}
-
-#[test]
-fn a_dump_has_several_lines(rt: HostRuntime) -> Result<(), Fail> {
-    let alloc = rt.alloc();
-    let master = Member {
-        house: HouseNo(1),
-        since: EpochNo(3),
-        kind: MemberKind::Master,
-    };
-    let members = Members::new(alloc, &[master])?;
-    told(
-        alloc,
-        Answer::Dump(EpochNo(3), None, members, table(alloc)?),
-        "7 dump epoch 3 allupto none members 1:3:m\n\
-         7 entry e link 100@000000000a0b 100@000000000a0b\n\
-         7 attr A none\n\
-         7 value 0a present 100@000000000a0b\n\
-         7 end\n",
-    )
 }
 
 // The same of a refusal.
