@@ -1,0 +1,25 @@
+-- Words of private contracts alone: what an importer still gives, by how far its search has come. Own.
+use Rattle.std.specs.Prelude.{ℕ, List, ◌++◌, length, reverse}
+use Rattle.std.specs.List.{filter_map, flat_map}
+use Rattle.tower_codec.specs.declared.binding.StringBinding.{StringBinding}
+use Rattle.resolver.specs.declared.seen.Found.{Found}
+use Rattle.resolver.specs.Readers.{Reader}
+use Rattle.server_entries.specs.declared.client.Wanted.{Wanted}
+use Rattle.ns_import.specs.declared.progress.Progress.{Progress}
+use Rattle.ns_import.specs.DepthFirst.{depth_first}
+use Rattle.ns_import.specs.Imports.{same_entry, object_of, edges, bindings_at}
+
+-- the objects that names lead to, in the order of the names
+abbrev pub resolved : Reader → List (List (List ℕ)) → List Found
+resolved reader names = filter_map (object_of reader) names
+
+-- the bindings of the entries that a search still comes to, where these were searched and these names wait
+abbrev pub to_come : Reader → (objects : List Found) → Wanted → (searched : List Found) → (names : List (List (List ℕ))) → List StringBinding
+to_come reader objects wanted searched names =
+    flat_map (bindings_at reader wanted)
+    (depth_first same_entry (edges reader wanted.interface) (length objects) searched (resolved reader names))
+
+-- the bindings that are still to come: those that are ready, and those of the entries that the search still comes to
+abbrev pub coming : Reader → (objects : List Found) → Wanted → Progress → List StringBinding
+coming reader objects wanted progress =
+    reverse progress.ready.items ++ to_come reader objects wanted progress.searched.keys (reverse progress.names.items)

@@ -1,0 +1,5 @@
+pub mod Orders
+pub mod DepthFirst
+pub mod Imports
+pub mod Coming
+pub mod PairReaders

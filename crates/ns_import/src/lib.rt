@@ -1,0 +1,14 @@
+//! The search for bindings: an import that begins at an entry, goes on at the members of groups and at the elements of
+//! profiles, and gives one binding after the other, over any reader of a cell.
+#![tactic(auto)]
+
+mod client;
+mod fault;
+mod importer;
+pub mod laws;
+mod progress;
+#[cfg(test)]
+mod tests;
+
+pub use fault::ImportFault;
+pub use importer::Importer;
