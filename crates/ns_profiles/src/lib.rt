@@ -13,4 +13,4 @@ mod updates;
 pub use element::{Annotation, Element};
 pub use fault::ProfileFault;
 pub use search::elements_for;
-pub use updates::{PROFILE, add, delete};
+pub use updates::{PROFILE, add, check_new, delete};

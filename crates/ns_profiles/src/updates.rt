@@ -86,8 +86,9 @@ pub fn delete(
     Ok(removals(alloc, name, &sorted)?)
 }
 
-// Whether an element may be added.
-fn check_new(
+/// Whether an element may be added: BadPriority where a default element's priority is not 8, or another's is above 7; then
+/// ElementTooLong where the member's name and the annotation have more than 1,001 octets together.
+pub fn check_new(
     interface: Option<&Interface>,
     member: &FullName,
     priority: u8,

@@ -1,6 +1,7 @@
 // Exports of servers, and their end.
 ghost use Rattle.std.specs.Prelude.{◌≡◌, ◌++◌, [], ◌∷◌, map, filter, length, IfOk, IfErr, IfSome, OnOk, IsOk, None};
 ghost use Rattle.std.specs.Option.{option_copied};
+ghost use Rattle.std.specs.Result.{result_err};
 ghost use Rattle.cds_stamps.specs.Ascending.{ascending};
 ghost use Rattle.cds_stamps.specs.Names.{attr_fault};
 ghost use Rattle.cds_stamps.specs.declared.alloc_or.AllocOr.TheVariants.{Fault, OutOfMemory};
@@ -130,6 +131,16 @@ fn exported_updates(
     Ok(updates)
 }
 
+/// Whether there is something to export: NothingToExport where there is no binding and no object.
+pub fn check_export(bindings: &[StringBinding], objects: &[Uuid]) -> Result<(), ExportFault>
+    ensures { result_err result ≡ export_fault bindings.now objects.now }
+{
+    if bindings.is_empty() && objects.is_empty() {
+        return Err(ExportFault::NothingToExport);
+    }
+    Ok(())
+}
+
 /// The updates that export a server: the entry is made where it is absent, and gets the towers of the interface at the
 /// bindings and then the objects, each in the order given. No memory is asked for where there is a fault.
 pub fn export(
@@ -149,9 +160,7 @@ pub fn export(
     ensures lacking { export_fault bindings.now objects.now ≡ None
         → IfErr result (λ e. e ≡ OutOfMemory) }
 {
-    if bindings.is_empty() && objects.is_empty() {
-        return Err(AllocOr::Fault(ExportFault::NothingToExport));
-    }
+    check_export(bindings, objects).map_err(AllocOr::Fault)?;
     Ok(exported_updates(alloc, name, absent, interface, bindings, objects)?)
 }
 

@@ -8,5 +8,5 @@ pub mod laws;
 mod tower;
 
 pub use client::{Wanted, bindings};
-pub use exports::{ExportFault, OBJECTS, TOWERS, export, unexport};
+pub use exports::{ExportFault, OBJECTS, TOWERS, check_export, export, unexport};
 pub use tower::{ServerFault, tower_of_value};
