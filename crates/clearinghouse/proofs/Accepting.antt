@@ -1,6 +1,6 @@
 -- An update that is accepted: its marks are added, and posted.
-use Rattle.std.proofs.Common.{◌≡◌, ℕ, ◌<◌, true, false, List, [], ◌++◌, Option, Some, None, Result, Ok, Err, refl, sym, ap, subst, ◌∙◌, arith}
-use Rattle.std.specs.Prelude.{if◌then◌else◌}
+use Rattle.std.proofs.Common.{◌≡◌, ℕ, ◌<◌, true, List, [], ◌++◌, Option, Some, None, Result, Ok, Err, refl, sym, ap, subst, ◌∙◌, arith}
+use Rattle.std.specs.Prelude.{if◌then◌else◌, unwrap_or}
 use Rattle.std.specs.List.{AllByRecursion}
 use Rattle.cds_stamps.specs.declared.numbers.DirId.{DirId}
 use Rattle.cds_stamps.specs.declared.numbers.HouseNo.{HouseNo}
@@ -8,13 +8,14 @@ use Rattle.cds_stamps.specs.declared.stamp.Stamp.{Stamp}
 use Rattle.cds_stamps.specs.Members.{is_accepting, members_of, others_of}
 use Rattle.cds_stamps.specs.Stamps.{is_earlier, next_stamp}
 use Rattle.std.proofs.lemmas.Bool.Decides.{nat_tests}
+use Rattle.directory.specs.declared.entry.Fragment.{Fragment}
 use Rattle.directory.specs.declared.update.UpdateRefusal.{UpdateRefusal}
 use Rattle.directory.specs.declared.update.UpdateRefusal.TheVariants as why
 use Rattle.directory.specs.Applied.{TakesIn}
 use Rattle.directory.specs.Entries.{Entries}
-use Rattle.directory.specs.Histories.{Mark, IsBefore, IsHistory, name_in, stamp_in, entry_of, table_of}
+use Rattle.directory.specs.Histories.{Mark, IsBefore, name_in, stamp_in, entry_of, table_of}
 use Rattle.directory.specs.Updates.{Change, changed_name}
-use Rattle.directory.specs.Shown.{Shown, shown, shown_in, refusal_of, marks_of}
+use Rattle.directory.specs.Shown.{shown, shown_in, refusal_of, marks_of}
 use Rattle.directory.proofs.ShownLaws.{shown_in-table_of}
 use Rattle.directory.proofs.UpdateLaws.{applied-table_of, marks_of-names}
 use Rattle.purge_rule.specs.declared.replica.Replica.{Replica}
@@ -35,7 +36,7 @@ use Rattle.clearinghouse.specs.Refusing.{held_refusal, stamp_unless}
 use Rattle.clearinghouse.specs.Standing.{StandsHeld}
 use Rattle.clearinghouse.specs.Stepping.{IsStampAnswer}
 use Rattle.clearinghouse.specs.Posting.{StandEach, posts_if, posts_of}
-use Rattle.clearinghouse.specs.PrivateTurns.{new_marks, AddsMarks, IssuesAt, HeldStep, PostsFragment, PostsMarks}
+use Rattle.clearinghouse.specs.PrivateTurns.{new_marks, AddsMarks, IssuesAt, HeldStep, PostsFragment}
 use Rattle.clearinghouse.proofs.Posts.{posts_stand}
 
 -- what is held shows what the replica of the model shows
@@ -56,48 +57,52 @@ by_time a b lt = grind (arith, nat_tests)
 before_stamp : (r : model.Replica) (floor : ℕ) (s : Stamp) → ReplicaBelow r floor → floor < s.time → IsBefore r.history s
 before_stamp r floor s below above m there = by_time (stamp_in m) s (let low = (below.marks m (contains_in r.history m there)).0 in omega arith)
 
--- a fragment with the marks of an accepted update is to be posted, where there is another house
-posts_marks : (others : List ℕ) (h : List Mark) (u : Change) (s : Stamp) (seen : Option Shown) (o : Option Outgoing) → IsHistory h → IsBefore h s
-    → refusal_of (shown h (changed_name u)) u ≡ None → seen ≡ shown h (changed_name u) → PostsMarks others (changed_name u) (marks_of seen u s) o
-    → PostsFragment others (marks_of (shown h (changed_name u)) u s) o
-posts_marks others h u s seen None known before accepted is posts = posts
-posts_marks others h u s seen (Some o) known before accepted is posts = (
-  posts.0,
-  posts.1,
-  record {
-    named =
-        subst (λ n. AllByRecursion (λ m. name_in m ≡ n) (marks_of (shown h (changed_name u)) u s)) (sym posts.2)
-        (marks_of-names h u s known before accepted);
-    entry = subst (λ e. entry_of (marks_of e u s) posts.0.name ≡ Some posts.0.entry) is posts.3;
-  },
-)
+module _ (held : Held) (table : Entries) (u : Change) (s : Stamp) (fine : refusal_of (shown_in held.replica.table (changed_name u)) u ≡ None)
+    (takes : TakesIn held.replica.table table (changed_name u) (marks_of (shown_in held.replica.table (changed_name u)) u s))
+    (me : ℕ) (r : model.Replica) (floor : ℕ) (stands : StandsHeld me floor held r) (above : floor < s.time) where
+  seen : shown_in held.replica.table (changed_name u) ≡ shown r.history (changed_name u)
+  seen = held_shows me floor held r (changed_name u) stands
 
--- the marks of an accepted update are added to what is held
-pub adds_marks : (held : Held) (table : Entries) (me : ℕ) (r : model.Replica) (floor : ℕ) (u : Change) (s : Stamp) (o : Option Outgoing)
-    → refusal_of (shown_in held.replica.table (changed_name u)) u ≡ None
-    → TakesIn held.replica.table table (changed_name u) (marks_of (shown_in held.replica.table (changed_name u)) u s)
-    → PostsMarks (others_of me (members_of held.members)) (changed_name u) (marks_of (shown_in held.replica.table (changed_name u)) u s) o
-    → StandsHeld me floor held r → floor < s.time → AddsMarks me r u s (record held { replica = record held.replica { table = table } }) o
-adds_marks held table me r floor u s o fine takes posts stands above =
-    let up : held.replica.all_up_to ≡ r.all_up_to = ap (λ (x : Replica). x.all_up_to) stands.replica in
-    let seen : shown_in held.replica.table (changed_name u) ≡ shown r.history (changed_name u) = held_shows me floor held r (changed_name u) stands in
-    let accepted : refusal_of (shown r.history (changed_name u)) u ≡ None = ap (λ e. refusal_of e u) (sym seen) ∙ fine in
-    let before : IsBefore r.history s = before_stamp r floor s stands.below above in
-    let after = accepted_fine r floor u s (fine_held me floor held r stands) above accepted in
-    let now : table ≡ table_of (r.history ++ new_marks r u s) =
-    applied-table_of r.history u s stands.history before accepted held.replica.table table (ap (λ (x : Replica). x.table) stands.replica) takes in
-    record {
-      stands = record {
+  accepted : refusal_of (shown r.history (changed_name u)) u ≡ None
+  accepted = ap (λ e. refusal_of e u) (sym seen) ∙ fine
+
+  before : IsBefore r.history s
+  before = before_stamp r floor s stands.below above
+
+  grown_stands : StandsHeld me s.time (record held { replica = record held.replica { table = table } }) (grown r (new_marks r u s))
+  grown_stands =
+      let up : held.replica.all_up_to ≡ r.all_up_to = ap (λ (x : Replica). x.all_up_to) stands.replica in
+      let after = accepted_fine r floor u s (fine_held me floor held r stands) above accepted in
+      let now : table ≡ table_of (r.history ++ new_marks r u s) =
+      applied-table_of r.history u s stands.history before accepted held.replica.table table (ap (λ (x : Replica). x.table) stands.replica) takes in
+      record {
         looks = record { epoch = stands.looks.epoch; members = stands.looks.members; phase = stands.looks.phase };
         replica = same_replica table (table_of (r.history ++ new_marks r u s)) held.replica.all_up_to r.all_up_to now up;
         history = after.history;
         below = after.below;
-      };
-      posts =
-          posts_marks (others_of me r.members) r.history u s (shown_in held.replica.table (changed_name u)) o stands.history before accepted seen
-          (subst (λ ms. PostsMarks (others_of me ms) (changed_name u) (marks_of (shown_in held.replica.table (changed_name u)) u s) o)
-          (sym stands.looks.members) posts);
-    }
+      }
+
+  -- a house that is alone adds the marks of an accepted update, and posts nothing
+  pub adds_alone : others_of me (members_of held.members) ≡ []
+      → AddsMarks me r u s (record held { replica = record held.replica { table = table } }) None
+  adds_alone none = record { stands = grown_stands; posts = ap (others_of me) stands.looks.members ∙ none }
+
+  -- a house adds the marks of an accepted update, and posts their fragment
+  pub adds_posted : (f : Fragment) → f.name ≡ changed_name u → entry_of (marks_of (shown_in held.replica.table (changed_name u)) u s) f.name ≡ Some f.entry
+      → AddsMarks me r u s (record held { replica = record held.replica { table = table } }) (Some (out.Update f))
+  adds_posted f name entry = record {
+    stands = grown_stands;
+    posts = (
+      f,
+      refl,
+      record {
+        named =
+            subst (λ n. AllByRecursion (λ m. name_in m ≡ n) (new_marks r u s)) (sym name)
+            (marks_of-names r.history u s stands.history before accepted);
+        entry = subst (λ e. entry_of (marks_of e u s) f.name ≡ Some f.entry) seen entry;
+      },
+    );
+  }
 
 -- what is to be posted stands for the messages with the marks
 marks_stand : (me : HouseNo) (dir : DirId) (floor : ℕ) (new : Held) (r : model.Replica) (marks : List Mark) (o : Option Outgoing)
@@ -114,7 +119,7 @@ marks_stand me dir floor new r marks (Some o) members epoch posts =
 
 module _ (by : Issuer) (now : model.House) (dir : DirId) (low : ℕ) (u : Change) (r : model.Replica) where
   -- with the stamp that is issued the update is accepted
-  pub stamped : (old new : Held) (s : Stamp) (o : Option Outgoing) → next_stamp by.clock low by.node ≡ Some s → AddsMarks by.house.0 r u s new o
+  stamped : (old new : Held) (s : Stamp) (o : Option Outgoing) → next_stamp by.clock low by.node ≡ Some s → AddsMarks by.house.0 r u s new o
       → IssuesAt now by low dir old r
       → HeldStep (IsStampAnswer (Ok s)) (accept_at by.house.0 now dir.0 u r (stamp_at now)) now by.house dir old new s.time o
   stamped old new s o issued adds at =
@@ -131,7 +136,7 @@ module _ (by : Issuer) (now : model.House) (dir : DirId) (low : ℕ) (u : Change
       )
 
   -- with no stamp left it is refused
-  pub unstamped : (old : Held) → next_stamp by.clock low by.node ≡ None → IssuesAt now by low dir old r
+  unstamped : (old : Held) → next_stamp by.clock low by.node ≡ None → IssuesAt now by low dir old r
       → HeldStep (IsStampAnswer (Err why.StampsSpent)) (accept_at by.house.0 now dir.0 u r (stamp_at now)) now by.house dir old old low None
   unstamped old issued at =
       let own : stamp_at now ≡ None =
@@ -148,7 +153,7 @@ module _ (by : Issuer) (now : model.House) (dir : DirId) (low : ℕ) (u : Change
       ∙ ap (λ e. refusal_of e u) (sym (held_shows by.house.0 low old r (changed_name u) at.stands)) ∙ is
 
   -- what the table accepts goes on to the stamp
-  pub accepted_in : (old new : Held) (floor : ℕ) (a : Result Stamp UpdateRefusal) (o : Option Outgoing)
+  accepted_in : (old new : Held) (floor : ℕ) (a : Result Stamp UpdateRefusal) (o : Option Outgoing)
       → is_accepting by.house.0 (members_of old.members) ≡ true
       → refusal_of (shown_in old.replica.table (changed_name u)) u ≡ None → IssuesAt now by low dir old r
       → HeldStep (IsStampAnswer a) (accept_at by.house.0 now dir.0 u r (stamp_at now)) now by.house dir old new floor o
@@ -157,30 +162,36 @@ module _ (by : Issuer) (now : model.House) (dir : DirId) (low : ℕ) (u : Change
       subst (λ q. HeldStep (IsStampAnswer a) (turn.unless_refused q (accept_at by.house.0 now dir.0 u r (stamp_at now))) now by.house dir old new floor o)
       (sym (its_refusal old None accepts is at)) step
 
-  refused_in : (old : Held) (q : UpdateRefusal) → update_refusal by.house.0 u r ≡ Some q → IssuesAt now by low dir old r
-      → HeldStep (IsStampAnswer (Err q)) (accept_in by.house.0 now dir.0 u (model.Held r)) now by.house dir old old low None
-  refused_in old q is at =
-      subst (λ p. HeldStep (IsStampAnswer (Err q)) (turn.unless_refused p (accept_at by.house.0 now dir.0 u r (stamp_at now)))
-      now by.house dir old old low None)
-      (sym is) (refl, refl, sym at.floor, refl)
+  -- an update that the table accepts is accepted with the stamp that is issued
+  pub stamp_accepts : (old new : Held) (s : Stamp) (o : Option Outgoing) → is_accepting by.house.0 (members_of old.members) ≡ true
+      → refusal_of (shown_in old.replica.table (changed_name u)) u ≡ None → next_stamp by.clock low by.node ≡ Some s → AddsMarks by.house.0 r u s new o
+      → IssuesAt now by low dir old r
+      → HeldStep (IsStampAnswer (Ok s)) (accept_in by.house.0 now dir.0 u (model.Held r)) now by.house dir old new s.time o
+  stamp_accepts old new s o accepts is issued adds at = accepted_in old new s.time (Ok s) o accepts is at (stamped old new s o issued adds at)
 
   -- what it refuses is refused
   pub table_refuses : (old : Held) (q : UpdateRefusal) → is_accepting by.house.0 (members_of old.members) ≡ true
       → refusal_of (shown_in old.replica.table (changed_name u)) u ≡ Some q → IssuesAt now by low dir old r
       → HeldStep (IsStampAnswer (Err q)) (accept_in by.house.0 now dir.0 u (model.Held r)) now by.house dir old old low None
-  table_refuses old q accepts is at = refused_in old q (its_refusal old (Some q) accepts is at) at
+  table_refuses old q accepts is at =
+      subst (λ p. HeldStep (IsStampAnswer (Err q)) (turn.unless_refused p (accept_at by.house.0 now dir.0 u r (stamp_at now)))
+      now by.house dir old old low None)
+      (sym (its_refusal old (Some q) accepts is at)) (refl, refl, sym at.floor, refl)
 
-  -- a house that accepts no updates refuses
-  pub list_refuses : (old : Held) → is_accepting by.house.0 (members_of old.members) ≡ false → IssuesAt now by low dir old r
-      → HeldStep (IsStampAnswer (Err why.NotMaster)) (accept_in by.house.0 now dir.0 u (model.Held r)) now by.house dir old old low None
-  list_refuses old accepts at =
-      refused_in old why.NotMaster
-      (ap (λ ms. if is_accepting by.house.0 ms then refusal_of (shown r.history (changed_name u)) u else Some why.NotMaster) at.stands.looks.members
-      ∙ ap (λ b. if b then refusal_of (shown r.history (changed_name u)) u else Some why.NotMaster) accepts) at
+  -- with no stamp left an update is refused as the table refuses it, or since none is left
+  pub spent_refuses : (old : Held) (q : Option UpdateRefusal) → is_accepting by.house.0 (members_of old.members) ≡ true
+      → refusal_of (shown_in old.replica.table (changed_name u)) u ≡ q → next_stamp by.clock low by.node ≡ None → IssuesAt now by low dir old r
+      → HeldStep (IsStampAnswer (Err (unwrap_or q why.StampsSpent))) (accept_in by.house.0 now dir.0 u (model.Held r)) now by.house dir old old low None
+  spent_refuses old None accepts is issued at = accepted_in old old low (Err why.StampsSpent) None accepts is at (unstamped old issued at)
+  spent_refuses old (Some q) accepts is issued at = table_refuses old q accepts is at
 
--- what the house answers where the table refuses
-pub answer_refused : (me : ℕ) (u : Change) (h : Held) (q : UpdateRefusal) (stamp : Option Stamp) → is_accepting me (members_of h.members) ≡ true
-    → refusal_of (shown_in h.replica.table (changed_name u)) u ≡ Some q → Err q ≡ stamp_unless (held_refusal me u h) stamp
-answer_refused me u h q stamp accepts is =
-    sym (ap (λ b. stamp_unless (if b then refusal_of (shown_in h.replica.table (changed_name u)) u else Some why.NotMaster) stamp) accepts
-    ∙ ap (λ p. stamp_unless p stamp) is)
+-- what a house that accepts updates answers with no stamp left
+pub answer_spent : (me : ℕ) (u : Change) (h : Held) (q : Option UpdateRefusal) → is_accepting me (members_of h.members) ≡ true
+    → refusal_of (shown_in h.replica.table (changed_name u)) u ≡ q → Err (unwrap_or q why.StampsSpent) ≡ stamp_unless (held_refusal me u h) None
+answer_spent me u h q accepts is =
+    by q ∙ sym (ap (λ b. stamp_unless (if b then refusal_of (shown_in h.replica.table (changed_name u)) u else Some why.NotMaster) None) accepts
+    ∙ ap (λ p. stamp_unless p None) is)
+  where
+    by : (p : Option UpdateRefusal) → Err (unwrap_or p why.StampsSpent) ≡ stamp_unless p None
+    by None = refl
+    by (Some r) = refl

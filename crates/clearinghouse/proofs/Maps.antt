@@ -1,13 +1,15 @@
 -- Directories of a house after one was written, and results.
-use Rattle.std.proofs.Common.{◌≡◌, Bool, true, false, cond, List, Some, Result, Ok, Err, refl, sym, ap, ◌∙◌}
+use Rattle.std.proofs.Common.{◌≡◌, Bool, true, false, cond, List, Option, Some, None, Result, Ok, Err, refl, sym, ap, ◌∙◌}
 use Rattle.std.specs.Prelude.{IfOk}
 use Rattle.std.specs.FinMap.{FinMap, get, insert, from_entries, get-insert, same_map}
 use Rattle.std.specs.BTreeMap.{is_at}
 use Rattle.std.specs.Map.{lookup}
 use Rattle.std.specs.Ordering.{eq_by_cmp}
+use Rattle.std.specs.Result.{result_err}
 use Rattle.cds_stamps.specs.declared.numbers.DirId.{DirId}
 use Rattle.cds_stamps.proofs.TreeViews.{get-view, view-insert}
 use Rattle.cds_stamps.specs.Keyed.{tied}
+use Rattle.cds_stamps.specs.Outcomes.{ok_unless}
 use Rattle.cds_records.specs.Dirs.{dir_cmp, dir_total, dir_exact}
 use borrow.Follows.Closed.{read_of}
 use base.Fml.{GName}
@@ -38,3 +40,8 @@ same_ends name f g u v written kept = λ i. read_of name (λ w. written w i) (ke
 pub if_ok_map : {T E : Type 0} (P Q : T → Type 0) (r : Result T E) → ((x : T) → P x → Q x) → IfOk r P → IfOk r Q
 if_ok_map P Q (Ok x) f h = f x h
 if_ok_map P Q (Err e) f h = tt
+
+-- the fault of an answer that was sought, if there is one
+pub err_unless : {T E : Type 0} (fault : Option E) (x : T) → result_err (ok_unless fault x) ≡ fault
+err_unless None x = refl
+err_unless (Some f) x = refl

@@ -9,7 +9,7 @@ use Rattle.cds_stamps.specs.declared.stamp.Stamp.{Stamp}
 use Rattle.cds_stamps.specs.Members.{members_fault, members_of, others_of, place_of}
 use Rattle.directory.specs.declared.entry.Fragment.{Fragment}
 use Rattle.directory.specs.Entries.{IsValidEntry, IsValidTable}
-use Rattle.directory.specs.Histories.{Mark, CanMerge, entry_of}
+use Rattle.directory.specs.Histories.{Mark, CanMerge}
 use Rattle.directory.specs.Shown.{shown, marks_of}
 use Rattle.directory.specs.Updates.{Change, changed_name}
 use Rattle.purge_rule.specs.declared.replica.Replica.{Replica}
@@ -94,11 +94,6 @@ LooksAfter Answers (Turns turn) now me dir new = ((ns : List ℕ) → Answers (t
 -- the marks of an update that is accepted with this stamp (own)
 abbrev pub new_marks : model.Replica → Change → Stamp → List Mark
 new_marks r u s = marks_of (shown r.history (changed_name u)) u s
-
--- the marks of an update of this name are to be posted, where there is another house (own)
-abbrev pub PostsMarks : (others : List ℕ) → (name : List ℕ) → List Mark → Option Outgoing → Type 0
-PostsMarks others name marks None = others ≡ []
-PostsMarks others name marks (Some o) = (f : Fragment) × (o ≡ out.Update f) × (f.name ≡ name) × (entry_of marks f.name ≡ Some f.entry)
 
 -- a fragment with these marks is to be posted, where there is another house (own)
 abbrev pub PostsFragment : (others : List ℕ) → List Mark → Option Outgoing → Type 0

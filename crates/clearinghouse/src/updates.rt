@@ -1,16 +1,16 @@
 // Updates of a directory at its master.
-ghost use Rattle.std.specs.Prelude.{◌≡◌, ◌≤◌, ◌<◌, ℕ, None, Err, IfOk, OnOk, OnErr};
+ghost use Rattle.std.specs.Prelude.{◌≡◌, ◌≤◌, ◌<◌, ℕ, Some, None, Err, IfOk, OnOk, OnErr};
+ghost use Rattle.std.specs.Result.{result_err};
 ghost use Rattle.cds_stamps.specs.declared.numbers.DirId as number;
-ghost use Rattle.cds_stamps.specs.Members.{members_of, others_of};
 ghost use Rattle.cds_stamps.specs.Stamps.{next_stamp};
-ghost use Rattle.directory.specs.Shown.{marks_of, refusal_of, shown_in};
+ghost use Rattle.directory.specs.Shown.{refusal_of, shown_in};
 ghost use Rattle.directory.specs.Updates.{change_of, changed_name};
 ghost use Rattle.cell_model.specs.Cells as model;
-ghost use Rattle.cell_model.specs.Turns.{accept_in, accept_at, stamp_at};
+ghost use Rattle.cell_model.specs.Turns.{accept_in};
 ghost use Rattle.clearinghouse.specs.Lawful.{IsLawfulHeld};
 ghost use Rattle.clearinghouse.specs.Refusing.{held_refusal, stamp_unless};
 ghost use Rattle.clearinghouse.specs.Stepping.{IsStampAnswer};
-ghost use Rattle.clearinghouse.specs.PrivateTurns.{AddsMarks, HeldStep, IssuesAt, PostsMarks};
+ghost use Rattle.clearinghouse.specs.PrivateTurns.{AddsMarks, HeldStep, IssuesAt};
 ghost use Rattle.clearinghouse.specs.Standing.{StandsHeld};
 
 use crate::outgoing::{Outgoing, Turn};
@@ -69,80 +69,68 @@ impl Held {
         if !self.accepts_from(by.house) {
             return Ok(refused(UpdateRefusal::NotMaster));
         }
-        match self.replica.table.check(update) {
-            Ok(()) => self.stamp_update(alloc, by, floor, update),
-            Err(refusal) => Ok(refused(refusal)),
-        }
-    }
-
-    /// Takes an update that the table accepts, with the stamp that is issued, if one is.
-    fn stamp_update(
-        &mut self,
-        alloc: Global,
-        by: Issuer,
-        floor: &mut Floor,
-        update: &Update,
-    ) -> Result<Turn<Result<Stamp, UpdateRefusal>>, AllocError>
-        requires { refusal_of (shown_in self.old.replica.table (changed_name (change_of update.now))) (change_of update.now) ≡ None }
-        ensures answer { IfOk result (λ turn. turn.answer ≡ stamp_unless None (next_stamp by.clock floor.old.time by.node)) }
-        ensures refused { IfOk result (λ turn. OnErr turn.answer ((self.new ≡ self.old) × (floor.new ≡ floor.old) × (turn.outgoing ≡ None))) }
-        ensures rises { floor.old.time ≤ floor.new.time }
-        ensures kept { OnOk result (IsLawfulHeld by.house.0 floor.old.time self.old → IsLawfulHeld by.house.0 floor.new.time self.new) }
-        ensures err { OnErr result (self.new ≡ self.old) }
-        ensures err_floor { OnErr result (floor.new ≡ floor.old) }
-        ensures step { (now : model.House) (dir : number.DirId) (r : model.Replica) → IssuesAt now by floor.old.time dir self.old r
-            → IfOk result (λ turn. HeldStep (IsStampAnswer turn.answer) (accept_at by.house.0 now dir.0 (change_of update.now) r (stamp_at now))
-            now by.house dir self.old self.new floor.new.time turn.outgoing) }
-    {
         let mut raised = *floor;
-        match raised.issue(by.clock, by.node) {
-            Some(stamp) => {
-                let outgoing = self.add_marks(alloc, by.house, &stamp, update)?;
+        let Some(stamp) = raised.issue(by.clock, by.node) else {
+            let refusal = self.replica.table.check(update).err();
+            return Ok(refused(refusal.unwrap_or(UpdateRefusal::StampsSpent)));
+        };
+        match self.accept_stamped(alloc, by.house, &stamp, update)? {
+            Ok(outgoing) => {
                 *floor = raised;
                 Ok(Turn {
                     answer: Ok(stamp),
                     outgoing,
                 })
             }
-            None => Ok(refused(UpdateRefusal::StampsSpent)),
+            Err(refusal) => Ok(refused(refusal)),
         }
     }
 
-    /// Takes the marks of an update with this stamp, in place. What is to be posted.
-    fn add_marks(
+    /// Takes an update with this stamp, or refuses it as the table does. What is to be posted, where there is another member;
+    /// where there is none, the name of a change of an attribute is looked up once.
+    fn accept_stamped(
         &mut self,
         alloc: Global,
         house: HouseNo,
         stamp: &Stamp,
         update: &Update,
-    ) -> Result<Option<Outgoing>, AllocError>
-        requires { refusal_of (shown_in self.old.replica.table (changed_name (change_of update.now))) (change_of update.now) ≡ None }
+    ) -> Result<Result<Option<Outgoing>, UpdateRefusal>, AllocError>
+        ensures refusal { IfOk result (λ answer.
+            result_err answer ≡ refusal_of (shown_in self.old.replica.table (changed_name (change_of update.now))) (change_of update.now)) }
         ensures adds { (r : model.Replica) (floor : ℕ) → StandsHeld house.0 floor self.old r → floor < stamp.now.time
-            → IfOk result (λ o. AddsMarks house.0 r (change_of update.now) stamp.now self.new o) }
+            → IfOk result (λ answer. IfOk answer (λ o. AddsMarks house.0 r (change_of update.now) stamp.now self.new o)) }
+        ensures kept { IfOk result (λ answer. OnOk answer
+            ((me floor : ℕ) → IsLawfulHeld me floor self.old → floor < stamp.now.time → IsLawfulHeld me stamp.now.time self.new)) }
+        ensures refused { IfOk result (λ answer. OnErr answer (self.new ≡ self.old)) }
+        ensures err { OnErr result (self.new ≡ self.old) }
+    {
+        if self.is_alone(house) {
+            return match self.replica.table.accept(alloc, update, *stamp)? {
+                Ok(()) => Ok(Ok(None)),
+                Err(refusal) => Ok(Err(refusal)),
+            };
+        }
+        match self.replica.table.check(update) {
+            Ok(()) => Ok(Ok(Some(self.add_marks(alloc, stamp, update)?))),
+            Err(refusal) => Ok(Err(refusal)),
+        }
+    }
+
+    /// Takes the marks of an update with this stamp, in place. They are to be posted.
+    fn add_marks(
+        &mut self,
+        alloc: Global,
+        stamp: &Stamp,
+        update: &Update,
+    ) -> Result<Outgoing, AllocError>
+        requires { refusal_of (shown_in self.old.replica.table (changed_name (change_of update.now))) (change_of update.now) ≡ None }
+        ensures adds { (me : ℕ) (r : model.Replica) (floor : ℕ) → StandsHeld me floor self.old r → floor < stamp.now.time
+            → IfOk result (λ o. AddsMarks me r (change_of update.now) stamp.now self.new (Some o)) }
         ensures kept { OnOk result ((me floor : ℕ) → IsLawfulHeld me floor self.old → floor < stamp.now.time → IsLawfulHeld me stamp.now.time self.new) }
         ensures err { OnErr result (self.new ≡ self.old) }
     {
-        let outgoing = self.marks_to_post(alloc, house, stamp, update)?;
-        self.replica.table.apply(alloc, update, *stamp)?;
-        Ok(outgoing)
-    }
-
-    /// The marks of an update with this stamp, which are to be posted, where there is another member.
-    fn marks_to_post(
-        &self,
-        alloc: Global,
-        house: HouseNo,
-        stamp: &Stamp,
-        update: &Update,
-    ) -> Result<Option<Outgoing>, AllocError>
-        requires { refusal_of (shown_in self.now.replica.table (changed_name (change_of update.now))) (change_of update.now) ≡ None }
-        ensures { IfOk result (λ o. PostsMarks (others_of house.0 (members_of self.now.members)) (changed_name (change_of update.now))
-            (marks_of (shown_in self.now.replica.table (changed_name (change_of update.now))) (change_of update.now) stamp.now) o) }
-    {
-        if self.is_alone(house) {
-            return Ok(None);
-        }
         let fragment = self.replica.table.fragment(alloc, update, *stamp)?;
-        Ok(Some(Outgoing::Update(fragment)))
+        self.replica.table.apply(alloc, update, *stamp)?;
+        Ok(Outgoing::Update(fragment))
     }
 }

@@ -1,8 +1,10 @@
 // A clearinghouse makes a directory of three houses, and takes updates of it.
 use crate::houses::{ROOT, create_root, creates, empty_house, entries_at, member};
+use cds_records::{Body, Message, encode};
 use cds_stamps::{EpochNo, HouseNo, Member, MemberKind};
-use clearinghouse::{Posted, PostedList};
+use clearinghouse::{Letters, Outgoing, Posted, PostedList};
 use directory::UpdateRefusal;
+use std::alloc::Global;
 use std::test::Fail;
 
 // The houses 1, 2 and 3, of which 2 is the master.
@@ -67,5 +69,39 @@ fn the_others_are_told_of_a_directory_and_its_updates(rt: HostRuntime) -> Result
         assert!(rt; goes_to_the_others(&mail, house.floor(), 1));
     }
     assert!(rt; entries_at(&house) == Some(4) && house.floor() == u64::MAX);
+    Ok(())
+}
+
+// The members but house 2.
+static OTHERS: [HouseNo; 2] = [HouseNo(1), HouseNo(3)];
+
+// Whether letters go to them, with the octets of this message.
+fn says(alloc: Global, letters: &Letters, message: &Message) -> Result<bool, Fail> {
+    let octets = encode(alloc, message)?;
+    Ok(letters.receivers.as_slice() == OTHERS.as_slice() && letters.octets == octets)
+}
+
+#[test]
+fn letters_have_the_octets_of_their_messages(rt: HostRuntime) -> Result<(), Fail> {
+    let alloc = rt.alloc();
+    let mut house = empty_house(alloc, 2)?;
+    assert!(rt; house.letters(alloc, ROOT, &Outgoing::Join)?.is_none());
+    let mail = create_root(alloc, &mut house, &three())?;
+    assert!(rt; goes_to_the_others(&mail, 0, 7));
+    let joins = house
+        .letters(alloc, ROOT, &Outgoing::Join)?
+        .ok_or("no letters")?;
+    for posted in mail.list() {
+        assert!(rt; says(alloc, &joins, &posted.message)?);
+    }
+    let leave = Message {
+        dir: ROOT,
+        from: HouseNo(2),
+        epoch: EpochNo(2),
+        floor: 0,
+        body: Body::Leave,
+    };
+    let leaves = house.leaves(alloc, ROOT, EpochNo(2), &OTHERS)?;
+    assert!(rt; says(alloc, &leaves, &leave)?);
     Ok(())
 }
