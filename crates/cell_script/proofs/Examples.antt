@@ -7,6 +7,13 @@ use Rattle.hex.specs.Hex.{decode_pairs, encode_with}
 use Rattle.cds_stamps.specs.declared.members.MemberKind.TheVariants.{Master, ReadOnly}
 use Rattle.attr_sets.specs.declared.mark.ValueMark.{ValueMark}
 use Rattle.directory.specs.declared.entry.Kind.TheVariants.{Link}
+use Rattle.uuid.specs.Parts.{zero_bytes}
+use Rattle.uuid.specs.Text.{by_index}
+use Rattle.tower_codec.specs.declared.rpc.Interface.{Interface}
+use Rattle.tower_codec.specs.declared.rpc.Protseq.TheVariants.{Tcp, Udp}
+use Rattle.tower_codec.specs.declared.binding.StringBinding.{StringBinding}
+use Rattle.tower_codec.specs.BindingReading.{cut, digits_of, object_at, protseq_named, protseq_at, endpoint_parts, octet_at, address_of, port_of, binding_of}
+use Rattle.tower_codec.specs.BindingReading.{number_of as number_in}
 use Rattle.cell_script.specs.declared.command.ScriptLine.{ScriptLine}
 use Rattle.cell_script.specs.declared.command.ScriptLine.TheVariants as line
 use Rattle.cell_script.specs.declared.command.Command.TheVariants as command
@@ -14,11 +21,14 @@ use Rattle.cell_script.specs.declared.command.Question.TheVariants as question
 use Rattle.cell_script.specs.declared.answer.Answer.TheVariants as answer
 use Rattle.cell_script.specs.declared.answer.ScriptRefusal.TheVariants as why
 use Rattle.cell_script.specs.declared.fault.ParseFault.{ParseFault}
-use Rattle.cell_script.specs.declared.fault.ParseFault.TheVariants.{UnknownCommand, WrongCount, BadWord, NotBuilt}
+use Rattle.cell_script.specs.declared.fault.ParseFault.TheVariants.{UnknownCommand, WrongCount, BadWord}
 use Rattle.cell_script.specs.Words.{words_of, number_of, number_to, most_house}
+use Rattle.cell_script.specs.ServiceWords.{interface_of, element_interface_of, interface_or_none_of, all_said, binding_said, bindings_of, object_said}
+use Rattle.cell_script.specs.ServiceWords.{objects_of, object_of, protocols_of, priority_of, note_of}
+use Rattle.cell_script.specs.Notes.{note_in}
 use Rattle.cell_script.specs.Forms.{counted, taken}
-use Rattle.cell_script.specs.Commands.{said_in, said_by, is_later}
-use Rattle.cell_script.specs.Texts.{answer_line, line_text, lines_text, parse_fault_text, dump_line, entry_line, attr_line, value_line}
+use Rattle.cell_script.specs.Commands.{said_in, said_by}
+use Rattle.cell_script.specs.Texts.{answer_line, answer_lines, line_text, lines_text, parse_fault_text, dump_line, entry_line, attr_line, value_line}
 use Rattle.cell_script.specs.Texts.{lines_of_each, value_lines}
 
 -- ---- words
@@ -61,12 +71,8 @@ comment : says (codes " # root 1") ≡ Ok None
 comment = refl
 
 unknown : says (codes "hous 1") ≡ Err (UnknownCommand 1)
-unfolding said_by is_later
+unfolding said_by
 unknown = refl
-
-later : says (codes "export") ≡ Err (NotBuilt 1)
-unfolding said_by is_later
-later = refl
 
 -- the count is that of all words, and comes before what they say
 too_few : says (codes "clock 0") ≡ Err (WrongCount 2)
@@ -107,7 +113,8 @@ house_is : says (codes "house 1 00000000000a") ≡ Ok (Some (line.Cell (command.
 unfolding said_by counted taken number_of decode_pairs
 house_is = refl
 
-add_is : says (codes "add 1 1 lpr A 5072") ≡ Ok (Some (line.Cell (command.Add (record { 0 = 1 }) (record { 0 = 1 }) (codes "lpr") (codes "A") (80 ∷ 114 ∷ []))))
+add_is : says (codes "add 1 1 lpr A 5072") ≡ Ok
+    (Some (line.Cell (command.Add (record { 0 = 1 }) (record { 0 = 1 }) (codes "lpr") (codes "A") (80 ∷ 114 ∷ []))))
 unfolding said_by counted taken number_of decode_pairs
 add_is = refl
 
@@ -148,6 +155,136 @@ decode_is = refl
 odd_digits : says (codes "decode 0aF") ≡ Err (BadWord 2)
 unfolding said_by counted taken decode_pairs
 odd_digits = refl
+
+-- ---- words of the name service
+
+-- a0000000-0000-0000-0000-000000000001, and the UUID that ends in b1 behind zeros
+abbrev uuid_a : List ℕ
+uuid_a = 160 ∷ 0 ∷ 0 ∷ 0 ∷ 0 ∷ 0 ∷ 0 ∷ 0 ∷ 0 ∷ 0 ∷ 0 ∷ 0 ∷ 0 ∷ 0 ∷ 0 ∷ 1 ∷ []
+
+abbrev uuid_b : List ℕ
+uuid_b = 0 ∷ 0 ∷ 0 ∷ 0 ∷ 0 ∷ 0 ∷ 0 ∷ 0 ∷ 0 ∷ 0 ∷ 0 ∷ 0 ∷ 0 ∷ 0 ∷ 0 ∷ 177 ∷ []
+
+abbrev interface_a : Interface
+interface_a = record { uuid = uuid_a; major = 1; minor = 2 }
+
+abbrev tcp_at : ℕ → StringBinding
+tcp_at port = record { object = zero_bytes; protseq = Tcp; address = 10 ∷ 0 ∷ 0 ∷ 1 ∷ []; port = port }
+
+abbrev udp_at : ℕ → StringBinding
+udp_at port = record { object = zero_bytes; protseq = Udp; address = 10 ∷ 0 ∷ 0 ∷ 1 ∷ []; port = port }
+
+an_interface : interface_of (codes "A0000000-0000-0000-0000-000000000001:1.2") ≡ Some interface_a
+unfolding interface_of cut number_of by_index
+an_interface = refl
+
+version_with_zero : interface_of (codes "a0000000-0000-0000-0000-000000000001:1.02") ≡ None
+unfolding interface_of cut number_of by_index
+version_with_zero = refl
+
+version_too_great : interface_of (codes "a0000000-0000-0000-0000-000000000001:65536.0") ≡ None
+unfolding interface_of cut number_of by_index
+version_too_great = refl
+
+three_versions : interface_of (codes "a0000000-0000-0000-0000-000000000001:1.2.3") ≡ None
+unfolding interface_of cut number_of by_index
+three_versions = refl
+
+default_elements : element_interface_of (codes "default") ≡ Some None
+unfolding element_interface_of
+default_elements = refl
+
+no_default_elements : element_interface_of (codes "-") ≡ None
+unfolding element_interface_of interface_of cut
+no_default_elements = refl
+
+two_bindings : bindings_of (codes "ncacn_ip_tcp:10.0.0.1[1025],ncadg_ip_udp:10.0.0.1") ≡ Some (tcp_at 1025 ∷ udp_at 0 ∷ [])
+unfolding bindings_of all_said binding_said binding_of object_at protseq_at protseq_named endpoint_parts address_of octet_at port_of cut number_in digits_of
+two_bindings = refl
+
+no_bindings : bindings_of (codes "-") ≡ Some []
+unfolding bindings_of
+no_bindings = refl
+
+empty_binding : bindings_of (codes "ncacn_ip_tcp:10.0.0.1,") ≡ None
+unfolding bindings_of all_said binding_said binding_of object_at protseq_at protseq_named endpoint_parts address_of octet_at port_of cut number_in digits_of
+empty_binding = refl
+
+-- a nil object is an object part too
+nil_object_part : bindings_of (codes "00000000-0000-0000-0000-000000000000@ncacn_ip_tcp:10.0.0.1") ≡ None
+unfolding bindings_of all_said binding_said
+nil_object_part = refl
+
+two_objects : objects_of (codes "a0000000-0000-0000-0000-000000000001,00000000-0000-0000-0000-0000000000b1") ≡ Some (uuid_a ∷ uuid_b ∷ [])
+unfolding objects_of all_said object_said by_index
+two_objects = refl
+
+nil_among_objects : objects_of (codes "a0000000-0000-0000-0000-000000000001,00000000-0000-0000-0000-000000000000") ≡ None
+unfolding objects_of all_said object_said by_index
+nil_among_objects = refl
+
+nil_is_looked_for : object_of (codes "00000000-0000-0000-0000-000000000000") ≡ object_of (codes "-")
+unfolding object_of by_index
+nil_is_looked_for = refl
+
+both_protocols : protocols_of (codes "ncadg_ip_udp,ncacn_ip_tcp") ≡ Some (true, true)
+unfolding protocols_of
+both_protocols = refl
+
+protocol_twice : protocols_of (codes "ncacn_ip_tcp,ncacn_ip_tcp") ≡ None
+unfolding protocols_of
+protocol_twice = refl
+
+greatest_priority : priority_of (codes "255") ≡ Some 255
+unfolding priority_of number_of
+greatest_priority = refl
+
+no_priority : priority_of (codes "256") ≡ None
+unfolding priority_of number_of
+no_priority = refl
+
+empty_note : note_of (codes "-") ≡ Some []
+unfolding note_of
+empty_note = refl
+
+note_of_hyphens : note_of (codes "--") ≡ Some (codes "--")
+unfolding note_of note_in
+note_of_hyphens = refl
+
+-- ---- lines of the name service
+
+groupadd_is : says (codes "groupadd /.:/group /.:/srv") ≡ Ok
+    (Some (line.Question (question.Groupadd (codes "group" ∷ []) (codes "srv" ∷ []))))
+unfolding said_by counted taken
+groupadd_is = refl
+
+groupdel_is : says (codes "groupdel /.:/group /.:") ≡ Ok (Some (line.Question (question.Groupdel (codes "group" ∷ []) [])))
+unfolding said_by counted taken
+groupdel_is = refl
+
+export_is : says (codes "export /.:/srv a0000000-0000-0000-0000-000000000001:1.2 - 00000000-0000-0000-0000-0000000000b1") ≡ Ok
+    (Some (line.Question (question.Export (codes "srv" ∷ []) interface_a [] (uuid_b ∷ []))))
+unfolding said_by counted taken interface_of cut number_of bindings_of objects_of all_said object_said by_index
+export_is = refl
+
+unexport_is : says (codes "unexport /.:/srv - -") ≡ Ok (Some (line.Question (question.Unexport (codes "srv" ∷ []) None [])))
+unfolding said_by counted taken interface_or_none_of objects_of
+unexport_is = refl
+
+profadd_is : says (codes "profadd /.:/p default /.:/q 8 local") ≡ Ok
+    (Some (line.Question (question.Profadd (codes "p" ∷ []) None (codes "q" ∷ []) 8 (codes "local"))))
+unfolding said_by counted taken element_interface_of priority_of number_of note_of note_in
+profadd_is = refl
+
+profdel_is : says (codes "profdel /.:/p a0000000-0000-0000-0000-000000000001:1.2 /.:/q") ≡ Ok
+    (Some (line.Question (question.Profdel (codes "p" ∷ []) (Some interface_a) (codes "q" ∷ []))))
+unfolding said_by counted taken element_interface_of interface_of cut number_of by_index
+profdel_is = refl
+
+import_is : says (codes "import 1 high /.:/p a0000000-0000-0000-0000-000000000001:1.2 - ncadg_ip_udp") ≡ Ok
+    (Some (line.Question (question.Import (record { 0 = 1 }) true (codes "p" ∷ []) interface_a zero_bytes false true)))
+unfolding said_by counted taken interface_of cut number_of object_of protocols_of by_index
+import_is = refl
 
 -- ---- texts
 
@@ -190,6 +327,22 @@ message : answer_line (answer.Decoded 1 78) ≡ codes "ok Update 78"
 unfolding digits
 message = refl
 
+updates : answer_line (answer.Updates 5 (3 ∷ 4 ∷ [])) ≡ codes "ok 5 posted 3 4"
+unfolding digits
+updates = refl
+
+no_member : answer_line (answer.Refused why.NoSuchMember) ≡ codes "refused NoSuchMember"
+no_member = refl
+
+bindings : answer_lines (answer.Bindings (record { object = uuid_b; protseq = Tcp; address = 10 ∷ 0 ∷ 0 ∷ 1 ∷ []; port = 1025 } ∷ udp_at 0 ∷ []))
+    ≡ codes "binding 00000000-0000-0000-0000-0000000000b1@ncacn_ip_tcp:10.0.0.1[1025]" ∷ codes "binding ncadg_ip_udp:10.0.0.1" ∷ codes "end 2" ∷ []
+unfolding digits by_index
+bindings = refl
+
+no_bindings_found : answer_lines (answer.Bindings []) ≡ codes "end 0" ∷ []
+unfolding digits
+no_bindings_found = refl
+
 no_message : answer_line (answer.Refused (why.BadTag 2)) ≡ codes "refused BadTag 2"
 unfolding digits
 no_message = refl
@@ -207,12 +360,14 @@ unfolding digits
 spent = refl
 
 a_dump : dump_line (record { 0 = 3 }) None
-    (record { house = record { 0 = 1 }; since = record { 0 = 3 }; kind = ReadOnly } ∷ record { house = record { 0 = 2 }; since = record { 0 = 1 }; kind = Master } ∷ [])
+    (record { house = record { 0 = 1 }; since = record { 0 = 3 }; kind = ReadOnly }
+    ∷ record { house = record { 0 = 2 }; since = record { 0 = 1 }; kind = Master } ∷ [])
     ≡ codes "dump epoch 3 allupto none members 1:3:r 2:1:m"
 unfolding digits
 a_dump = refl
 
-dead : entry_line (codes "e") (record { birth = record { time = 1; node = 10 }; kind = Link; death = Some (record { time = 2; node = 10 }); attrs = empty })
+dead : entry_line (codes "e")
+    (record { birth = record { time = 1; node = 10 }; kind = Link; death = Some (record { time = 2; node = 10 }); attrs = empty })
     ≡ codes "entry e link 1@00000000000a 2@00000000000a"
 unfolding digits encode_with
 dead = refl

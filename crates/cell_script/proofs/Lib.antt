@@ -4,4 +4,5 @@ pub mod Reading
 pub mod Families
 pub mod Printing
 pub mod DumpLoops
+pub mod Listed
 mod Examples

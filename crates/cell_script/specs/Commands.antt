@@ -1,7 +1,6 @@
 -- What a line of the script says: the table of its commands (own).
-use Rattle.std.specs.Prelude.{ℕ, Bool, if◌then◌else◌, List, [], ◌∷◌, ◌++◌, nat_eq, ◌==◌, Some, None, Option, Ok, Err}
-use Rattle.std.specs.Prelude.{Result, codes}
-use Rattle.std.specs.List.{list_any, slice_split, starts_with}
+use Rattle.std.specs.Prelude.{ℕ, if◌then◌else◌, List, [], ◌∷◌, ◌++◌, nat_eq, Some, None, Option, Ok, Err, Result, codes}
+use Rattle.std.specs.List.{starts_with}
 use Rattle.std.specs.Str.{bytes_eq}
 use Rattle.cell_script.specs.declared.command.Command.{Command}
 use Rattle.cell_script.specs.declared.command.Command.TheVariants as command
@@ -10,9 +9,10 @@ use Rattle.cell_script.specs.declared.command.Question.TheVariants as question
 use Rattle.cell_script.specs.declared.command.ScriptLine.{ScriptLine}
 use Rattle.cell_script.specs.declared.command.ScriptLine.TheVariants as line
 use Rattle.cell_script.specs.declared.fault.ParseFault.{ParseFault}
-use Rattle.cell_script.specs.declared.fault.ParseFault.TheVariants.{UnknownCommand, NotBuilt}
+use Rattle.cell_script.specs.declared.fault.ParseFault.TheVariants.{UnknownCommand}
 use Rattle.cell_script.specs.Forms.{◌>>=◌, Form, House, Directory, Serial, Time, Node, SimpleName, FullName, AttrName, Value, Octets, Confidence, Encoded}
-use Rattle.cell_script.specs.Forms.{Houses, Words, Builds, followed_by, read_as}
+use Rattle.cell_script.specs.Forms.{Interface, ElementInterface, InterfaceOrNone, Bindings, Objects, Object, Protocols, Priority, Note, Houses, Words}
+use Rattle.cell_script.specs.Forms.{Builds, followed_by, read_as}
 
 -- a command of any type of line: its first word, the forms of the words behind it, and what a line of them says (own)
 pub record RowOf (Line : Type 0) : Type 0 where
@@ -31,7 +31,7 @@ said_among (row ∷ rows) other word s =
 abbrev pub Row : Type 0
 Row = RowOf ScriptLine
 
--- a step of the cell, and a question that changes nothing (own)
+-- a step of the cell, and a command that finds its entry by a full name, or asks (own)
 abbrev pub step : List ℕ → (forms : List Form) → Builds forms Command → Row
 step word forms build = record { word = word; forms = forms; says = followed_by line.Cell forms build }
 
@@ -91,23 +91,29 @@ question_rows =
     ∷ asks (codes "decode") (Octets ∷ []) question.Decode
     ∷ []
 
+-- the commands of the name service (own, after C706, name service operations)
+abbrev pub service_rows : List Row
+service_rows =
+    asks (codes "export") (FullName ∷ Interface ∷ Bindings ∷ Objects ∷ []) question.Export
+    ∷ asks (codes "unexport") (FullName ∷ InterfaceOrNone ∷ Objects ∷ []) question.Unexport
+    ∷ asks (codes "groupadd") (FullName ∷ FullName ∷ []) question.Groupadd
+    ∷ asks (codes "groupdel") (FullName ∷ FullName ∷ []) question.Groupdel
+    ∷ asks (codes "profadd") (FullName ∷ ElementInterface ∷ FullName ∷ Priority ∷ Note ∷ []) question.Profadd
+    ∷ asks (codes "profdel") (FullName ∷ ElementInterface ∷ FullName ∷ []) question.Profdel
+    ∷ asks (codes "import") (House ∷ Confidence ∷ FullName ∷ Interface ∷ Object ∷ Protocols ∷ [])
+    (λ h c n i o p. question.Import h c n i o p.0 p.1)
+    ∷ []
+
 -- the commands (own)
 abbrev pub rows : List Row
-rows = making_rows ++ (entry_rows ++ (value_rows ++ (replica_rows ++ (event_rows ++ question_rows))))
-
--- the commands that are not built yet (own)
-abbrev pub later_commands : List (List ℕ)
-later_commands = slice_split (λ b. b == 32) (codes "export unexport groupadd groupdel profadd profdel import")
-
-unfoldable pub is_later : List ℕ → Bool
-is_later name = list_any (bytes_eq name) later_commands
+rows = making_rows ++ (entry_rows ++ (value_rows ++ (replica_rows ++ (event_rows ++ (question_rows ++ service_rows)))))
 
 -- the fault of a first word that no row has (own)
-abbrev pub no_command : {Line : Type 0} → List ℕ → Result Line ParseFault
-no_command word = if is_later word then Err (NotBuilt 1) else Err (UnknownCommand 1)
+abbrev pub no_command : {Line : Type 0} → Result Line ParseFault
+no_command = Err (UnknownCommand 1)
 
 abbrev pub said_in_row : List Row → List ℕ → Words → Result ScriptLine ParseFault
-said_in_row rows word s = said_among rows (no_command word) word s
+said_in_row rows word s = said_among rows no_command word s
 
 unfoldable pub said_by : List ℕ → Words → Result ScriptLine ParseFault
 said_by = said_in_row rows

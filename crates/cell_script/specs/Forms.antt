@@ -4,11 +4,15 @@ use Rattle.cds_stamps.specs.declared.numbers.HouseNo.{HouseNo}
 use Rattle.cds_stamps.specs.declared.numbers.DirId.{DirId}
 use Rattle.cds_stamps.specs.declared.alloc_or.AllocOr.{AllocOr}
 use Rattle.cds_stamps.specs.declared.alloc_or.AllocOr.TheVariants.{Fault, OutOfMemory}
+use Rattle.tower_codec.specs.declared.rpc.Interface.{Interface as InterfaceId}
+use Rattle.tower_codec.specs.declared.binding.StringBinding.{StringBinding}
 use Rattle.cell_script.specs.declared.command.Question.{Question}
 use Rattle.cell_script.specs.declared.fault.ParseFault.{ParseFault}
 use Rattle.cell_script.specs.declared.fault.ParseFault.TheVariants.{WrongCount, BadWord}
 use Rattle.cell_script.specs.Words.{number_of, house_of, directory_of, serial_of, node_of, simple_name_of, full_name_of, attr_name_of, octets_value_of}
 use Rattle.cell_script.specs.Words.{octets_of, confidence_of, octets_asked}
+use Rattle.cell_script.specs.ServiceWords.{interface_of, element_interface_of, interface_or_none_of, bindings_of, objects_of}
+use Rattle.cell_script.specs.ServiceWords.{object_of, protocols_of, priority_of, note_of}
 
 -- the forms of words; the last but one stands for two words, and the last for any number of them (own)
 pub data Form : Type 0 where
@@ -23,6 +27,15 @@ pub data Form : Type 0 where
   Value : Form
   Octets : Form
   Confidence : Form
+  Interface : Form
+  ElementInterface : Form
+  InterfaceOrNone : Form
+  Bindings : Form
+  Objects : Form
+  Object : Form
+  Protocols : Form
+  Priority : Form
+  Note : Form
   Encoded : Form
   Houses : Form
 
@@ -39,6 +52,15 @@ Said AttrName = List ℕ
 Said Value = List ℕ
 Said Octets = List ℕ
 Said Confidence = Bool
+Said Interface = InterfaceId
+Said ElementInterface = Option InterfaceId
+Said InterfaceOrNone = Option InterfaceId
+Said Bindings = List StringBinding
+Said Objects = List (List ℕ)
+Said Object = List ℕ
+Said Protocols = Bool × Bool
+Said Priority = ℕ
+Said Note = List ℕ
 Said Encoded = Question
 Said Houses = List HouseNo
 
@@ -95,6 +117,15 @@ taken AttrName s = next_word attr_name_of s.read s.rest
 taken Value s = next_word octets_value_of s.read s.rest
 taken Octets s = next_word octets_of s.read s.rest
 taken Confidence s = next_word confidence_of s.read s.rest
+taken Interface s = next_word interface_of s.read s.rest
+taken ElementInterface s = next_word element_interface_of s.read s.rest
+taken InterfaceOrNone s = next_word interface_or_none_of s.read s.rest
+taken Bindings s = next_word bindings_of s.read s.rest
+taken Objects s = next_word objects_of s.read s.rest
+taken Object s = next_word object_of s.read s.rest
+taken Protocols s = next_word protocols_of s.read s.rest
+taken Priority s = next_word priority_of s.read s.rest
+taken Note s = next_word note_of s.read s.rest
 taken Encoded s = two_words s.read s.rest
 taken Houses s = all_houses s.read s.rest
 

@@ -1,4 +1,6 @@
 pub mod Words
+pub mod Notes
+pub mod ServiceWords
 pub mod Forms
 pub mod Commands
 pub mod RowWords

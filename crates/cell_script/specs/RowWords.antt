@@ -4,12 +4,15 @@ use Rattle.cell_script.specs.declared.command.ScriptLine.{ScriptLine}
 use Rattle.cell_script.specs.declared.fault.ParseFault.{ParseFault}
 use Rattle.cell_script.specs.Forms.{Words}
 use Rattle.cell_script.specs.Commands.{said_among, no_command, making_rows, entry_rows, value_rows, replica_rows}
-use Rattle.cell_script.specs.Commands.{event_rows, question_rows}
+use Rattle.cell_script.specs.Commands.{event_rows, question_rows, service_rows}
 
--- what the words behind a first word say that no family before has: a question, an event, a command about all
--- replicas, a change of values, an update, any command (own)
+-- what the words behind a first word say that no family before has: a command of the name service, a question, an event, a
+-- command about all replicas, a change of values, an update, any command (own)
+unfoldable pub served_by : List ℕ → Words → Result ScriptLine ParseFault
+served_by word = said_among service_rows no_command word
+
 unfoldable pub asked_by : List ℕ → Words → Result ScriptLine ParseFault
-asked_by word = said_among question_rows (no_command word) word
+asked_by word s = said_among question_rows (served_by word s) word s
 
 unfoldable pub befallen_by : List ℕ → Words → Result ScriptLine ParseFault
 befallen_by word s = said_among event_rows (asked_by word s) word s

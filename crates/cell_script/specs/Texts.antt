@@ -1,5 +1,5 @@
 -- The text of answers, a line each or several, and of faults (own).
-use Rattle.std.specs.Prelude.{ℕ, Bool, true, false, ◌==◌, if◌then◌else◌, List, [], ◌∷◌, ◌++◌, length, drop, codes, Option, Some, None}
+use Rattle.std.specs.Prelude.{ℕ, Bool, true, false, ◌==◌, if◌then◌else◌, List, [], ◌∷◌, ◌++◌, length, drop, map, codes, Option, Some, None}
 use Rattle.std.specs.List.{flat_map}
 use Rattle.std.specs.Fmt.{decimal}
 use Rattle.std.specs.Int.{to_be_bytes, w64}
@@ -12,6 +12,8 @@ use Rattle.cds_stamps.specs.declared.members.MemberKind.{MemberKind}
 use Rattle.cds_stamps.specs.declared.members.MemberKind.TheVariants as member
 use Rattle.cds_stamps.specs.Octets.{octets_cmp}
 use Rattle.cell_names.specs.FullNames.{spelling}
+use Rattle.tower_codec.specs.declared.binding.StringBinding.{StringBinding}
+use Rattle.tower_codec.specs.Binding.{binding_text}
 use Rattle.attr_sets.specs.declared.mark.ValueMark.{ValueMark}
 use Rattle.attr_sets.specs.declared.cell.AttrCell.{AttrCell}
 use Rattle.directory.specs.declared.entry.Kind.{Kind}
@@ -102,6 +104,13 @@ refusal_name why.TooManyLinks = codes "TooManyLinks"
 refusal_name why.NameTooLong = codes "NameTooLong"
 refusal_name why.RootName = codes "RootName"
 refusal_name why.NotLink = codes "NotLink"
+refusal_name why.NotObject = codes "NotObject"
+refusal_name why.NothingToExport = codes "NothingToExport"
+refusal_name why.NothingToUnexport = codes "NothingToUnexport"
+refusal_name why.NoSuchMember = codes "NoSuchMember"
+refusal_name why.BadPriority = codes "BadPriority"
+refusal_name why.ElementTooLong = codes "ElementTooLong"
+refusal_name why.NoSuchElement = codes "NoSuchElement"
 refusal_name (why.Short place) = codes "Short"
 refusal_name (why.BadTag place) = codes "BadTag"
 refusal_name (why.BadLength place) = codes "BadLength"
@@ -207,6 +216,20 @@ entry_lines name e = entry_line name e ∷ each_lines attr_lines e.attrs
 abbrev pub dump_lines : EpochNo → Option Stamp → List Member → Entries → List (List ℕ)
 dump_lines epoch all_up_to members table = dump_line epoch all_up_to members ∷ (each_lines entry_lines table ++ codes "end" ∷ [])
 
+-- ---- imports
+
+-- a binding (own, after C706, string bindings)
+abbrev pub binding_line : StringBinding → List ℕ
+binding_line b = codes "binding " ++ binding_text b
+
+-- the last line of an import: how many bindings there are (own)
+abbrev pub import_end : ℕ → List ℕ
+import_end n = codes "end " ++ decimal n
+
+-- an import: a line of each binding, and the end (own)
+abbrev pub import_lines : List StringBinding → List (List ℕ)
+import_lines bs = map binding_line bs ++ import_end (length bs) ∷ []
+
 -- ---- answers
 
 -- what an answer says that has one line; one of several lines says nothing here (own)
@@ -224,13 +247,16 @@ answer_line answer.NoReplica = codes "ok noreplica"
 answer_line (answer.Complete s ns) = codes "ok complete " ++ stamped_text s ns
 answer_line (answer.Values vs) = codes "ok " ++ values_text vs
 answer_line (answer.Target components) = codes "ok " ++ spelling components
+answer_line (answer.Updates n ns) = codes "ok " ++ (decimal n ++ posted_text ns)
+answer_line (answer.Bindings bs) = []
 answer_line (answer.Dump epoch all_up_to members table) = []
 answer_line (answer.Octets octets) = codes "ok " ++ counted_octets octets
 answer_line (answer.Decoded tag used) = codes "ok " ++ (message_name tag ++ (32 ∷ decimal used))
 answer_line (answer.Refused why) = codes "refused " ++ (refusal_name why ++ refusal_numbers why)
 
--- the lines of an answer: a dump has several, each other answer one (own)
+-- the lines of an answer: an import and a dump may have several, each other answer has one (own)
 abbrev pub answer_lines : Answer → List (List ℕ)
+answer_lines (answer.Bindings bs) = import_lines bs
 answer_lines (answer.Dump epoch all_up_to members table) = dump_lines epoch all_up_to members table
 answer_lines other = answer_line other ∷ []
 
@@ -246,4 +272,3 @@ abbrev pub parse_fault_text : ℕ → ParseFault → List ℕ
 parse_fault_text number (parse.UnknownCommand word) = fault_text number (codes "UnknownCommand") word
 parse_fault_text number (parse.WrongCount words) = fault_text number (codes "WrongCount") words
 parse_fault_text number (parse.BadWord word) = fault_text number (codes "BadWord") word
-parse_fault_text number (parse.NotBuilt word) = fault_text number (codes "NotBuilt") word

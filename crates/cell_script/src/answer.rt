@@ -1,5 +1,5 @@
 // What the cell answers to a line.
-use crate::lists::{Octets, Serials, Values};
+use crate::lists::{Octets, Serials, StringBindings, Values};
 use cds_stamps::{DirId, EpochNo, Members, Stamp};
 use cell_names::FullName;
 use directory::Table;
@@ -33,6 +33,10 @@ pub enum Answer {
     Values(Values),
     /// The name that a link leads to.
     Target(FullName),
+    /// How many updates were accepted, and the messages that they posted.
+    Updates(u64, Serials),
+    /// The bindings of an import, in the order in which the search finds them.
+    Bindings(StringBindings),
     /// What a house holds of a directory: the epoch, AllUpTo, the members, and the table.
     Dump(EpochNo, Option<Stamp>, Members, Table),
     /// The octets of a message or of an image.
@@ -72,7 +76,19 @@ pub enum ScriptRefusal {
     TooManyLinks,
     NameTooLong,
     RootName,
+    /// The entry that was found is no link, or no object.
     NotLink,
+    NotObject,
+    /// Neither a binding nor an object is given.
+    NothingToExport,
+    /// The entry has none of the towers and objects.
+    NothingToUnexport,
+    NoSuchMember,
+    /// A default element has priority 8, and any other one below it.
+    BadPriority,
+    /// The member's name and the annotation are too long together.
+    ElementTooLong,
+    NoSuchElement,
     /// Octets begin with no message. This refusal and the five behind it have the place of the first fault.
     Short(usize),
     BadTag(usize),

@@ -4,7 +4,7 @@ ghost use Rattle.cell_script.specs.Texts.{line_text, lines_text, member_letter, 
 ghost use Rattle.cell_script.specs.Texts.{presence, dump_line, entry_line, attr_line, value_line, each_lines, value_lines, attr_lines};
 ghost use Rattle.cell_script.specs.Texts.{entry_lines, dump_lines};
 
-use crate::pieces::{push_hex, push_number, push_spaced, push_stamp, push_stamp_or};
+use crate::pieces::{begin_line, push_hex, push_number, push_spaced, push_stamp, push_stamp_or};
 use attr_sets::{AttrCell, Value, ValueMap, ValueMark};
 use cds_stamps::{AttrName, EpochNo, Member, MemberKind, Members, SimpleName, Stamp};
 use directory::{AttrMap, EntryCell, Kind, Table};
@@ -131,15 +131,6 @@ fn push_value(line: &mut Vec<u8>, value: &Value, mark: &ValueMark) -> Result<(),
 }
 
 // ---- whole lines
-
-// What a line begins with: the number of the script line, and a space.
-fn begin_line(text: &mut Vec<u8>, number: u32) -> Result<(), AllocError>
-    ensures { OnOk result (text.new.items ≡ text.old.items ++ (decimal number ++ 32 ∷ [])) }
-{
-    push_number(text, u64::from(number))?;
-    text.push(b' ')?;
-    Ok(())
-}
 
 // The line of a value.
 fn push_value_line(

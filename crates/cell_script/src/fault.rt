@@ -10,6 +10,4 @@ pub enum ParseFault {
     WrongCount(usize),
     #[error("word {0} is not of its form")]
     BadWord(usize),
-    #[error("word {0} is not built yet")]
-    NotBuilt(usize),
 }

@@ -1,10 +1,14 @@
 // Lists inside commands and answers.
-ghost use Rattle.std.specs.Prelude.{◌≡◌, [], ◌∷◌, ◌++◌, OnOk, OnErr};
+ghost use Rattle.std.specs.Prelude.{◌≡◌, [], ◌∷◌, ◌++◌, IsTrue, IfOk, OnOk, OnErr};
+ghost use Rattle.std.specs.List.{list_all};
+ghost use Rattle.cell_script.specs.Notes.{is_note_octet, note_in};
 
 use attr_sets::Value;
 use cds_stamps::HouseNo;
 use std::alloc::{AllocError, Global};
 use std::marker::Model;
+use tower_codec::StringBinding;
+use uuid::Uuid;
 
 /// Numbers of houses.
 #[derive(Drop)]
@@ -171,4 +175,128 @@ impl Octets {
     {
         self.items.as_slice()
     }
+}
+
+/// Where servers are reached.
+#[derive(Drop)]
+pub struct StringBindings {
+    items: Vec<StringBinding>,
+}
+
+impl Model for StringBindings {
+    ghost use Rattle.std.specs.Prelude.{List};
+    ghost use Rattle.tower_codec.specs.declared.binding.StringBinding.{StringBinding};
+
+    ghost Value = { List StringBinding };
+
+    ghost view = { λ v. v.items.items };
+}
+
+impl StringBindings {
+    /// No binding. Takes no memory.
+    pub fn new(alloc: Global) -> StringBindings
+        ensures { result ≡ [] }
+    {
+        StringBindings {
+            items: Vec::new(alloc),
+        }
+    }
+
+    pub fn push(&mut self, binding: StringBinding) -> Result<(), AllocError>
+        ensures ok { OnOk result (self.new ≡ self.old ++ binding ∷ []) }
+        ensures err { OnErr result (self.new ≡ self.old) }
+    {
+        Ok(self.items.push(binding)?)
+    }
+
+    pub fn list(&self) -> &[StringBinding]
+        ensures { result.now ≡ self.now }
+    {
+        self.items.as_slice()
+    }
+}
+
+/// UUIDs of objects.
+#[derive(Drop)]
+pub struct Uuids {
+    items: Vec<Uuid>,
+}
+
+impl Model for Uuids {
+    ghost use Rattle.std.specs.Prelude.{ℕ, List};
+
+    ghost Value = { List (List ℕ) };
+
+    ghost view = { λ v. v.items.items };
+}
+
+impl Uuids {
+    /// No UUID. Takes no memory.
+    pub fn new(alloc: Global) -> Uuids
+        ensures { result ≡ [] }
+    {
+        Uuids {
+            items: Vec::new(alloc),
+        }
+    }
+
+    pub fn push(&mut self, uuid: Uuid) -> Result<(), AllocError>
+        ensures ok { OnOk result (self.new ≡ self.old ++ uuid ∷ []) }
+        ensures err { OnErr result (self.new ≡ self.old) }
+    {
+        Ok(self.items.push(uuid)?)
+    }
+
+    pub fn list(&self) -> &[Uuid]
+        ensures { result.now ≡ self.now }
+    {
+        self.items.as_slice()
+    }
+}
+
+/// The annotation of a profile's element: octets 0x20 to 0x7E, or none.
+#[derive(Drop)]
+pub struct Note {
+    octets: Vec<u8>,
+}
+
+impl Model for Note {
+    ghost use Rattle.std.specs.Prelude.{ℕ, List, IsTrue};
+    ghost use Rattle.std.specs.List.{list_all};
+    ghost use Rattle.cell_script.specs.Notes.{is_note_octet};
+
+    ghost Value = { List ℕ };
+
+    ghost view = { λ v. v.octets.items };
+
+    ghost invariant = { λ v. IsTrue (list_all is_note_octet v.octets.items) };
+}
+
+impl Note {
+    /// The annotation of these octets, where each of them can stand in one. No memory is asked for where one can't.
+    #[tactic(auto, unfolding(crate::specs::Notes::note_in))]
+    pub fn new(alloc: Global, octets: &[u8]) -> Result<Option<Note>, AllocError>
+        ensures { IfOk result (λ note. note ≡ note_in octets.now) }
+    {
+        if !is_note(octets) {
+            return Ok(None);
+        }
+        let mut kept = Vec::new(alloc);
+        kept.extend_from_slice(octets)?;
+        Ok(Some(Note { octets: kept }))
+    }
+
+    pub fn octets(&self) -> &[u8]
+        ensures octets { result.now ≡ self.now }
+        ensures lawful { IsTrue (list_all is_note_octet self.now) }
+    {
+        self.octets.as_slice()
+    }
+}
+
+// Whether octets are an annotation: each 0x20 to 0x7E.
+fn is_note(octets: &[u8]) -> bool
+    ensures { result ≡ list_all is_note_octet octets.now }
+{
+    octets.iter().all(|octet| (0x20..=0x7E).contains(octet))
 }

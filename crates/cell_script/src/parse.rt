@@ -2,24 +2,15 @@
 ghost use Rattle.std.specs.Prelude.{◌≡◌, ◌∷◌, Ok, None};
 ghost use Rattle.cds_stamps.specs.Outcomes.{Answers};
 ghost use Rattle.cell_script.specs.Words.{words_of};
-ghost use Rattle.cell_script.specs.Commands.{is_later, said_in};
-ghost use Rattle.cell_script.specs.RowWords.{made_by, updated_by, changed_by, replicated_by, befallen_by, asked_by};
+ghost use Rattle.cell_script.specs.Commands.{said_in};
+ghost use Rattle.cell_script.specs.RowWords.{made_by, updated_by, changed_by, replicated_by, befallen_by, asked_by, served_by};
 
 use crate::command::ScriptLine;
 use crate::fault::ParseFault;
 use crate::words::{Parsed, Words};
-use crate::{commands, questions, replicas, updates};
+use crate::{commands, questions, replicas, service, updates};
 use cds_stamps::AllocOr;
 use std::alloc::Global;
-
-// The commands that are not built yet.
-const LATER: &[u8] = b"export unexport groupadd groupdel profadd profdel import";
-
-fn comes_later(word: &[u8]) -> bool
-    ensures { result ≡ is_later word.now }
-{
-    LATER.split(|b| *b == b' ').any(|later| later == word)
-}
 
 // What the words behind the first one say: of a command that makes houses or directories, or of another.
 #[tactic(auto, unfolding(crate::specs::RowWords::made_by))]
@@ -115,7 +106,7 @@ fn befallen(alloc: Global, word: &[u8], words: &mut Words<'_>) -> Parsed<ScriptL
     asked(alloc, word, words)
 }
 
-// The same of a question, or the fault of a word of no command.
+// The same of a question, or of a command of the name service.
 #[tactic(auto, unfolding(crate::specs::RowWords::asked_by))]
 fn asked(alloc: Global, word: &[u8], words: &mut Words<'_>) -> Parsed<ScriptLine>
     ensures { Answers result (asked_by word.now words.old) }
@@ -135,8 +126,35 @@ fn asked(alloc: Global, word: &[u8], words: &mut Words<'_>) -> Parsed<ScriptLine
     if word == b"decode".as_slice() {
         return questions::decode(alloc, words);
     }
-    if comes_later(word) {
-        return Err(AllocOr::Fault(ParseFault::NotBuilt(1)));
+    served(alloc, word, words)
+}
+
+// The same of a command that finds or changes what servers export, of groups and of profiles, or the fault of a word of no
+// command.
+#[tactic(auto, unfolding(crate::specs::RowWords::served_by))]
+fn served(alloc: Global, word: &[u8], words: &mut Words<'_>) -> Parsed<ScriptLine>
+    ensures { Answers result (served_by word.now words.old) }
+{
+    if word == b"export".as_slice() {
+        return service::export(alloc, words);
+    }
+    if word == b"unexport".as_slice() {
+        return service::unexport(alloc, words);
+    }
+    if word == b"groupadd".as_slice() {
+        return service::groupadd(alloc, words);
+    }
+    if word == b"groupdel".as_slice() {
+        return service::groupdel(alloc, words);
+    }
+    if word == b"profadd".as_slice() {
+        return service::profadd(alloc, words);
+    }
+    if word == b"profdel".as_slice() {
+        return service::profdel(alloc, words);
+    }
+    if word == b"import".as_slice() {
+        return service::import(alloc, words);
     }
     Err(AllocOr::Fault(ParseFault::UnknownCommand(1)))
 }

@@ -1,6 +1,6 @@
 // The pieces of lines: numbers, octets, stamps, and the messages that were posted. Each is put behind what stands there.
 // After want of memory the text may have grown.
-ghost use Rattle.std.specs.Prelude.{◌≡◌, ◌++◌, ◌∷◌, length, take, OnOk, OnErr, decimal};
+ghost use Rattle.std.specs.Prelude.{◌≡◌, ◌++◌, [], ◌∷◌, length, take, OnOk, OnErr, decimal};
 ghost use Rattle.hex.specs.Hex.{encode_lower};
 ghost use Rattle.cell_script.specs.Texts.{stamp_text, stamp_or, epochs_text, posted_text, stamped_text};
 
@@ -24,6 +24,16 @@ pub(crate) fn push_spaced(line: &mut Vec<u8>, number: u64) -> Result<(), AllocEr
 {
     line.push(b' ')?;
     push_number(line, number)
+}
+
+/// What a line begins with: the number of the script line, and a space.
+pub(crate) fn begin_line(text: &mut Vec<u8>, number: u32) -> Result<(), AllocError>
+    ensures ok { OnOk result (text.new.items ≡ text.old.items ++ (decimal number ++ 32 ∷ [])) }
+    ensures err { OnErr result (take (length text.old.items) text.new.items ≡ text.old.items) }
+{
+    push_number(text, u64::from(number))?;
+    text.push(b' ')?;
+    Ok(())
 }
 
 /// Octets, each in two hexadecimal digits.

@@ -146,8 +146,8 @@ impl<'a> Words<'a> {
         }
     }
 
-    // The next word of a line that has to have one.
-    fn needed(&mut self) -> Parsed<&'a [u8]>
+    /// The next word of a line that has to have one.
+    pub(crate) fn needed(&mut self) -> Parsed<&'a [u8]>
         ensures word { IfOk result (λ w. self.old.rest ≡ w.now ∷ self.new.rest) }
         ensures read { IfOk result (λ w. self.new.read ≡ self.old.read + 1) }
         ensures none { IfErr result (λ e. e ≡ Fault (WrongCount self.old.read)) }
@@ -159,8 +159,8 @@ impl<'a> Words<'a> {
         }
     }
 
-    // What the last word says; it has to say something.
-    fn said<T>(&self, value: Option<T>) -> Parsed<T>
+    /// What the last word says; it has to say something.
+    pub(crate) fn said<T>(&self, value: Option<T>) -> Parsed<T>
         ensures { Answers result (said_at self.now.read value) }
     {
         match value {

@@ -3,11 +3,13 @@ use attr_sets::Value;
 use cds_stamps::{DirId, EpochNo, Node, Stamp};
 use cell_names::FullName;
 use cell_script::{
-    Answer, Command, ParseFault, Question, ScriptLine, ScriptRefusal, Serials, Values,
-    append_answer, parse_line, print_fault, print_parse_fault,
+    Answer, Command, Note, ParseFault, Question, ScriptLine, ScriptRefusal, Serials,
+    StringBindings, Uuids, Values, append_answer, parse_line, print_fault, print_parse_fault,
 };
 use std::alloc::Global;
 use std::test::Fail;
+use tower_codec::StringBinding;
+use uuid::Uuid;
 
 fn serials(alloc: Global, numbers: &[u64]) -> Result<Serials, Fail> {
     let mut serials = Serials::new(alloc);
@@ -65,6 +67,22 @@ fn values_and_targets(rt: HostRuntime) -> Result<(), Fail> {
 }
 
 #[test]
+fn an_import_has_a_line_for_each_binding(rt: HostRuntime) -> Result<(), Fail> {
+    let alloc = rt.alloc();
+    let mut bindings = StringBindings::new(alloc);
+    for text in [
+        b"ncacn_ip_tcp:10.0.0.3".as_slice(),
+        b"ncadg_ip_udp:10.0.0.1[1026]",
+    ] {
+        bindings.push(StringBinding::parse(text).ok().ok_or("a binding")?)?;
+    }
+    let text = "7 binding ncacn_ip_tcp:10.0.0.3\n7 binding ncadg_ip_udp:10.0.0.1[1026]\n7 end 2\n";
+    told(alloc, Answer::Bindings(bindings), text)?;
+    let updates = Answer::Updates(5, serials(alloc, &[3])?);
+    told(alloc, updates, "7 ok 5 posted 3\n")
+}
+
+#[test]
 fn messages_have_their_names(rt: HostRuntime) -> Result<(), Fail> {
     for (tag, text) in [(3, "7 ok Gathered 46\n"), (5, "7 ok SpreadAck 46\n")] {
         told(rt.alloc(), Answer::Decoded(tag, 46), text)?;
@@ -93,23 +111,50 @@ fn refusals_have_their_numbers(rt: HostRuntime) -> Result<(), Fail> {
 #[test]
 fn faults_have_their_texts(rt: HostRuntime) -> Result<(), Fail> {
     let alloc = rt.alloc();
-    let line = print_parse_fault(alloc, 3, ParseFault::NotBuilt(4))?;
-    assert_eq!(rt; line.as_slice(), b"3 fault NotBuilt 4\n".as_slice());
+    let line = print_parse_fault(alloc, 3, ParseFault::BadWord(4))?;
+    assert_eq!(rt; line.as_slice(), b"3 fault BadWord 4\n".as_slice());
     let line = print_fault(alloc, 2, "LineTooLong", 4097)?;
     assert_eq!(rt; line.as_slice(), b"2 fault LineTooLong 4097\n".as_slice());
     Ok(())
 }
 
 #[test]
-fn a_line_is_a_command_or_says_nothing(rt: HostRuntime) -> Result<(), Fail> {
-    let alloc = rt.alloc();
-    let line = parse_line(alloc, b"  clock  7 100 ")?;
+fn a_line_is_a_command(rt: HostRuntime) -> Result<(), Fail> {
+    let line = parse_line(rt.alloc(), b"  clock  7 100 ")?;
     assert!(rt;
         matches!(&line, Some(ScriptLine::Cell(Command::Clock(house, 100))) if house.0 == 7)
     );
-    let octets = parse_line(alloc, b"octets msg 3")?;
-    assert!(rt; matches!(&octets, Some(ScriptLine::Question(Question::OctetsMsg(3)))));
+    Ok(())
+}
+
+#[test]
+fn a_line_is_a_question_or_says_nothing(rt: HostRuntime) -> Result<(), Fail> {
+    let alloc = rt.alloc();
     let comment = parse_line(alloc, b" # clock 7 100")?;
     assert!(rt; comment.is_none());
+    let line = parse_line(alloc, b"octets msg 3")?;
+    assert!(rt; matches!(&line, Some(ScriptLine::Question(Question::OctetsMsg(3)))));
+    Ok(())
+}
+
+#[test]
+fn lists_hold_what_is_pushed(rt: HostRuntime) -> Result<(), Fail> {
+    let alloc = rt.alloc();
+    let mut objects = Uuids::new(alloc);
+    objects.push(Uuid::from_bytes([0xb1; 16]))?;
+    assert_eq!(rt; objects.list().len(), 1);
+    let note = Note::new(alloc, b"in room 7")?.ok_or("an annotation")?;
+    assert_eq!(rt; note.octets(), b"in room 7".as_slice());
+    assert!(rt; Note::new(alloc, b"a\tb")?.is_none());
+    Ok(())
+}
+
+#[test]
+fn a_line_of_the_name_service_is_read(rt: HostRuntime) -> Result<(), Fail> {
+    let line = parse_line(rt.alloc(), b"profadd /.:/p default /.:/q 8 local")?;
+    let Some(ScriptLine::Question(Question::Profadd(_, None, _, 8, note))) = &line else {
+        return Err(Fail::new("a new element"));
+    };
+    assert_eq!(rt; note.octets(), b"local".as_slice());
     Ok(())
 }

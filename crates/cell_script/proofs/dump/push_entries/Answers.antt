@@ -11,8 +11,9 @@ loop-name-init c =
 
 pub loop-name-preserved : goal.loop-name-preserved
 loop-name-preserved c =
-    writing_goes_on entry_lines c.args.number (entries c.args.table.now) c.loop-name.name-iterator c.next.new.self c.in-Some.name.now c.in-Some.entry.now
-    c.args.text.now.items c.loop-name.text.items c.push_entry_lines.new.text.items c.in-Some.ensures.steps c.loop-name.invariant c.in_ok-push_entry_lines.ensures
+    writing_goes_on entry_lines c.args.number (entries c.args.table.now) c.loop-name.name-iterator c.next.new.self c.in-Some.name.now
+    c.in-Some.entry.now c.args.text.now.items c.loop-name.text.items c.push_entry_lines.new.text.items c.in-Some.ensures.steps
+    c.loop-name.invariant c.in_ok-push_entry_lines.ensures
 
 pub returns : goal.returns
 returns c =

@@ -1,0 +1,89 @@
+// The words of the commands of the name service.
+#![tactic(auto, unfolding(crate::specs::Forms::taken))]
+
+ghost use Rattle.cell_script.specs.Forms as form;
+ghost use Rattle.cell_script.specs.Forms.{Takes, taken};
+
+use crate::lists::{Note, StringBindings, Uuids};
+use crate::service_word;
+use crate::words::{Parsed, Words};
+use std::alloc::Global;
+use tower_codec::Interface;
+use uuid::Uuid;
+
+impl<'a> Words<'a> {
+    /// An interface: UUID, `:`, major version, `.` and minor version.
+    pub(crate) fn interface(&mut self) -> Parsed<Interface>
+        ensures { Takes result self.new (taken form.Interface self.old) }
+    {
+        let word = self.needed()?;
+        self.said(service_word::interface(word))
+    }
+
+    /// The interface of an element, or `default` for none.
+    pub(crate) fn element_interface(&mut self) -> Parsed<Option<Interface>>
+        ensures { Takes result self.new (taken form.ElementInterface self.old) }
+    {
+        let word = self.needed()?;
+        self.said(service_word::element_interface(word))
+    }
+
+    /// An interface, or `-` for none.
+    pub(crate) fn interface_or_none(&mut self) -> Parsed<Option<Interface>>
+        ensures { Takes result self.new (taken form.InterfaceOrNone self.old) }
+    {
+        let word = self.needed()?;
+        self.said(service_word::interface_or_none(word))
+    }
+
+    /// String bindings without object parts, with commas between, or `-` for none.
+    pub(crate) fn bindings(&mut self, alloc: Global) -> Parsed<StringBindings>
+        ensures { Takes result self.new (taken form.Bindings self.old) }
+    {
+        let word = self.needed()?;
+        let bindings = service_word::bindings(alloc, word)?;
+        self.said(bindings)
+    }
+
+    /// UUIDs other than nil, with commas between, or `-` for none.
+    pub(crate) fn objects(&mut self, alloc: Global) -> Parsed<Uuids>
+        ensures { Takes result self.new (taken form.Objects self.old) }
+    {
+        let word = self.needed()?;
+        let objects = service_word::objects(alloc, word)?;
+        self.said(objects)
+    }
+
+    /// A UUID, or `-` for nil.
+    pub(crate) fn object(&mut self) -> Parsed<Uuid>
+        ensures { Takes result self.new (taken form.Object self.old) }
+    {
+        let word = self.needed()?;
+        self.said(service_word::object(word))
+    }
+
+    /// The protocol sequences, with a comma between: whether TCP is one, and whether UDP is.
+    pub(crate) fn protocols(&mut self) -> Parsed<(bool, bool)>
+        ensures { Takes result self.new (taken form.Protocols self.old) }
+    {
+        let word = self.needed()?;
+        self.said(service_word::protocols(word))
+    }
+
+    /// A priority, 0 to 255.
+    pub(crate) fn priority(&mut self) -> Parsed<u8>
+        ensures { Takes result self.new (taken form.Priority self.old) }
+    {
+        let word = self.needed()?;
+        self.said(service_word::priority(word))
+    }
+
+    /// An annotation of one word, or `-` for the empty one.
+    pub(crate) fn note(&mut self, alloc: Global) -> Parsed<Note>
+        ensures { Takes result self.new (taken form.Note self.old) }
+    {
+        let word = self.needed()?;
+        let note = service_word::note(alloc, word)?;
+        self.said(note)
+    }
+}
