@@ -1,5 +1,5 @@
 -- What comes of the act of a house, as a command of the model.
-use Rattle.std.proofs.Common.{Bor, ◌≡◌, ◌≢◌, ℕ, List, [], ◌∷◌, ◌++◌, Bool, true, false, subst, refl, sym, ◌∙◌, ap, inl, inr}
+use Rattle.std.proofs.Common.{Bor, ◌≡◌, ◌≢◌, ℕ, List, [], ◌∷◌, Bool, true, false, subst, refl, sym, ◌∙◌, ap, inl, inr}
 use Rattle.std.specs.Rc.{rc_slice_items}
 use Rattle.std.proofs.Math.ListN.{get_or}
 use Rattle.std.proofs.lemmas.Option.{slice_get_read}
@@ -11,7 +11,6 @@ use Rattle.cds_records.specs.declared.fault.RecordFault.{RecordFault}
 use Rattle.cds_records.specs.declared.message.Message.{Message}
 use Rattle.std.specs.Prelude.{length, Option, Some, None, Result, Ok, Err, not, is_some, option_copied, if◌then◌else◌, ◌||◌, ◌==◌, ◌-◌, slice_get}
 use Rattle.cds_stamps.specs.declared.stamp.Stamp.{Stamp}
-use Rattle.cds_stamps.specs.Members.{Member}
 use Rattle.directory.specs.declared.update.UpdateRefusal.{UpdateRefusal}
 use Rattle.directory.specs.Updates.{Change}
 use Rattle.cell_model.specs.Cells as model
@@ -45,8 +44,9 @@ use Rattle.cds_cell.specs.declared.house.HouseState.TheVariants as state
 use Rattle.cds_cell.specs.Bags.{StandsLetter, letter_at}
 use Rattle.cds_cell.specs.Houses.{StandsState}
 use Rattle.cds_cell.specs.PrivateActs.{ActsAt, Delivers, KeepsRest, Tells}
+use Rattle.cds_cell.specs.PrivateSteps.{IsPlaceOf, IsStepAs}
 use Rattle.cds_cell.specs.Scripted as script
-use Rattle.cds_cell.specs.Standing.{IsPlaceOf, IsStepAs, Stands, StandsAs, house_of, numbers_of}
+use Rattle.cds_cell.specs.Standing.{Stands, StandsAs, house_of}
 use Rattle.cds_cell.proofs.Bags.{letter_decodes, letter_faultless, letter_there, lost_stands}
 use Rattle.cds_cell.proofs.HouseActs.{Acted, acted, house_stands, lost_elsewhere}
 use Rattle.cds_cell.proofs.Houses.{has_number, place_within}

@@ -30,9 +30,9 @@ use Rattle.clearinghouse.specs.declared.posted.Posted.{Posted}
 use Rattle.clearinghouse.specs.Posting.{AreLetters, StandEach, StandsBody, StandsCopy, StandsMessage, numbers_of, posts_to}
 use Rattle.cds_cell.specs.declared.bag.Bag.{Bag}
 use Rattle.cds_cell.specs.declared.bag.Letter.{Letter}
-use Rattle.cds_cell.specs.Bags.{IsEmptyBag, MaybeStandsLetter, StandsBag, StandsLetter, letter_at}
+use Rattle.cds_cell.specs.Bags.{MaybeStandsLetter, StandsBag, StandsLetter, letter_at}
 use Rattle.cds_cell.specs.PrivateActs.{Carries, Posts, SomeCarries, numbers_behind}
-use Rattle.cds_cell.specs.PrivateBags.{PostsOne}
+use Rattle.cds_cell.specs.PrivateBags.{IsEmptyBag, PostsOne}
 
 -- ---- what is posted
 

@@ -1,6 +1,6 @@
 -- What comes of a child and its directory, and of other houses of a child, as commands of the model.
 use Rattle.std.proofs.Common.{◌≡◌, ◌≢◌, ℕ, zero, suc, ◌+◌, ◌≤◌, List, [], ◌∷◌, ◌++◌, Bool, true, false, length, subst, refl, sym, ◌∙◌, ap, arith, inl, inr}
-use Rattle.std.specs.Prelude.{Option, Some, None, Result, Ok, Err, max, if◌then◌else◌, ◌==◌, ◌||◌}
+use Rattle.std.specs.Prelude.{Option, Some, None, Result, Ok, Err, ◌==◌, ◌||◌}
 use Rattle.std.proofs.lemmas.Bool.Decides.{nat_tests}
 use Rattle.cds_stamps.specs.declared.numbers.DirId.{DirId}
 use Rattle.cds_stamps.specs.declared.stamp.Stamp.{Stamp}
@@ -22,15 +22,15 @@ use Rattle.cell_model.proofs.Numbers.{numbers_lem}
 use Rattle.cell_model.proofs.Standing.{on_reached}
 use Rattle.cell_model.proofs.Terms.{master_new}
 use Rattle.cell_model.proofs.Views.{put_other}
-use Rattle.cell_script.specs.declared.answer.Answer.{Answer}
 use Rattle.cell_script.specs.declared.answer.Answer.TheVariants as answer
 use Rattle.cell_script.specs.declared.answer.ScriptRefusal.{ScriptRefusal}
 use Rattle.clearinghouse.specs.Stepping.{IsStampAnswer}
 use Rattle.cds_cell.specs.declared.cell.Cell.{Cell}
 use Rattle.cds_cell.specs.declared.console.Listing.{Listing}
 use Rattle.cds_cell.specs.PrivateActs.{ActsAt, CanFound, Founds, GrowsByOne, KeepsRest, Tells, child_outcome}
+use Rattle.cds_cell.specs.PrivateSteps.{IsPlaceOf, IsStepAs, Leaves}
 use Rattle.cds_cell.specs.Scripted as script
-use Rattle.cds_cell.specs.Standing.{GrowsBy, IsPlaceOf, IsStepAs, Leaves, Stands, StandsAs, StandsListing, directory_of, greatest_epoch, house_of}
+use Rattle.cds_cell.specs.Standing.{Stands, StandsAs, StandsListing, directory_of, greatest_epoch, house_of}
 use Rattle.cds_cell.proofs.ActSteps.{made_where, never_missing, passed, refused_told, told_by, up_where}
 use Rattle.cds_cell.proofs.HouseActs.{Acted, acted}
 use Rattle.cds_cell.proofs.Serials.{accept_tells}

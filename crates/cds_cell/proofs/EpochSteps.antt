@@ -1,7 +1,7 @@
 -- What comes of a new epoch, as a command of the model.
-use Rattle.std.proofs.Common.{Global, ◌≡◌, ◌≢◌, ℕ, zero, suc, ◌+◌, ◌<◌, ◌≤◌, List, [], ◌∷◌, Bool, true, false, length, subst, refl, sym}
+use Rattle.std.proofs.Common.{Global, ◌≡◌, ℕ, zero, suc, ◌+◌, ◌<◌, ◌≤◌, List, [], ◌∷◌, true, false, length, subst, refl, sym}
 use Rattle.std.proofs.Common.{◌∙◌, ap, arith, inl, inr}
-use Rattle.std.specs.Prelude.{Option, Some, None, Result, Ok, Err, max, slice_get, slice_set}
+use Rattle.std.specs.Prelude.{Some, None, Result, Ok, Err, slice_get, slice_set}
 use Rattle.std.specs.declared.vec.Vec.{Vec}
 use Rattle.std.proofs.Math.ListN.{get_or, length-set}
 use Rattle.std.proofs.lemmas.Option.{slice_get_read}
@@ -12,14 +12,12 @@ use Rattle.cds_stamps.specs.Members.{Member, master_of, members_of}
 use Rattle.cell_model.specs.Cells as model
 use Rattle.cell_model.specs.Commands as command
 use Rattle.cell_model.specs.Nevers.{Nevers}
-use Rattle.cell_model.specs.Reached.{IsReached}
 use Rattle.cell_model.specs.Steps.{Outcome, at_house, effect, first_refusal, is_bad_list, is_down, is_missing, is_unknown}
 use Rattle.cell_model.specs.Steps.{leaving, listing, refusals_of, with_epoch}
 use Rattle.cell_model.specs.Turns as turns
 use Rattle.cell_model.proofs.NeverComes.{nevers_lem}
 use Rattle.cell_model.proofs.Standing.{on_reached}
 use Rattle.cell_model.proofs.Terms.{master_new}
-use Rattle.cell_script.specs.declared.answer.Answer.{Answer}
 use Rattle.cell_script.specs.declared.answer.Answer.TheVariants as answer
 use Rattle.cell_script.specs.declared.answer.ScriptRefusal.{ScriptRefusal}
 use Rattle.clearinghouse.specs.declared.epochs.EpochRefusal.{EpochRefusal}
@@ -28,10 +26,11 @@ use Rattle.clearinghouse.specs.Stepping.{IsEpochAnswer}
 use Rattle.cds_cell.specs.declared.bag.Bag.{Bag}
 use Rattle.cds_cell.specs.declared.cell.Cell.{Cell}
 use Rattle.cds_cell.specs.declared.console.Listing.{Listing}
-use Rattle.cds_cell.specs.Houses.{IsNewEpoch}
 use Rattle.cds_cell.specs.PrivateActs.{ActsAt, KeepsRest, Tells}
+use Rattle.cds_cell.specs.PrivateHouses.{IsNewEpoch}
+use Rattle.cds_cell.specs.PrivateSteps.{IsPlaceOf, IsStepAs, Leaves}
 use Rattle.cds_cell.specs.Scripted as script
-use Rattle.cds_cell.specs.Standing.{GrowsBy, IsPlaceOf, IsStepAs, Leaves, Stands, StandsAs, StandsListing, directory_of, greatest_epoch, house_of}
+use Rattle.cds_cell.specs.Standing.{Stands, StandsAs, StandsListing, directory_of, greatest_epoch, house_of}
 use Rattle.cds_cell.proofs.HouseActs.{Acted, acted, noted_stands}
 use Rattle.cds_cell.proofs.ActSteps.{never_missing, passed, told_by, up_where}
 use Rattle.cds_cell.proofs.Serials.{new_epoch_tells}

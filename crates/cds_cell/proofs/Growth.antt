@@ -1,7 +1,6 @@
 -- How far a cell grows by its steps.
 use Rattle.std.proofs.Common.{◌≡◌, ℕ, ◌+◌, ◌≤◌, List, [], ◌∷◌, length, subst, refl, sym, arith}
 use Rattle.cell_model.specs.Cells as model
-use Rattle.cell_model.specs.Commands as command
 use Rattle.cds_cell.specs.declared.cell.Cell.{Cell}
 use Rattle.cds_cell.specs.declared.console.Listing.{Listing}
 use Rattle.cds_cell.specs.Standing.{GrowsBy, HasRoom, IsWithin, Stands, StandsListing, directory_of, greatest_epoch}

@@ -13,7 +13,7 @@ use Rattle.cell_model.specs.Cells as model
 use Rattle.cell_model.specs.Commands as command
 use Rattle.cell_model.specs.Steps.{at_house, moved, noted, serials_of, stands_twice}
 use Rattle.cell_model.specs.Turns.{HouseStep, Stays, Turns}
-use Rattle.cell_model.proofs.AtHouses.{Rest, answer_of, at_house-answer, at_house-bag, at_house-here, at_house-rest, at_house-there, house_after, posts_of}
+use Rattle.cell_model.proofs.AtHouses.{Rest, at_house-bag, at_house-here, at_house-rest, at_house-there, house_after, posts_of}
 use Rattle.cell_model.proofs.Lists.{append_nil}
 use Rattle.cell_model.proofs.Views.{put_other, put_same}
 use Rattle.clearinghouse.specs.declared.epochs.EpochRefusal.{EpochRefusal}
@@ -31,11 +31,13 @@ use Rattle.cds_cell.specs.declared.house.CellHouse.{CellHouse}
 use Rattle.cds_cell.specs.declared.house.HouseState.{HouseState}
 use Rattle.cds_cell.specs.declared.house.HouseState.TheVariants as state
 use Rattle.cds_cell.specs.Bags.{StandsBag}
-use Rattle.cds_cell.specs.Houses.{Asks, IsSameHouse, StandsAtHouse, epoch_posted_by, leaves_by, posted_by}
+use Rattle.cds_cell.specs.Houses.{StandsAtHouse}
 use Rattle.cds_cell.specs.PrivateActs.{ActsAt, ChangesAt, KeepsRest, Posts}
-use Rattle.cds_cell.specs.Standing.{IsPlaceOf, MaybeStandsHouse, StandsAs, StandsListing, directory_of, house_of, numbers_of}
+use Rattle.cds_cell.specs.PrivateHouses.{Asks, IsSameHouse, epoch_posted_by, leaves_by, posted_by}
+use Rattle.cds_cell.specs.PrivateSteps.{IsPlaceOf}
+use Rattle.cds_cell.specs.Standing.{MaybeStandsHouse, StandsAs, StandsListing, directory_of, house_of}
 use Rattle.cds_cell.proofs.Bags.{posted_both, posted_none, posted_serials, posted_stands, same_bag}
-use Rattle.cds_cell.proofs.Houses.{house_changed, house_of_place, numbers_kept, place_within}
+use Rattle.cds_cell.proofs.Houses.{house_changed, house_numbers, house_of_place, numbers_kept, place_within}
 use Rattle.cds_cell.proofs.Vecs.{written}
 
 -- ---- what the console knows
@@ -53,7 +55,7 @@ pub placed_stands : (c c' : Cell) (g g' : model.Cell) (x at : ℕ) (is : CellHou
     → c'.houses.items ≡ slice_set c.houses.items at is → KeepsRest c c' → StandsAtHouse is (g'.house x) → ((y : ℕ) → y ≢ x → g'.house y ≡ g.house y)
     → Rest g g' → StandsBag c'.bag g' → StandsAs c' g'
 placed_stands c c' g g' x at is s place number houses kept here there rest bag = record {
-  made = rest.made ∙ s.made ∙ sym (numbers_kept c.houses.items x at is number place) ∙ ap numbers_of (sym houses);
+  made = rest.made ∙ s.made ∙ sym (numbers_kept c.houses.items x at is number place) ∙ ap house_numbers (sym houses);
   once = ap stands_twice rest.made ∙ s.once;
   houses = λ y. rw (houses, house_changed c.houses.items x at is number place y) (house_stands y (is.house.0 == y) refl);
   directories = λ d. rw kept.directories
@@ -98,7 +100,7 @@ listing_changed (k ∷ ls) (suc i) (suc j) l less =
 pub rest_stands : (c c' : Cell) (g g' : model.Cell) → StandsAs c g → c'.houses ≡ c.houses → KeepsRest c c' → ((x : ℕ) → g'.house x ≡ g.house x)
     → Rest g g' → StandsBag c'.bag g' → StandsAs c' g'
 rest_stands c c' g g' s houses kept same rest bag = record {
-  made = rest.made ∙ s.made ∙ ap (λ (v : Vec CellHouse Global). numbers_of v.items) (sym houses);
+  made = rest.made ∙ s.made ∙ ap (λ (v : Vec CellHouse Global). house_numbers v.items) (sym houses);
   once = ap stands_twice rest.made ∙ s.once;
   houses = λ x. rw (houses, same x) (s.houses x);
   directories = λ d. rw kept.directories (listing_kept (directory_of c.directories.items d) g g' d (ap (λ f. f d) rest.top) (ap (λ f. f d) rest.present)
@@ -112,7 +114,7 @@ rest_stands c c' g g' s houses kept same rest bag = record {
 pub lost_elsewhere : (c d : Cell) (g : model.Cell) (n : ℕ) → StandsAs c g → d.houses ≡ c.houses → KeepsRest c d
     → StandsBag d.bag (record g { lost = n ∷ g.lost }) → StandsAs d (record g { lost = n ∷ g.lost })
 lost_elsewhere c d g n s houses rest bag = record {
-  made = s.made ∙ ap (λ (v : Vec CellHouse Global). numbers_of v.items) (sym houses);
+  made = s.made ∙ ap (λ (v : Vec CellHouse Global). house_numbers v.items) (sym houses);
   once = s.once;
   houses = λ x. rw houses (s.houses x);
   directories = λ e. rw rest.directories
@@ -127,7 +129,7 @@ pub noted_stands : (c c' : Cell) (g : model.Cell) (d i k : ℕ) (ms : List Membe
     → c'.houses ≡ c.houses → c'.directories.items ≡ slice_set c.directories.items i l → c'.bag ≡ c.bag → c'.spent ≡ c.spent
     → 1 ≤ l.epoch.0 → l.epoch.0 ≡ k → members_of l.members ≡ ms → StandsAs c' (noted g d k ms)
 noted_stands c c' g d i k ms l s number within houses directories bag spent first epoch members = record {
-  made = s.made ∙ ap (λ (v : Vec CellHouse Global). numbers_of v.items) (sym houses);
+  made = s.made ∙ ap (λ (v : Vec CellHouse Global). house_numbers v.items) (sym houses);
   once = s.once;
   houses = λ x. rw houses (s.houses x);
   directories = λ e. rw directories (known e (s.directories e));

@@ -18,7 +18,8 @@ use Rattle.clearinghouse.specs.Stepping.{IsCall, IsStep, IsTurn}
 use Rattle.cds_cell.specs.declared.house.CellHouse.{CellHouse}
 use Rattle.cds_cell.specs.declared.house.HouseState.TheVariants as state
 use Rattle.cds_cell.proofs.KeptNodes.{KeepsNode, SameNode}
-use Rattle.cds_cell.specs.Houses.{Asks, IsNewEpoch, IsTurnAt, KeepsImage, StandsAtHouse, StandsState, StandsUp}
+use Rattle.cds_cell.specs.Houses.{KeepsImage, StandsAtHouse, StandsState, StandsUp}
+use Rattle.cds_cell.specs.PrivateHouses.{Asks, IsNewEpoch, IsTurnAt}
 
 -- ---- what a house has
 

@@ -1,5 +1,5 @@
 -- The houses of a cell, by number and by place.
-use Rattle.std.proofs.Common.{◌≡◌, ◌≢◌, ℕ, zero, suc, ◌+◌, List, [], ◌∷◌, ◌++◌, Bool, true, false, cond, slice_set, length, ◌<◌, subst, refl, sym}
+use Rattle.std.proofs.Common.{◌≡◌, ◌≢◌, ℕ, zero, suc, ◌+◌, List, [], ◌∷◌, ◌++◌, map, Bool, true, false, cond, slice_set, length, ◌<◌, subst, refl, sym}
 use Rattle.std.proofs.Common.{◌∙◌, ap, arith}
 use Rattle.std.specs.Prelude.{Option, Some, None, MatchOption, is_some, if◌then◌else◌, ◌==◌, ◌||◌, slice_get}
 use Rattle.std.specs.List.{position_from, list_any}
@@ -9,8 +9,14 @@ use Rattle.std.proofs.lemmas.Bool.Decides.{nat_tests}
 use Rattle.cds_stamps.specs.Keyed.{no_value}
 use Rattle.cell_model.specs.Sets.{has}
 use Rattle.cell_model.specs.Steps.{stands_twice}
+use Rattle.clearinghouse.specs.Posting.{numbers_of}
 use Rattle.cds_cell.specs.declared.house.CellHouse.{CellHouse}
-use Rattle.cds_cell.specs.Standing.{numbers_of, house_of, IsPlaceOf, MaybeStandsHouse}
+use Rattle.cds_cell.specs.PrivateSteps.{IsPlaceOf}
+use Rattle.cds_cell.specs.Standing.{house_of, MaybeStandsHouse}
+
+-- the numbers of houses, in their order
+abbrev pub house_numbers : List CellHouse → List ℕ
+house_numbers hs = numbers_of (map (λ h. h.house) hs)
 
 -- a house of this number
 abbrev pub is_house : ℕ → CellHouse → Bool
@@ -35,19 +41,19 @@ place_found x k (h ∷ hs) = go (h.house.0 == x) refl (place_found x (k + 1) hs)
     go false off rest = behind (grind (arith, nat_tests, off)) (position_from (is_house x) (k + 1) hs) rest off
 
 -- a house of a list has its number among theirs
-pub has_number : (hs : List CellHouse) (x : ℕ) → has x (numbers_of hs) ≡ is_some (house_of hs x)
+pub has_number : (hs : List CellHouse) (x : ℕ) → has x (house_numbers hs) ≡ is_some (house_of hs x)
 has_number [] x = refl
 has_number (h ∷ hs) x = go (h.house.0 == x) refl (has_number hs x)
   where
-    go : (b : Bool) → (h.house.0 == x) ≡ b → has x (numbers_of hs) ≡ is_some (house_of hs x)
-        → has x (numbers_of (h ∷ hs)) ≡ is_some (if b then Some h else house_of hs x)
+    go : (b : Bool) → (h.house.0 == x) ≡ b → has x (house_numbers hs) ≡ is_some (house_of hs x)
+        → has x (house_numbers (h ∷ hs)) ≡ is_some (if b then Some h else house_of hs x)
     go true on rest = grind (arith, nat_tests, on)
     go false off rest = grind (arith, nat_tests, off, rest)
 
 -- one house of the list changes, and keeps its number
-pub numbers_kept : (hs : List CellHouse) (x i : ℕ) (w : CellHouse) → w.house.0 ≡ x → IsPlaceOf hs x i → numbers_of (slice_set hs i w) ≡ numbers_of hs
+pub numbers_kept : (hs : List CellHouse) (x i : ℕ) (w : CellHouse) → w.house.0 ≡ x → IsPlaceOf hs x i → house_numbers (slice_set hs i w) ≡ house_numbers hs
 numbers_kept [] x i w is there = absurd there
-numbers_kept (h ∷ hs) x zero w is there = ap (λ n. n ∷ numbers_of hs) (is ∙ sym there)
+numbers_kept (h ∷ hs) x zero w is there = ap (λ n. n ∷ house_numbers hs) (is ∙ sym there)
 numbers_kept (h ∷ hs) x (suc i) w is there = ap (λ ns. h.house.0 ∷ ns) (numbers_kept hs x i w is there.1)
 
 -- the houses after a change of one
@@ -93,7 +99,7 @@ house_added (h ∷ hs) w new y =
     go false off apart rest = rest
 
 -- and their numbers
-pub numbers_added : (hs : List CellHouse) (w : CellHouse) → numbers_of (hs ++ w ∷ []) ≡ numbers_of hs ++ w.house.0 ∷ []
+pub numbers_added : (hs : List CellHouse) (w : CellHouse) → house_numbers (hs ++ w ∷ []) ≡ house_numbers hs ++ w.house.0 ∷ []
 numbers_added [] w = refl
 numbers_added (h ∷ hs) w = ap (λ ns. h.house.0 ∷ ns) (numbers_added hs w)
 
@@ -128,7 +134,7 @@ house_there hs x i h place is =
     (there, ap (λ (h : CellHouse). h.house.0) (sym same) ∙ known.2)
 
 -- a number that none has is no house's
-pub not_there : (hs : List CellHouse) (y : ℕ) → has y (numbers_of hs) ≡ false → house_of hs y ≡ None
+pub not_there : (hs : List CellHouse) (y : ℕ) → has y (house_numbers hs) ≡ false → house_of hs y ≡ None
 not_there hs y off = no_value (house_of hs y) (sym (has_number hs y) ∙ off)
 
 -- numbers that stand once, of which the first is taken off
@@ -144,21 +150,21 @@ abbrev pub has_either : (x node : ℕ) → CellHouse → Bool
 has_either x node h = (h.house.0 == x) || (h.node == node)
 
 -- the program and the model find the number or the node taken alike
-pub taken_alike : (g : Cell) (x node : ℕ) (hs : List CellHouse) → stands_twice (numbers_of hs) ≡ false
-    → ((y : ℕ) → MaybeStandsHouse (house_of hs y) (g.house y)) → list_any (has_either x node) hs ≡ list_any (is_either g x node) (numbers_of hs)
+pub taken_alike : (g : Cell) (x node : ℕ) (hs : List CellHouse) → stands_twice (house_numbers hs) ≡ false
+    → ((y : ℕ) → MaybeStandsHouse (house_of hs y) (g.house y)) → list_any (has_either x node) hs ≡ list_any (is_either g x node) (house_numbers hs)
 taken_alike g x node [] once stands = refl
 taken_alike g x node (h ∷ hs) once stands =
-    let apart = once_behind h.house.0 (numbers_of hs) once in
+    let apart = once_behind h.house.0 (house_numbers hs) once in
     cc (head (stands h.house.0), taken_alike g x node hs apart.1 (λ y. rest y (h.house.0 == y) refl apart.0 (stands y)))
   where
     head : MaybeStandsHouse (if h.house.0 == h.house.0 then Some h else house_of hs h.house.0) (g.house h.house.0)
         → has_either x node h ≡ is_either g x node h.house.0
     head there = let same : (h.house.0 == h.house.0) ≡ true = grind (arith, nat_tests) in let house = rw same at there in rw house.node refl
 
-    rest : (y : ℕ) (b : Bool) → (h.house.0 == y) ≡ b → has h.house.0 (numbers_of hs) ≡ false
+    rest : (y : ℕ) (b : Bool) → (h.house.0 == y) ≡ b → has h.house.0 (house_numbers hs) ≡ false
         → MaybeStandsHouse (if b then Some h else house_of hs y) (g.house y) → MaybeStandsHouse (house_of hs y) (g.house y)
     rest y true on apart there = let is : h.house.0 ≡ y = grind (arith, nat_tests, on) in
-        rw (not_there hs y (ap (λ n. has n (numbers_of hs)) (sym is) ∙ apart)) tt
+        rw (not_there hs y (ap (λ n. has n (house_numbers hs)) (sym is) ∙ apart)) tt
     rest y false off apart there = there
 
 -- one number more

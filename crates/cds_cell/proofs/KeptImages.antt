@@ -1,19 +1,15 @@
 -- What a clearinghouse keeps over a crash is what it keeps after it.
-use Rattle.std.proofs.Common.{◌≡◌, List, ℕ, Option, Some, None, Ok, refl, sym, ap, subst, ◌∙◌}
+use Rattle.std.proofs.Common.{◌≡◌, List, ℕ, Option, Some, None, Ok, refl, sym, ap, ◌∙◌}
 use Rattle.std.specs.FinMap.{get, same_map}
 use Rattle.std.specs.Option.{option_map}
 use Rattle.cds_records.specs.Dirs.{dir_exact, dir_total}
 use Rattle.cds_records.specs.Octets.{image_octets}
-use Rattle.cds_records.specs.declared.image.Image.{Image}
 use Rattle.cds_records.specs.declared.image.ImageDir.{ImageDir}
 use Rattle.cds_records.specs.declared.image.ImageDir.TheVariants as kept
 use Rattle.cds_stamps.specs.declared.stamp.Floor.{Floor}
-use Rattle.cds_stamps.specs.declared.numbers.DirId.{DirId}
 use Rattle.clearinghouse.specs.Imaging.{image_of, kept_of, restarted, started, started_of}
 use Rattle.clearinghouse.specs.Lawful.{IsLawful}
 use Rattle.clearinghouse.specs.declared.house.Clearinghouse.{Clearinghouse}
-use Rattle.clearinghouse.specs.declared.states.DirState.{DirState}
-use Rattle.clearinghouse.specs.declared.states.DirState.TheVariants as state
 use Rattle.clearinghouse.proofs.Restarting.{floor_stays}
 use Rattle.clearinghouse.proofs.Starting.{got_kept, got_started}
 use Rattle.cds_cell.specs.Houses.{KeepsImage}

@@ -1,7 +1,10 @@
+pub mod AcceptedUpdates
 pub mod ActSteps
 pub mod Ascending
+pub mod AskedHouses
 pub mod Bags
 pub mod Children
+pub mod Counts
 pub mod EpochSteps
 pub mod Handing
 pub mod Growth
@@ -11,6 +14,8 @@ pub mod Houses
 pub mod KeptImages
 pub mod KeptNodes
 pub mod MadeHouses
+pub mod ManyUpdates
+pub mod Masters
 pub mod MemberLists
 pub mod ModelObjects
 pub mod NewDirectories
@@ -21,4 +26,6 @@ pub mod Refusals
 pub mod Serials
 pub mod Sorting
 pub mod Told
+pub mod UpdateSteps
 pub mod Vecs
+pub mod WalkSights

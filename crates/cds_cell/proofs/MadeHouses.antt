@@ -24,10 +24,11 @@ use Rattle.cds_cell.specs.declared.house.CellHouse.{CellHouse}
 use Rattle.cds_cell.specs.declared.house.HouseState.{HouseState}
 use Rattle.cds_cell.specs.declared.house.HouseState.TheVariants as house_state
 use Rattle.cds_cell.specs.Houses.{StandsAtHouse, StandsState, StandsUp}
-use Rattle.cds_cell.specs.Standing.{IsPlaceOf, IsStepAs, MaybeStandsHouse, Stands, directory_of, house_of, numbers_of}
+use Rattle.cds_cell.specs.PrivateSteps.{IsPlaceOf, IsStepAs}
+use Rattle.cds_cell.specs.Standing.{MaybeStandsHouse, Stands, directory_of, house_of}
 use Rattle.cds_cell.proofs.Bags.{same_bag}
 use Rattle.cds_cell.proofs.HouseActs.{house_stands, listing_kept, placed_stands}
-use Rattle.cds_cell.proofs.Houses.{house_added, house_of_place, not_there, numbers_added, once_added}
+use Rattle.cds_cell.proofs.Houses.{house_added, house_numbers, house_of_place, not_there, numbers_added, once_added}
 
 -- ---- a house more
 
@@ -90,7 +91,7 @@ module _ (c c' : Cell) (g : model.Cell) (w : CellHouse) (s : Stands c g) (free :
   made_comes = record {
     answer = refl;
     stands = record {
-      made = ap (λ xs. xs ++ x ∷ []) s.stands.made ∙ sym (numbers_added c.houses.items w) ∙ ap numbers_of (sym houses);
+      made = ap (λ xs. xs ++ x ∷ []) s.stands.made ∙ sym (numbers_added c.houses.items w) ∙ ap house_numbers (sym houses);
       once = once_added g.made x s.stands.once unmade;
       houses = λ y. rw (houses, house_added c.houses.items w (not_there c.houses.items x (ap (has x) (sym s.stands.made) ∙ unmade)) y)
           (added y (x == y) refl);

@@ -13,13 +13,13 @@ use Rattle.cds_stamps.specs.declared.numbers.HouseNo.{HouseNo}
 use Rattle.cds_stamps.specs.Members.{Member, is_master, is_listed, since_in, members_of, masters_in, most_members, first_unordered, members_fault}
 use Rattle.cell_model.specs.Sets.{has}
 use Rattle.cell_model.specs.Steps.{ascending, is_bad_list, kind_among, leaving, listing, stands_twice}
-use Rattle.cds_cell.specs.Scripted.{numbers}
+use Rattle.clearinghouse.specs.Posting.{numbers_of}
 use Rattle.cds_cell.proofs.Ascending.{Rises, above_all, all_from_zero, ascending_rises, ascending_times, length_ascending, one_if, times, twice_ascending}
 
 -- ---- tests
 
 -- a house stands among others exactly where its number does
-pub contains_number : (x : ℕ) (hs : List HouseNo) → list_any (λ (h : HouseNo). eqb h.0 x) hs ≡ has x (numbers hs)
+pub contains_number : (x : ℕ) (hs : List HouseNo) → list_any (λ (h : HouseNo). eqb h.0 x) hs ≡ has x (numbers_of hs)
 contains_number x [] = refl
 contains_number x (h ∷ hs) = let flip : eqb h.0 x ≡ (x == h.0) = grind (arith, nat_tests) in cc (flip, contains_number x hs)
 
@@ -35,15 +35,15 @@ listed_by_place x i (m ∷ ms) = go (m.house == x) (listed_by_place x (i + 1) ms
 
 -- a house stands twice where it stands behind its place, or where one behind it does
 pub twice_behind : (h : HouseNo) (behind : List HouseNo) (b : Bool) → b ≡ list_any (λ (x : HouseNo). eqb x.0 h.0) behind
-    → stands_twice (numbers (h ∷ behind)) ≡ (b || stands_twice (numbers behind))
-twice_behind h behind b is = ap (λ (x : Bool). x || stands_twice (numbers behind)) (sym (is ∙ contains_number h.0 behind))
+    → stands_twice (numbers_of (h ∷ behind)) ≡ (b || stands_twice (numbers_of behind))
+twice_behind h behind b is = ap (λ (x : Bool). x || stands_twice (numbers_of behind)) (sym (is ∙ contains_number h.0 behind))
 
 -- with too many others a list is bad
-pub bad_by_number : (m : ℕ) (hs : List HouseNo) → most_members ≤ length hs → is_bad_list (m ∷ numbers hs) ≡ true
+pub bad_by_number : (m : ℕ) (hs : List HouseNo) → most_members ≤ length hs → is_bad_list (m ∷ numbers_of hs) ≡ true
 bad_by_number m hs many =
     let count = length-map hs (λ (h : HouseNo). h.0) in
-    let over : nat_lt most_members (suc (length (numbers hs))) ≡ true = grind (arith, nat_tests, count, many) in
-    rw over (either (stands_twice (m ∷ numbers hs)))
+    let over : nat_lt most_members (suc (length (numbers_of hs))) ≡ true = grind (arith, nat_tests, count, many) in
+    rw over (either (stands_twice (m ∷ numbers_of hs)))
   where
     either : (b : Bool) → (b || true) ≡ true
     either true = refl
@@ -51,11 +51,12 @@ bad_by_number m hs many =
 
 -- with no more than that, it is where a house stands twice
 pub bad_by_houses : (m : ℕ) (hs : List HouseNo) (b : Bool) → length hs < most_members → b ≡ list_any (λ (x : HouseNo). eqb x.0 m) hs
-    → is_bad_list (m ∷ numbers hs) ≡ (b || stands_twice (numbers hs))
+    → is_bad_list (m ∷ numbers_of hs) ≡ (b || stands_twice (numbers_of hs))
 bad_by_houses m hs b few is =
     let count = length-map hs (λ (h : HouseNo). h.0) in
-    let within : nat_lt most_members (suc (length (numbers hs))) ≡ false = grind (arith, nat_tests, count, few) in
-    rw within (plain (has m (numbers hs) || stands_twice (numbers hs)) ∙ ap (λ (x : Bool). x || stands_twice (numbers hs)) (sym (is ∙ contains_number m hs)))
+    let within : nat_lt most_members (suc (length (numbers_of hs))) ≡ false = grind (arith, nat_tests, count, few) in
+    rw within (plain (has m (numbers_of hs) || stands_twice (numbers_of hs))
+    ∙ ap (λ (x : Bool). x || stands_twice (numbers_of hs)) (sym (is ∙ contains_number m hs)))
   where
     plain : (x : Bool) → (x || false) ≡ x
     plain true = refl
@@ -123,26 +124,26 @@ module _ (old : List Member) (k m : ℕ) where
 
 -- the members so far, and those that the other houses are to be, are the whole list
 pub record ListsRest (old : List Member) (k m : ℕ) (rs : List ℕ) (rest : List HouseNo) (made : List declared.Member) : Type 0 where
-  pub is : members_of made ++ map (listed_as old k m) (numbers rest) ≡ listing old k m rs
+  pub is : members_of made ++ map (listed_as old k m) (numbers_of rest) ≡ listing old k m rs
 
 -- where no house is left they are the whole list
 pub lists_end : (old : List Member) (k m : ℕ) (rs : List ℕ) (rest : List HouseNo) (made : List declared.Member) → ListsRest old k m rs rest made → rest ≡ []
     → members_of made ≡ listing old k m rs
 lists_end old k m rs rest made h none =
-    sym (append-nil (members_of made)) ∙ ap (λ hs. members_of made ++ map (listed_as old k m) (numbers hs)) (sym none) ∙ h.is
+    sym (append-nil (members_of made)) ∙ ap (λ hs. members_of made ++ map (listed_as old k m) (numbers_of hs)) (sym none) ∙ h.is
 
 -- the houses that leave so far, and those of the rest that do, are all that leave
 pub record LeavesRest (old now : List Member) (rest : List declared.Member) (left : List HouseNo) : Type 0 where
-  pub is : numbers left ++ leaving (members_of rest) now ≡ leaving old now
+  pub is : numbers_of left ++ leaving (members_of rest) now ≡ leaving old now
 
 -- a house that is still listed does not leave
 pub leaves_pass : (old now : List Member) (before : List declared.Member) (i : ℕ) (d : declared.Member) (left : List HouseNo) → i < length before
     → is_listed (get_or before i d).house.0 now ≡ true → LeavesRest old now (drop i before) left → LeavesRest old now (drop (i + 1) before) left
 leaves_pass old now before i d left within listed h = record {
   is =
-      rw add-one (ap (λ b. numbers left ++ (if b then leaving (members_of (drop (suc i) before)) now
+      rw add-one (ap (λ b. numbers_of left ++ (if b then leaving (members_of (drop (suc i) before)) now
       else (get_or before i d).house.0 ∷ leaving (members_of (drop (suc i) before)) now)) (sym listed)
-      ∙ ap (λ ms. numbers left ++ leaving (members_of ms) now) (sym (drop-cons before i d within)) ∙ h.is);
+      ∙ ap (λ ms. numbers_of left ++ leaving (members_of ms) now) (sym (drop-cons before i d within)) ∙ h.is);
 }
 
 -- one that is not does
@@ -151,10 +152,10 @@ pub leaves_on : (old now : List Member) (before : List declared.Member) (i : ℕ
     → LeavesRest old now (drop (i + 1) before) more
 leaves_on old now before i d left more within unlisted pushed h =
     let rest : List ℕ = leaving (members_of (drop (suc i) before)) now in
-    let goes : numbers more ++ rest ≡ leaving old now =
-    ap (λ hs. numbers hs ++ rest) pushed
+    let goes : numbers_of more ++ rest ≡ leaving old now =
+    ap (λ hs. numbers_of hs ++ rest) pushed
     ∙ ap (λ ns. ns ++ rest) (map-append (λ (x : HouseNo). x.0) left ((get_or before i d).house ∷ []))
-    ∙ append_assoc (numbers left) ((get_or before i d).house.0 ∷ []) rest
-    ∙ ap (λ b. numbers left ++ (if b then rest else (get_or before i d).house.0 ∷ rest)) (sym unlisted)
-    ∙ ap (λ ms. numbers left ++ leaving (members_of ms) now) (sym (drop-cons before i d within)) ∙ h.is in
+    ∙ append_assoc (numbers_of left) ((get_or before i d).house.0 ∷ []) rest
+    ∙ ap (λ b. numbers_of left ++ (if b then rest else (get_or before i d).house.0 ∷ rest)) (sym unlisted)
+    ∙ ap (λ ms. numbers_of left ++ leaving (members_of ms) now) (sym (drop-cons before i d within)) ∙ h.is in
     record { is = rw add-one goes }

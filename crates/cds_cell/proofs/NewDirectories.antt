@@ -1,5 +1,6 @@
 -- A directory more: at its master, and at the console.
-use Rattle.std.proofs.Common.{Global, ◌≡◌, ◌≢◌, ℕ, zero, suc, ◌+◌, ◌≤◌, List, [], ◌∷◌, ◌++◌, Bool, true, false, length, subst, refl, sym, ◌∙◌, ap, arith, inl, inr}
+use Rattle.std.proofs.Common.{Global, ◌≡◌, ◌≢◌, ℕ, zero, suc, ◌+◌, ◌≤◌, List, [], ◌∷◌, ◌++◌, Bool, true, false, length, subst, refl, sym, ◌∙◌}
+use Rattle.std.proofs.Common.{ap, arith, inl, inr}
 use Rattle.std.specs.Prelude.{Option, Some, None, max, not, if◌then◌else◌, ◌==◌, slice_get, slice_set}
 use Rattle.std.specs.declared.vec.Vec.{Vec}
 use Rattle.std.proofs.Math.ListN.{get_or}
@@ -22,13 +23,15 @@ use Rattle.clearinghouse.specs.declared.outgoing.Outgoing.{Outgoing}
 use Rattle.cds_cell.specs.declared.cell.Cell.{Cell}
 use Rattle.cds_cell.specs.declared.console.Listing.{Listing}
 use Rattle.cds_cell.specs.declared.house.CellHouse.{CellHouse}
-use Rattle.cds_cell.specs.Houses.{IsSameHouse, IsTurnAt, StandsAtHouse, posted_at}
+use Rattle.cds_cell.specs.Houses.{StandsAtHouse}
 use Rattle.cds_cell.specs.PrivateActs.{ActsAt, CanFound, Founds, GrowsByOne, KeepsRest, MasterFounds, Posts}
-use Rattle.cds_cell.specs.Standing.{IsPlaceOf, IsStepAs, Stands, StandsAs, StandsListing, directory_of, greatest_epoch, house_of, numbers_of}
+use Rattle.cds_cell.specs.PrivateHouses.{IsSameHouse, IsTurnAt, posted_at}
+use Rattle.cds_cell.specs.PrivateSteps.{IsPlaceOf, IsStepAs}
+use Rattle.cds_cell.specs.Standing.{Stands, StandsAs, StandsListing, directory_of, greatest_epoch, house_of}
 use Rattle.cds_cell.proofs.ActSteps.{made_where, missing_where, passed, up_where}
 use Rattle.cds_cell.proofs.Bags.{same_bag}
 use Rattle.cds_cell.proofs.HouseActs.{Acted, acted, acts_at, listing_kept}
-use Rattle.cds_cell.proofs.Houses.{house_of_place, place_within}
+use Rattle.cds_cell.proofs.Houses.{house_numbers, house_of_place, place_within}
 
 -- ---- at its master
 
@@ -89,7 +92,7 @@ pub added_stands : (c e : Cell) (g : model.Cell) (d next : ℕ) (ms : List Membe
     → next ≡ max 2 (d + 1) → e.houses ≡ c.houses → e.directories.items ≡ c.directories.items ++ l ∷ [] → e.bag ≡ c.bag → e.spent ≡ c.spent
     → l.epoch.0 ≡ 1 → members_of l.members ≡ ms → StandsAs e (with_new g d next ms)
 added_stands c e g d next ms l s number is houses directories bag spent epoch members = record {
-  made = s.made ∙ ap (λ (v : Vec CellHouse Global). numbers_of v.items) (sym houses);
+  made = s.made ∙ ap (λ (v : Vec CellHouse Global). house_numbers v.items) (sym houses);
   once = s.once;
   houses = λ x. rw houses (s.houses x);
   directories = λ f. rw directories (known f (s.directories f));
@@ -106,7 +109,8 @@ added_stands c e g d next ms l s number is houses directories bag spent epoch me
         let on : (f == d) ≡ true = grind (arith, nat_tests, same) in
         (omega (arith, epoch), rw on (sym epoch), rw on (sym members))
 
-    known : (f : ℕ) → StandsListing (directory_of c.directories.items f) g f → StandsListing (directory_of (c.directories.items ++ l ∷ []) f) (with_new g d next ms) f
+    known : (f : ℕ) → StandsListing (directory_of c.directories.items f) g f
+        → StandsListing (directory_of (c.directories.items ++ l ∷ []) f) (with_new g d next ms) f
     known zero stands = there zero None (λ same. omega (arith, same, number)) stands
     known (suc j) stands = rw (listing_added c.directories.items l j) (go (j == length c.directories.items) refl)
       where

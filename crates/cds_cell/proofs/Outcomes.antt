@@ -6,14 +6,14 @@ use Rattle.std.specs.declared.alloc.AllocError.{AllocError}
 use Rattle.cell_model.specs.Cells as model
 use Rattle.cell_model.specs.Commands as command
 use Rattle.cell_model.specs.Reached.{IsReached}
-use Rattle.cell_model.specs.Steps.{Outcome, effect, first_refusal, outcome, refusals_of, refused}
+use Rattle.cell_model.specs.Steps.{Outcome, effect, first_refusal, outcome, refusals_of}
 use Rattle.cell_model.proofs.Standing.{reached_lem}
 use Rattle.cell_script.specs.declared.answer.Answer.{Answer}
-use Rattle.cell_script.specs.declared.answer.Answer.TheVariants as answer
 use Rattle.cell_script.specs.declared.answer.ScriptRefusal.{ScriptRefusal}
 use Rattle.cds_cell.specs.declared.cell.Cell.{Cell}
+use Rattle.cds_cell.specs.PrivateSteps.{ComesTo}
 use Rattle.cds_cell.specs.Scripted as script
-use Rattle.cds_cell.specs.Standing.{ComesTo, IsStep, Stands, StandsAs}
+use Rattle.cds_cell.specs.Standing.{IsStep, StandsAs}
 
 -- what is mapped to none is none
 pub unrefused : (o : Option command.Refusal) (r : Option ScriptRefusal) → r ≡ option_map script.refusal_of o → r ≡ None → o ≡ None

@@ -1,6 +1,6 @@
 -- The messages and the images of a cell of the program are the records of the cell of the model that it stands for.
-use Rattle.std.proofs.Common.{◌≡◌, ℕ, zero, suc, ◌+◌, ◌≤◌, Bool, true, false, List, [], ◌∷◌, refl, sym, ap, subst, ◌∙◌, arith, inr}
-use Rattle.std.specs.Prelude.{Option, Some, None, is_some, map, if◌then◌else◌, ◌==◌, ◌||◌}
+use Rattle.std.proofs.Common.{◌≡◌, ℕ, zero, suc, ◌+◌, ◌≤◌, Bool, true, false, List, [], ◌∷◌, length, append-nil, refl, sym, ap, subst, ◌∙◌, arith, inr}
+use Rattle.std.specs.Prelude.{Option, Some, None, Result, Ok, Err, is_some, map, if◌then◌else◌, ◌==◌}
 use Rattle.std.specs.Cmp.{nat_cmp_total}
 use Rattle.std.specs.FinMap.{get, same_map}
 use Rattle.std.specs.List.{list_any, range_with_len}
@@ -10,19 +10,20 @@ use Rattle.std.specs.Rc.{rc_slice_items}
 use Rattle.std.proofs.lemmas.Bool.Decides.{nat_tests}
 use Rattle.std.proofs.lemmas.Cmp.{eq_by_cmp_equiv}
 use Rattle.cds_stamps.specs.Keyed.{get-of_all_keys}
-use Rattle.cds_stamps.specs.Members.{Member, member_of, members_of}
+use Rattle.cds_stamps.specs.Outcomes.{Answers}
+use Rattle.cds_stamps.specs.Members.{Member, members_of}
 use Rattle.cds_stamps.specs.declared.members.Member as declared
 use Rattle.cds_stamps.specs.declared.numbers.DirId.{DirId}
-use Rattle.cds_stamps.specs.declared.numbers.EpochNo.{EpochNo}
 use Rattle.cds_stamps.specs.declared.numbers.HouseNo.{HouseNo}
-use Rattle.directory.specs.Histories.{Mark, entry_of, name_in}
-use Rattle.directory.specs.declared.entry.EntryCell.{EntryCell}
+use Rattle.directory.specs.Histories.{Mark, entry_of}
 use Rattle.directory.specs.declared.entry.Fragment.{Fragment}
 use Rattle.purge_rule.specs.Replicas.{IsFragmentOf, replica_of}
 use Rattle.purge_rule.specs.declared.replica.Replica.{Replica}
+use Rattle.cds_records.specs.Decoding.{Decodes, IsWhole, decoding, with_memory}
 use Rattle.cds_records.specs.Dirs.{dir_cmp, dir_exact, dir_total}
 use Rattle.cds_records.specs.Octets.{image_octets, message_octets}
-use Rattle.cds_records.specs.declared.image.Image.{Image}
+use Rattle.cds_records.specs.Records.{message}
+use Rattle.cds_records.specs.declared.fault.RecordFault.{RecordFault}
 use Rattle.cds_records.specs.declared.image.ImageDir.{ImageDir}
 use Rattle.cds_records.specs.declared.image.ImageDir.TheVariants as kept
 use Rattle.cds_records.specs.declared.message.Body.{Body}
@@ -34,8 +35,8 @@ use Rattle.cell_model.specs.Sets.{has}
 use Rattle.cell_model.specs.Steps.{message_at}
 use Rattle.cell_model.proofs.Numbers.{numbers_lem}
 use Rattle.cell_model.proofs.Standing.{on_reached}
-use Rattle.clearinghouse.specs.Imaging.{image_of, kept_of}
-use Rattle.clearinghouse.specs.Posting.{StandsBody, StandsCopy, StandsHead, StandsMessage}
+use Rattle.clearinghouse.specs.Imaging.{image_of, kept_of, started}
+use Rattle.clearinghouse.specs.Posting.{StandsBody, StandsCopy, StandsMessage}
 use Rattle.clearinghouse.specs.Standing.{StandsHeld, StandsSlot}
 use Rattle.clearinghouse.specs.declared.house.Clearinghouse.{Clearinghouse}
 use Rattle.clearinghouse.specs.declared.states.DirState.{DirState}
@@ -44,7 +45,7 @@ use Rattle.clearinghouse.specs.declared.states.Held.{Held}
 use Rattle.clearinghouse.proofs.Starting.{got_kept}
 use Rattle.cds_cell.specs.Bags.{MaybeStandsLetter, StandsLetter, letter_at}
 use Rattle.cds_cell.specs.Houses.{StandsState, StandsUp}
-use Rattle.cds_cell.specs.Recorded.{body_of, declared_member, declared_members, first_dirs, image_at, kept_in, message_of, octets_of, update_body}
+use Rattle.cds_cell.specs.Recorded.{body_of, declared_members, first_dirs, image_at, kept_in, message_of, octets_of, update_body}
 use Rattle.cds_cell.specs.Standing.{MaybeStandsHouse, Stands, house_of}
 use Rattle.cds_cell.specs.declared.bag.Letter.{Letter}
 use Rattle.cds_cell.specs.declared.cell.Cell.{Cell}
@@ -239,3 +240,29 @@ module _ (c : Cell) (g : model.Cell) (stands : Stands c g) where
   image_of_down x octets is =
       let house = house_recorded x (house_state.Down octets) is in
       image_kept g numbers_stand x house.number octets house.is house.stands
+
+  -- ---- nothing is at fault
+
+  -- the octets of a message in the bag decode to it
+  pub letter_decodes : (n : ℕ) (octets : List ℕ) → option_map (λ l. rc_slice_items l.shared) (letter_at c.bag n) ≡ Some octets
+      → Decodes message octets (with_memory (decoding message octets)) → (m : Message) × (decoding message octets ≡ Ok (m, length octets))
+  letter_decodes n octets is decodes = by_letter (letter_at c.bag n) (message_at g n) is (stands.stands.bag.letters n)
+    where
+      answered : (m : Message) (r : Result (Message × ℕ) RecordFault) → Answers (with_memory r) (Ok (m, length octets)) → r ≡ Ok (m, length octets)
+      answered m (Ok d) is = cc
+      answered m (Err f) is = absurd (cc)
+
+      by_letter : (o : Option Letter) (p : Option model.Message) → option_map (λ l. rc_slice_items l.shared) o ≡ Some octets → MaybeStandsLetter o p
+          → (m : Message) × (decoding message octets ≡ Ok (m, length octets))
+      by_letter None None is there = absurd (cc)
+      by_letter None (Some m) is there = elim there [ ]
+      by_letter (Some l) None is there = elim there [ ]
+      by_letter (Some l) (Some m) is there =
+          let same : rc_slice_items l.shared ≡ octets = cc in
+          let whole : IsWhole message there.carried octets = subst (λ xs. IsWhole message there.carried xs) same there.whole in
+          (there.carried, answered there.carried (decoding message octets) (decodes.only there.carried octets [] whole (sym (append-nil octets))))
+
+  -- a house that is down starts of its octets
+  pub house_starts : (x : ℕ) (octets : List ℕ) → option_map (λ h. h.state) (house_of c.houses.items x) ≡ Some (house_state.Down octets)
+      → (home : Clearinghouse) × (started octets ≡ Ok home)
+  house_starts x octets is = let house = house_recorded x (house_state.Down octets) is in (house.stands.1.0, house.stands.1.1.starts)

@@ -1,25 +1,28 @@
 -- Why steps are refused: what the cell says of houses and directories is what the model says.
-use Rattle.std.proofs.Common.{◌≡◌, ◌≢◌, ℕ, zero, suc, ◌+◌, ◌≤◌, ◌<◌, List, [], ◌∷◌, Bool, true, false, cond, length, refl, sym, ◌∙◌, ap, arith, subst}
-use Rattle.std.specs.Prelude.{Option, Some, None, MatchOption, is_some, is_none, not, if◌then◌else◌, ◌||◌, ◌==◌, slice_get}
+use Rattle.std.proofs.Common.{◌≡◌, ℕ, zero, suc, ◌+◌, ◌<◌, List, [], ◌∷◌, ◌++◌, Bool, true, false, cond, length, refl, sym, ◌∙◌, ap, arith, subst}
+use Rattle.std.specs.Prelude.{Option, Some, None, MatchOption, is_some, is_none, if◌then◌else◌, not, ◌||◌, ◌==◌, slice_get}
 use Rattle.std.specs.List.{list_any, position_from}
 use Rattle.std.specs.Option.{option_map}
 use Rattle.std.proofs.Math.ListN.{get_or}
 use Rattle.std.proofs.lemmas.Bool.Decides.{nat_tests}
-use Rattle.cds_stamps.specs.declared.numbers.HouseNo.{HouseNo}
 use Rattle.cds_stamps.specs.Members.{Member, is_listed, members_of, place_of}
 use Rattle.cell_model.specs.Cells as model
+use Rattle.cell_model.specs.Commands as command
 use Rattle.cell_model.specs.Holdings.{NumbersHold}
 use Rattle.cell_model.specs.Sets.{has}
-use Rattle.cell_model.specs.Steps.{is_down, is_missing, is_unknown}
+use Rattle.cell_model.specs.Steps.{first_refusal, is_down, is_missing, is_unknown}
 use Rattle.cell_model.proofs.Numbers.{numbers_lem}
 use Rattle.cell_model.proofs.Standing.{on_reached}
+use Rattle.cell_script.specs.declared.answer.ScriptRefusal.{ScriptRefusal}
 use Rattle.cds_cell.specs.declared.cell.Cell.{Cell}
 use Rattle.cds_cell.specs.declared.console.Listing.{Listing}
 use Rattle.cds_cell.specs.declared.house.CellHouse.{CellHouse}
 use Rattle.cds_cell.specs.declared.house.HouseState.{HouseState}
 use Rattle.cds_cell.specs.declared.house.HouseState.TheVariants as state
 use Rattle.cds_cell.specs.Houses.{StandsAtHouse, StandsState, is_up_state}
-use Rattle.cds_cell.specs.Standing.{IsPlaceOf, MaybeStandsHouse, Stands, StandsAs, StandsListing, directory_of, house_of}
+use Rattle.cds_cell.specs.PrivateSteps.{IsPlaceOf}
+use Rattle.cds_cell.specs.Scripted.{refusal_of}
+use Rattle.cds_cell.specs.Standing.{MaybeStandsHouse, Stands, StandsListing, directory_of, house_of}
 use Rattle.cds_cell.proofs.Houses.{has_number, house_of_place}
 
 -- ---- directories
@@ -80,14 +83,6 @@ down_where c g x r s is =
 
 -- ---- several tests
 
--- one of a first and other houses is missing
-pub missing_both : (g : model.Cell) (h m : ℕ) (rs : List ℕ) (a b : Bool) → a ≡ is_missing g (h ∷ []) → b ≡ is_missing g (m ∷ rs) → (a || b) ≡ is_missing g (h ∷ m ∷ rs)
-missing_both g h m rs a b first rest = by_first (has h g.made) (first) rest
-  where
-    by_first : (t : Bool) → a ≡ (not t || false) → b ≡ is_missing g (m ∷ rs) → (a || b) ≡ (not t || is_missing g (m ∷ rs))
-    by_first true is rest = rw (is, rest) refl
-    by_first false is rest = rw is refl
-
 -- houses of which one was not made
 pub missing_where : (c : Cell) (g : model.Cell) (hs : List ℕ) → Stands c g → list_any (λ x. not (is_some (house_of c.houses.items x))) hs ≡ is_missing g hs
 missing_where c g [] s = refl
@@ -125,3 +120,24 @@ pub unlisted_where : (c : Cell) (g : model.Cell) (d x : ℕ) → Stands c g → 
 unlisted_where c g d x s none =
     let top : g.top d ≡ 0 = subst (λ o. StandsListing o g d) none (s.stands.directories d) in
     ap (is_listed x) ((on_reached NumbersHold numbers_lem g s.reached).nothing d top).present
+
+-- ---- tests one after another
+
+-- where one of the first tests holds, the others do not count
+pub refused_first : (r : ScriptRefusal) (ts us : List (Bool × command.Refusal)) → Some r ≡ option_map refusal_of (first_refusal ts)
+    → Some r ≡ option_map refusal_of (first_refusal (ts ++ us))
+refused_first r [] us is = absurd (cc)
+refused_first r (t ∷ ts) us is = by_test t.0 is (refused_first r ts us)
+  where
+    by_test : (holds : Bool) → Some r ≡ option_map refusal_of (if holds then Some t.1 else first_refusal ts)
+        → (Some r ≡ option_map refusal_of (first_refusal ts) → Some r ≡ option_map refusal_of (first_refusal (ts ++ us)))
+        → Some r ≡ option_map refusal_of (if holds then Some t.1 else first_refusal (ts ++ us))
+    by_test true is more = is
+    by_test false is more = more is
+
+-- a test that does not hold in front of others does not count
+pub passed_first : (holds : Bool) (why : command.Refusal) (r : Option ScriptRefusal) (ts : List (Bool × command.Refusal))
+    → None ≡ option_map refusal_of (first_refusal ((holds, why) ∷ [])) → r ≡ option_map refusal_of (first_refusal ts)
+    → r ≡ option_map refusal_of (first_refusal ((holds, why) ∷ ts))
+passed_first true why r ts none is = absurd (cc)
+passed_first false why r ts none is = is

@@ -1,5 +1,5 @@
 -- The answer of a house's step tells the serial numbers of what it posts.
-use Rattle.std.proofs.Common.{◌≡◌, ℕ, List, [], ◌∷◌, Bool, true, false, refl}
+use Rattle.std.proofs.Common.{ℕ, List, [], ◌∷◌, Bool, true, false, refl}
 use Rattle.std.specs.Prelude.{Option, Some, None, nat_le, nat_lt, if◌then◌else◌, ◌==◌, ◌&&◌}
 use Rattle.cds_stamps.specs.declared.stamp.Stamp.{Stamp}
 use Rattle.cds_stamps.specs.Members.{Member, is_listed, master_of, others_of, since_in}
@@ -8,7 +8,6 @@ use Rattle.directory.specs.declared.update.UpdateRefusal.{UpdateRefusal}
 use Rattle.directory.specs.Updates.{Change}
 use Rattle.cell_model.specs.Cells as model
 use Rattle.cell_model.specs.Cells.{Body, Copy, House, Message, Phase, Replica, Slot}
-use Rattle.cell_model.specs.Commands as command
 use Rattle.cell_model.specs.Turns as turns
 use Rattle.cell_model.specs.Turns.{HouseStep, Stays, Turns}
 use Rattle.cell_model.proofs.AtHouses.{answer_of}

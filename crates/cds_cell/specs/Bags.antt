@@ -18,11 +18,6 @@ use Rattle.cds_cell.specs.declared.bag.Letter.{Letter}
 abbrev pub letter_at : Bag → ℕ → Option Letter
 letter_at b n = get nat_eq b.letters n
 
--- nothing was posted (own)
-pub record IsEmptyBag (b : Bag) : Type 0 where
-  pub posted : b.posted ≡ 0
-  pub letters : (n : ℕ) → letter_at b n ≡ None
-
 -- ---- what it stands for
 
 -- a message as octets stands for one of the model: its octets are the whole of a valid message that does (own)

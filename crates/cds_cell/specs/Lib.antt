@@ -1,9 +1,12 @@
+pub mod Accepting
 pub mod Asking
 pub mod AskingProofs
 pub mod Bags
 pub mod Houses
 pub mod PrivateActs
 pub mod PrivateBags
+pub mod PrivateHouses
+pub mod PrivateSteps
 pub mod PrivateTelling
 pub mod Readings
 pub mod Recorded

@@ -20,8 +20,10 @@ use Rattle.cds_cell.specs.declared.bag.Letter.{Letter}
 use Rattle.cds_cell.specs.declared.cell.Cell.{Cell}
 use Rattle.cds_cell.specs.declared.house.CellHouse.{CellHouse}
 use Rattle.cds_cell.specs.Bags.{letter_at}
-use Rattle.cds_cell.specs.Houses.{Asks, IsSameHouse, StandsAtHouse}
-use Rattle.cds_cell.specs.Standing.{IsPlaceOf, StandsAs, greatest_epoch}
+use Rattle.cds_cell.specs.Houses.{StandsAtHouse}
+use Rattle.cds_cell.specs.PrivateHouses.{Asks, IsSameHouse}
+use Rattle.cds_cell.specs.PrivateSteps.{IsPlaceOf}
+use Rattle.cds_cell.specs.Standing.{StandsAs, greatest_epoch}
 
 -- a letter carries a message that was posted (own)
 pub record Carries (l : Letter) (p : Posted) : Type 0 where

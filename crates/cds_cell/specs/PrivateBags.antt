@@ -1,8 +1,13 @@
--- Words of private functions alone: one message in a bag.
-use Rattle.std.specs.Prelude.{◌≡◌, ℕ, ◌+◌, ◌==◌, if◌then◌else◌, List, [], ◌∷◌, ◌++◌, Some}
+-- Words of private functions alone: bags.
+use Rattle.std.specs.Prelude.{◌≡◌, ℕ, ◌+◌, ◌==◌, if◌then◌else◌, List, [], ◌∷◌, ◌++◌, None, Some}
 use Rattle.cds_cell.specs.declared.bag.Bag.{Bag}
 use Rattle.cds_cell.specs.declared.bag.Letter.{Letter}
 use Rattle.cds_cell.specs.Bags.{letter_at}
+
+-- nothing was posted (own)
+pub record IsEmptyBag (b : Bag) : Type 0 where
+  pub posted : b.posted ≡ 0
+  pub letters : (n : ℕ) → letter_at b n ≡ None
 
 -- one letter was posted behind all others, and its number was told behind those of others (own)
 pub record PostsOne (old new : Bag) (before after : List ℕ) (l : Letter) : Type 0 where

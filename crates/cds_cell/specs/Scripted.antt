@@ -1,8 +1,5 @@
 -- The commands and answers of the script, as steps and answers of a cell of the model (own).
-use Rattle.std.specs.Prelude.{◌≡◌, ℕ, List, [], map, Option, Some, None}
-use Rattle.cds_stamps.specs.declared.numbers.HouseNo.{HouseNo}
-use Rattle.cds_stamps.specs.declared.numbers.DirId.{DirId}
-use Rattle.cds_stamps.specs.declared.numbers.EpochNo.{EpochNo}
+use Rattle.std.specs.Prelude.{[], Option, Some, None}
 use Rattle.directory.specs.declared.update.UpdateRefusal.{UpdateRefusal}
 use Rattle.directory.specs.declared.update.UpdateRefusal.TheVariants as update
 use Rattle.directory.specs.Updates as updates
@@ -13,18 +10,15 @@ use Rattle.cell_script.specs.declared.answer.Answer.{Answer}
 use Rattle.cell_script.specs.declared.answer.Answer.TheVariants as answer
 use Rattle.cell_script.specs.declared.answer.ScriptRefusal.{ScriptRefusal}
 use Rattle.cell_script.specs.declared.answer.ScriptRefusal.TheVariants as why
-
--- the numbers of houses (own)
-abbrev pub numbers : List HouseNo → List ℕ
-numbers hs = map (λ h. h.0) hs
+use Rattle.clearinghouse.specs.Posting.{numbers_of}
 
 -- the step of the cell that a command is (own)
 abbrev pub step_of : Command → model.Command
 step_of (command.House h node) = model.House h.0 node
 step_of (command.Clock h time) = model.Clock h.0 time
-step_of (command.Root m rs) = model.Root m.0 (numbers rs)
-step_of (command.Mkdir h d n m rs) = model.Mkdir h.0 d.0 n m.0 (numbers rs)
-step_of (command.Repoint h d n m rs) = model.Repoint h.0 d.0 n m.0 (numbers rs)
+step_of (command.Root m rs) = model.Root m.0 (numbers_of rs)
+step_of (command.Mkdir h d n m rs) = model.Mkdir h.0 d.0 n m.0 (numbers_of rs)
+step_of (command.Repoint h d n m rs) = model.Repoint h.0 d.0 n m.0 (numbers_of rs)
 step_of (command.Create h d n) = model.Accept h.0 d.0 (updates.Create n)
 step_of (command.Link h d n target) = model.Accept h.0 d.0 (updates.MakeLink n target)
 step_of (command.Delete h d n) = model.Accept h.0 d.0 (updates.Delete n)
@@ -32,7 +26,7 @@ step_of (command.Add h d n a v) = model.Accept h.0 d.0 (updates.Add n a v)
 step_of (command.Remove h d n a v) = model.Accept h.0 d.0 (updates.Remove n a v)
 step_of (command.Put h d n a v) = model.Accept h.0 d.0 (updates.Put n a v)
 step_of (command.Clear h d n a) = model.Accept h.0 d.0 (updates.Clear n a)
-step_of (command.Epoch d m rs) = model.Epoch d.0 m.0 (numbers rs)
+step_of (command.Epoch d m rs) = model.Epoch d.0 m.0 (numbers_of rs)
 step_of (command.Skulk h d) = model.Skulk h.0 d.0
 step_of (command.Deliver n) = model.Deliver n
 step_of (command.Lose n) = model.Lose n

@@ -1,40 +1,28 @@
 -- Which cell of the model a cell of the program stands for (own, after C705, clearinghouses and replica sets).
-use Rattle.std.specs.Prelude.{◌≡◌, ◌≢◌, ℕ, zero, suc, ◌+◌, ◌*◌, ◌≤◌, ◌<◌, ◌^◌, ◌==◌, if◌then◌else◌, max, true, false, List, [], ◌∷◌, map, length, slice_get}
-use Rattle.std.specs.Prelude.{Option, Some, None, Result, is_err, IfOk, OnOk}
+use Rattle.std.specs.Prelude.{◌≡◌, ℕ, zero, suc, ◌+◌, ◌-◌, ◌*◌, ◌≤◌, ◌<◌, ◌^◌, ◌==◌, if◌then◌else◌, max, false, List, [], ◌∷◌, map, length, slice_get}
+use Rattle.std.specs.Prelude.{Option, Some, None, Result, is_err, IfOk}
 use Rattle.std.specs.declared.alloc.AllocError.{AllocError}
 use Rattle.cds_stamps.specs.Members.{members_of}
-use Rattle.directory.specs.Updates.{change_of}
+use Rattle.cds_stamps.specs.Numbers.{root_dir}
 use Rattle.cell_model.specs.Cells as model
-use Rattle.cell_model.specs.Commands as command
 use Rattle.cell_model.specs.Reached.{IsReached}
-use Rattle.cell_model.specs.Steps.{Outcome, stands_twice}
+use Rattle.cell_model.specs.Steps.{Outcome, is_unknown, stands_twice}
 use Rattle.cell_script.specs.declared.answer.Answer.{Answer}
 use Rattle.cell_script.specs.declared.answer.Answer.TheVariants as answer
+use Rattle.clearinghouse.specs.Posting.{numbers_of}
 use Rattle.cds_cell.specs.declared.cell.Cell.{Cell}
 use Rattle.cds_cell.specs.declared.console.Listing.{Listing}
 use Rattle.cds_cell.specs.declared.house.CellHouse.{CellHouse}
-use Rattle.cds_cell.specs.declared.step.Step.{Step}
-use Rattle.cds_cell.specs.declared.step.Step.TheVariants as step
 use Rattle.cds_cell.specs.Bags.{StandsBag}
 use Rattle.cds_cell.specs.Houses.{StandsAtHouse}
-use Rattle.cds_cell.specs.Scripted.{numbers, answer_of}
+use Rattle.cds_cell.specs.Scripted.{answer_of}
 
 -- ---- houses
-
--- the numbers of houses, in their order (own)
-abbrev pub numbers_of : List CellHouse → List ℕ
-numbers_of hs = map (λ h. h.house.0) hs
 
 -- the house of a number, if it was made (own)
 abbrev pub house_of : List CellHouse → ℕ → Option CellHouse
 house_of [] x = None
 house_of (h ∷ hs) x = if h.house.0 == x then Some h else house_of hs x
-
--- the house of a number stands at this place, and none before it (own)
-abbrev pub IsPlaceOf : List CellHouse → ℕ → ℕ → Type 0
-IsPlaceOf [] x i = ⊥
-IsPlaceOf (h ∷ hs) x zero = h.house.0 ≡ x
-IsPlaceOf (h ∷ hs) x (suc i) = (h.house.0 ≢ x) × IsPlaceOf hs x i
 
 -- a house that was made stands for the model's (own)
 abbrev pub MaybeStandsHouse : Option CellHouse → model.House → Type 0
@@ -58,7 +46,7 @@ StandsListing (Some l) g d = (1 ≤ l.epoch.0) × (g.top d ≡ l.epoch.0) × (g.
 -- the cell has the model's houses, in the order in which they were made; its console knows the directories 1, 2, 3 and so on as the
 -- model's does; its bag has the model's messages; and it is not spent (own)
 pub record StandsAs (c : Cell) (g : model.Cell) : Type 0 where
-  pub made : g.made ≡ numbers_of c.houses.items
+  pub made : g.made ≡ numbers_of (map (λ h. h.house) c.houses.items)
   pub once : stands_twice g.made ≡ false
   pub houses : (x : ℕ) → MaybeStandsHouse (house_of c.houses.items x) (g.house x)
   pub directories : (d : ℕ) → StandsListing (directory_of c.directories.items d) g d
@@ -73,30 +61,10 @@ pub record Stands (c : Cell) (g : model.Cell) : Type 0 where
 
 -- ---- steps
 
--- the command of the model that a step of the program is (own)
-abbrev pub step_meant : Step → command.Command
-step_meant (step.House h node) = command.House h.0 node
-step_meant (step.Clock h time) = command.Clock h.0 time
-step_meant (step.Root m rs) = command.Root m.0 (numbers rs)
-step_meant (step.Mkdir h d n m rs) = command.Mkdir h.0 d.0 n m.0 (numbers rs)
-step_meant (step.Repoint h d n m rs) = command.Repoint h.0 d.0 n m.0 (numbers rs)
-step_meant (step.Update h d u) = command.Accept h.0 d.0 (change_of u)
-step_meant (step.Epoch d m rs) = command.Epoch d.0 m.0 (numbers rs)
-step_meant (step.Skulk h d) = command.Skulk h.0 d.0
-step_meant (step.Deliver n) = command.Deliver n
-step_meant (step.Lose n) = command.Lose n
-step_meant (step.Crash h) = command.Crash h.0
-step_meant (step.Start h) = command.Start h.0
-
 -- an answer and a cell are those of a step of the model (own)
 pub record IsStep (a : Answer) (c : Cell) (o : Outcome) : Type 0 where
   pub answer : answer_of o.answer ≡ Some a
   pub stands : Stands c o.cell
-
--- the same, where it is not said that a list of commands leads there (own)
-pub record IsStepAs (a : Answer) (c : Cell) (o : Outcome) : Type 0 where
-  pub answer : answer_of o.answer ≡ Some a
-  pub stands : StandsAs c o.cell
 
 -- ---- what a step leaves
 
@@ -121,6 +89,15 @@ abbrev pub greatest_epoch : List Listing → ℕ
 greatest_epoch [] = 0
 greatest_epoch (l ∷ ls) = max l.epoch.0 (greatest_epoch ls)
 
+-- how many directories a cell of the model has: none before its root, and then one for each number that was given (own)
+abbrev pub directory_count : model.Cell → ℕ
+directory_count g = if is_unknown g root_dir then 0 else g.next_dir - 1
+
+-- the greatest epoch number that a console of the model gave; 0 where there is no directory (own)
+pub record IsGreatestEpoch (g : model.Cell) (n : ℕ) : Type 0 where
+  pub given : (d : ℕ) × (g.top d ≡ n)
+  pub greatest : (d : ℕ) → g.top d ≤ n
+
 -- there is room for a step: for the serial numbers of its messages, a directory and an epoch more (own)
 pub record HasRoom (c : Cell) : Type 0 where
   pub messages : c.bag.posted ≤ 2 ^ 62
@@ -133,19 +110,13 @@ pub record GrowsBy (old new : Cell) : Type 0 where
   pub directories : length new.directories.items ≤ length old.directories.items + 1
   pub epochs : greatest_epoch new.directories.items ≤ greatest_epoch old.directories.items + 1
 
+-- so many updates post at most 64 messages each, and give no directory and no epoch (own)
+pub record GrowsByUpdates (n : ℕ) (old new : Cell) : Type 0 where
+  pub messages : new.bag.posted ≤ old.bag.posted + 64 * n
+  pub directories : new.directories ≡ old.directories
+
 -- a cell after so many steps, at most (own)
 pub record IsWithin (n : ℕ) (c : Cell) : Type 0 where
   pub messages : c.bag.posted ≤ 128 * n
   pub directories : length c.directories.items ≤ n
   pub epochs : greatest_epoch c.directories.items ≤ n
-
--- what an act leaves, whichever cell it stands for: it spends nothing, grows the cell by a step at most, and changes nothing where its
--- answer says so (own)
-pub record Leaves (old new : Cell) (result : Result Answer AllocError) : Type 0 where
-  pub spent : new.spent ≡ old.spent
-  pub grows : OnOk result (GrowsBy old new)
-  pub same : IfOk result (λ a. UnlessDone a (new ≡ old))
-
--- what comes of an act is this outcome, or memory ran out (own)
-abbrev pub ComesTo : Result Answer AllocError → Cell → Outcome → Type 0
-ComesTo result c o = IfOk result (λ a. IsStepAs a c o)

@@ -7,12 +7,13 @@ ghost use Rattle.cell_model.specs.Cells as model;
 ghost use Rattle.cell_model.specs.Commands as command;
 ghost use Rattle.cell_model.specs.Steps.{effect, first_refusal, refusals_of};
 ghost use Rattle.cell_model.specs.Turns as turns;
+ghost use Rattle.clearinghouse.specs.Posting.{numbers_of};
 ghost use Rattle.clearinghouse.specs.Stepping.{IsBegunAnswer, IsEpochAnswer, IsStampAnswer};
 ghost use Rattle.cds_cell.specs.declared.house.CellHouse.{CellHouse};
-ghost use Rattle.cds_cell.specs.Houses.{IsNewEpoch, leaves_by, posted_at};
 ghost use Rattle.cds_cell.specs.PrivateActs.{ActsAt, KeepsRest, Posts};
-ghost use Rattle.cds_cell.specs.Scripted.{numbers};
-ghost use Rattle.cds_cell.specs.Standing.{ComesTo, HasRoom, IsPlaceOf, Leaves, Stands, step_meant};
+ghost use Rattle.cds_cell.specs.PrivateHouses.{IsNewEpoch, leaves_by, posted_at};
+ghost use Rattle.cds_cell.specs.PrivateSteps.{ComesTo, IsPlaceOf, Leaves, step_meant};
+ghost use Rattle.cds_cell.specs.Standing.{HasRoom, Stands};
 
 use crate::answers::{begun_in_script, epoch_refusal_in_script, refusal_in_script};
 use crate::cell::Cell;
@@ -86,7 +87,7 @@ impl Cell {
         serials: &mut Serials,
     ) -> Result<Result<Stamp, UpdateRefusal>, AllocError>
         requires house { at < length self.old.houses.items }
-        requires room { HasRoom self.old }
+        requires room { self.old.bag.posted + 64 ≤ 2 ^ 63 }
         ensures rest { KeepsRest self.old self.new }
         ensures few { OnOk result (self.new.bag.posted ≤ self.old.bag.posted + 64) }
         ensures refused { IfOk result (λ r. OnErr r (self.new ≡ self.old)) }
@@ -176,8 +177,8 @@ impl Cell {
     ) -> Result<Answer, AllocError>
         requires room { HasRoom self.old }
         ensures leaves { Leaves self.old self.new result }
-        ensures step { (g : model.Cell) → Stands self.old g → first_refusal (refusals_of g (command.Epoch dir.0 master.0 (numbers others.now))) ≡ None
-            → ComesTo result self.new (effect g (command.Epoch dir.0 master.0 (numbers others.now))) }
+        ensures step { (g : model.Cell) → Stands self.old g → first_refusal (refusals_of g (command.Epoch dir.0 master.0 (numbers_of others.now))) ≡ None
+            → ComesTo result self.new (effect g (command.Epoch dir.0 master.0 (numbers_of others.now))) }
     {
         let Some(place) = self.directory_place(dir) else {
             return Ok(Answer::Refused(ScriptRefusal::NoDirectory));
@@ -220,7 +221,7 @@ impl Cell {
         ensures refused { IfOk result (λ r. OnErr r (self.new ≡ self.old)) }
         ensures acts { (now : model.House) → IsPlaceOf self.old.houses.items (master_of (members_of members.now)) at → IsNewEpoch epoch.0 (now.slots dir.0)
             → IfOk result (λ r. ActsAt self.old self.new at serials.old serials.new (IsEpochAnswer epoch.0 (result_err r)) now
-            (λ house. turns.new_epoch house now dir.0 epoch.0 (members_of members.now) (numbers left.now))) }
+            (λ house. turns.new_epoch house now dir.0 epoch.0 (members_of members.now) (numbers_of left.now))) }
     {
         match self.houses[at].enter_epoch(alloc, dir, epoch, members)? {
             Err(refusal) => Ok(Err(refusal)),

@@ -14,7 +14,7 @@ use directory::UpdateRefusal;
 use std::alloc::Global;
 
 /// Why an update is refused.
-pub(crate) fn refusal_in_script(alloc: Global, refusal: UpdateRefusal) -> ScriptRefusal
+pub fn refusal_in_script(alloc: Global, refusal: UpdateRefusal) -> ScriptRefusal
     ensures { result ≡ update_refusal_of refusal }
 {
     match refusal {

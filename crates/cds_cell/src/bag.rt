@@ -3,9 +3,9 @@ ghost use Rattle.std.specs.Prelude.{◌≡◌, ◌≤◌, ◌<◌, ◌+◌, ◌^
 ghost use Rattle.std.specs.Rc.{rc_slice_items};
 ghost use Rattle.clearinghouse.specs.declared.posted.Posted.{Posted};
 ghost use Rattle.clearinghouse.specs.Posting.{AreLetters};
-ghost use Rattle.cds_cell.specs.Bags.{IsEmptyBag, letter_at};
+ghost use Rattle.cds_cell.specs.Bags.{letter_at};
 ghost use Rattle.cds_cell.specs.PrivateActs.{Posts};
-ghost use Rattle.cds_cell.specs.PrivateBags.{PostsOne};
+ghost use Rattle.cds_cell.specs.PrivateBags.{IsEmptyBag, PostsOne};
 
 use cds_stamps::HouseNo;
 use cell_script::Serials;

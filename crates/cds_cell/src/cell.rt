@@ -1,22 +1,28 @@
 // The cell, and what it is asked.
-ghost use Rattle.std.specs.Prelude.{◌≡◌, ◌+◌, ◌<◌, ℕ, None, IfOk, OnOk, MatchOption, is_some, length, option_copied};
+ghost use Rattle.std.specs.Prelude.{◌≡◌, ◌+◌, ◌<◌, ◌≤◌, ◌^◌, ℕ, None, true, IfOk, OnOk, MatchOption, is_err, is_some, length, option_copied};
 ghost use Rattle.std.specs.Option.{option_and_then, option_map};
 ghost use Rattle.std.specs.Rc.{rc_slice_items};
+ghost use Rattle.directory.specs.EntryChanges.{changes};
 ghost use Rattle.cell_model.specs.Cells as model;
 ghost use Rattle.cell_model.specs.Sets.{has};
 ghost use Rattle.cell_model.specs.Steps.{message_at, outcome};
+ghost use Rattle.cds_cell.specs.Accepting.{IsAccepting, accepting};
 ghost use Rattle.cds_cell.specs.Bags.{letter_at};
+ghost use Rattle.cds_cell.specs.Houses.{is_up_state};
+ghost use Rattle.cds_cell.specs.PrivateSteps.{IsPlaceOf, step_meant};
 ghost use Rattle.cds_cell.specs.Recorded.{octets_of};
 ghost use Rattle.cds_cell.specs.Scripted.{step_of};
-ghost use Rattle.cds_cell.specs.Standing.{GrowsBy, HasRoom, IsCall, IsPlaceOf, IsStep, IsWithin, Stands, UnlessDone};
-ghost use Rattle.cds_cell.specs.Standing.{directory_of, greatest_epoch, house_of, step_meant};
+ghost use Rattle.cds_cell.specs.Standing.{GrowsBy, GrowsByUpdates, HasRoom, IsCall, IsGreatestEpoch, IsStep, IsWithin, Stands, UnlessDone};
+ghost use Rattle.cds_cell.specs.Standing.{directory_count, directory_of, greatest_epoch, house_of};
 
 use crate::bag::Bag;
 use crate::console::Listing;
 use crate::house::{CellHouse, HouseState};
 use crate::step::{Step, step_in};
+use crate::updating::AcceptedAll;
 use cds_stamps::{DirId, HouseNo};
 use cell_script::{Answer, Command};
+use directory::Update;
 use std::alloc::{AllocError, Global};
 
 /// A cell: its houses in the order in which they were made, what its console knows of the directories 1, 2, 3 and so on, and
@@ -53,14 +59,16 @@ impl Cell {
 
     /// How many directories there are.
     pub fn directories(&self) -> u64
-        ensures { result ≡ length self.now.directories.items }
+        ensures count { result ≡ length self.now.directories.items }
+        ensures model { (g : model.Cell) → Stands self.now g → result ≡ directory_count g }
     {
         self.directories.len() as u64
     }
 
     /// The greatest epoch number that the console gave; 0 where there is no directory.
     pub fn epochs(&self) -> u64
-        ensures { result ≡ greatest_epoch self.now.directories.items }
+        ensures count { result ≡ greatest_epoch self.now.directories.items }
+        ensures model { (g : model.Cell) → Stands self.now g → IsGreatestEpoch g result }
     {
         let mut greatest = 0;
         for listing in &self.directories {
@@ -109,12 +117,46 @@ impl Cell {
         ensures same { IfOk result (λ a. UnlessDone a (self.new ≡ self.old)) }
         ensures step { (g : model.Cell) → Stands self.old g → IfOk result (λ a. IsStep a self.new (outcome g (step_of command))) }
     {
-        if self.spent {
-            return Err(AllocError);
-        }
+        self.usable()?;
         let done = self.take(alloc, step_in(command));
         self.spent = done.is_err();
         done
+    }
+
+    /// Updates of a directory at a house that is up, in order up to the first that is refused. A house that holds no such directory
+    /// refuses the first. After want of memory the cell is spent, as after a step.
+    pub fn accept_all(
+        &mut self,
+        alloc: Global,
+        house: HouseNo,
+        dir: DirId,
+        updates: &[Update],
+    ) -> Result<AcceptedAll, AllocError>
+        requires room { HasRoom self.old }
+        requires few { length updates.now ≤ 2 ^ 32 }
+        requires up { is_up_state (option_map (λ h. h.state) (house_of self.old.houses.items house.0)) ≡ true }
+        ensures call { IsCall self.old self.new result }
+        ensures grows { OnOk result (GrowsByUpdates (length updates.now) self.old self.new) }
+        ensures same { IfOk result (λ a. a.count ≡ 0 → self.new ≡ self.old) }
+        ensures all { (g : model.Cell) → Stands self.old g → IfOk result (λ a. IsAccepting a self.new (accepting g house.0 dir.0 (changes updates.now))) }
+    {
+        self.usable()?;
+        let Some(at) = self.position(house) else {
+            unreachable!()
+        };
+        let accepted = self.accept_each(alloc, at, dir, updates);
+        self.spent = accepted.is_err();
+        accepted
+    }
+
+    // Nothing, unless the cell is spent.
+    fn usable(&self) -> Result<(), AllocError>
+        ensures { is_err result ≡ self.now.spent }
+    {
+        if self.spent {
+            return Err(AllocError);
+        }
+        Ok(())
     }
 
     // Refuses a step, or does it.
@@ -125,9 +167,9 @@ impl Cell {
         ensures same { IfOk result (λ a. UnlessDone a (self.new ≡ self.old)) }
         ensures step { (g : model.Cell) → Stands self.old g → IfOk result (λ a. IsStep a self.new (outcome g (step_meant step))) }
     {
-        match self.refusal(&step) {
-            Some(refusal) => Ok(Answer::Refused(refusal)),
-            None => self.act(alloc, step),
+        match self.allows(&step) {
+            Ok(()) => self.act(alloc, step),
+            Err(refusal) => Ok(Answer::Refused(refusal)),
         }
     }
 

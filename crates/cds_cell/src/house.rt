@@ -11,7 +11,8 @@ ghost use Rattle.cell_model.specs.Taking.{CanTake};
 ghost use Rattle.cell_model.specs.Turns as turns;
 ghost use Rattle.clearinghouse.specs.Posting.{AreLetters, StandsMessage, numbers_of};
 ghost use Rattle.clearinghouse.specs.Stepping.{IsStampAnswer, IsBegunAnswer, IsEpochAnswer, IsTakeAnswer, UnlessTaken};
-ghost use Rattle.cds_cell.specs.Houses.{IsSameHouse, IsNewEpoch, IsTurnAt, Asks, StandsAtHouse, posted_at, epoch_posted_by, leaves_by};
+ghost use Rattle.cds_cell.specs.Houses.{StandsAtHouse};
+ghost use Rattle.cds_cell.specs.PrivateHouses.{Asks, IsNewEpoch, IsSameHouse, IsTurnAt, epoch_posted_by, leaves_by, posted_at};
 
 use cds_records::Message;
 use cds_stamps::{AllocOr, DirId, EpochNo, HouseNo, Members, Node, Stamp};

@@ -1,25 +1,45 @@
 //! Laws of cells: functions that do nothing, whose contracts are proved.
-ghost use Rattle.std.specs.Prelude.{◌≡◌, ℕ, Bool, List, Option, Some, map};
+ghost use Rattle.std.specs.Prelude.{◌≡◌, ◌≤◌, ◌↔◌, ◌⊎◌, ℕ, Bool, true, List, length, map, take, Option, Some, None, Ok};
+ghost use Rattle.std.specs.List.{AllByRecursion, flat_map};
 ghost use Rattle.std.specs.Option.{option_map};
+ghost use Rattle.std.specs.Rc.{rc_slice_items};
+ghost use Rattle.cds_stamps.specs.Members.{master_of};
+ghost use Rattle.directory.specs.EntryChanges.{AreAccepted};
+ghost use Rattle.directory.specs.Updates.{Change};
+ghost use Rattle.directory.specs.declared.update.UpdateRefusal.TheVariants as why;
+ghost use Rattle.cds_records.specs.Decoding.{decoding};
 ghost use Rattle.cds_records.specs.Octets.{image_octets};
+ghost use Rattle.cds_records.specs.Records.{message};
+ghost use Rattle.cds_records.specs.declared.message.Message.{Message};
 ghost use Rattle.cell_model.specs.Agreement.{Converges};
 ghost use Rattle.cell_model.specs.Cells as model;
 ghost use Rattle.cell_model.specs.Commands as command;
-ghost use Rattle.cell_model.specs.Steps.{replay};
+ghost use Rattle.cell_model.specs.Reached.{IsReached};
+ghost use Rattle.cell_model.specs.Steps.{answers_from, replay, replay_from};
 ghost use Rattle.resolver.specs.Readers.{ShowsOnly};
-ghost use Rattle.clearinghouse.specs.Imaging.{image_of};
+ghost use Rattle.resolver.specs.WalkEnds.{placed, walked};
+ghost use Rattle.resolver.specs.declared.seen.Found.{Found};
+ghost use Rattle.resolver.specs.declared.seen.Place.{Place};
+ghost use Rattle.clearinghouse.specs.Imaging.{image_of, started};
 ghost use Rattle.clearinghouse.specs.declared.house.Clearinghouse.{Clearinghouse};
 ghost use Rattle.cds_cell.specs.declared.cell.Cell.{Cell};
 ghost use Rattle.cds_cell.specs.declared.house.HouseState.TheVariants as state;
-ghost use Rattle.cds_cell.specs.Readings.{reading, objects_of};
+ghost use Rattle.cds_cell.specs.Accepting.{IsStamped, ShowsAsMaster, accepting, posted_in};
+ghost use Rattle.cds_cell.specs.Asking.{Asked, asked};
+ghost use Rattle.cds_cell.specs.Bags.{letter_at};
+ghost use Rattle.cds_cell.specs.Houses.{is_up_state};
+ghost use Rattle.cds_cell.specs.Readings.{reading, objects_of, views_of};
 ghost use Rattle.cds_cell.specs.Recorded.{image_at};
 ghost use Rattle.cds_cell.specs.Scripted.{step_of};
 ghost use Rattle.cds_cell.specs.Standing.{Stands, house_of};
 ghost use Rattle.cds_cell.specs.Telling.{told};
 
+use cds_records::laws::octets_decode_to_one_thing;
 use cell_model::{convergence, holdings};
 use cell_script::Command;
+use directory::laws::accepted_updates_lead;
 use purge_rule::laws::replicas_show_histories;
+use resolver::laws::walks_end;
 
 /// A cell tells each reader what the cell of the model tells it, whichever house is preferred and however far a replica
 /// is trusted.
@@ -50,3 +70,53 @@ pub fn images_are_those_of_the_model()
     ensures down { (c : Cell) (g : model.Cell) (x : ℕ) (octets : List ℕ) → Stands c g
         → option_map (λ h. h.state) (house_of c.houses.items x) ≡ Some (state.Down octets) → octets ≡ image_octets (image_at g x) }
 {}
+
+/// Nothing that a cell keeps is at fault: the octets of each message in the bag decode to a message, with nothing behind it, and each
+/// house that is down starts of its octets.
+pub fn nothing_kept_is_at_fault()
+    ensures messages { (c : Cell) (g : model.Cell) (n : ℕ) (octets : List ℕ) → Stands c g
+        → option_map (λ l. rc_slice_items l.shared) (letter_at c.bag n) ≡ Some octets → (m : Message) × (decoding message octets ≡ Ok (m, length octets)) }
+    ensures houses { (c : Cell) (g : model.Cell) (x : ℕ) (octets : List ℕ) → Stands c g
+        → option_map (λ h. h.state) (house_of c.houses.items x) ≡ Some (state.Down octets) → (home : Clearinghouse) × (started octets ≡ Ok home) }
+{
+    octets_decode_to_one_thing();
+}
+
+/// The updates that a house accepts which is up are commands of the cell, none of which is refused: their cell and their messages
+/// are those of these commands. All are accepted exactly where none is refused.
+pub fn accepted_updates_are_commands()
+    ensures cells { (g : model.Cell) (h d : ℕ) (us : List Change) → IsReached g → (g.house h).up ≡ true
+        → let w = accepting g h d us in w.cell ≡ replay_from g (map (command.Accept h d) (take w.count us)) }
+    ensures stamped { (g : model.Cell) (h d : ℕ) (us : List Change) → IsReached g → (g.house h).up ≡ true
+        → let w = accepting g h d us in AllByRecursion IsStamped (answers_from g (map (command.Accept h d) (take w.count us))) }
+    ensures posted { (g : model.Cell) (h d : ℕ) (us : List Change) → IsReached g → (g.house h).up ≡ true
+        → let w = accepting g h d us in w.posted ≡ flat_map posted_in (answers_from g (map (command.Accept h d) (take w.count us))) }
+    ensures all { (g : model.Cell) (h d : ℕ) (us : List Change) → let w = accepting g h d us in
+        (w.count ≤ length us) × ((w.refused ≡ None) ↔ (w.count ≡ length us)) }
+{}
+
+/// Where the history of a directory accepts updates one after the other, its master that is up refuses one of them for want of stamps
+/// alone.
+pub fn masters_refuse_for_stamps_alone()
+    ensures { (g : model.Cell) (h d : ℕ) (r : model.Replica) (us : List Change) → IsReached g → (g.house h).up ≡ true → model.IsHeld g h d r
+        → master_of r.members ≡ h → AreAccepted r.history us
+        → ((accepting g h d us).refused ≡ None) ⊎ ((accepting g h d us).refused ≡ Some why.StampsSpent) }
+{}
+
+/// A house that is asked at high confidence is up and the master of the directory, and shows what the reader is told of it. So does the
+/// house of a place, and of an entry, to which a walk leads such a reader. At any confidence these are up.
+pub fn asked_houses_accept()
+    ensures asked { (g : model.Cell) (prefer : Option ℕ) (d : ℕ) (houses : List ℕ) (a : Asked) → asked (views_of g) d prefer true houses ≡ Some a
+        → (n : List ℕ) → ShowsAsMaster g a.house d n (option_map (λ e. e.kind) (a.view.shows n)) }
+    ensures placed { (g : model.Cell) (prefer : Option ℕ) (name : List (List ℕ)) (at : Place) → placed (reading g prefer true) name ≡ Ok at
+        → ShowsAsMaster g at.house.0 at.dir.0 at.name at.kind }
+    ensures found { (g : model.Cell) (prefer : Option ℕ) (last : Bool) (name : List (List ℕ)) (f : Found)
+        → walked (reading g prefer true) last name ≡ Ok f → ShowsAsMaster g f.house.0 f.dir.0 f.name (Some f.kind) }
+    ensures placed_up { (c : Cell) (prefer : Option ℕ) (high : Bool) (name : List (List ℕ)) (at : Place) → placed (told c prefer high) name ≡ Ok at
+        → is_up_state (option_map (λ h. h.state) (house_of c.houses.items at.house.0)) ≡ true }
+    ensures found_up { (c : Cell) (prefer : Option ℕ) (high : Bool) (last : Bool) (name : List (List ℕ)) (f : Found)
+        → walked (told c prefer high) last name ≡ Ok f → is_up_state (option_map (λ h. h.state) (house_of c.houses.items f.house.0)) ≡ true }
+{
+    walks_end();
+    accepted_updates_lead();
+}

@@ -15,7 +15,10 @@ mod pointing;
 mod reader;
 mod refusing;
 mod step;
+mod updating;
 
+pub use answers::refusal_in_script;
 pub use cell::Cell;
 pub use house::HouseState;
 pub use reader::CellReader;
+pub use updating::AcceptedAll;

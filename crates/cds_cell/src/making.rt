@@ -6,9 +6,10 @@ ghost use Rattle.directory.specs.Updates.{change_of};
 ghost use Rattle.cell_model.specs.Cells as model;
 ghost use Rattle.cell_model.specs.Commands as command;
 ghost use Rattle.cell_model.specs.Steps.{ascending, effect, first_refusal, is_bad_list, refusals_of};
+ghost use Rattle.clearinghouse.specs.Posting.{numbers_of};
 ghost use Rattle.cds_cell.specs.PrivateActs.{CanFound, Founds, GrowsByOne, KeepsRest, MasterFounds, child_outcome};
-ghost use Rattle.cds_cell.specs.Scripted.{numbers};
-ghost use Rattle.cds_cell.specs.Standing.{ComesTo, HasRoom, IsPlaceOf, IsStepAs, Leaves, Stands, StandsAs};
+ghost use Rattle.cds_cell.specs.PrivateSteps.{ComesTo, IsPlaceOf, IsStepAs, Leaves};
+ghost use Rattle.cds_cell.specs.Standing.{HasRoom, Stands, StandsAs};
 
 use crate::answers::refusal_in_script;
 use crate::cell::Cell;
@@ -31,8 +32,8 @@ fn child_of(
     master: HouseNo,
     others: &[HouseNo],
 ) -> Result<Option<Update>, AllocError>
-    ensures { IfOk result (λ o. MatchOption o (is_bad_list (master.0 ∷ numbers others.now) ≡ true)
-        (λ u. change_of u ≡ updates.MakeChild name (record { dir = child.0; master = master.0; others = ascending (numbers others.now) }))) }
+    ensures { IfOk result (λ o. MatchOption o (is_bad_list (master.0 ∷ numbers_of others.now) ≡ true)
+        (λ u. change_of u ≡ updates.MakeChild name (record { dir = child.0; master = master.0; others = ascending (numbers_of others.now) }))) }
 {
     let Some(houses) = house_list(alloc, master, others)? else {
         return Ok(None);
@@ -83,8 +84,8 @@ impl Cell {
     ) -> Result<Answer, AllocError>
         requires room { HasRoom self.old }
         ensures leaves { Leaves self.old self.new result }
-        ensures step { (g : model.Cell) → Stands self.old g → first_refusal (refusals_of g (command.Root master.0 (numbers others.now))) ≡ None
-            → ComesTo result self.new (effect g (command.Root master.0 (numbers others.now))) }
+        ensures step { (g : model.Cell) → Stands self.old g → first_refusal (refusals_of g (command.Root master.0 (numbers_of others.now))) ≡ None
+            → ComesTo result self.new (effect g (command.Root master.0 (numbers_of others.now))) }
     {
         let Some(members) = listing(alloc, &[], EpochNo(1), master, others)? else {
             return Ok(Answer::Refused(ScriptRefusal::BadMembers));
@@ -151,8 +152,8 @@ impl Cell {
         requires room { HasRoom self.old }
         ensures leaves { Leaves self.old self.new result }
         ensures step { (g : model.Cell) → Stands self.old g
-            → first_refusal (refusals_of g (command.Mkdir house.0 dir.0 name master.0 (numbers others.now))) ≡ None
-            → ComesTo result self.new (effect g (command.Mkdir house.0 dir.0 name master.0 (numbers others.now))) }
+            → first_refusal (refusals_of g (command.Mkdir house.0 dir.0 name master.0 (numbers_of others.now))) ≡ None
+            → ComesTo result self.new (effect g (command.Mkdir house.0 dir.0 name master.0 (numbers_of others.now))) }
     {
         let Some(at) = self.position(house) else {
             return Ok(Answer::Refused(ScriptRefusal::NoHouse));
@@ -215,8 +216,8 @@ impl Cell {
         requires room { HasRoom self.old }
         ensures leaves { Leaves self.old self.new result }
         ensures step { (g : model.Cell) → Stands self.old g
-            → first_refusal (refusals_of g (command.Repoint house.0 dir.0 name master.0 (numbers others.now))) ≡ None
-            → ComesTo result self.new (effect g (command.Repoint house.0 dir.0 name master.0 (numbers others.now))) }
+            → first_refusal (refusals_of g (command.Repoint house.0 dir.0 name master.0 (numbers_of others.now))) ≡ None
+            → ComesTo result self.new (effect g (command.Repoint house.0 dir.0 name master.0 (numbers_of others.now))) }
     {
         let Some(houses) = house_list(alloc, master, others)? else {
             return Ok(Answer::Refused(ScriptRefusal::BadMembers));

@@ -3,21 +3,21 @@ ghost use Rattle.std.specs.Prelude.{◌≡◌, ◌∷◌, ◌≤◌, length, tru
 ghost use Rattle.cds_stamps.specs.Members as members;
 ghost use Rattle.cds_stamps.specs.Members.{members_of};
 ghost use Rattle.cell_model.specs.Steps as model;
-ghost use Rattle.cds_cell.specs.Scripted.{numbers};
+ghost use Rattle.clearinghouse.specs.Posting.{numbers_of};
 
 use cds_stamps::{EpochNo, HouseNo, MOST_MEMBERS, Member, MemberKind, Members};
 use std::alloc::{AllocError, Global};
 
 /// Whether a house stands twice, or there are more than 64. Takes no memory.
 pub(crate) fn is_bad_list(master: HouseNo, others: &[HouseNo]) -> bool
-    ensures { result ≡ model.is_bad_list (master.0 ∷ numbers others.now) }
+    ensures { result ≡ model.is_bad_list (master.0 ∷ numbers_of others.now) }
 {
     others.len() >= MOST_MEMBERS || others.contains(&master) || stands_twice(others)
 }
 
 // Whether a house stands twice.
 fn stands_twice(houses: &[HouseNo]) -> bool
-    ensures { result ≡ model.stands_twice (numbers houses.now) }
+    ensures { result ≡ model.stands_twice (numbers_of houses.now) }
 {
     let mut rest = houses;
     while let Some((first, behind)) = rest.split_first() {
@@ -38,9 +38,9 @@ pub(crate) fn listing(
     master: HouseNo,
     others: &[HouseNo],
 ) -> Result<Option<Members>, AllocError>
-    ensures { IfOk result (λ o. MatchOption o (model.is_bad_list (master.0 ∷ numbers others.now) ≡ true)
-        (λ ms. (model.is_bad_list (master.0 ∷ numbers others.now) ≡ false)
-        × (members_of ms ≡ model.listing (members_of before.now) epoch.0 master.0 (numbers others.now)))) }
+    ensures { IfOk result (λ o. MatchOption o (model.is_bad_list (master.0 ∷ numbers_of others.now) ≡ true)
+        (λ ms. (model.is_bad_list (master.0 ∷ numbers_of others.now) ≡ false)
+        × (members_of ms ≡ model.listing (members_of before.now) epoch.0 master.0 (numbers_of others.now)))) }
 {
     if is_bad_list(master, others) {
         return Ok(None);
@@ -62,7 +62,7 @@ fn all_in_order(
     master: HouseNo,
     others: &[HouseNo],
 ) -> Result<Vec<HouseNo>, AllocError>
-    ensures { IfOk result (λ v. numbers v.items ≡ model.ascending (master.0 ∷ numbers others.now)) }
+    ensures { IfOk result (λ v. numbers_of v.items ≡ model.ascending (master.0 ∷ numbers_of others.now)) }
 {
     let mut all = Vec::new(alloc);
     all.push(master)?;
@@ -72,7 +72,7 @@ fn all_in_order(
 
 /// The houses in ascending order.
 pub(crate) fn in_order(mut houses: Vec<HouseNo>) -> Vec<HouseNo>
-    ensures { numbers result.items ≡ model.ascending (numbers houses.items) }
+    ensures { numbers_of result.items ≡ model.ascending (numbers_of houses.items) }
 {
     houses.sort_unstable();
     houses
@@ -108,7 +108,7 @@ pub(crate) fn leaving(
     now: &Members,
 ) -> Result<Vec<HouseNo>, AllocError>
     ensures few { IfOk result (λ v. length v.items ≤ length before.now) }
-    ensures houses { IfOk result (λ v. numbers v.items ≡ model.leaving (members_of before.now) (members_of now.now)) }
+    ensures houses { IfOk result (λ v. numbers_of v.items ≡ model.leaving (members_of before.now) (members_of now.now)) }
 {
     let mut left = Vec::new(alloc);
     for member in before {

@@ -10,7 +10,8 @@ ghost use Rattle.clearinghouse.specs.Posting.{StandsMessage};
 ghost use Rattle.clearinghouse.specs.Stepping.{IsTakeAnswer, UnlessTaken};
 ghost use Rattle.cell_script.specs.declared.answer.Answer.TheVariants as answer;
 ghost use Rattle.cds_cell.specs.PrivateActs.{ActsAt, Delivers, KeepsRest};
-ghost use Rattle.cds_cell.specs.Standing.{ComesTo, HasRoom, IsPlaceOf, IsStepAs, Leaves, Stands};
+ghost use Rattle.cds_cell.specs.PrivateSteps.{ComesTo, IsPlaceOf, IsStepAs, Leaves};
+ghost use Rattle.cds_cell.specs.Standing.{HasRoom, Stands};
 
 use crate::answers::taken_in_script;
 use crate::cell::Cell;

@@ -6,10 +6,10 @@ ghost use Rattle.cell_names.specs.ChildPointers.{pointer_of};
 ghost use Rattle.directory.specs.Shown.{shown_in};
 ghost use Rattle.cell_model.specs.Sets.{has};
 ghost use Rattle.resolver.specs.Readers.{sight_of};
+ghost use Rattle.clearinghouse.specs.Posting.{numbers_of};
 ghost use Rattle.cds_cell.specs.Asking.{answering, asked, first_some};
 ghost use Rattle.cds_cell.specs.PrivateTelling.{asked_of};
 ghost use Rattle.cds_cell.specs.Readings.{child_sight, led_sight, link_sight, shown_sight, values_of};
-ghost use Rattle.cds_cell.specs.Scripted.{numbers};
 ghost use Rattle.cds_cell.specs.Telling.{held_view, told, told_objects, told_views};
 ghost use Rattle.cds_cell.specs.TellingProofs.{told_shows_only};
 
@@ -92,7 +92,7 @@ fn houses_in(alloc: Global, members: &Members) -> Result<HouseList, AllocError>
 // The members but the master, in their order.
 fn others_in(alloc: Global, members: &Members) -> Result<Vec<HouseNo>, AllocError>
     ensures others { let ms = members_of members.now in
-        IfOk result (λ others. numbers others.items ≡ others_of (master_of ms) ms) }
+        IfOk result (λ others. numbers_of others.items ≡ others_of (master_of ms) ms) }
     ensures lawful { members_fault (members_of members.now) ≡ None }
 {
     let master = members.master();
@@ -147,7 +147,7 @@ fn first_answering<'a>(cell: &'a Cell, at: &ChildPointer, high: bool) -> Option<
 // The first of these houses that answers.
 fn first_of<'a>(cell: &'a Cell, dir: DirId, houses: &[HouseNo], high: bool) -> Option<Holder<'a>>
     ensures { option_map asked_of result
-        ≡ first_some (answering (told_views cell.now) high dir.0) (numbers houses.now) }
+        ≡ first_some (answering (told_views cell.now) high dir.0) (numbers_of houses.now) }
 {
     for house in houses {
         if let Some(holder) = answering(cell, dir, *house, high) {

@@ -1,14 +1,15 @@
-// Why a step is refused, but for what the house that acts says to it. Nothing here takes memory.
-ghost use Rattle.std.specs.Prelude.{◌≡◌, [], ◌∷◌, Some, None, is_none, is_some, not};
+// Which steps are allowed, but for what the house that acts says to them. Nothing here takes memory.
+ghost use Rattle.std.specs.Prelude.{◌≡◌, [], ◌∷◌, ◌++◌, is_none, is_some, not};
 ghost use Rattle.std.specs.List.{list_any};
 ghost use Rattle.std.specs.Option.{option_map};
 ghost use Rattle.cds_stamps.specs.Members.{is_listed};
 ghost use Rattle.cell_model.specs.Cells as model;
 ghost use Rattle.cell_model.specs.Commands as command;
-ghost use Rattle.cell_model.specs.Steps.{first_refusal, is_down, is_missing, is_taken, is_unknown, refusals_of};
+ghost use Rattle.cell_model.specs.Steps.{is_bad_list, is_down, is_missing, is_taken, is_unknown, refusals_of};
+ghost use Rattle.clearinghouse.specs.Posting.{numbers_of};
 ghost use Rattle.cds_cell.specs.Houses.{is_up_state};
-ghost use Rattle.cds_cell.specs.Scripted.{numbers, refusal_of};
-ghost use Rattle.cds_cell.specs.Standing.{Stands, directory_of, house_of, step_meant};
+ghost use Rattle.cds_cell.specs.PrivateSteps.{IsAllowed, step_meant};
+ghost use Rattle.cds_cell.specs.Standing.{Stands, directory_of, house_of};
 
 use crate::cell::Cell;
 use crate::house::HouseState;
@@ -18,181 +19,185 @@ use cds_stamps::{DirId, HouseNo, Node};
 use cell_script::ScriptRefusal;
 
 impl Cell {
-    /// The first reason against a step.
-    pub(crate) fn refusal(&self, step: &Step) -> Option<ScriptRefusal>
-        ensures { (g : model.Cell) → Stands self.now g → result ≡ option_map refusal_of (first_refusal (refusals_of g (step_meant step.now))) }
+    /// That a step is allowed, or the first reason against it.
+    pub(crate) fn allows(&self, step: &Step) -> Result<(), ScriptRefusal>
+        ensures { (g : model.Cell) → Stands self.now g → IsAllowed result (refusals_of g (step_meant step.now)) }
     {
         match step {
-            Step::House(house, node) => self.refuses_house(*house, *node),
-            Step::Clock(house, _) => self.refuses_clock(*house),
-            Step::Root(master, others) => self.refuses_root(*master, others.list()),
+            Step::House(house, node) => self.untaken(*house, *node),
+            Step::Clock(house, _) => self.made(*house, &[]),
+            Step::Root(master, others) => self.allows_root(*master, others.list()),
             Step::Mkdir(house, dir, _, master, others) => {
-                self.refuses_child(*house, *dir, *master, others.list())
+                self.allows_child(*house, *dir, *master, others.list())
             }
             Step::Repoint(house, dir, _, master, others) => {
-                self.refuses_repoint(*house, *dir, *master, others.list())
+                self.allows_repoint(*house, *dir, *master, others.list())
             }
-            Step::Update(house, dir, _) => self.refuses_at(*house, *dir),
-            Step::Epoch(dir, master, others) => self.refuses_epoch(*dir, *master, others.list()),
-            Step::Skulk(house, dir) => self.refuses_at(*house, *dir),
-            Step::Deliver(_) | Step::Lose(_) => None,
-            Step::Crash(house) => self.refuses_crash(*house),
-            Step::Start(house) => self.refuses_start(*house),
+            Step::Update(house, dir, _) => self.allows_at(*house, *dir),
+            Step::Epoch(dir, master, others) => self.allows_epoch(*dir, *master, others.list()),
+            Step::Skulk(house, dir) => self.allows_at(*house, *dir),
+            Step::Deliver(_) | Step::Lose(_) => Ok(()),
+            Step::Crash(house) => self.allows_crash(*house),
+            Step::Start(house) => self.allows_start(*house),
         }
     }
 
-    fn refuses_house(&self, house: HouseNo, node: Node) -> Option<ScriptRefusal>
-        ensures { (g : model.Cell) → Stands self.now g → result ≡ option_map refusal_of (first_refusal (refusals_of g (command.House house.0 node))) }
-    {
-        if self.is_taken(house, node) {
-            return Some(ScriptRefusal::HouseExists);
-        }
-        None
-    }
-
-    fn refuses_clock(&self, house: HouseNo) -> Option<ScriptRefusal>
-        ensures { (g : model.Cell) → Stands self.now g → result ≡ option_map refusal_of (first_refusal (refusals_of g (command.Clock house.0 0))) }
-    {
-        if self.lacks(house, &[]) {
-            return Some(ScriptRefusal::NoHouse);
-        }
-        None
-    }
-
-    fn refuses_root(&self, master: HouseNo, others: &[HouseNo]) -> Option<ScriptRefusal>
-        ensures { (g : model.Cell) → Stands self.now g
-            → result ≡ option_map refusal_of (first_refusal (refusals_of g (command.Root master.0 (numbers others.now)))) }
+    fn allows_root(&self, master: HouseNo, others: &[HouseNo]) -> Result<(), ScriptRefusal>
+        ensures { (g : model.Cell) → Stands self.now g → IsAllowed result (refusals_of g (command.Root master.0 (numbers_of others.now))) }
     {
         if !self.is_unknown(DirId::ROOT) {
-            return Some(ScriptRefusal::DirectoryExists);
+            return Err(ScriptRefusal::DirectoryExists);
         }
-        if self.lacks(master, others) {
-            return Some(ScriptRefusal::NoHouse);
-        }
-        if is_bad_list(master, others) {
-            return Some(ScriptRefusal::BadMembers);
-        }
-        if self.is_down(master) {
-            return Some(ScriptRefusal::Down);
-        }
-        None
+        self.listable(master, others)?;
+        self.up(master)
     }
 
-    fn refuses_child(
+    fn allows_child(
         &self,
         house: HouseNo,
         dir: DirId,
         master: HouseNo,
         others: &[HouseNo],
-    ) -> Option<ScriptRefusal>
+    ) -> Result<(), ScriptRefusal>
         ensures { (g : model.Cell) → Stands self.now g
-            → result ≡ option_map refusal_of (first_refusal (refusals_of g (command.Mkdir house.0 dir.0 [] master.0 (numbers others.now)))) }
+            → IsAllowed result (refusals_of g (command.Mkdir house.0 dir.0 [] master.0 (numbers_of others.now))) }
     {
-        if self.is_unknown(dir) {
-            return Some(ScriptRefusal::NoDirectory);
-        }
-        if self.lacks(house, &[]) || self.lacks(master, others) {
-            return Some(ScriptRefusal::NoHouse);
-        }
-        if is_bad_list(master, others) {
-            return Some(ScriptRefusal::BadMembers);
-        }
-        if self.is_down(house) || self.is_down(master) {
-            return Some(ScriptRefusal::Down);
-        }
-        None
+        self.pointed(house, dir, master, others)?;
+        self.up(house)?;
+        self.up(master)
     }
 
-    fn refuses_repoint(
+    fn allows_repoint(
         &self,
         house: HouseNo,
         dir: DirId,
         master: HouseNo,
         others: &[HouseNo],
-    ) -> Option<ScriptRefusal>
+    ) -> Result<(), ScriptRefusal>
         ensures { (g : model.Cell) → Stands self.now g
-            → result ≡ option_map refusal_of (first_refusal (refusals_of g (command.Repoint house.0 dir.0 [] master.0 (numbers others.now)))) }
+            → IsAllowed result (refusals_of g (command.Repoint house.0 dir.0 [] master.0 (numbers_of others.now))) }
     {
-        if self.is_unknown(dir) {
-            return Some(ScriptRefusal::NoDirectory);
-        }
-        if self.lacks(house, &[]) || self.lacks(master, others) {
-            return Some(ScriptRefusal::NoHouse);
-        }
-        if is_bad_list(master, others) {
-            return Some(ScriptRefusal::BadMembers);
-        }
-        if self.is_down(house) {
-            return Some(ScriptRefusal::Down);
-        }
-        None
+        self.pointed(house, dir, master, others)?;
+        self.up(house)
     }
 
-    // Of an update or a skulk.
-    fn refuses_at(&self, house: HouseNo, dir: DirId) -> Option<ScriptRefusal>
-        ensures { (g : model.Cell) → Stands self.now g → result ≡ option_map refusal_of (first_refusal (refusals_of g (command.Skulk house.0 dir.0))) }
+    // An update or a skulk.
+    fn allows_at(&self, house: HouseNo, dir: DirId) -> Result<(), ScriptRefusal>
+        ensures { (g : model.Cell) → Stands self.now g → IsAllowed result (refusals_of g (command.Skulk house.0 dir.0)) }
     {
-        if self.is_unknown(dir) {
-            return Some(ScriptRefusal::NoDirectory);
-        }
-        if self.lacks(house, &[]) {
-            return Some(ScriptRefusal::NoHouse);
-        }
-        if self.is_down(house) {
-            return Some(ScriptRefusal::Down);
-        }
-        None
+        self.placed(house, dir)?;
+        self.up(house)
     }
 
-    fn refuses_epoch(
+    fn allows_epoch(
         &self,
         dir: DirId,
         master: HouseNo,
         others: &[HouseNo],
-    ) -> Option<ScriptRefusal>
-        ensures { (g : model.Cell) → Stands self.now g
-            → result ≡ option_map refusal_of (first_refusal (refusals_of g (command.Epoch dir.0 master.0 (numbers others.now)))) }
+    ) -> Result<(), ScriptRefusal>
+        ensures { (g : model.Cell) → Stands self.now g → IsAllowed result (refusals_of g (command.Epoch dir.0 master.0 (numbers_of others.now))) }
     {
-        if self.is_unknown(dir) {
-            return Some(ScriptRefusal::NoDirectory);
-        }
-        if self.lacks(master, others) {
-            return Some(ScriptRefusal::NoHouse);
-        }
-        if is_bad_list(master, others) {
-            return Some(ScriptRefusal::BadMembers);
-        }
+        self.known(dir)?;
+        self.listable(master, others)?;
         if !self.is_listed(dir, master) {
-            return Some(ScriptRefusal::NotMember);
+            return Err(ScriptRefusal::NotMember);
         }
-        if self.is_down(master) {
-            return Some(ScriptRefusal::Down);
-        }
-        None
+        self.up(master)
     }
 
-    fn refuses_crash(&self, house: HouseNo) -> Option<ScriptRefusal>
-        ensures { (g : model.Cell) → Stands self.now g → result ≡ option_map refusal_of (first_refusal (refusals_of g (command.Crash house.0))) }
+    fn allows_crash(&self, house: HouseNo) -> Result<(), ScriptRefusal>
+        ensures { (g : model.Cell) → Stands self.now g → IsAllowed result (refusals_of g (command.Crash house.0)) }
     {
-        if self.lacks(house, &[]) {
-            return Some(ScriptRefusal::NoHouse);
-        }
-        if self.is_down(house) {
-            return Some(ScriptRefusal::Down);
-        }
-        None
+        self.made(house, &[])?;
+        self.up(house)
     }
 
-    fn refuses_start(&self, house: HouseNo) -> Option<ScriptRefusal>
-        ensures { (g : model.Cell) → Stands self.now g → result ≡ option_map refusal_of (first_refusal (refusals_of g (command.Start house.0))) }
+    fn allows_start(&self, house: HouseNo) -> Result<(), ScriptRefusal>
+        ensures { (g : model.Cell) → Stands self.now g → IsAllowed result (refusals_of g (command.Start house.0)) }
     {
-        if self.lacks(house, &[]) {
-            return Some(ScriptRefusal::NoHouse);
-        }
+        self.made(house, &[])?;
         if !self.is_down(house) {
-            return Some(ScriptRefusal::Up);
+            return Err(ScriptRefusal::Up);
         }
-        None
+        Ok(())
+    }
+
+    // Neither the number nor the node is another house's.
+    fn untaken(&self, house: HouseNo, node: Node) -> Result<(), ScriptRefusal>
+        ensures { (g : model.Cell) → Stands self.now g → IsAllowed result ((is_taken g house.0 node, command.HouseExists) ∷ []) }
+    {
+        if self.is_taken(house, node) {
+            return Err(ScriptRefusal::HouseExists);
+        }
+        Ok(())
+    }
+
+    // These houses were made.
+    fn made(&self, first: HouseNo, others: &[HouseNo]) -> Result<(), ScriptRefusal>
+        ensures { (g : model.Cell) → Stands self.now g
+            → IsAllowed result ((is_missing g (first.0 ∷ numbers_of others.now), command.NoHouse) ∷ []) }
+    {
+        if self.lacks(first, others) {
+            return Err(ScriptRefusal::NoHouse);
+        }
+        Ok(())
+    }
+
+    // The house is up.
+    fn up(&self, house: HouseNo) -> Result<(), ScriptRefusal>
+        ensures { (g : model.Cell) → Stands self.now g → IsAllowed result ((is_down g house.0, command.Down) ∷ []) }
+    {
+        if self.is_down(house) {
+            return Err(ScriptRefusal::Down);
+        }
+        Ok(())
+    }
+
+    // There is such a directory.
+    fn known(&self, dir: DirId) -> Result<(), ScriptRefusal>
+        ensures { (g : model.Cell) → Stands self.now g → IsAllowed result ((is_unknown g dir.0, command.NoDirectory) ∷ []) }
+    {
+        if self.is_unknown(dir) {
+            return Err(ScriptRefusal::NoDirectory);
+        }
+        Ok(())
+    }
+
+    // There are such a directory and such a house.
+    fn placed(&self, house: HouseNo, dir: DirId) -> Result<(), ScriptRefusal>
+        ensures { (g : model.Cell) → Stands self.now g
+            → IsAllowed result ((is_unknown g dir.0, command.NoDirectory) ∷ (is_missing g (house.0 ∷ []), command.NoHouse) ∷ []) }
+    {
+        self.known(dir)?;
+        self.made(house, &[])
+    }
+
+    // These houses were made, and can be a list.
+    fn listable(&self, master: HouseNo, others: &[HouseNo]) -> Result<(), ScriptRefusal>
+        ensures { (g : model.Cell) → Stands self.now g → let hs = master.0 ∷ numbers_of others.now in
+            IsAllowed result ((is_missing g hs, command.NoHouse) ∷ (is_bad_list hs, command.BadMembers) ∷ []) }
+    {
+        self.made(master, others)?;
+        if is_bad_list(master, others) {
+            return Err(ScriptRefusal::BadMembers);
+        }
+        Ok(())
+    }
+
+    // There are such a directory and such a house, and the others can be the list of a child.
+    fn pointed(
+        &self,
+        house: HouseNo,
+        dir: DirId,
+        master: HouseNo,
+        others: &[HouseNo],
+    ) -> Result<(), ScriptRefusal>
+        ensures { (g : model.Cell) → Stands self.now g → let hs = master.0 ∷ numbers_of others.now in
+            IsAllowed result ((is_unknown g dir.0, command.NoDirectory) ∷ (is_missing g (house.0 ∷ hs), command.NoHouse)
+            ∷ (is_bad_list hs, command.BadMembers) ∷ []) }
+    {
+        self.placed(house, dir)?;
+        self.listable(master, others)
     }
 
     // Whether the number or the node is another house's.
@@ -224,8 +229,8 @@ impl Cell {
 
     // Whether one of these houses was not made.
     fn lacks(&self, first: HouseNo, others: &[HouseNo]) -> bool
-        ensures found { result ≡ list_any (λ x. not (is_some (house_of self.now.houses.items x))) (first.0 ∷ numbers others.now) }
-        ensures model { (g : model.Cell) → Stands self.now g → result ≡ is_missing g (first.0 ∷ numbers others.now) }
+        ensures found { result ≡ list_any (λ x. not (is_some (house_of self.now.houses.items x))) (first.0 ∷ numbers_of others.now) }
+        ensures model { (g : model.Cell) → Stands self.now g → result ≡ is_missing g (first.0 ∷ numbers_of others.now) }
     {
         !self.has_house(first) || others.iter().any(|house| !self.has_house(*house))
     }

@@ -1,7 +1,7 @@
 // The steps of a cell, by what they change.
 ghost use Rattle.std.specs.Prelude.{◌≡◌};
+ghost use Rattle.cds_cell.specs.PrivateSteps.{step_meant};
 ghost use Rattle.cds_cell.specs.Scripted.{step_of};
-ghost use Rattle.cds_cell.specs.Standing.{step_meant};
 
 use cds_stamps::{DirId, HouseNo, Node, SimpleName};
 use cell_script::{Command, HouseNos};

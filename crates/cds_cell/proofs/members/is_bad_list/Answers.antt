@@ -2,7 +2,7 @@ use Rattle.std.proofs.Common.{◌∙◌, sym, ap, arith}
 use Rattle.std.specs.Prelude.{◌||◌}
 use Rattle.std.proofs.lemmas.Bool.Decides.{nat_tests}
 use Rattle.cell_model.specs.Steps.{stands_twice}
-use Rattle.cds_cell.specs.Scripted.{numbers}
+use Rattle.clearinghouse.specs.Posting.{numbers_of}
 use Rattle.cds_cell.proofs.MemberLists.{bad_by_houses, bad_by_number}
 use Rattle.cds_cell.proofs.members.is_bad_list.Goals.{then-others-ge-MOST_MEMBERS, else-others-ge-MOST_MEMBERS}
 use Rattle.cds_cell.proofs.members.is_bad_list.Goals as goal
@@ -15,7 +15,7 @@ returns-then-contains c =
       | then-others-ge-MOST_MEMBERS w ↦ c.if-contains.true ∙ sym (bad_by_number m hs w.if-others-ge-MOST_MEMBERS.true)
       | else-others-ge-MOST_MEMBERS w ↦
           let bad = bad_by_houses m hs w.contains.result w.if-others-ge-MOST_MEMBERS.false w.contains.ensures.value in
-          c.if-contains.true ∙ sym (bad ∙ ap (λ b. b || stands_twice (numbers hs)) (sym w.value-is ∙ c.if-contains.true))
+          c.if-contains.true ∙ sym (bad ∙ ap (λ b. b || stands_twice (numbers_of hs)) (sym w.value-is ∙ c.if-contains.true))
     ]
 
 pub returns-else-contains : goal.returns-else-contains
@@ -29,5 +29,5 @@ returns-else-contains c =
           grind (arith, nat_tests, off, many))
       | else-others-ge-MOST_MEMBERS w ↦
           let bad = bad_by_houses m hs w.contains.result w.if-others-ge-MOST_MEMBERS.false w.contains.ensures.value in
-          c.stands_twice.ensures ∙ sym (bad ∙ ap (λ b. b || stands_twice (numbers hs)) (sym w.value-is ∙ c.if-contains.false))
+          c.stands_twice.ensures ∙ sym (bad ∙ ap (λ b. b || stands_twice (numbers_of hs)) (sym w.value-is ∙ c.if-contains.false))
     ]

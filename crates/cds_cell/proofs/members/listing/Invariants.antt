@@ -1,9 +1,9 @@
 use Rattle.std.proofs.Common.{drop}
 use Rattle.cds_stamps.specs.Members.{members_of}
-use Rattle.cds_cell.specs.Scripted.{numbers}
+use Rattle.clearinghouse.specs.Posting.{numbers_of}
 use Rattle.cds_cell.proofs.MemberLists.{ListsRest}
 use Rattle.cds_cell.proofs.members.listing.Given as goal
 
 abbrev pub invariant-loop-house : goal.invariant-loop-house
 invariant-loop-house l =
-    ListsRest (members_of l.before) l.epoch.0 l.master.0 (numbers l.others) (drop l.house-index l.house-items) l.list.items
+    ListsRest (members_of l.before) l.epoch.0 l.master.0 (numbers_of l.others) (drop l.house-index l.house-items) l.list.items

@@ -1,10 +1,10 @@
 use Rattle.std.proofs.Common.{◌≡◌, length}
 use Rattle.cell_model.specs.Steps.{stands_twice}
-use Rattle.cds_cell.specs.Scripted.{numbers}
+use Rattle.clearinghouse.specs.Posting.{numbers_of}
 use Rattle.cds_cell.proofs.members.stands_twice.Given as goal
 
 abbrev pub invariant-loop-first : goal.invariant-loop-first
-invariant-loop-first l = stands_twice (numbers l.houses) ≡ stands_twice (numbers l.rest)
+invariant-loop-first l = stands_twice (numbers_of l.houses) ≡ stands_twice (numbers_of l.rest)
 
 abbrev pub decreases-loop-first : goal.decreases-loop-first
 decreases-loop-first l = length l.rest

@@ -1,10 +1,10 @@
 use Rattle.std.proofs.Common.{◌≡◌, drop}
+use Rattle.clearinghouse.specs.Posting.{numbers_of}
 use Rattle.cds_cell.specs.Asking.{answering, first_some}
-use Rattle.cds_cell.specs.Scripted.{numbers}
 use Rattle.cds_cell.specs.Telling.{told_views}
 use Rattle.cds_cell.proofs.reader.first_of.Given as goal
 
 abbrev pub invariant-loop-house : goal.invariant-loop-house
 invariant-loop-house l =
-    first_some (answering (told_views l.cell) l.high l.dir.0) (numbers l.houses)
-    ≡ first_some (answering (told_views l.cell) l.high l.dir.0) (numbers (drop l.house-index l.houses))
+    first_some (answering (told_views l.cell) l.high l.dir.0) (numbers_of l.houses)
+    ≡ first_some (answering (told_views l.cell) l.high l.dir.0) (numbers_of (drop l.house-index l.houses))

@@ -13,5 +13,6 @@ unreachable-requires c =
     ap (λ m. list_fault m (map (λ h. h.0) c.deref.result.now)) c.master.ensures
     ∙ ap (list_fault (master_of (members_of c.args.members.now))) others
     ∙ lawful_houses (members_of c.args.members.now) c.others_in.ensures.lawful in
-    no_answer (list_fault c.master.result.0 (map (λ h. h.0) c.deref.result.now)) _ c.in-Err-Fault.field-0 c.in-Err-Fault.field-0-0 none c.in-Err-Fault.field-0-is
+    no_answer (list_fault c.master.result.0 (map (λ h. h.0) c.deref.result.now)) _ c.in-Err-Fault.field-0 c.in-Err-Fault.field-0-0 none
+    c.in-Err-Fault.field-0-is
     c.in-Err-Fault.ensures.answer

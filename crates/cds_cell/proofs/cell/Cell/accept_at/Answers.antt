@@ -4,7 +4,7 @@ use Rattle.cell_model.specs.Turns as turns
 use Rattle.clearinghouse.specs.Stepping.{IsStampAnswer}
 use Rattle.cds_cell.specs.declared.cell.Cell.{Cell}
 use Rattle.cds_cell.specs.declared.house.CellHouse.{CellHouse}
-use Rattle.cds_cell.specs.Houses.{posted_at}
+use Rattle.cds_cell.specs.PrivateHouses.{posted_at}
 use Rattle.cds_cell.proofs.HouseActs.{acts_at, refused_same}
 use Rattle.cds_cell.proofs.Vecs.{with_same}
 use Rattle.cds_cell.proofs.cell.Cell.accept_at.Goals as goal

@@ -1,9 +1,7 @@
-use Rattle.std.proofs.Common.{◌≡◌, ap, subst, sym, ℕ, List}
-use Rattle.std.specs.Prelude.{None}
+use Rattle.std.proofs.Common.{ap, ℕ, List}
 use Rattle.cell_model.specs.Commands as command
-use Rattle.cell_model.specs.Steps.{effect, first_refusal, refusals_of}
-use Rattle.cds_cell.specs.Standing.{ComesTo, step_meant}
 use Rattle.cds_cell.proofs.Handing.{handed_on, meant}
+use Rattle.cds_cell.specs.PrivateSteps.{step_meant}
 use Rattle.cds_cell.proofs.cell.Cell.act.Goals as goal
 
 pub returns-in-Root-clause-step : goal.returns-in-Root-clause-step

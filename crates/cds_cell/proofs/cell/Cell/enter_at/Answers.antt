@@ -4,11 +4,11 @@ use Rattle.std.specs.Result.{result_err}
 use Rattle.std.proofs.lemmas.Option.{slice_get_read}
 use Rattle.cds_stamps.specs.Members.{master_of, members_of}
 use Rattle.cell_model.specs.Turns as turns
+use Rattle.clearinghouse.specs.Posting.{numbers_of}
 use Rattle.clearinghouse.specs.Stepping.{IsEpochAnswer}
 use Rattle.cds_cell.specs.declared.cell.Cell.{Cell}
 use Rattle.cds_cell.specs.declared.house.CellHouse.{CellHouse}
-use Rattle.cds_cell.specs.Houses.{Asks, epoch_posted_by}
-use Rattle.cds_cell.specs.Scripted.{numbers}
+use Rattle.cds_cell.specs.PrivateHouses.{Asks, epoch_posted_by}
 use Rattle.cds_cell.proofs.HouseActs.{acts_alone, acts_at, epoch_unposted, posted_twice}
 use Rattle.cds_cell.proofs.Houses.{house_of_place}
 use Rattle.cds_cell.proofs.Vecs.{with_same}
@@ -31,12 +31,12 @@ returns-in-Err-clause-acts c now place later =
     let number : h.house.0 ≡ master_of ms =
     (house_of_place hs (master_of ms) c.args.at h place (slice_get_read hs (length hs) c.args.at h refl c.requires.house c.index_mut.ensures.value)).1 in
     acts_alone c.args.self.now _ c.args.at h k c.args.serials.now (IsEpochAnswer e (Some c.in-Err.refusal)) now
-    (λ house. turns.new_epoch house now c.args.dir.0 e ms (numbers c.args.left.now)) c.requires.house c.index_mut.ensures.value refl refl refl refl
+    (λ house. turns.new_epoch house now c.args.dir.0 e ms (numbers_of c.args.left.now)) c.requires.house c.index_mut.ensures.value refl refl refl refl
     c.enter_epoch.ensures.who
     (λ stands up.
-    subst (λ ps. Asks (IsEpochAnswer e (Some c.in-Err.refusal)) (turns.new_epoch h.house.0 now c.args.dir.0 e ms (numbers c.args.left.now)) h k ps)
+    subst (λ ps. Asks (IsEpochAnswer e (Some c.in-Err.refusal)) (turns.new_epoch h.house.0 now c.args.dir.0 e ms (numbers_of c.args.left.now)) h k ps)
     (epoch_unposted k.state c.args.dir c.args.epoch c.args.left.now c.in-Err.refusal)
-    (subst (λ r. Asks (IsEpochAnswer e (result_err r)) (turns.new_epoch h.house.0 now c.args.dir.0 e ms (numbers c.args.left.now)) h k
+    (subst (λ r. Asks (IsEpochAnswer e (result_err r)) (turns.new_epoch h.house.0 now c.args.dir.0 e ms (numbers_of c.args.left.now)) h k
     (epoch_posted_by k.state c.args.dir c.args.epoch c.args.left.now (result_err r))) c.in-Err.is
     (c.in_ok-refusal.ensures.step now c.args.left.now stands up (sym number) later)))
 
@@ -50,7 +50,7 @@ returns-in_ok-post_leaves-in-Ok-clause-acts c now place later =
     let number : h.house.0 ≡ master_of ms =
     (house_of_place hs (master_of ms) c.args.at h place (slice_get_read hs (length hs) c.args.at h refl c.requires.house c.index_mut.ensures.value)).1 in
     acts_at c.args.self.now _ c.post_leaves.new.self c.args.at h k c.args.serials.now c.post_leaves.new.serials (IsEpochAnswer e None) now
-    (λ house. turns.new_epoch house now c.args.dir.0 e ms (numbers c.args.left.now))
+    (λ house. turns.new_epoch house now c.args.dir.0 e ms (numbers_of c.args.left.now))
     (λ j. epoch_posted_by j.state c.args.dir c.args.epoch c.args.left.now None) c.requires.house c.index_mut.ensures.value refl refl refl refl
     c.enter_epoch.ensures.who (c.post_leaves.ensures.houses ∙ c.post.ensures.houses)
     (record {
@@ -62,6 +62,6 @@ returns-in_ok-post_leaves-in-Ok-clause-acts c now place later =
     c.args.epoch c.args.left.now (c.in_ok-post-in-Ok.ensures.posts j there)
     (c.in_ok-post_leaves-in-Ok.ensures.posts j (ap (λ v. slice_get v.items c.args.at) c.post.ensures.houses ∙ there)))
     (λ stands up.
-    subst (λ r. Asks (IsEpochAnswer e (result_err r)) (turns.new_epoch h.house.0 now c.args.dir.0 e ms (numbers c.args.left.now)) h k
+    subst (λ r. Asks (IsEpochAnswer e (result_err r)) (turns.new_epoch h.house.0 now c.args.dir.0 e ms (numbers_of c.args.left.now)) h k
     (epoch_posted_by k.state c.args.dir c.args.epoch c.args.left.now (result_err r))) c.in-Ok.is
     (c.in_ok-refusal.ensures.step now c.args.left.now stands up (sym number) later))

@@ -7,7 +7,8 @@ use Rattle.cds_cell.proofs.cell.Cell.found.Goals as goal
 pub returns-clause-grows : goal.returns-clause-grows
 returns-clause-grows c =
     let l : Listing = record { epoch = record { 0 = 1 }; members = c.args.members } in
-    listed_grows c.args.self.now c.found_at_master.new.self _ l c.found_at_master.ensures.rest c.in_ok-found_at_master.ensures.few c.in_ok-push.ensures.items refl refl
+    listed_grows c.args.self.now c.found_at_master.new.self _ l c.found_at_master.ensures.rest c.in_ok-found_at_master.ensures.few
+    c.in_ok-push.ensures.items refl refl
 
 pub returns-clause-founds : goal.returns-clause-founds
 returns-clause-founds c g s can number =

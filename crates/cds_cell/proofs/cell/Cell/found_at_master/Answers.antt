@@ -2,7 +2,7 @@ use Rattle.std.proofs.Common.{arith, ◌<◌, refl, subst, sym}
 use Rattle.std.proofs.Math.ListN.{length-set}
 use Rattle.cds_stamps.specs.Members.{members_of}
 use Rattle.cds_cell.specs.declared.house.CellHouse.{CellHouse}
-use Rattle.cds_cell.specs.Standing.{IsPlaceOf}
+use Rattle.cds_cell.specs.PrivateSteps.{IsPlaceOf}
 use Rattle.cds_cell.proofs.Houses.{place_within}
 use Rattle.cds_cell.proofs.NewDirectories.{founder_placed, master_founds}
 use Rattle.cds_cell.proofs.cell.Cell.found_at_master.Goals as goal

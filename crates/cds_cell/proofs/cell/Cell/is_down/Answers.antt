@@ -9,7 +9,8 @@ returns-in-Some-Up-clause-model c g s =
 
 pub returns-in-Some-Down-clause-model : goal.returns-in-Some-Down-clause-model
 returns-in-Some-Down-clause-model c g s =
-    down_where c.args.self.now g c.args.house.0 (Some (state.Down c.in-Some-Down.field-0-0)) s (ap Some (sym c.in-Some-Down.field-0-is) ∙ c.in-Some-Down.ensures)
+    down_where c.args.self.now g c.args.house.0 (Some (state.Down c.in-Some-Down.field-0-0)) s
+    (ap Some (sym c.in-Some-Down.field-0-is) ∙ c.in-Some-Down.ensures)
 
 pub returns-in-None-clause-model : goal.returns-in-None-clause-model
 returns-in-None-clause-model c g s = down_where c.args.self.now g c.args.house.0 None s c.in-None.ensures

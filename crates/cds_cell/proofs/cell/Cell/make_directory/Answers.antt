@@ -5,15 +5,15 @@ use Rattle.directory.specs.Updates as updates
 use Rattle.directory.specs.Updates.{change_of}
 use Rattle.cell_model.specs.Steps.{Outcome, ascending, is_bad_list, listing}
 use Rattle.cell_model.proofs.Terms.{master_new}
-use Rattle.cds_cell.specs.Scripted.{numbers}
-use Rattle.cds_cell.specs.Standing.{ComesTo}
+use Rattle.clearinghouse.specs.Posting.{numbers_of}
 use Rattle.cds_cell.proofs.Children.{child_apart, child_can, child_next, mkdir_is, mkdir_placed, mkdir_up}
 use Rattle.cds_cell.proofs.Houses.{place_within}
+use Rattle.cds_cell.specs.PrivateSteps.{ComesTo}
 use Rattle.cds_cell.proofs.cell.Cell.make_directory.Goals as goal
 
 pub returns-in_default-clause-step : goal.returns-in_default-clause-step
 returns-in_default-clause-step c g s none =
-    let rs = numbers c.args.others.now in
+    let rs = numbers_of c.args.others.now in
     absurd (mkdir_placed c.args.self.now g c.args.house.0 c.args.dir.0 c.args.master.0 c.args.name rs s none c.in_default.ensures)
 
 pub make_child-requires-clause-house : goal.make_child-requires-clause-house
@@ -26,7 +26,7 @@ returns-clause-step c g s none =
     let d = c.args.dir.0 in
     let m = c.args.master.0 in
     let n = c.args.name in
-    let rs = numbers c.args.others.now in
+    let rs = numbers_of c.args.others.now in
     let k = c.next_directory-child.result.0 in
     let ms = members_of c.in-Some-2.members in
     let u = change_of c.in-Some-3.update in

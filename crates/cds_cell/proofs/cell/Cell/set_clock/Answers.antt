@@ -5,7 +5,7 @@ use Rattle.cell_model.specs.Steps.{effect, is_missing, refusals_of}
 use Rattle.cell_script.specs.declared.answer.Answer.TheVariants as answer
 use Rattle.cds_cell.specs.declared.cell.Cell.{Cell}
 use Rattle.cds_cell.specs.declared.house.CellHouse.{CellHouse}
-use Rattle.cds_cell.specs.Standing.{IsStepAs}
+use Rattle.cds_cell.specs.PrivateSteps.{IsStepAs}
 use Rattle.cds_cell.proofs.ActSteps.{never_missing, passed}
 use Rattle.cds_cell.proofs.Houses.{place_within}
 use Rattle.cds_cell.proofs.MadeHouses.{clock_comes}

@@ -2,13 +2,13 @@ use Rattle.std.proofs.Common.{ap, refl}
 use Rattle.std.proofs.Common.{sym, subst}
 use Rattle.std.specs.Prelude.{length}
 use Rattle.std.proofs.lemmas.Option.{slice_get_read}
-use Rattle.clearinghouse.specs.Posting.{StandsMessage}
 use Rattle.cds_cell.proofs.Houses.{house_of_place}
 use Rattle.cell_model.specs.Turns as turns
+use Rattle.clearinghouse.specs.Posting.{StandsMessage}
 use Rattle.clearinghouse.specs.Stepping.{IsTakeAnswer}
 use Rattle.cds_cell.specs.declared.cell.Cell.{Cell}
 use Rattle.cds_cell.specs.declared.house.CellHouse.{CellHouse}
-use Rattle.cds_cell.specs.Houses.{posted_at}
+use Rattle.cds_cell.specs.PrivateHouses.{posted_at}
 use Rattle.cds_cell.proofs.HouseActs.{acts_at, untaken_same}
 use Rattle.cds_cell.proofs.Vecs.{with_same}
 use Rattle.cds_cell.proofs.cell.Cell.take_at.Goals as goal

@@ -1,4 +1,4 @@
-use Rattle.std.proofs.Common.{Ok, ◌∙◌, ap}
+use Rattle.std.proofs.Common.{◌∙◌, ap}
 use Rattle.clearinghouse.specs.Imaging.{started}
 use Rattle.clearinghouse.proofs.Restarting.{crash_stands, restarted_lawful}
 use Rattle.cds_cell.proofs.HouseCalls.{crashed_stands, stands_up}

@@ -1,0 +1,58 @@
+-- Words of private functions alone: steps of a cell, and what acts leave of it.
+use Rattle.std.specs.Prelude.{◌≡◌, ◌≢◌, ℕ, zero, suc, Bool, List, [], ◌∷◌, Some, Result, IfOk, OnOk}
+use Rattle.std.specs.Option.{option_map}
+use Rattle.std.specs.Result.{result_err}
+use Rattle.std.specs.declared.alloc.AllocError.{AllocError}
+use Rattle.directory.specs.Updates.{change_of}
+use Rattle.cell_model.specs.Commands as command
+use Rattle.cell_model.specs.Steps.{Outcome, first_refusal}
+use Rattle.cell_script.specs.declared.answer.Answer.{Answer}
+use Rattle.cell_script.specs.declared.answer.ScriptRefusal.{ScriptRefusal}
+use Rattle.clearinghouse.specs.Posting.{numbers_of}
+use Rattle.cds_cell.specs.declared.cell.Cell.{Cell}
+use Rattle.cds_cell.specs.declared.house.CellHouse.{CellHouse}
+use Rattle.cds_cell.specs.declared.step.Step.{Step}
+use Rattle.cds_cell.specs.declared.step.Step.TheVariants as step
+use Rattle.cds_cell.specs.Scripted.{answer_of, refusal_of}
+use Rattle.cds_cell.specs.Standing.{GrowsBy, StandsAs, UnlessDone}
+
+-- the house of a number stands at this place, and none before it (own)
+abbrev pub IsPlaceOf : List CellHouse → ℕ → ℕ → Type 0
+IsPlaceOf [] x i = ⊥
+IsPlaceOf (h ∷ hs) x zero = h.house.0 ≡ x
+IsPlaceOf (h ∷ hs) x (suc i) = (h.house.0 ≢ x) × IsPlaceOf hs x i
+
+-- the command of the model that a step of the program is (own)
+abbrev pub step_meant : Step → command.Command
+step_meant (step.House h node) = command.House h.0 node
+step_meant (step.Clock h time) = command.Clock h.0 time
+step_meant (step.Root m rs) = command.Root m.0 (numbers_of rs)
+step_meant (step.Mkdir h d n m rs) = command.Mkdir h.0 d.0 n m.0 (numbers_of rs)
+step_meant (step.Repoint h d n m rs) = command.Repoint h.0 d.0 n m.0 (numbers_of rs)
+step_meant (step.Update h d u) = command.Accept h.0 d.0 (change_of u)
+step_meant (step.Epoch d m rs) = command.Epoch d.0 m.0 (numbers_of rs)
+step_meant (step.Skulk h d) = command.Skulk h.0 d.0
+step_meant (step.Deliver n) = command.Deliver n
+step_meant (step.Lose n) = command.Lose n
+step_meant (step.Crash h) = command.Crash h.0
+step_meant (step.Start h) = command.Start h.0
+
+-- a step is allowed by these tests, or the first refusal is told whose test holds (own)
+abbrev pub IsAllowed : {T : Type 0} → Result T ScriptRefusal → List (Bool × command.Refusal) → Type 0
+IsAllowed result tests = result_err result ≡ option_map refusal_of (first_refusal tests)
+
+-- an answer and a cell are those of a step of the model; it is not said that a list of commands leads there (own)
+pub record IsStepAs (a : Answer) (c : Cell) (o : Outcome) : Type 0 where
+  pub answer : answer_of o.answer ≡ Some a
+  pub stands : StandsAs c o.cell
+
+-- what an act leaves, whichever cell it stands for: it spends nothing, grows the cell by a step at most, and changes nothing where its
+-- answer says so (own)
+pub record Leaves (old new : Cell) (result : Result Answer AllocError) : Type 0 where
+  pub spent : new.spent ≡ old.spent
+  pub grows : OnOk result (GrowsBy old new)
+  pub same : IfOk result (λ a. UnlessDone a (new ≡ old))
+
+-- what comes of an act is this outcome, or memory ran out (own)
+abbrev pub ComesTo : Result Answer AllocError → Cell → Outcome → Type 0
+ComesTo result c o = IfOk result (λ a. IsStepAs a c o)
