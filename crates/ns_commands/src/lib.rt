@@ -1,0 +1,17 @@
+//! The commands of the name service: what they ask of a cell, or what they answer, over any reader of its entries.
+#![tactic(auto)]
+
+mod entries;
+mod exports;
+mod groups;
+mod imports;
+mod profiles;
+mod refusals;
+mod updates;
+
+pub use exports::{export, unexport};
+pub use groups::{add_member, delete_member};
+pub use imports::import;
+pub use profiles::{add_element, delete_element};
+pub use refusals::refusal_of_walk;
+pub use updates::Updates;
