@@ -7,7 +7,6 @@ use Rattle.cds_base.specs.LineFaults.{fault_at}
 use Rattle.cds_base.specs.declared.scan.LineFault.TheVariants as fault
 use Rattle.cell_model.specs.Cells.{empty_cell}
 use Rattle.cell_script.specs.Words.{words_of, number_of}
-use Rattle.cell_script.specs.Commands.{is_later}
 use Rattle.cell_script.specs.Commands as lines
 use Rattle.cell_script.specs.Forms as forms
 use Rattle.cell_replay.specs.Texts.{line_fault_text}
@@ -36,7 +35,7 @@ no_form = refl
 -- nothing is due for a comment, and no house is there yet; then the line is at fault, and nothing is due behind it
 three_lines : demanded (Replaying empty_cell) (codes "#" ++ (10 ∷ (codes "root 1" ++ (10 ∷ (codes "rot 1" ++ (10 ∷ (codes "root 1" ++ 10 ∷ [])))))))
     ≡ record { body = codes "2 refused NoHouse" ++ (10 ∷ (codes "3 fault UnknownCommand 1" ++ 10 ∷ [])); end = []; verdict = Faulty }
-unfolding digits fault_at demand is_later number_of lines.said_by forms.counted forms.taken
+unfolding digits fault_at demand number_of lines.said_by forms.counted forms.taken
 three_lines = refl
 
 -- the input ends within its second line: its fault is due where nothing follows

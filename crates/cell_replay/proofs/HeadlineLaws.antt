@@ -1,9 +1,7 @@
--- Where a line answers that a skulk is complete, its directory is settled.
+-- Where a line answers that a skulk is complete, its directory is settled; and what a line that imports lists.
 use Rattle.std.proofs.Common.{◌≡◌, ℕ, ◌≤◌, Bool, true, false, if◌then◌else◌, List, [], ◌∷◌, ◌++◌, refl, sym, ◌∙◌, ap, subst, append_assoc}
 use Rattle.std.specs.Prelude.{Option, Some, None, Result, Ok, Err}
-use Rattle.std.specs.List.{flat_map}
 use Rattle.std.specs.Option.{option_and_then, option_map}
-use Rattle.std.proofs.lemmas.Grind.{flat_map-append}
 use Rattle.cds_stamps.specs.declared.stamp.Stamp.{Stamp}
 use Rattle.directory.specs.declared.entry.Kind.{Kind}
 use Rattle.directory.specs.declared.entry.Kind.TheVariants as kind
@@ -13,14 +11,15 @@ use Rattle.cell_model.specs.Agreement.{Agrees, place_of}
 use Rattle.cell_model.specs.Cells.{Cell, Replica, Slot, IsHeld, empty_cell}
 use Rattle.cell_model.specs.Cells as slot
 use Rattle.cell_model.specs.Commands as model
+use Rattle.cell_model.specs.Reached.{IsReached}
 use Rattle.cell_model.specs.Sets.{has}
-use Rattle.cell_model.specs.Steps.{accepted, is_down, is_unknown, message_at, outcome, replay}
+use Rattle.cell_model.specs.Steps.{accepted, is_down, is_unknown, message_at, outcome, replay, replay_from}
 use Rattle.cell_model.proofs.Agreeing.{converges_lem}
 use Rattle.cell_model.proofs.Runs.{replay-append}
 use Rattle.cell_model.proofs.Stamping.{raises_lem}
 use Rattle.resolver.specs.declared.refusal.Refusal.{Refusal}
 use Rattle.resolver.specs.declared.seen.Found.{Found}
-use Rattle.resolver.specs.Readers.{Reader}
+use Rattle.resolver.specs.Readers.{Reader, ShowsOnly}
 use Rattle.resolver.specs.WalkEnds.{walked}
 use Rattle.cell_script.specs.declared.answer.Answer.{Answer}
 use Rattle.cell_script.specs.declared.answer.Answer.TheVariants as answer
@@ -31,7 +30,18 @@ use Rattle.cell_script.specs.declared.command.Question.{Question}
 use Rattle.cell_script.specs.declared.command.Question.TheVariants as question
 use Rattle.cell_script.specs.declared.command.ScriptLine.{ScriptLine}
 use Rattle.cell_script.specs.declared.command.ScriptLine.TheVariants as line
-use Rattle.cds_cell.specs.Readings.{reading}
+use Rattle.directory.specs.declared.update.UpdateRefusal.{UpdateRefusal}
+use Rattle.tower_codec.specs.declared.binding.StringBinding.{StringBinding}
+use Rattle.ns_import.specs.Imports.{imported}
+use Rattle.ns_import.proofs.Importing.{import_is}
+use Rattle.ns_import.proofs.Landing.{shown_lead}
+use Rattle.cds_cell.proofs.ModelObjects.{reading_shows_only}
+use Rattle.ns_import.specs.declared.fault.ImportFault.{ImportFault}
+use Rattle.ns_import.specs.declared.fault.ImportFault.TheVariants as fault
+use Rattle.ns_commands.specs.Asks.{Asks, add_element, add_member, delete_element, delete_member, export, refusal_of_walk, unexport}
+use Rattle.ns_commands.specs.Imported.{bindings_told}
+use Rattle.cds_cell.specs.Accepting.{Accepting, accepting}
+use Rattle.cds_cell.specs.Readings.{objects_of, reading}
 use Rattle.cds_cell.specs.Recorded.{image_at, octets_of}
 use Rattle.cds_cell.specs.Scripted.{answer_of, step_of}
 use Rattle.cds_records.specs.Decoding.{decoding}
@@ -39,9 +49,9 @@ use Rattle.cds_records.specs.Octets.{image_octets}
 use Rattle.cds_records.specs.Records.{message}
 use Rattle.cds_records.specs.declared.fault.RecordFault.{RecordFault}
 use Rattle.cds_records.specs.declared.message.Message as recorded
-use Rattle.cell_replay.specs.Headline.{Converges, Settled, accepted_in, cell_behind, commands_of, line_place}
-use Rattle.cell_replay.specs.Replies.{Numbered, asked_of, dump_told, first_target, message_told, octets_told, question_answer, reply_to}
-use Rattle.cell_replay.specs.Replies.{refusal_of_octets, refusal_of_walk, slot_told, steps_of, target_of, target_read, values_read}
+use Rattle.cell_replay.specs.Headline.{Converges, Finds, Settled, accepted_in, cell_behind, commands_from, commands_of, import_line, line_place}
+use Rattle.cell_replay.specs.Replies.{Numbered, Said, asked_of, does, dump_told, first_target, message_told, octets_told, question_said, refusal_behind, reply_to, says}
+use Rattle.cell_replay.specs.Replies.{refusal_of_octets, slot_told, steps_of, target_of, target_read, trusted, updates_told, values_read, wanted_by}
 
 -- ---- what questions never answer
 
@@ -98,17 +108,54 @@ dump_none g h d =
     (either_none (has h g.made) of_house (answer.Refused why.NoHouse)
     (either_none (is_down g h) (answer.Refused why.Down) slot (refused_none why.Down) (slot_none ((g.house h).slots d))) (refused_none why.NoHouse))
 
-question_none : (g : Cell) (q : Question) → TellsNone (question_answer g q)
+updates_none : (w : Accepting) (r : Option UpdateRefusal) → TellsNone (updates_told w r)
+updates_none w None = λ t ns is. cc (is)
+updates_none w (Some r) = refused_none (refusal_behind r w.count w.posted)
+
+bindings_none : (r : Result (List StringBinding) ImportFault) → TellsNone (bindings_told r)
+bindings_none (Ok bindings) = λ t ns is. cc (is)
+bindings_none (Err (fault.Walk r)) = refused_none (refusal_of_walk r)
+bindings_none (Err fault.NotObject) = refused_none why.NotObject
+
+-- what is said tells of no skulk that is complete
+abbrev SaysNone : Said → Type 0
+SaysNone said = (t : Stamp) (ns : List ℕ) → said.answer ≡ Some (answer.Complete t ns) → ⊥
+
+says_none : (a : Answer) → TellsNone a → SaysNone (says a)
+says_none a none t ns is = none t ns (cc (is))
+
+does_none : (g : Cell) (asks : Asks) → SaysNone (does g asks)
+does_none g (Err r) t ns is = refused_none r t ns (cc (is))
+does_none g (Ok c) t ns is =
+    let w : Accepting = accepting g c.house c.dir c.list in
+    updates_none w w.refused t ns (cc (is))
+
+question_none : (g : Cell) (q : Question) → SaysNone (question_said g q)
 question_none g (question.Read h high name attr) =
     let reader = reading g (Some h.0) high in
-    asked_none g h.0 (values_read reader attr (walked reader true name)) (values_none reader attr (walked reader true name))
+    says_none (asked_of g h.0 (values_read reader attr (walked reader true name)))
+    (asked_none g h.0 (values_read reader attr (walked reader true name)) (values_none reader attr (walked reader true name)))
 question_none g (question.Readlink h high name) =
     let reader = reading g (Some h.0) high in
-    asked_none g h.0 (target_read reader (walked reader false name)) (read_none reader (walked reader false name))
-question_none g (question.Dump h d) = dump_none g h.0 d.0
-question_none g (question.OctetsMsg n) = octets_none (option_and_then octets_of (message_at g n))
-question_none g (question.OctetsHouse h) = asked_none g h.0 (answer.Octets (image_octets (image_at g h.0))) (λ t ns is. cc (is))
-question_none g (question.Decode octets) = decoded_none (decoding message octets)
+    says_none (asked_of g h.0 (target_read reader (walked reader false name)))
+    (asked_none g h.0 (target_read reader (walked reader false name)) (read_none reader (walked reader false name)))
+question_none g (question.Export name interface bindings objects) = does_none g (export (trusted g) name interface bindings objects)
+question_none g (question.Unexport name interface objects) = does_none g (unexport (trusted g) name interface objects)
+question_none g (question.Groupadd name member) = does_none g (add_member (trusted g) name member)
+question_none g (question.Groupdel name member) = does_none g (delete_member (trusted g) name member)
+question_none g (question.Profadd name interface member priority note) =
+    does_none g (add_element (trusted g) name interface member priority note)
+question_none g (question.Profdel name interface member) = does_none g (delete_element (trusted g) name interface member)
+question_none g (question.Import h high name interface object tcp udp) =
+    let found = imported (reading g (Some h.0) high) (objects_of g) (wanted_by interface object tcp udp) name in
+    says_none (asked_of g h.0 (bindings_told found)) (asked_none g h.0 (bindings_told found) (bindings_none found))
+question_none g (question.Dump h d) = says_none (dump_told g h.0 d.0) (dump_none g h.0 d.0)
+question_none g (question.OctetsMsg n) =
+    says_none (octets_told (option_and_then octets_of (message_at g n))) (octets_none (option_and_then octets_of (message_at g n)))
+question_none g (question.OctetsHouse h) =
+    let octets : Answer = answer.Octets (image_octets (image_at g h.0)) in
+    says_none (asked_of g h.0 octets) (asked_none g h.0 octets (λ t ns is. cc (is)))
+question_none g (question.Decode octets) = says_none (message_told (decoding message octets)) (decoded_none (decoding message octets))
 
 -- ---- commands
 
@@ -135,25 +182,46 @@ same_held g p q r s is this that =
     let slots : slot.Held r ≡ slot.Held s = sym this ∙ ap (λ (p : ℕ × ℕ). (g.house p.0).slots p.1) same ∙ that in
     cc
 
+-- the commands of lines, and of lines behind them
+pub commands-append : (g : Cell) (xs ys : List Numbered)
+    → commands_from steps_of g (xs ++ ys) ≡ commands_from steps_of g xs ++ commands_from steps_of (replay_from g (commands_from steps_of g xs)) ys
+commands-append g [] ys = refl
+commands-append g (x ∷ xs) ys =
+    let made : List model.Command = steps_of g x.says in
+    let next : Cell = replay_from g made in
+    let rest : List model.Command = commands_from steps_of next xs in
+    let cell : replay_from next rest ≡ replay_from g (made ++ rest) = sym (replay-append made rest g) in
+    ap (λ (cs : List model.Command). made ++ cs) (commands-append next xs ys)
+    ∙ ap (λ (h : Cell). made ++ (rest ++ commands_from steps_of h ys)) cell
+    ∙ sym (append_assoc made rest (commands_from steps_of (replay_from g (made ++ rest)) ys))
+
 module _ (early mid : List Numbered) (l : Numbered) (c : Command) (t : Stamp) (ns : List ℕ) (is : l.says ≡ line.Cell c)
     (answers : (outcome (cell_behind early) (step_of c)).answer ≡ model.Complete t ns) where
-  abbrev steps : Numbered → List model.Command
-  steps n = steps_of n.says
-
   abbrev before : List model.Command
-  before = commands_of steps_of early
+  before = commands_of early
+
+  abbrev after : Cell
+  after = replay (before ++ step_of c ∷ [])
 
   abbrev behind : List model.Command
-  behind = commands_of steps_of mid
+  behind = commands_from steps_of after mid
 
   abbrev whole : List model.Command
-  whole = commands_of steps_of (early ++ l ∷ mid)
+  whole = commands_of (early ++ l ∷ mid)
 
-  so_far : commands_of steps_of (early ++ l ∷ []) ≡ before ++ step_of c ∷ []
-  so_far = flat_map-append steps early (l ∷ []) ∙ ap (λ (s : ScriptLine). before ++ (steps_of s ++ [])) is
+  -- the commands of the line, and of lines that follow it
+  of_line : (ls : List Numbered) → commands_from steps_of (replay before) (l ∷ ls) ≡ step_of c ∷ commands_from steps_of after ls
+  of_line ls =
+      let made : steps_of (replay before) l.says ≡ step_of c ∷ [] = ap (steps_of (replay before)) is in
+      let cell : replay_from (replay before) (step_of c ∷ []) ≡ after = sym (replay-append before (step_of c ∷ []) empty_cell) in
+      ap (λ (cs : List model.Command). cs ++ commands_from steps_of (replay_from (replay before) cs) ls) made
+      ∙ ap (λ (g : Cell). step_of c ∷ commands_from steps_of g ls) cell
+
+  so_far : commands_of (early ++ l ∷ []) ≡ before ++ step_of c ∷ []
+  so_far = commands-append empty_cell early (l ∷ []) ∙ ap (λ (cs : List model.Command). before ++ cs) (of_line [])
 
   all : whole ≡ before ++ step_of c ∷ behind
-  all = flat_map-append steps early (l ∷ mid) ∙ ap (λ (s : ScriptLine). before ++ (steps_of s ++ behind)) is
+  all = commands-append empty_cell early (l ∷ mid) ∙ ap (λ (cs : List model.Command). before ++ cs) (of_line mid)
 
   -- all is settled behind a command that answers so
   command_settles : Settled early l mid t
@@ -179,7 +247,7 @@ module _ (early mid : List Numbered) (l : Numbered) (c : Command) (t : Stamp) (n
 
 -- ---- lines
 
--- wherever a line answers so, all is settled
+-- wherever a line answers that a skulk is complete, all is settled
 pub converges : (said : List Numbered) → Converges said
 converges said early mid late l t ns split answers = by_line l.says refl answers
   where
@@ -187,3 +255,32 @@ converges said early mid late l t ns split answers = by_line l.says refl answers
     by_line (line.Cell c) is answers =
         command_settles early mid l c t ns is (complete_only (outcome (cell_behind early) (step_of c)).answer t ns answers)
     by_line (line.Question q) is answers = absurd (question_none (cell_behind early) q t ns (cc))
+
+-- ---- imports
+
+-- an answer that lists bindings is that of an import which found them
+found_only : (r : Result (List StringBinding) ImportFault) (bs : List StringBinding) → bindings_told r ≡ answer.Bindings bs → r ≡ Ok bs
+found_only (Ok bindings) bs is = cc
+found_only (Err (fault.Walk r)) bs is = cc
+found_only (Err fault.NotObject) bs is = cc
+
+-- and so it is where the house is asked
+asked_only : (b : Bool) (a : Answer) (bs : List StringBinding)
+    → Some (if b then a else answer.Refused why.NoHouse) ≡ Some (answer.Bindings bs) → a ≡ answer.Bindings bs
+asked_only true a bs is = cc
+asked_only false a bs is = cc
+
+-- each object that a cell shows to which commands lead is listed
+pub reached_shows_only : (g : Cell) → IsReached g → (prefer : Option ℕ) (high : Bool) → ShowsOnly (reading g prefer high) (objects_of g)
+reached_shows_only g reached prefer high =
+    subst (λ (g : Cell). ShowsOnly (reading g prefer high) (objects_of g)) reached.leads (reading_shows_only reached.commands prefer high)
+
+-- wherever a line imports and is answered with bindings, they are those that the search reaches
+pub finds : (said : List Numbered) → Finds said
+finds said early late l i bs split is answers =
+    let g : Cell = cell_behind early in
+    let reader = reading g (Some i.house.0) i.high in
+    let found = imported reader (objects_of g) i.wanted i.name in
+    let told : reply_to g (import_line i) ≡ Some (answer.Bindings bs) = ap (reply_to g) (sym is) ∙ answers in
+    import_is reader (objects_of g) (shown_lead reader (objects_of g) (reading_shows_only (commands_of early) (Some i.house.0) i.high)) i.wanted i.name bs
+    (found_only found bs (asked_only (has i.house.0 g.made) (bindings_told found) bs told))

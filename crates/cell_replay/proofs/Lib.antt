@@ -1,3 +1,4 @@
+pub mod SaidLaws
 pub mod Scanning
 pub mod Demands
 pub mod Progress
@@ -13,3 +14,4 @@ mod HeadlineLaws
 mod RecordAnswers
 pub mod Scripts
 mod Examples
+pub mod UpdateLaws

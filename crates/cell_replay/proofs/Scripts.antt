@@ -18,7 +18,7 @@ use Rattle.cell_replay.specs.Runs.{IsFront, Wrote, IsWhole}
 use Rattle.cell_replay.specs.Scripts.{text_of, Says, IsScript, IsReplay}
 use Rattle.cell_replay.proofs.Scanning.{scanned, demanded_scanned, clean_more, is_ten, no_ten}
 use Rattle.cell_replay.proofs.Demands.{demand_line, demand_part}
-use Rattle.cell_replay.proofs.HeadlineLaws.{converges}
+use Rattle.cell_replay.proofs.HeadlineLaws.{converges, finds}
 
 -- ---- scripts
 
@@ -222,4 +222,5 @@ is_replay left left' old new wrote =
       taken = subst (Consumes left left') script.2 wrote.taken;
       written = subst (Appends old new) (wrote.due.1 ∙ ap (λ (d : Demand). d.body ++ d.end) is_demand ∙ append-nil text) wrote.written;
       settled = converges script.1;
+      found = finds script.1;
     }

@@ -1,29 +1,39 @@
 -- What a run tells of convergence: the replicas of a directory agree from each line on that answers that a skulk is complete (own, after C705,
 -- skulks and the meaning of AllUpTo).
-use Rattle.std.specs.Prelude.{◌≡◌, ℕ, ◌≤◌, List, [], ◌∷◌, ◌++◌, Option, Some, None}
-use Rattle.std.specs.List.{flat_map}
+use Rattle.std.specs.Prelude.{◌≡◌, ℕ, ◌≤◌, Bool, List, [], ◌∷◌, ◌++◌, Option, Some, None}
+use Rattle.cds_stamps.specs.declared.numbers.HouseNo.{HouseNo}
 use Rattle.cds_stamps.specs.declared.stamp.Stamp.{Stamp}
 use Rattle.cell_model.specs.Agreement.{Agrees, place_of}
-use Rattle.cell_model.specs.Cells.{Cell, Replica, IsHeld}
+use Rattle.cell_model.specs.Cells.{Cell, Replica, IsHeld, empty_cell}
 use Rattle.cell_model.specs.Commands.{Accepted, Command}
-use Rattle.cell_model.specs.Steps.{accepted, replay}
+use Rattle.cell_model.specs.Steps.{accepted, replay, replay_from}
 use Rattle.cell_script.specs.declared.answer.Answer.TheVariants as answer
+use Rattle.cell_script.specs.declared.command.Question.TheVariants as question
 use Rattle.cell_script.specs.declared.command.ScriptLine.{ScriptLine}
 use Rattle.cell_script.specs.declared.command.ScriptLine.TheVariants as line
+use Rattle.tower_codec.specs.declared.binding.StringBinding.{StringBinding}
+use Rattle.server_entries.specs.declared.client.Wanted.{Wanted}
+use Rattle.ns_import.specs.Imports.{IsImport}
+use Rattle.cds_cell.specs.Readings.{reading}
 use Rattle.cds_cell.specs.Scripted.{step_of}
 use Rattle.cell_replay.specs.Replies.{Numbered, reply_to, steps_of}
 
--- the commands of the model that lines make, of whichever form the lines are (own)
-abbrev pub commands_of : (ScriptLine → List Command) → List Numbered → List Command
-commands_of steps = flat_map (λ l. steps l.says)
+-- the commands of the model that lines make from a cell on, of whichever form the lines are (own)
+abbrev pub commands_from : (steps : Cell → ScriptLine → List Command) → Cell → List Numbered → List Command
+commands_from steps g [] = []
+commands_from steps g (l ∷ ls) = steps g l.says ++ commands_from steps (replay_from g (steps g l.says)) ls
 
--- the cell behind lines, and the updates that it accepted on the way (own)
+-- those that the lines of a script make (own)
+abbrev pub commands_of : List Numbered → List Command
+commands_of = commands_from steps_of empty_cell
+
+-- the cell behind lines (own)
 abbrev pub cell_behind : List Numbered → Cell
-cell_behind said = replay (commands_of steps_of said)
+cell_behind said = replay (commands_of said)
 
--- the same of the updates (own)
+-- the updates that it accepted on the way (own)
 abbrev pub accepted_in : List Numbered → List Accepted
-accepted_in said = accepted (commands_of steps_of said)
+accepted_in said = accepted (commands_of said)
 
 -- the house and the directory that a line acts at, if it is a command that acts at one (own)
 abbrev pub line_place : Cell → ScriptLine → Option (ℕ × ℕ)
@@ -49,3 +59,24 @@ abbrev pub Converges : List Numbered → Type 0
 Converges said =
     (early mid late : List Numbered) (l : Numbered) (t : Stamp) (ns : List ℕ) → said ≡ early ++ l ∷ (mid ++ late)
     → reply_to (cell_behind early) l.says ≡ Some (answer.Complete t ns) → Settled early l mid t
+
+-- ---- imports
+
+-- an import that a line asks for (own)
+pub record Importing : Type 0 where
+  pub house : HouseNo
+  pub high : Bool
+  pub name : List (List ℕ)
+  pub wanted : Wanted
+
+-- the line that asks for it (own)
+abbrev pub import_line : Importing → ScriptLine
+import_line i = line.Question (question.Import i.house i.high i.name i.wanted.interface i.wanted.object i.wanted.tcp i.wanted.udp)
+
+-- of the lines of a script: wherever one imports and is answered with bindings, these are those of exactly the entries that the search
+-- reaches, each once and in its order, by what the cell of that moment tells (own, after C706, importing bindings)
+abbrev pub Finds : List Numbered → Type 0
+Finds said =
+    (early late : List Numbered) (l : Numbered) (i : Importing) (bindings : List StringBinding) → said ≡ early ++ l ∷ late
+    → l.says ≡ import_line i → reply_to (cell_behind early) l.says ≡ Some (answer.Bindings bindings)
+    → IsImport (reading (cell_behind early) (Some i.house.0) i.high) i.wanted i.name bindings

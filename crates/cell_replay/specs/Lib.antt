@@ -4,6 +4,7 @@ pub mod Headline
 pub mod TowerTexts
 pub mod Demand
 pub mod TowerDemand
+pub mod PrivateSaid
 pub mod PrivateSights
 pub mod Forms
 pub mod Fillings

@@ -8,7 +8,8 @@ use Rattle.cds_cell.specs.Standing.{Stands}
 use Rattle.tower_codec.specs.Tower.{Floor}
 use Rattle.tower_codec.specs.Spelling.{tower_octets}
 use Rattle.cell_replay.specs.declared.limits.TheConstants.{LONGEST_TOWER}
-use Rattle.cell_replay.specs.Replies.{reply_to, cell_after}
+use Rattle.cell_model.specs.Steps.{replay_from}
+use Rattle.cell_replay.specs.Replies.{Said, said_of}
 use Rattle.cell_replay.specs.Demand.{LineState, Replaying, Checking, Spelling, Response, GoesOn, Stops}
 use Rattle.cell_replay.specs.TowerTexts.{TowerLine, SaysTower, NoTower}
 use Rattle.cell_replay.specs.Forms.{FormState, ByLines, ByTowers}
@@ -21,10 +22,14 @@ use Rattle.cell_replay.specs.declared.replayer.Replayer.{Replayer}
 use Rattle.cell_replay.specs.declared.replies.LineEnd.{LineEnd}
 use Rattle.cell_replay.specs.declared.replies.LineEnd.TheVariants as line
 
--- a reply and a cell are those of the model
-pub record IsReply (a : Answer) (c : Cell) (g : model.Cell) (l : ScriptLine) : Type 0 where
-  pub answer : reply_to g l ≡ Some a
-  pub stands : Stands c (cell_after g l)
+-- an answer and a cell are those of what is done to the model's
+pub record IsDone (a : Answer) (c : Cell) (g : model.Cell) (said : Said) : Type 0 where
+  pub answer : said.answer ≡ Some a
+  pub stands : Stands c (replay_from g said.steps)
+
+-- a reply and a cell are those of the model behind a line
+abbrev pub IsReply : Answer → Cell → model.Cell → ScriptLine → Type 0
+IsReply a c g l = IsDone a c g (said_of g l)
 
 -- ---- forms
 

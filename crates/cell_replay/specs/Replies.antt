@@ -1,18 +1,19 @@
 -- What a cell replies to a line of the script (own, after C705, lookups of clerks).
-use Rattle.std.specs.Prelude.{ℕ, Bool, true, false, if◌then◌else◌, List, [], ◌∷◌, ◌++◌, Option, Some, None, Result, Ok, Err}
+use Rattle.std.specs.Prelude.{◌≡◌, ◌⊎◌, ℕ, Bool, true, false, if◌then◌else◌, List, [], ◌∷◌, ◌++◌, map, take, Option, Some, None, Result, Ok, Err}
 use Rattle.std.specs.Option.{option_and_then, option_map_or}
 use Rattle.cell_names.specs.FullNames.{components_of}
 use Rattle.directory.specs.declared.entry.Kind.{Kind}
 use Rattle.directory.specs.declared.entry.Kind.TheVariants as kind
 use Rattle.directory.specs.Kinds.{link_target}
 use Rattle.directory.specs.Shown.{targets}
+use Rattle.directory.specs.declared.update.UpdateRefusal.{UpdateRefusal}
+use Rattle.directory.specs.declared.update.UpdateRefusal.TheVariants as update
 use Rattle.cell_model.specs.Cells.{Cell, Slot, Absent, Gone, Held}
-use Rattle.cell_model.specs.Commands.{Command}
+use Rattle.cell_model.specs.Commands.{Command, Accept}
 use Rattle.cell_model.specs.Sets.{has}
 use Rattle.cell_model.specs.Steps.{is_down, is_unknown, message_at, outcome, replay_from}
 use Rattle.purge_rule.specs.Replicas.{replica_of}
 use Rattle.resolver.specs.declared.refusal.Refusal.{Refusal}
-use Rattle.resolver.specs.declared.refusal.Refusal.TheVariants as refusal
 use Rattle.resolver.specs.declared.seen.Found.{Found}
 use Rattle.resolver.specs.Readers.{Reader}
 use Rattle.resolver.specs.WalkEnds.{walked}
@@ -25,25 +26,20 @@ use Rattle.cell_script.specs.declared.answer.Answer.TheVariants as answer
 use Rattle.cell_script.specs.declared.answer.ScriptRefusal.{ScriptRefusal}
 use Rattle.cell_script.specs.declared.answer.ScriptRefusal.TheVariants as why
 use Rattle.cell_script.specs.Texts.{answer_text}
-use Rattle.cds_cell.specs.Readings.{reading}
+use Rattle.cds_cell.specs.Accepting.{Accepting, accepting}
+use Rattle.cds_cell.specs.Readings.{reading, objects_of}
 use Rattle.cds_cell.specs.Recorded.{declared_members, image_at, octets_of}
-use Rattle.cds_cell.specs.Scripted.{step_of, answer_of}
+use Rattle.cds_cell.specs.Scripted.{step_of, answer_of, update_refusal_of}
+use Rattle.tower_codec.specs.declared.rpc.Interface.{Interface}
+use Rattle.server_entries.specs.declared.client.Wanted.{Wanted}
+use Rattle.ns_commands.specs.Asks.{Asks, add_element, add_member, delete_element, delete_member, export, refusal_of_walk, unexport}
+use Rattle.ns_commands.specs.Imported.{import_answer}
 use Rattle.cds_records.specs.declared.message.Message as recorded
 use Rattle.cds_records.specs.Octets.{image_octets}
 use Rattle.cds_records.specs.declared.fault.RecordFault.{RecordFault}
 use Rattle.cds_records.specs.declared.fault.RecordFault.TheVariants as fault
 use Rattle.cds_records.specs.Records.{message, tag_of}
 use Rattle.cds_records.specs.Decoding.{decoding}
-
--- why the script says that a walk finds nothing (own)
-abbrev pub refusal_of_walk : Refusal → ScriptRefusal
-refusal_of_walk (refusal.NoSuchName done) = why.NoSuchName done
-refusal_of_walk (refusal.NotDirectory n) = why.NotDirectory n
-refusal_of_walk (refusal.Unreachable d) = why.Unreachable d
-refusal_of_walk refusal.LinkCycle = why.LinkCycle
-refusal_of_walk refusal.TooManyLinks = why.TooManyLinks
-refusal_of_walk refusal.NameTooLong = why.NameTooLong
-refusal_of_walk refusal.RootName = why.RootName
 
 -- the values of an attribute of the entry that is found (own)
 abbrev pub values_read : Reader → (attr : List ℕ) → Result Found Refusal → Answer
@@ -86,6 +82,10 @@ message_told (Err f) = answer.Refused (refusal_of_octets f)
 abbrev pub asked_of : Cell → (house : ℕ) → Answer → Answer
 asked_of g house said = if has house g.made then said else answer.Refused why.NoHouse
 
+-- what a client of `import` wants (own, after C706, importing bindings)
+abbrev pub wanted_by : Interface → (object : List ℕ) → (tcp udp : Bool) → Wanted
+wanted_by interface object tcp udp = record { interface = interface; object = object; tcp = tcp; udp = udp }
+
 -- ---- what is held, and its octets
 
 -- what a house has of a directory, told whole: its epoch, its AllUpTo, its members and its table (own)
@@ -107,34 +107,81 @@ abbrev pub octets_told : Option (List ℕ) → Answer
 octets_told None = answer.Refused why.NoMessage
 octets_told (Some octets) = answer.Octets octets
 
--- ---- questions
+-- ---- what a line does and is answered
 
--- the answer to a question (own)
-abbrev pub question_answer : Cell → Question → Answer
-question_answer g (question.Read h high name attr) =
-    asked_of g h.0 (values_read (reading g (Some h.0) high) attr (walked (reading g (Some h.0) high) true name))
-question_answer g (question.Readlink h high name) =
-    asked_of g h.0 (target_read (reading g (Some h.0) high) (walked (reading g (Some h.0) high) false name))
-question_answer g (question.Dump h d) = dump_told g h.0 d.0
-question_answer g (question.OctetsMsg n) = octets_told (option_and_then octets_of (message_at g n))
-question_answer g (question.OctetsHouse h) = asked_of g h.0 (answer.Octets (image_octets (image_at g h.0)))
-question_answer g (question.Decode octets) = message_told (decoding message octets)
+-- the commands of the model that a line makes, and the reply to it; to a command that has no answer in the script there is none,
+-- and no cell of a run comes to that (own)
+pub record Said : Type 0 where
+  pub steps : List Command
+  pub answer : Option Answer
 
--- ---- lines
+-- a line that makes no command (own)
+abbrev pub says : Answer → Said
+says a = record { steps = []; answer = Some a }
 
--- the commands of the model that a line makes: its own, and none for a question (own)
-abbrev pub steps_of : ScriptLine → List Command
-steps_of (line.Cell c) = step_of c ∷ []
-steps_of (line.Question q) = []
+-- why an update is refused behind so many that were accepted, which posted these messages: these are told where stamps are wanting (own)
+abbrev pub refusal_behind : UpdateRefusal → (count : ℕ) → (posted : List ℕ) → ScriptRefusal
+refusal_behind update.StampsSpent count posted = why.StampsSpent (Some count) posted
+refusal_behind r count posted = update_refusal_of r
+
+-- the answer to updates at a house: that all were accepted, or so many before one that is refused (own)
+abbrev pub updates_told : Accepting → Option UpdateRefusal → Answer
+updates_told w None = answer.Updates w.count w.posted
+updates_told w (Some r) = answer.Refused (refusal_behind r w.count w.posted)
+
+-- what a command of the name service asks for is done: each update that is accepted is a command (own, after C706, name service
+-- entries)
+abbrev pub does : Cell → Asks → Said
+does g (Err r) = says (answer.Refused r)
+does g (Ok c) =
+    let w : Accepting = accepting g c.house c.dir c.list in
+    record { steps = map (Accept c.house c.dir) (take w.count c.list); answer = Some (updates_told w w.refused) }
+
+-- no update is refused of those that are asked for, but for want of stamps (own)
+abbrev pub LacksStampsAlone : Cell → Asks → Type 0
+LacksStampsAlone g (Err r) = Unit {0}
+LacksStampsAlone g (Ok c) = let w : Accepting = accepting g c.house c.dir c.list in (w.refused ≡ None) ⊎ (w.refused ≡ Some update.StampsSpent)
+
+-- the reader by which a command of the name service finds its entry: no house is preferred, and the master's replica alone is
+-- trusted (own, after C705, confidence of lookups)
+abbrev pub trusted : Cell → Reader
+trusted g = reading g None true
+
+-- what a question does and is answered. Most ask alone (own, after C705, lookups of clerks, and C706, name service operations)
+abbrev pub question_said : Cell → Question → Said
+question_said g (question.Read h high name attr) =
+    says (asked_of g h.0 (values_read (reading g (Some h.0) high) attr (walked (reading g (Some h.0) high) true name)))
+question_said g (question.Readlink h high name) =
+    says (asked_of g h.0 (target_read (reading g (Some h.0) high) (walked (reading g (Some h.0) high) false name)))
+question_said g (question.Export name interface bindings objects) = does g (export (trusted g) name interface bindings objects)
+question_said g (question.Unexport name interface objects) = does g (unexport (trusted g) name interface objects)
+question_said g (question.Groupadd name member) = does g (add_member (trusted g) name member)
+question_said g (question.Groupdel name member) = does g (delete_member (trusted g) name member)
+question_said g (question.Profadd name interface member priority note) = does g (add_element (trusted g) name interface member priority note)
+question_said g (question.Profdel name interface member) = does g (delete_element (trusted g) name interface member)
+question_said g (question.Import h high name interface object tcp udp) =
+    says (asked_of g h.0 (import_answer (reading g (Some h.0) high) (objects_of g) (wanted_by interface object tcp udp) name))
+question_said g (question.Dump h d) = says (dump_told g h.0 d.0)
+question_said g (question.OctetsMsg n) = says (octets_told (option_and_then octets_of (message_at g n)))
+question_said g (question.OctetsHouse h) = says (asked_of g h.0 (answer.Octets (image_octets (image_at g h.0))))
+question_said g (question.Decode octets) = says (message_told (decoding message octets))
+
+-- what a line does and is answered (own)
+abbrev pub said_of : Cell → ScriptLine → Said
+said_of g (line.Cell c) = record { steps = step_of c ∷ []; answer = answer_of (outcome g (step_of c)).answer }
+said_of g (line.Question q) = question_said g q
+
+-- the commands of the model that a line makes (own)
+abbrev pub steps_of : Cell → ScriptLine → List Command
+steps_of g l = (said_of g l).steps
 
 -- the cell behind a line (own)
 abbrev pub cell_after : Cell → ScriptLine → Cell
-cell_after g l = replay_from g (steps_of l)
+cell_after g l = replay_from g (steps_of g l)
 
--- what a cell replies to a line; to a command that has no answer in the script nothing, and no cell of a run comes to that (own)
+-- what a cell replies to a line (own)
 abbrev pub reply_to : Cell → ScriptLine → Option Answer
-reply_to g (line.Cell c) = answer_of (outcome g (step_of c)).answer
-reply_to g (line.Question q) = Some (question_answer g q)
+reply_to g l = (said_of g l).answer
 
 -- the text of a reply in the transcript, with the number of its line (own)
 abbrev pub reply_text : ℕ → Cell → ScriptLine → List ℕ

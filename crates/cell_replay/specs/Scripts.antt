@@ -7,7 +7,7 @@ use Rattle.cell_script.specs.declared.command.ScriptLine.{ScriptLine}
 use Rattle.cell_script.specs.declared.fault.ParseFault.{ParseFault}
 use Rattle.cell_script.specs.Words.{words_of}
 use Rattle.cell_script.specs.Commands.{said_in}
-use Rattle.cell_replay.specs.Headline.{Converges}
+use Rattle.cell_replay.specs.Headline.{Converges, Finds}
 use Rattle.cell_replay.specs.Replies.{Numbered, transcript}
 
 -- lines, each with its end (own)
@@ -35,3 +35,4 @@ pub record IsReplay (left left' old new : Option (List ℕ)) : Type 0 where
   pub taken : Consumes left left' (text_of lines)
   pub written : Appends old new (transcript empty_cell said)
   pub settled : Converges said
+  pub found : Finds said

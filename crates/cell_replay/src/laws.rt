@@ -1,14 +1,23 @@
 // The laws of what an input demands, each the contract of a function that does nothing.
-ghost use Rattle.std.specs.Prelude.{◌≡◌, ℕ, ◌+◌, ◌++◌, List};
+ghost use Rattle.std.specs.Prelude.{◌≡◌, ℕ, ◌+◌, ◌^◌, ◌++◌, List, Option};
 ghost use Rattle.hex.specs.Hex.{IsBytes};
 ghost use Rattle.cell_model.specs.Cells.{Cell};
-ghost use Rattle.cell_replay.specs.Replies.{Numbered, transcript};
+ghost use Rattle.cell_model.specs.Reached.{IsReached};
+ghost use Rattle.tower_codec.specs.declared.binding.StringBinding.{StringBinding};
+ghost use Rattle.tower_codec.specs.declared.rpc.Interface.{Interface};
+ghost use Rattle.ns_commands.specs.Asks.{add_element, add_member, delete_element, delete_member, export, unexport};
+ghost use Rattle.cell_replay.specs.Replies.{LacksStampsAlone, Numbered, transcript, trusted};
 ghost use Rattle.cell_replay.specs.Demand.{Demand, Sound, Faulty, Replaying, Spelling, demanded, whole};
 ghost use Rattle.cell_replay.specs.Forms.{FormState, ByLines, ByTowers, Demands};
 ghost use Rattle.cell_replay.specs.Runs.{IsFront};
 ghost use Rattle.cell_replay.specs.Scripts.{IsScript, text_of};
 
-use crate::limits::{LONGEST_TOWER, MOST_TOWERS, MOST_WAITING, TOWER_SIGHT};
+use crate::limits::{LONGEST_TOWER, MOST_TOWERS, MOST_UPDATES, MOST_WAITING, TOWER_SIGHT};
+use cds_cell::laws::{asked_houses_accept, masters_refuse_for_stamps_alone};
+use cell_model::holdings;
+use ns_groups::laws::group_updates_are_accepted;
+use ns_profiles::laws::profile_updates_are_accepted;
+use server_entries::laws::server_updates_are_accepted;
 
 /// A script demands its transcript by the model, and nothing else.
 pub fn scripts_demand_transcripts()
@@ -45,10 +54,31 @@ pub fn towers_come_back()
         → Demands (ByLines Spelling) (d.body ++ d.end) (whole octets) }
 {}
 
-/// The limits of towers and of the replies that wait. A tower is looked at up to one octet more than it may have.
+/// In a cell that commands lead to, a command of the name service meets no refusal of its updates but want of stamps.
+pub fn name_commands_lack_stamps_alone()
+    ensures exports { (g : Cell) (name : List (List ℕ)) (interface : Interface) (bindings : List StringBinding) (objects : List (List ℕ))
+        → IsReached g → LacksStampsAlone g (export (trusted g) name interface bindings objects) }
+    ensures unexports { (g : Cell) (name : List (List ℕ)) (interface : Option Interface) (objects : List (List ℕ))
+        → IsReached g → LacksStampsAlone g (unexport (trusted g) name interface objects) }
+    ensures members { (g : Cell) (name member : List (List ℕ)) → IsReached g
+        → LacksStampsAlone g (add_member (trusted g) name member) × LacksStampsAlone g (delete_member (trusted g) name member) }
+    ensures elements { (g : Cell) (name : List (List ℕ)) (interface : Option Interface) (member : List (List ℕ)) (priority : ℕ) (note : List ℕ)
+        → IsReached g → LacksStampsAlone g (add_element (trusted g) name interface member priority note)
+        × LacksStampsAlone g (delete_element (trusted g) name interface member) }
+{
+    holdings();
+    asked_houses_accept();
+    masters_refuse_for_stamps_alone();
+    server_updates_are_accepted();
+    group_updates_are_accepted();
+    profile_updates_are_accepted();
+}
+
+/// The limits of towers, of updates, and of the replies that wait. A tower is looked at up to one octet more than it may have.
 pub fn limits_of_towers()
     ensures longest { LONGEST_TOWER ≡ 1024 }
     ensures sight { TOWER_SIGHT ≡ LONGEST_TOWER + 1 }
     ensures most { MOST_TOWERS ≡ 16777216 }
+    ensures updates { MOST_UPDATES ≡ 2 ^ 30 }
     ensures waiting { MOST_WAITING ≡ 65536 }
 {}

@@ -12,6 +12,7 @@ mod records;
 mod replay;
 mod replayer;
 mod replies;
+mod said;
 mod tower_text;
 mod towers;
 mod untowers;

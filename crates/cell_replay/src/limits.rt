@@ -1,4 +1,4 @@
-//! The limits of towers, and of the replies that wait.
+//! The limits of towers, of updates, and of the replies that wait.
 
 /// How many octets a tower has at most.
 pub const LONGEST_TOWER: usize = 1024;
@@ -11,3 +11,7 @@ pub const MOST_TOWERS: u32 = 16_777_216;
 
 /// Replies are written at the latest when this many octets wait.
 pub const MOST_WAITING: usize = 65_536;
+
+/// How many updates one command of the name service makes at most: a longer list counts as want of memory, which it would come
+/// to before, since it takes some hundred gigabytes.
+pub const MOST_UPDATES: usize = 1_073_741_824;

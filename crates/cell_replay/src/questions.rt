@@ -1,41 +1,119 @@
-// What a cell answers to questions, which change nothing.
+// What a cell says to questions.
 ghost use Rattle.std.specs.Prelude.{◌≡◌, true, false, Some, IfOk};
 ghost use Rattle.cell_model.specs.Cells as model;
 ghost use Rattle.directory.specs.Kinds.{link_target};
 ghost use Rattle.cds_cell.specs.Standing.{Stands};
+ghost use Rattle.cds_cell.specs.Readings.{objects_of, reading};
 ghost use Rattle.cds_cell.specs.Telling.{told};
-ghost use Rattle.cell_replay.specs.Replies.{asked_of, first_target, question_answer, refusal_of_walk, target_of};
+ghost use Rattle.ns_commands.specs.Asks.{refusal_of_walk};
+ghost use Rattle.ns_commands.specs.Imported.{import_answer};
+ghost use Rattle.cell_replay.specs.PrivateSaid.{ActsAtUp, IsSaid};
+ghost use Rattle.cell_replay.specs.Replies.{asked_of, first_target, question_said, target_of};
 ghost use Rattle.cell_replay.specs.Replies.{target_read, values_read};
 ghost use Rattle.resolver.specs.WalkEnds.{walked};
 ghost use Rattle.directory.specs.Shown.{targets};
 
 use crate::records::{decoded, dump, house_octets, message_octets};
+use crate::said::{Reply, asked, told};
 use attr_sets::Value;
-use cds_cell::laws::cells_tell_the_model;
+use cds_cell::laws::{asked_houses_accept, cells_show_finitely_many_objects, cells_tell_the_model};
 use cds_cell::{Cell, CellReader};
 use cds_stamps::{AllocOr, AttrName, HouseNo};
 use cell_names::FullName;
 use cell_script::{Answer, Question, ScriptRefusal, Values};
 use directory::{Kind, LINK_TARGET};
-use resolver::{EntryReader, Found, Refusal, resolve};
+use ns_commands::{
+    add_element, add_member, delete_element, delete_member, export, import, refusal_of_walk,
+    unexport,
+};
+use resolver::{EntryReader, Found, resolve};
+use server_entries::Wanted;
 use std::alloc::{AllocError, Global};
 
-/// The answer to a question.
-pub(crate) fn answer_question(
+/// What a cell says to a question.
+pub(crate) fn reply_to_question(
     alloc: Global,
     cell: &Cell,
     question: &Question,
-) -> Result<Answer, AllocError>
-    ensures { (g : model.Cell) → Stands cell.now g → IfOk result (λ a. a ≡ question_answer g question.now) }
+) -> Result<Reply, AllocError>
+    ensures said { (g : model.Cell) → Stands cell.now g → IfOk result (λ r. IsSaid r g (question_said g question.now)) }
+    ensures up { IfOk result (λ r. ActsAtUp r cell.now) }
 {
     cells_tell_the_model();
+    cells_show_finitely_many_objects();
+    asked_houses_accept();
+    let reader = CellReader {
+        cell,
+        prefer: None,
+        high: true,
+    };
     match question {
-        Question::Read(house, high, name, attr) => read(alloc, cell, *house, *high, name, attr),
-        Question::Readlink(house, high, name) => read_link(alloc, cell, *house, *high, name),
-        Question::Dump(house, dir) => dump(alloc, cell, *house, *dir),
-        Question::OctetsMsg(serial) => message_octets(alloc, cell, *serial),
-        Question::OctetsHouse(house) => house_octets(alloc, cell, *house),
-        Question::Decode(octets) => decoded(alloc, octets.list()),
+        Question::Read(house, high, name, attr) => {
+            told(read(alloc, cell, *house, *high, name, attr))
+        }
+        Question::Readlink(house, high, name) => told(read_link(alloc, cell, *house, *high, name)),
+        Question::Export(name, interface, bindings, objects) => {
+            asked(export(
+                alloc,
+                &reader,
+                name,
+                interface,
+                bindings.list(),
+                objects.list(),
+            ))
+        }
+        Question::Unexport(name, interface, objects) => {
+            asked(unexport(alloc, &reader, name, interface.as_ref(), objects.list()))
+        }
+        Question::Groupadd(name, member) => asked(add_member(alloc, &reader, name, member)),
+        Question::Groupdel(name, member) => asked(delete_member(alloc, &reader, name, member)),
+        Question::Profadd(name, interface, member, priority, note) => asked(add_element(
+            alloc,
+            &reader,
+            name,
+            interface.as_ref(),
+            member,
+            *priority,
+            note.octets(),
+        )),
+        Question::Profdel(name, interface, member) => {
+            asked(delete_element(alloc, &reader, name, interface.as_ref(), member))
+        }
+        Question::Import(house, high, name, interface, object, tcp, udp) => {
+            let (interface, object, tcp, udp) = (*interface, *object, *tcp, *udp);
+            let wanted = Wanted {
+                interface,
+                object,
+                tcp,
+                udp,
+            };
+            told(import_bindings(alloc, cell, *house, *high, name, wanted))
+        }
+        Question::Dump(house, dir) => told(dump(alloc, cell, *house, *dir)),
+        Question::OctetsMsg(serial) => told(message_octets(alloc, cell, *serial)),
+        Question::OctetsHouse(house) => told(house_octets(alloc, cell, *house)),
+        Question::Decode(octets) => told(decoded(alloc, octets.list())),
+    }
+}
+
+fn import_bindings(
+    alloc: Global,
+    cell: &Cell,
+    house: HouseNo,
+    high: bool,
+    name: &FullName,
+    wanted: Wanted,
+) -> Result<Answer, AllocError>
+    ensures { (g : model.Cell) → Stands cell.now g → IfOk result (λ a. a ≡ asked_of g house.0
+        (import_answer (reading g (Some house.0) high) (objects_of g) wanted name.now)) }
+{
+    cells_tell_the_model();
+    cells_show_finitely_many_objects();
+    if cell.has_house(house) {
+        let prefer = Some(house);
+        import(alloc, &CellReader { cell, prefer, high }, name, wanted)
+    } else {
+        Ok(Answer::Refused(ScriptRefusal::NoHouse))
     }
 }
 
@@ -87,7 +165,7 @@ fn values_at<R: EntryReader>(
 {
     match resolve(alloc, reader, name, true) {
         Ok(found) => Ok(Answer::Values(Values::of(reader.values(alloc, &found, attr)?))),
-        Err(AllocOr::Fault(refusal)) => Ok(Answer::Refused(refusal_in_script(refusal))),
+        Err(AllocOr::Fault(refusal)) => Ok(Answer::Refused(refusal_of_walk(refusal))),
         Err(AllocOr::OutOfMemory) => Err(AllocError),
     }
 }
@@ -102,7 +180,7 @@ fn target_at<R: EntryReader>(
 {
     match resolve(alloc, reader, name, false) {
         Ok(found) => target_of_found(alloc, reader, &found),
-        Err(AllocOr::Fault(refusal)) => Ok(Answer::Refused(refusal_in_script(refusal))),
+        Err(AllocOr::Fault(refusal)) => Ok(Answer::Refused(refusal_of_walk(refusal))),
         Err(AllocOr::OutOfMemory) => Err(AllocError),
     }
 }
@@ -137,18 +215,4 @@ fn first_name(alloc: Global, values: &[Value]) -> Result<Answer, AllocError>
         }
     }
     Ok(Answer::Refused(ScriptRefusal::NotLink))
-}
-
-fn refusal_in_script(refusal: Refusal) -> ScriptRefusal
-    ensures { result ≡ refusal_of_walk refusal }
-{
-    match refusal {
-        Refusal::NoSuchName(done) => ScriptRefusal::NoSuchName(done),
-        Refusal::NotDirectory(number) => ScriptRefusal::NotDirectory(number),
-        Refusal::Unreachable(dir) => ScriptRefusal::Unreachable(dir),
-        Refusal::LinkCycle => ScriptRefusal::LinkCycle,
-        Refusal::TooManyLinks => ScriptRefusal::TooManyLinks,
-        Refusal::NameTooLong => ScriptRefusal::NameTooLong,
-        Refusal::RootName => ScriptRefusal::RootName,
-    }
 }

@@ -2,33 +2,43 @@
 ghost use Rattle.cell_replay.specs.PrivateSteps.{HasSteps};
 
 use crate::answers::reply_to_fault;
-use crate::questions::answer_question;
+use crate::limits::MOST_UPDATES;
+use crate::questions::reply_to_question;
 use crate::replies::{LineEnd, Waiting};
+use crate::said::{Reply, answer_to_updates};
 use cds_cell::Cell;
+use cds_cell::laws::accepted_updates_are_commands;
 use cds_stamps::AllocOr;
-use cell_script::{Answer, Command, ScriptLine, parse_line};
+use cell_script::{Answer, Command, Question, ScriptLine, parse_line};
+use ns_commands::Updates;
 use std::alloc::{AllocError, Global};
 
-/// A cell, and how many steps it took: so many that there is room for each further line of a script.
+/// A cell, how many steps and lists of updates it took, and how many updates stood in these lists: so many that there is room for
+/// each further line of a script.
 #[derive(Drop)]
 pub(crate) struct Replayer {
     cell: Cell,
     steps: u32,
-    ghost few: { HasSteps steps cell },
+    updates: u64,
+    ghost few: { HasSteps steps updates cell },
 }
 
 impl Replayer {
-    ghost use Rattle.std.specs.Prelude.{◌≡◌, ◌++◌, ◌+◌, ◌<◌, ◌≤◌, Some, Ok, IfOk, OnOk, OnErr};
+    ghost use Rattle.std.specs.Prelude.{◌≡◌, ◌++◌, ◌+◌, ◌<◌, ◌≤◌, true, Some, Ok, IfOk, OnOk, OnErr};
+    ghost use Rattle.std.specs.Option.{option_map};
     ghost use Rattle.cds_base.specs.declared.scan.TheConstants.{MOST_LINES};
     ghost use Rattle.cell_model.specs.Cells as model;
     ghost use Rattle.cell_model.specs.Steps.{outcome};
     ghost use Rattle.cell_script.specs.Words.{words_of};
     ghost use Rattle.cell_script.specs.Commands.{said_in};
+    ghost use Rattle.cell_script.specs.declared.command.ScriptLine.TheVariants as line;
+    ghost use Rattle.cds_cell.specs.Houses.{is_up_state};
     ghost use Rattle.cds_cell.specs.Scripted.{step_of};
-    ghost use Rattle.cds_cell.specs.Standing.{IsStep, Stands};
+    ghost use Rattle.cds_cell.specs.Standing.{IsStep, Stands, house_of};
+    ghost use Rattle.ns_commands.specs.Asks.{changes_in};
     ghost use Rattle.cell_replay.specs.Demand.{replayed};
-    ghost use Rattle.cell_replay.specs.Replies.{reply_text, cell_after};
-    ghost use Rattle.cell_replay.specs.PrivateStanding.{IsReply, Replays};
+    ghost use Rattle.cell_replay.specs.Replies.{does, reply_text, cell_after};
+    ghost use Rattle.cell_replay.specs.PrivateStanding.{IsDone, IsReply, Replays};
 
     /// Over a cell without houses. Takes no memory.
     pub(crate) fn new(alloc: Global) -> Replayer
@@ -38,6 +48,7 @@ impl Replayer {
         Replayer {
             cell: Cell::new(alloc),
             steps: 0,
+            updates: 0,
         }
     }
 
@@ -106,7 +117,7 @@ impl Replayer {
     {
         match line {
             ScriptLine::Cell(command) => self.step(alloc, command),
-            ScriptLine::Question(question) => answer_question(alloc, &self.cell, &question),
+            ScriptLine::Question(question) => self.answer_question(alloc, &question),
         }
     }
 
@@ -121,5 +132,36 @@ impl Replayer {
         }
         self.steps += 1;
         self.cell.step(alloc, command)
+    }
+
+    // The answer to a question, behind the updates that it asks for.
+    fn answer_question(&mut self, alloc: Global, question: &Question) -> Result<Answer, AllocError>
+        requires few { self.old.steps < MOST_LINES }
+        ensures reply { (g : model.Cell) → Stands self.old.cell g → IfOk result (λ a. IsReply a self.new.cell g (line.Question question.now)) }
+        ensures steps { self.new.steps ≤ self.old.steps + 1 }
+    {
+        match reply_to_question(alloc, &self.cell, question)? {
+            Reply::Answer(answer) => Ok(answer),
+            Reply::Updates(updates) => self.accept(alloc, &updates),
+        }
+    }
+
+    // Updates at a house that is up, unless memory ran out before. A list of more than MOST_UPDATES counts as that.
+    fn accept(&mut self, alloc: Global, updates: &Updates) -> Result<Answer, AllocError>
+        requires few { self.old.steps < MOST_LINES }
+        requires up { is_up_state (option_map (λ h. h.state) (house_of self.old.cell.houses.items updates.now.house.0)) ≡ true }
+        ensures done { (g : model.Cell) → Stands self.old.cell g → IfOk result (λ a. IsDone a self.new.cell g (does g (Ok (changes_in updates.now)))) }
+        ensures steps { self.new.steps ≤ self.old.steps + 1 }
+    {
+        accepted_updates_are_commands();
+        if self.cell.is_spent() || updates.list.len() > MOST_UPDATES {
+            return Err(AllocError);
+        }
+        self.steps += 1;
+        self.updates += updates.list.len() as u64;
+        let done = self
+            .cell
+            .accept_all(alloc, updates.house, updates.dir, &updates.list)?;
+        Ok(answer_to_updates(alloc, done))
     }
 }

@@ -12,5 +12,5 @@ pub returns-in-Err-Fault : goal.returns-in-Err-Fault
 returns-in-Err-Fault g c =
     let said : walked (g.R.EntryReader.tells c.args.reader.now) false c.args.name.now ≡ Err c.in-Err-Fault.refusal =
     rw c.in-Err-Fault.field-0-is at c.in-Err-Fault.ensures.walked in
-    let printed = rw c.in-Err-Fault.field-0-is at c.refusal_in_script.ensures in
+    let printed = rw c.in-Err-Fault.field-0-is at c.refusal_of_walk.ensures in
     rw said (ap answer.Refused printed)
