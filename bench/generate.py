@@ -11,6 +11,8 @@
     generate.py bag N        a directory at three houses, and N updates whose messages are delivered twice and then lost
     generate.py skulks N     a directory of 10,000 entries with four values each at four houses, and N skulks of it
     generate.py crashes N    a house with 10,000 entries that goes down and starts again N times
+    generate.py exports N    N servers, each exported with three bindings and an object
+    generate.py imports N    a profile of 200 elements over 50 groups of 200 members, and N imports from it
 
 The same kind and size is the same input, always.
 """
@@ -157,6 +159,62 @@ def crashes(count):
     yield "octets house 1\n"
 
 
+def interface(number):
+    return f"a0000000-0000-0000-0000-{number:012x}"
+
+
+def exports(count):
+    yield from houses(1)
+    yield "mkdir 1 1 servers 1\n"
+    for i in mixed(count):
+        host = f"10.{i >> 16 & 255}.{i >> 8 & 255}.{i & 255}"
+        bindings = f"ncacn_ip_tcp:{host}[1025],ncadg_ip_udp:{host}[1026],ncacn_ip_tcp:{host}"
+        yield f"export /.:/servers/server-{i:08} {interface(i % 10)}:1.0 {bindings} 00000000-0000-0000-0000-{i + 1:012x}\n"
+
+
+# What imports search: servers of ten interfaces, aliases of some of them, and groups.
+SERVERS = 5_000
+ALIASES = 1_000
+GROUPS = 50
+
+
+def members(group):
+    """The 200 members of a group: 160 servers, 32 aliases, and 8 groups, of which it is one itself."""
+    # A step that shares no divisor with their numbers brings each server and each alias into one group or two.
+    for i in range(160):
+        yield f"servers/server-{(group * 160 + i) * 7 % SERVERS:04}"
+    for i in range(32):
+        yield f"aliases/alias-{(group * 32 + i) * 7 % ALIASES:04}"
+    for i in range(8):
+        yield f"groups/group-{(group + i) % GROUPS:02}"
+
+
+def elements():
+    """For each group an element for an interface, for a later minor version of it, for another interface, and for any."""
+    for group in range(GROUPS):
+        member, priority = f"/.:/groups/group-{group:02}", group % 8
+        yield f"{interface(0)}:1.0 {member} {priority} -"
+        yield f"{interface(0)}:1.3 {member} {7 - priority} -"
+        yield f"{interface(10)}:1.0 {member} {priority} -"
+        yield f"default {member} 8 -"
+
+
+def imports(count):
+    yield from houses(1)
+    yield "mkdir 1 1 servers 1\nmkdir 1 1 aliases 1\nmkdir 1 1 groups 1\n"
+    for i in mixed(SERVERS):
+        yield f"export /.:/servers/server-{i:04} {interface(i % 10)}:1.{i % 4} ncacn_ip_tcp:10.0.{i >> 8}.{i & 255}[1025] -\n"
+    for i in range(ALIASES):
+        yield f"link 1 3 alias-{i:04} /.:/servers/server-{i * 3:04}\n"
+    for group in range(GROUPS):
+        for member in members(group):
+            yield f"groupadd /.:/groups/group-{group:02} /.:/{member}\n"
+    for element in elements():
+        yield f"profadd /.:/profile {element}\n"
+    for i in range(count):
+        yield f"import 1 {'high' if i % 2 else 'low'} /.:/profile {interface(i % 10)}:1.1 - ncacn_ip_tcp,ncadg_ip_udp\n"
+
+
 def coprime(a, b):
     while b:
         a, b = b, a % b
@@ -197,6 +255,8 @@ KINDS = {
     "bag": lambda count: encoded(bag(count)),
     "skulks": lambda count: encoded(skulks(count)),
     "crashes": lambda count: encoded(crashes(count)),
+    "exports": lambda count: encoded(exports(count)),
+    "imports": lambda count: encoded(imports(count)),
 }
 
 

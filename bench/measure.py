@@ -38,6 +38,8 @@ SIZES = {
     "bag": 100_000,
     "skulks": 200,
     "crashes": 1_000,
+    "exports": 100_000,
+    "imports": 200,
 }
 FORMS = {"check": "check", "towers": "towers", "untowers": "untowers"}
 # GNU time has a small peak of its own; this process would lend its children a greater one.

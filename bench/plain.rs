@@ -1,5 +1,5 @@
 //! The work of `cdsreplay run`, `check`, `towers` and `untowers` in plain Rust: what a proved program is to be compared with.
-//! It aborts where there is no memory, and does not say what is wrong with a faulty tower.
+//! It aborts where there is no memory.
 
 #[path = "plain/answers.rs"]
 mod answers;
@@ -11,8 +11,12 @@ mod house;
 mod names;
 #[path = "plain/records.rs"]
 mod records;
+#[path = "plain/rpc.rs"]
+mod rpc;
 #[path = "plain/script.rs"]
 mod script;
+#[path = "plain/service.rs"]
+mod service;
 #[path = "plain/tables.rs"]
 mod tables;
 #[path = "plain/towers.rs"]
@@ -66,18 +70,42 @@ fn check(source: impl Read, mut sink: impl Write) -> io::Result<bool> {
     Ok(whole)
 }
 
+/// A source that tells whether its last read failed.
+struct Source<'a, R> {
+    reader: R,
+    has_failed: &'a mut bool,
+}
+
+impl<R: Read> Read for Source<'_, R> {
+    fn read(&mut self, octets: &mut [u8]) -> io::Result<usize> {
+        let count = self.reader.read(octets);
+        *self.has_failed = count.is_err();
+        count
+    }
+}
+
+/// The one word that the program is given.
+fn form() -> Option<String> {
+    let mut words = std::env::args().skip(1);
+    let form = words.next()?;
+    if words.next().is_none() { Some(form) } else { None }
+}
+
 fn main() -> ExitCode {
-    let (source, sink) = (io::stdin().lock(), io::stdout().lock());
-    let ended = match std::env::args().nth(1).as_deref() {
+    let mut has_failed = false;
+    let source = Source { reader: io::stdin().lock(), has_failed: &mut has_failed };
+    let sink = io::stdout().lock();
+    let ended = match form().as_deref() {
         Some("run") => run(source, sink),
         Some("check") => check(source, sink),
         Some("towers") => towers::towers(source, sink),
         Some("untowers") => towers::untowers(source, sink),
         _ => return ExitCode::from(2),
     };
-    match ended {
-        Ok(true) => ExitCode::from(0),
-        Ok(false) => ExitCode::from(3),
-        Err(_) => ExitCode::from(5),
-    }
+    ExitCode::from(match ended {
+        Ok(true) => 0,
+        Ok(false) => 3,
+        Err(_) if has_failed => 4,
+        Err(_) => 5,
+    })
 }

@@ -4,7 +4,8 @@ use std::fmt::{self, Display, Formatter};
 use std::io::{self, Write};
 
 use crate::cell::Answer;
-use crate::house::{Held, Refusal, Said};
+use crate::house::{Held, Posted, Refusal, Said};
+use crate::rpc::Binding;
 use crate::tables::{Entry, Kind, Stamp};
 
 const DIGITS: &[u8; 16] = b"0123456789abcdef";
@@ -34,6 +35,7 @@ impl Display for Said {
             Said::Stamped(stamp) => write!(f, "ok {stamp}"),
             Said::Made(dir, stamp) => write!(f, "ok {dir} {stamp}"),
             Said::Epoch(epoch) => write!(f, "ok {epoch}"),
+            Said::Updates(count) => write!(f, "ok {count}"),
             Said::Taken => write!(f, "ok taken"),
             Said::Late(epoch, held) => write!(f, "ok late {epoch} {held}"),
             Said::Early(epoch, held) => write!(f, "ok early {epoch} {held}"),
@@ -44,12 +46,22 @@ impl Display for Said {
     }
 }
 
+impl Display for Posted {
+    fn fmt(&self, f: &mut Formatter) -> fmt::Result {
+        if !self.0.is_empty() {
+            write!(f, " posted")?;
+        }
+        self.0.clone().try_for_each(|serial| write!(f, " {serial}"))
+    }
+}
+
 impl Display for Refusal {
     fn fmt(&self, f: &mut Formatter) -> fmt::Result {
         match self {
             Refusal::Because(reason) => write!(f, "refused {reason}"),
             Refusal::At(reason, number) => write!(f, "refused {reason} {number}"),
             Refusal::NotJoined(held, since) => write!(f, "refused NotJoined {held} {since}"),
+            Refusal::Spent(accepted, posted) => write!(f, "refused StampsSpent {accepted}{posted}"),
         }
     }
 }
@@ -58,15 +70,8 @@ impl Display for Refusal {
 pub fn write_answer(text: &mut Vec<u8>, number: u32, answer: Result<Answer, Refusal>) -> io::Result<()> {
     match answer {
         Ok(Answer::Dump(held)) => return write_dump(text, number, held),
-        Ok(Answer::Step(said, posted)) => {
-            write!(text, "{number} {said}")?;
-            if !posted.is_empty() {
-                write!(text, " posted")?;
-            }
-            for serial in posted {
-                write!(text, " {serial}")?;
-            }
-        }
+        Ok(Answer::Bindings(bindings)) => return write_bindings(text, number, &bindings),
+        Ok(Answer::Step(said, posted)) => write!(text, "{number} {said}{posted}")?,
         Ok(Answer::Values(values)) => {
             write!(text, "{number} ok {}", values.len())?;
             for value in values {
@@ -87,6 +92,15 @@ pub fn write_answer(text: &mut Vec<u8>, number: u32, answer: Result<Answer, Refu
     }
     text.push(b'\n');
     Ok(())
+}
+
+fn write_bindings(text: &mut Vec<u8>, number: u32, bindings: &[Binding]) -> io::Result<()> {
+    for binding in bindings {
+        write!(text, "{number} binding ")?;
+        binding.write(text)?;
+        text.push(b'\n');
+    }
+    writeln!(text, "{number} end {}", bindings.len())
 }
 
 fn write_dump(text: &mut Vec<u8>, number: u32, held: &Held) -> io::Result<()> {

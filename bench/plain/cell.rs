@@ -2,13 +2,13 @@
 
 use std::borrow::Cow;
 use std::collections::{BTreeMap, HashMap};
-use std::ops::RangeInclusive;
 use std::rc::Rc;
 
 use crate::house::Refusal::{At, Because};
-use crate::house::{Clearinghouse, Held, Letters, Refusal, Said, Term, Update};
+use crate::house::{Clearinghouse, Held, Letters, Posted, Refusal, Said, Term, Update};
 use crate::names::LONGEST_NAME;
 use crate::records::{self, Member};
+use crate::rpc::Binding;
 use crate::script::{Ask, Command};
 use crate::tables::{Entry, Kind, Pointer, Stamp};
 
@@ -69,7 +69,7 @@ impl Cell {
         self.directories.get(dir as usize - 1).ok_or(Because("NoDirectory"))
     }
 
-    fn made(&self, houses: &[u8]) -> Result<(), Refusal> {
+    pub fn made(&self, houses: &[u8]) -> Result<(), Refusal> {
         let all = houses.iter().all(|house| self.houses.contains_key(house));
         if all { Ok(()) } else { Err(Because("NoHouse")) }
     }
@@ -127,7 +127,12 @@ impl Cell {
         Ok(Said::Done)
     }
 
-    fn accept(&mut self, house: u8, dir: u32, name: &[u8], update: Update) -> Result<Stamp, Refusal> {
+    /// How many messages were posted.
+    pub fn posted(&self) -> u64 {
+        self.posted
+    }
+
+    pub fn accept(&mut self, house: u8, dir: u32, name: &[u8], update: Update) -> Result<Stamp, Refusal> {
         self.known(dir)?;
         let (home, clock) = self.up(house)?;
         let (stamp, letters) = home.accept(clock, dir, name, update)?;
@@ -143,7 +148,7 @@ impl Cell {
         self.up(house)?;
         self.up(houses[0])?;
         let child = self.directories.len() as u32 + 1;
-        let value = Pointer { dir: child, houses: pointed(houses) }.octets();
+        let value = Pointer { dir: child, houses: pointed(houses).into() }.octets();
         let stamp = self.accept(house, dir, name, Update::New(Kind::Child, Some(value)))?;
         Ok(Said::Made(self.found(houses)?, stamp))
     }
@@ -230,9 +235,23 @@ impl Cell {
     }
 }
 
-/// Where the walk of a full name comes to: an entry, or a link, which is followed, and what stands behind it.
+/// An entry that a full name leads to, at the house that was asked about its directory.
+pub struct Found<'a> {
+    pub dir: u32,
+    pub house: u8,
+    pub name: &'a [u8],
+    pub entry: &'a Entry,
+}
+
+/// Where a full name leads: to an entry, or to a name of a directory that no entry has, behind so many components.
+pub enum Place<'a> {
+    Found(Found<'a>),
+    Free { dir: u32, house: u8, name: Vec<u8>, done: u64 },
+}
+
+/// Where the walk of a full name comes to: a place, or a link, which is followed, and what stands behind it.
 enum Pass<'a, 'n> {
-    Found(&'a Entry),
+    Place(Place<'a>),
     Link(&'a [u8], &'n [u8]),
 }
 
@@ -246,17 +265,17 @@ impl Cell {
         }
     }
 
-    /// What is held of a directory by the house that is asked about it.
-    fn asked(&self, at: &Pointer, ask: Ask) -> Option<&Held> {
+    /// The house that is asked about a directory, and what it holds of it.
+    fn asked(&self, at: &Pointer, ask: Ask) -> Option<(u8, &Held)> {
         let answers = |house: &u8| {
             let held = self.held(at.dir, *house)?;
-            if !ask.high || held.term.master() == Some(*house) { Some(held) } else { None }
+            if !ask.high || held.term.master() == Some(*house) { Some((*house, held)) } else { None }
         };
         let preferred = at.houses.iter().find(|house| !ask.high && **house == ask.house);
         preferred.and_then(answers).or_else(|| at.houses.iter().find_map(answers))
     }
 
-    fn root(&self) -> Result<Pointer, Refusal> {
+    fn root(&self) -> Result<Pointer<'_>, Refusal> {
         let term = self.directories.first().ok_or(At("Unreachable", 1))?;
         let master = term.master().unwrap_or(0);
         let houses = std::iter::once(master).chain(term.others(master)).collect();
@@ -274,11 +293,16 @@ impl Cell {
         loop {
             let names = &rest[1..];
             let (component, behind) = names.split_at(names.iter().position(|b| *b == b'/').unwrap_or(names.len()));
-            let held = self.asked(&at, ask).ok_or(At("Unreachable", u64::from(at.dir)))?;
-            let entry = held.replica.live(component).ok_or(At("NoSuchName", done))?;
+            let (house, held) = self.asked(&at, ask).ok_or(At("Unreachable", u64::from(at.dir)))?;
+            let Some((name, entry)) = held.replica.live(component) else {
+                if behind.is_empty() {
+                    return Ok(Pass::Place(Place::Free { dir: at.dir, house, name: component.to_vec(), done }));
+                }
+                return Err(At("NoSuchName", done));
+            };
             match (entry.kind, entry.lead()) {
                 (Kind::Link, Some(target)) if follows_last || !behind.is_empty() => return Ok(Pass::Link(target, behind)),
-                _ if behind.is_empty() => return Ok(Pass::Found(entry)),
+                _ if behind.is_empty() => return Ok(Pass::Place(Place::Found(Found { dir: at.dir, house, name, entry }))),
                 (Kind::Child, Some(lead)) => at = Pointer::read(lead).ok_or(At("NoSuchName", done))?,
                 _ => return Err(At("NotDirectory", done + 1)),
             }
@@ -287,12 +311,12 @@ impl Cell {
         }
     }
 
-    fn walk(&self, ask: Ask, name: &[u8], follows_last: bool) -> Result<&Entry, Refusal> {
+    pub fn walk(&self, ask: Ask, name: &[u8], follows_last: bool) -> Result<Place<'_>, Refusal> {
         let mut later: Vec<Vec<u8>> = Vec::new();
         loop {
             let present = later.last().map_or(name, Vec::as_slice);
             let next = match self.pass(ask, present, follows_last)? {
-                Pass::Found(entry) => return Ok(entry),
+                Pass::Place(place) => return Ok(place),
                 Pass::Link(target, behind) => [target, behind].concat(),
             };
             if later.len() >= MOST_LINKS {
@@ -307,14 +331,23 @@ impl Cell {
             later.push(next);
         }
     }
+
+    /// The entry that a full name leads to.
+    pub fn find(&self, ask: Ask, name: &[u8], follows_last: bool) -> Result<Found<'_>, Refusal> {
+        match self.walk(ask, name, follows_last)? {
+            Place::Found(found) => Ok(found),
+            Place::Free { done, .. } => Err(At("NoSuchName", done)),
+        }
+    }
 }
 
 /// The answer to a command that is not refused.
 pub enum Answer<'a> {
     /// What comes of a step, and the messages that it posted.
-    Step(Said, RangeInclusive<u64>),
+    Step(Said, Posted),
     Values(Vec<&'a [u8]>),
     Target(&'a [u8]),
+    Bindings(Vec<Binding>),
     Dump(&'a Held),
     Octets(Cow<'a, [u8]>),
     Message(&'static str, usize),
@@ -326,6 +359,13 @@ impl Cell {
         match command {
             Command::Read(ask, name, attribute) => self.read(ask, name, attribute),
             Command::ReadLink(ask, name) => self.read_link(ask, name),
+            Command::Export(name, interface, addresses, objects) => self.export(name, interface, &addresses, &objects),
+            Command::Unexport(name, interface, objects) => self.unexport(name, interface, &objects),
+            Command::GroupAdd(name, member) => self.group_add(name, member),
+            Command::GroupDelete(name, member) => self.group_delete(name, member),
+            Command::ProfileAdd(name, element) => self.profile_add(name, &element),
+            Command::ProfileDelete(name, interface, member) => self.profile_delete(name, interface, member),
+            Command::Import(ask, name, wanted) => self.import(ask, name, &wanted),
             Command::Dump(house, dir) => self.dump(house, dir),
             Command::OctetsOfMessage(serial) => Ok(Answer::Octets(Cow::Borrowed(&self.letter(serial)?.octets))),
             Command::OctetsOfHouse(house) => self.octets_of(house),
@@ -336,21 +376,19 @@ impl Cell {
             step => {
                 let before = self.posted;
                 let said = self.step(step)?;
-                Ok(Answer::Step(said, before + 1..=self.posted))
+                Ok(Answer::Step(said, Posted(before + 1..=self.posted)))
             }
         }
     }
 
     fn read(&self, ask: Ask, name: &[u8], attribute: &[u8]) -> Result<Answer<'_>, Refusal> {
         self.made(&[ask.house])?;
-        let entry = self.walk(ask, name, true)?;
-        let values = entry.attributes.get(attribute).map(|attribute| attribute.values().collect());
-        Ok(Answer::Values(values.unwrap_or_default()))
+        Ok(Answer::Values(self.find(ask, name, true)?.entry.values(attribute).collect()))
     }
 
     fn read_link(&self, ask: Ask, name: &[u8]) -> Result<Answer<'_>, Refusal> {
         self.made(&[ask.house])?;
-        let entry = self.walk(ask, name, false)?;
+        let entry = self.find(ask, name, false)?.entry;
         match entry.lead() {
             Some(target) if entry.kind == Kind::Link => Ok(Answer::Target(target)),
             _ => Err(Because("NotLink")),

@@ -1,16 +1,22 @@
 //! A clearinghouse: what it holds of directories, the updates and skulks that it does as a master, and the messages that it takes.
 
 use std::collections::BTreeMap;
+use std::ops::RangeInclusive;
 
 use crate::records::{self, begin_message, put_entry, put_marks, put_members, put_replica, put_stamp};
 use crate::records::{Body, Member, Message, Sender, Tag};
 use crate::tables::{Change, Entry, Kind, LINK_TARGET, Marks, Pointer, REPLICAS, Replica, Stamp};
+
+/// The numbers of the messages that a command posted.
+pub struct Posted(pub RangeInclusive<u64>);
 
 /// Why a command is refused.
 pub enum Refusal {
     Because(&'static str),
     At(&'static str, u64),
     NotJoined(u64, u64),
+    /// No stamp was left behind so many updates, which stay and posted these messages.
+    Spent(usize, Posted),
 }
 
 use Refusal::Because;
@@ -21,6 +27,7 @@ pub enum Said {
     Stamped(Stamp),
     Made(u32, Stamp),
     Epoch(u64),
+    Updates(usize),
     Taken,
     Late(u64, u64),
     Early(u64, u64),
@@ -116,7 +123,7 @@ impl<'a> Update<'a> {
             Update::Change(change) if ![LINK_TARGET, REPLICAS].contains(&change.attribute) => Ok(Marks::Change(change)),
             Update::Repoint(houses) if entry.kind == Kind::Child => {
                 let dir = entry.lead().and_then(Pointer::read).map_or(0, |pointer| pointer.dir);
-                let value = Pointer { dir, houses }.octets();
+                let value = Pointer { dir, houses: houses.into() }.octets();
                 Ok(Marks::Change(Change { attribute: REPLICAS, clears: true, value: Some((value, true)) }))
             }
             _ => Err(Because("WrongKind")),

@@ -4,10 +4,11 @@ use std::io::{self, BufRead, BufReader, Read};
 
 use crate::house::Update;
 use crate::names;
+use crate::rpc::{Address, Element, Interface, NIL, Protseq, Uuid, Wanted};
 use crate::tables::{Change, Kind};
 
 pub const LONGEST_LINE: usize = 4096;
-const MOST_LINES: u32 = 16_777_216;
+pub const MOST_LINES: u32 = 16_777_216;
 
 /// Why a line is faulty, and the place.
 pub struct Fault(pub &'static str, pub usize);
@@ -35,6 +36,13 @@ pub enum Command<'a> {
     Start(u8),
     Read(Ask, &'a [u8], &'a [u8]),
     ReadLink(Ask, &'a [u8]),
+    Export(&'a [u8], Interface, Vec<Address>, Vec<Uuid>),
+    Unexport(&'a [u8], Option<Interface>, Vec<Uuid>),
+    GroupAdd(&'a [u8], &'a [u8]),
+    GroupDelete(&'a [u8], &'a [u8]),
+    ProfileAdd(&'a [u8], Element<'a>),
+    ProfileDelete(&'a [u8], Option<Interface>, &'a [u8]),
+    Import(Ask, &'a [u8], Wanted),
     Dump(u8, u32),
     OctetsOfMessage(u64),
     OctetsOfHouse(u8),
@@ -100,6 +108,68 @@ fn is_high(word: &[u8]) -> Option<bool> {
     }
 }
 
+/// What stands before the first such octet, and behind it.
+fn split_at(word: &[u8], mark: u8) -> Option<(&[u8], &[u8])> {
+    let at = word.iter().position(|b| *b == mark)?;
+    Some((&word[..at], &word[at + 1..]))
+}
+
+fn uuid(word: &[u8]) -> Option<Uuid> {
+    if word.len() != 36 || [8, 13, 18, 23].iter().any(|at| word[*at] != b'-') {
+        return None;
+    }
+    let digits: Vec<u8> = word.iter().copied().filter(|b| *b != b'-').collect();
+    hex(&digits)?.try_into().ok()
+}
+
+fn interface(word: &[u8]) -> Option<Interface> {
+    let (name, version) = split_at(word, b':')?;
+    let (major, minor) = split_at(version, b'.')?;
+    let [major, minor] = [major, minor].map(|word| u16::try_from(number(word)?).ok());
+    Some(Interface { uuid: uuid(name)?, major: major?, minor: minor? })
+}
+
+fn protseq(word: &[u8]) -> Option<Protseq> {
+    [Protseq::Tcp, Protseq::Udp].into_iter().find(|protseq| protseq.name().as_bytes() == word)
+}
+
+/// A string binding without an object.
+fn address(word: &[u8]) -> Option<Address> {
+    let (name, place) = split_at(word, b':')?;
+    let (host, port) = match split_at(place, b'[') {
+        Some((host, port)) => (host, number(port.strip_suffix(b"]")?)?),
+        None => (place, 0),
+    };
+    let host: Option<Vec<u8>> = host.split(|b| *b == b'.').map(|word| u8::try_from(number(word)?).ok()).collect();
+    Some(Address { protseq: protseq(name)?, host: host?.try_into().ok()?, port: u16::try_from(port).ok()? })
+}
+
+fn object(word: &[u8]) -> Option<Uuid> {
+    uuid(word).filter(|object| *object != NIL)
+}
+
+fn object_or_nil(word: &[u8]) -> Option<Uuid> {
+    if word == b"-" { Some(NIL) } else { uuid(word) }
+}
+
+/// Whether TCP and UDP are named.
+fn protseqs(word: &[u8]) -> Option<(bool, bool)> {
+    match word {
+        b"ncacn_ip_tcp" => Some((true, false)),
+        b"ncadg_ip_udp" => Some((false, true)),
+        b"ncacn_ip_tcp,ncadg_ip_udp" | b"ncadg_ip_udp,ncacn_ip_tcp" => Some((true, true)),
+        _ => None,
+    }
+}
+
+fn priority(word: &[u8]) -> Option<u8> {
+    u8::try_from(number(word)?).ok()
+}
+
+fn note(word: &[u8]) -> Option<&[u8]> {
+    Some(if word == b"-" { b"" } else { word })
+}
+
 /// The words of a line, and how many are read.
 struct Words<'a> {
     words: Vec<&'a [u8]>,
@@ -128,6 +198,31 @@ impl<'a> Words<'a> {
         Ok(Update::Change(Change { attribute, clears, value }))
     }
 
+    /// Items with commas between them, or `-` for none.
+    fn list<T>(&mut self, item: fn(&[u8]) -> Option<T>) -> Result<Vec<T>, Fault> {
+        self.next(|word| if word == b"-" { Some(Vec::new()) } else { word.split(|b| *b == b',').map(item).collect() })
+    }
+
+    /// An interface, or this word for none.
+    fn interface_or(&mut self, none: &[u8]) -> Result<Option<Interface>, Fault> {
+        self.next(|word| if word == none { Some(None) } else { interface(word).map(Some) })
+    }
+
+    fn element(&mut self) -> Result<Element<'a>, Fault> {
+        Ok(Element {
+            interface: self.interface_or(b"default")?,
+            member: self.next(full)?,
+            priority: self.next(priority)?,
+            annotation: self.next(note)?,
+        })
+    }
+
+    fn wanted(&mut self) -> Result<Wanted, Fault> {
+        let (interface, object) = (self.next(interface)?, self.next(object_or_nil)?);
+        let (tcp, udp) = self.next(protseqs)?;
+        Ok(Wanted { interface, object, tcp, udp })
+    }
+
     /// The house, directory and entry of an update, and what it is.
     fn update(&mut self, update: impl FnOnce(&mut Self) -> Result<Update<'a>, Fault>) -> Result<Command<'a>, Fault> {
         Ok(Command::Update(self.next(house)?, self.next(directory)?, self.next(simple)?, update(self)?))
@@ -138,16 +233,14 @@ impl<'a> Words<'a> {
 fn counts(word: &[u8]) -> Result<(usize, usize), Fault> {
     Ok(match word {
         b"deliver" | b"lose" | b"crash" | b"start" | b"decode" => (2, 2),
-        b"house" | b"clock" | b"skulk" | b"dump" | b"octets" => (3, 3),
-        b"create" | b"delete" | b"readlink" => (4, 4),
-        b"link" | b"clear" | b"read" => (5, 5),
-        b"add" | b"remove" | b"put" => (6, 6),
+        b"house" | b"clock" | b"skulk" | b"dump" | b"octets" | b"groupadd" | b"groupdel" => (3, 3),
+        b"create" | b"delete" | b"readlink" | b"unexport" | b"profdel" => (4, 4),
+        b"link" | b"clear" | b"read" | b"export" => (5, 5),
+        b"add" | b"remove" | b"put" | b"profadd" => (6, 6),
+        b"import" => (7, 7),
         b"root" => (2, usize::MAX),
         b"epoch" => (3, usize::MAX),
         b"mkdir" | b"repoint" => (5, usize::MAX),
-        b"export" | b"unexport" | b"groupadd" | b"groupdel" | b"profadd" | b"profdel" | b"import" => {
-            return Err(Fault("NotBuilt", 1));
-        }
         _ => return Err(Fault("UnknownCommand", 1)),
     })
 }
@@ -172,7 +265,9 @@ fn command(words: Vec<&[u8]>) -> Result<Command<'_>, Fault> {
         b"add" => w.update(|w| w.change(false, true))?,
         b"remove" => w.update(|w| w.change(false, false))?,
         b"put" => w.update(|w| w.change(true, true))?,
-        b"clear" => w.update(|w| Ok(Update::Change(Change { attribute: w.next(attribute)?, clears: true, value: None })))?,
+        b"clear" => {
+            w.update(|w| Ok(Update::Change(Change { attribute: w.next(attribute)?, clears: true, value: None })))?
+        }
         b"epoch" => Command::Epoch(w.next(directory)?, w.houses()?),
         b"skulk" => Command::Skulk(w.next(house)?, w.next(directory)?),
         b"deliver" => Command::Deliver(w.next(serial)?),
@@ -181,6 +276,13 @@ fn command(words: Vec<&[u8]>) -> Result<Command<'_>, Fault> {
         b"start" => Command::Start(w.next(house)?),
         b"read" => Command::Read(w.ask()?, w.next(full)?, w.next(attribute)?),
         b"readlink" => Command::ReadLink(w.ask()?, w.next(full)?),
+        b"export" => Command::Export(w.next(full)?, w.next(interface)?, w.list(address)?, w.list(object)?),
+        b"unexport" => Command::Unexport(w.next(full)?, w.interface_or(b"-")?, w.list(object)?),
+        b"groupadd" => Command::GroupAdd(w.next(full)?, w.next(full)?),
+        b"groupdel" => Command::GroupDelete(w.next(full)?, w.next(full)?),
+        b"profadd" => Command::ProfileAdd(w.next(full)?, w.element()?),
+        b"profdel" => Command::ProfileDelete(w.next(full)?, w.interface_or(b"default")?, w.next(full)?),
+        b"import" => Command::Import(w.ask()?, w.next(full)?, w.wanted()?),
         b"dump" => Command::Dump(w.next(house)?, w.next(directory)?),
         b"octets" => match w.next(|word| [&b"msg"[..], b"house"].iter().position(|name| *name == word))? {
             0 => Command::OctetsOfMessage(w.next(serial)?),

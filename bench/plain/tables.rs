@@ -1,5 +1,6 @@
 //! What a replica of a directory holds: entries, attributes and values, with the stamps of their marks, and how they are merged.
 
+use std::borrow::Cow;
 use std::collections::BTreeMap;
 use std::collections::btree_map::Entry::{Occupied, Vacant};
 
@@ -72,7 +73,7 @@ impl Attribute {
     }
 
     /// The values that are present, ascending.
-    pub fn values(&self) -> impl Iterator<Item = &[u8]> {
+    pub fn values(&self) -> impl DoubleEndedIterator<Item = &[u8]> {
         self.marks.iter().filter(|(_, mark)| mark.present).map(|(value, _)| value.as_slice())
     }
 }
@@ -141,6 +142,11 @@ impl Entry {
         self.death.is_none() && (self.kind == Kind::Object || self.lead().is_some())
     }
 
+    /// The values of an attribute that are present, ascending.
+    pub fn values(&self, attribute: &[u8]) -> impl DoubleEndedIterator<Item = &[u8]> {
+        self.attributes.get(attribute).into_iter().flat_map(Attribute::values)
+    }
+
     fn lead_attribute(&self) -> &'static [u8] {
         if self.kind == Kind::Link { LINK_TARGET } else { REPLICAS }
     }
@@ -152,7 +158,7 @@ impl Entry {
             Kind::Link => names::is_full(value),
             Kind::Child => Pointer::read(value).is_some(),
         };
-        let mut values = self.attributes.get(self.lead_attribute())?.values().filter(reads);
+        let mut values = self.values(self.lead_attribute()).filter(reads);
         let first = values.next()?;
         if values.next().is_none() { Some(first) } else { None }
     }
@@ -176,8 +182,10 @@ pub struct Replica {
 }
 
 impl Replica {
-    pub fn live(&self, name: &[u8]) -> Option<&Entry> {
-        self.entries.get(name).filter(|entry| entry.is_live())
+    /// An entry with its name.
+    pub fn live(&self, name: &[u8]) -> Option<(&[u8], &Entry)> {
+        let (name, entry) = self.entries.get_key_value(name)?;
+        if entry.is_live() { Some((name, entry)) } else { None }
     }
 
     pub fn live_mut(&mut self, name: &[u8]) -> Option<&mut Entry> {
@@ -204,20 +212,20 @@ impl Replica {
 }
 
 /// Where a child leads: a directory, and its houses, the master first and the others ascending.
-pub struct Pointer {
+pub struct Pointer<'a> {
     pub dir: u32,
-    pub houses: Vec<u8>,
+    pub houses: Cow<'a, [u8]>,
 }
 
-impl Pointer {
+impl<'a> Pointer<'a> {
     pub fn octets(&self) -> Vec<u8> {
         let mut octets = self.dir.to_be_bytes().to_vec();
         octets.push(self.houses.len() as u8);
-        octets.extend(&self.houses);
+        octets.extend_from_slice(&self.houses);
         octets
     }
 
-    pub fn read(octets: &[u8]) -> Option<Pointer> {
+    pub fn read(octets: &'a [u8]) -> Option<Pointer<'a>> {
         let (dir, rest) = octets.split_first_chunk()?;
         let (count, houses) = rest.split_first()?;
         let (master, others) = houses.split_first()?;
@@ -225,6 +233,6 @@ impl Pointer {
         if !fits || others.contains(master) || !others.is_sorted_by(|a, b| a < b) {
             return None;
         }
-        Some(Pointer { dir: u32::from_be_bytes(*dir), houses: houses.to_vec() })
+        Some(Pointer { dir: u32::from_be_bytes(*dir), houses: Cow::Borrowed(houses) })
     }
 }

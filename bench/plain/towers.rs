@@ -3,33 +3,47 @@
 use std::io::{self, BufRead, BufReader, BufWriter, Read, Write};
 
 use crate::answers::push_hex;
-use crate::script::text_of;
+use crate::script::{MOST_LINES, text_of};
 
 const LONGEST_TOWER: usize = 1024;
+const MOST_TOWERS: u32 = 16_777_216;
 
-/// The next octets of a tower; nothing where it is longer than a tower may be, or cut short.
-fn take<'a>(source: &mut impl Read, tower: &'a mut Vec<u8>, len: usize) -> io::Result<Option<&'a [u8]>> {
+/// Why there is no next tower.
+enum Stop {
+    Faulty(&'static str, usize),
+    Failed(io::Error),
+}
+
+impl From<io::Error> for Stop {
+    fn from(error: io::Error) -> Stop {
+        Stop::Failed(error)
+    }
+}
+
+/// The next octets of a tower, which has this fault where it ends in them. Of a tower that is too long one octet too many is read.
+fn take<'a>(source: &mut impl BufRead, tower: &'a mut Vec<u8>, len: usize, short: &'static str) -> Result<&'a [u8], Stop> {
     let start = tower.len();
-    if start + len > LONGEST_TOWER {
-        return Ok(None);
+    let end = (start + len).min(LONGEST_TOWER + 1);
+    while tower.len() < end {
+        let octets = source.fill_buf()?;
+        if octets.is_empty() {
+            return Err(Stop::Faulty(short, tower.len() + 1));
+        }
+        let taken = octets.len().min(end - tower.len());
+        tower.extend_from_slice(&octets[..taken]);
+        source.consume(taken);
     }
-    tower.resize(start + len, 0);
-    match source.read_exact(&mut tower[start..]) {
-        Ok(()) => Ok(Some(&tower[start..])),
-        Err(error) if error.kind() == io::ErrorKind::UnexpectedEof => Ok(None),
-        Err(error) => Err(error),
-    }
+    if end < start + len { Err(Stop::Faulty("TooLong", end)) } else { Ok(&tower[start..]) }
 }
 
-fn take_number(source: &mut impl Read, tower: &mut Vec<u8>) -> io::Result<Option<usize>> {
-    Ok(take(source, tower, 2)?.map(|octets| usize::from(u16::from_le_bytes([octets[0], octets[1]]))))
+fn take_number(source: &mut impl BufRead, tower: &mut Vec<u8>, short: &'static str) -> Result<usize, Stop> {
+    let octets = take(source, tower, 2, short)?;
+    Ok(usize::from(u16::from_le_bytes([octets[0], octets[1]])))
 }
 
-/// Adds the line of the next tower; false where it is faulty.
-fn print_tower(source: &mut impl Read, tower: &mut Vec<u8>, text: &mut Vec<u8>) -> io::Result<bool> {
-    let Some(count) = take_number(source, tower)? else {
-        return Ok(false);
-    };
+/// Adds the line of the next tower.
+fn print_tower(source: &mut impl BufRead, tower: &mut Vec<u8>, text: &mut Vec<u8>) -> Result<(), Stop> {
+    let count = take_number(source, tower, "ShortCount")?;
     if count == 0 {
         text.push(b'-');
     }
@@ -38,35 +52,42 @@ fn print_tower(source: &mut impl Read, tower: &mut Vec<u8>, text: &mut Vec<u8>) 
             text.push(b' ');
         }
         for mark in [Some(b':'), None] {
-            let Some(len) = take_number(source, tower)? else {
-                return Ok(false);
-            };
+            let place = tower.len() + 1;
+            let len = take_number(source, tower, "ShortLength")?;
             if len == 0 && mark.is_some() {
-                return Ok(false);
+                return Err(Stop::Faulty("EmptyLeft", place));
             }
-            let Some(part) = take(source, tower, len)? else {
-                return Ok(false);
-            };
-            push_hex(text, part);
+            push_hex(text, take(source, tower, len, "ShortPart")?);
             text.extend(mark);
         }
     }
     text.push(b'\n');
-    Ok(true)
+    if tower.len() > LONGEST_TOWER { Err(Stop::Faulty("TooLong", tower.len())) } else { Ok(()) }
 }
 
+/// Writes the line of each tower up to the first faulty one; false where there is one.
 pub fn towers(source: impl Read, sink: impl Write) -> io::Result<bool> {
     let mut source = BufReader::new(source);
     let mut sink = BufWriter::new(sink);
     let (mut tower, mut text) = (Vec::new(), Vec::new());
+    let mut number = 0;
     while !source.fill_buf()?.is_empty() {
+        number += 1;
         tower.clear();
         text.clear();
-        if !print_tower(&mut source, &mut tower, &mut text)? {
-            sink.flush()?;
-            return Ok(false);
+        let printed = match number > MOST_TOWERS {
+            true => Err(Stop::Faulty("TooManyTowers", 1)),
+            false => print_tower(&mut source, &mut tower, &mut text),
+        };
+        match printed {
+            Ok(()) => sink.write_all(&text)?,
+            Err(Stop::Faulty(reason, place)) => {
+                writeln!(sink, "{number} fault {reason} {place}")?;
+                sink.flush()?;
+                return Ok(false);
+            }
+            Err(Stop::Failed(error)) => return Err(error),
         }
-        sink.write_all(&text)?;
     }
     sink.flush()?;
     Ok(true)
@@ -83,6 +104,7 @@ fn push_part(tower: &mut Vec<u8>, digits: &[u8]) -> Result<(), Faulty> {
         return Err(Faulty);
     }
     tower.extend_from_slice(&len.to_le_bytes());
+    tower.reserve(digits.len() / 2);
     for pair in digits.chunks_exact(2) {
         tower.push(digit(pair[0])? << 4 | digit(pair[1])?);
     }
@@ -117,17 +139,20 @@ fn spell_tower(line: &[u8], tower: &mut Vec<u8>) -> Result<(), Faulty> {
     Ok(())
 }
 
+/// Writes the tower of each line up to the first faulty one; false where there is one.
 pub fn untowers(source: impl Read, sink: impl Write) -> io::Result<bool> {
     let mut source = BufReader::new(source);
     let mut sink = BufWriter::new(sink);
     let (mut line, mut tower) = (Vec::new(), Vec::new());
+    let mut number = 0;
     loop {
         line.clear();
         if source.read_until(b'\n', &mut line)? == 0 {
             sink.flush()?;
             return Ok(true);
         }
-        if spell_tower(&line, &mut tower).is_err() {
+        number += 1;
+        if number > MOST_LINES || spell_tower(&line, &mut tower).is_err() {
             sink.flush()?;
             return Ok(false);
         }
