@@ -7,6 +7,7 @@ use Rattle.attr_sets.specs.declared.value.ValueFault.TheVariants.{BadSize}
 use Rattle.attr_sets.specs.Values.{value_fault}
 use Rattle.attr_sets.specs.Marks.{later, kept}
 use Rattle.attr_sets.specs.Cells.{AttrMark, Cleared, Marked, greatest_clear, greatest_mark}
+use Rattle.attr_sets.specs.CellPurges.{mark_left, clear_left, mark_after}
 
 -- a stamp of one node, and marks with it
 abbrev at : ℕ → Stamp
@@ -60,3 +61,26 @@ mark_of_history = refl
 
 no_mark_of_history : greatest_mark history (3 ∷ []) ≡ None
 no_mark_of_history = refl
+
+-- up to a stamp is with that stamp: absent marks and clears are dropped, present marks stay
+absent_mark_dropped : mark_left (at 3) (absent_at 3) ≡ None
+absent_mark_dropped = refl
+
+later_absent_mark_stays : mark_left (at 3) (absent_at 4) ≡ Some (absent_at 4)
+later_absent_mark_stays = refl
+
+present_mark_stays : mark_left (at 3) (present_at 2) ≡ Some (present_at 2)
+present_mark_stays = refl
+
+clear_dropped : clear_left (at 3) (at 3) ≡ None
+clear_dropped = refl
+
+later_clear_stays : clear_left (at 3) (at 4) ≡ Some (at 4)
+later_clear_stays = refl
+
+-- later than a stamp is without it, of present marks as of absent ones
+mark_at_the_stamp : mark_after (at 3) (present_at 3) ≡ None
+mark_at_the_stamp = refl
+
+mark_after_the_stamp : mark_after (at 3) (absent_at 4) ≡ Some (absent_at 4)
+mark_after_the_stamp = refl

@@ -100,13 +100,14 @@ kept_of (Some c) (Some n) m e = by_case (is_earlier n.stamp c) e
 -- ---- values with a present mark
 
 -- the entries have a present mark of the value
-abbrev HasPresent : List (List ℕ × ValueMark) → List ℕ → Type 0
+abbrev pub HasPresent : List (List ℕ × ValueMark) → List ℕ → Type 0
 HasPresent es v = (m : ValueMark) × Contains es (v, m) × (m.present ≡ true)
 
 further : (e : List ℕ × ValueMark) (es : List (List ℕ × ValueMark)) (v : List ℕ) → HasPresent es v → HasPresent (e ∷ es) v
 further e es v h = (h.0, Contains-tail e es (v, h.0) h.1, h.2)
 
-present_from : (es : List (List ℕ × ValueMark)) (v : List ℕ) → Contains (present_in es) v → HasPresent es v
+-- a value that is present has a present mark
+pub present_from : (es : List (List ℕ × ValueMark)) (v : List ℕ) → Contains (present_in es) v → HasPresent es v
 present_from [] v c = absurd (Contains-none v c)
 present_from (e ∷ es) v c = by_case (present_from es v) e.1.present refl c
   where
@@ -121,7 +122,8 @@ present_from (e ∷ es) v c = by_case (present_from es v) e.1.present refl c
         )) (λ in_rest. further e es v (rest in_rest)) (Contains-cases e.0 (present_in es) v has)
     by_case rest false p has = further e es v (rest has)
 
-present_to : (es : List (List ℕ × ValueMark)) (v : List ℕ) (m : ValueMark) → m.present ≡ true → Contains es (v, m) → Contains (present_in es) v
+-- and a value with a present mark is present
+pub present_to : (es : List (List ℕ × ValueMark)) (v : List ℕ) (m : ValueMark) → m.present ≡ true → Contains es (v, m) → Contains (present_in es) v
 present_to [] v m p c = absurd (Contains-none (v, m) c)
 present_to (e ∷ es) v m p c = ⊎_elim here (λ rest. there e.1.present (present_to es v m p rest)) (Contains-cases e es (v, m) c)
   where
@@ -166,7 +168,8 @@ present_below P (e ∷ es) h = by_case e.1.present (present_below P es h.1)
     by_case true rest = (h.0, rest)
     by_case false rest = rest
 
-present_rise : (es : List (List ℕ × ValueMark)) → IsStrictlySortedBy octets_cmp (keys_of es) → IsStrictlySortedBy octets_cmp (present_in es)
+-- what is present of entries in order ascends
+pub present_rise : (es : List (List ℕ × ValueMark)) → IsStrictlySortedBy octets_cmp (keys_of es) → IsStrictlySortedBy octets_cmp (present_in es)
 unfolding IsStrictlySortedBy
 present_rise [] h = tt
 present_rise (e ∷ es) h = by_case e.1.present (present_below (λ y. octets_cmp e.0 y ≡ Less) es h.0) (present_rise es h.1)
@@ -178,7 +181,8 @@ present_rise (e ∷ es) h = by_case e.1.present (present_below (λ y. octets_cmp
 
 -- ---- the values that show
 
-map_rises : (m : FinMap octets_cmp ValueMark) → IsStrictlySortedBy octets_cmp (keys_of (entries m))
+-- the values of a map ascend
+pub map_rises : (m : FinMap octets_cmp ValueMark) → IsStrictlySortedBy octets_cmp (keys_of (entries m))
 map_rises m = keys_rise octets_cmp (entries m) (entries_sorted m)
 
 -- the values that are present in a cell ascend, each once
@@ -190,12 +194,13 @@ pub shown_values-ascending : (h : List AttrMark) → IsStrictlySortedBy octets_c
 shown_values-ascending h = present_rise (entries (marks_kept h)) (map_rises (marks_kept h))
 
 -- the map has the entry
-has_entry : (m : FinMap octets_cmp ValueMark) (v : List ℕ) (x : ValueMark) → Contains (entries m) (v, x) → get m v ≡ Some x
+pub has_entry : (m : FinMap octets_cmp ValueMark) (v : List ℕ) (x : ValueMark) → Contains (entries m) (v, x) → get m v ≡ Some x
 has_entry m v x c =
     get-entries m v ∙ find_of octets_cmp (entries m) v
     ∙ lookup-from_Contains (eq_by_cmp_equiv nat_list_cmp_total) v x (entries m) (IsDistinct-from_sorted octets_cmp (keys_of (entries m)) (map_rises m)) c
 
-entry_of : (m : FinMap octets_cmp ValueMark) (v : List ℕ) (x : ValueMark) → get m v ≡ Some x → Contains (entries m) (v, x)
+-- and what the map has is an entry
+pub entry_of : (m : FinMap octets_cmp ValueMark) (v : List ℕ) (x : ValueMark) → get m v ≡ Some x → Contains (entries m) (v, x)
 entry_of m v x is = Contains-from_lookup (tied octets_exact) v x (entries m) (sym (get-entries m v ∙ find_of octets_cmp (entries m) v) ∙ is)
 
 shown_from : (h : List AttrMark) (v : List ℕ) → Contains (shown_values h) v → IsShown h v

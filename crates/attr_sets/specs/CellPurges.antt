@@ -1,4 +1,4 @@
--- What is left of a cell when deletions up to a stamp are dropped (own, after C705, skulks and AllUpTo).
+-- What is left of a cell when deletions up to a stamp are dropped, and what of it is later than the stamp (own, after C705, skulks and AllUpTo).
 use Rattle.std.specs.Prelude.{Bool, not, ◌&&◌, ◌||◌, ◌==◌, Option, Some, None, is_none, if◌then◌else◌}
 use Rattle.std.specs.FinMap.{len}
 use Rattle.std.specs.Option.{option_and_then}
@@ -22,6 +22,22 @@ purged_cell t a = record { cleared = option_and_then (clear_left t) a.cleared; v
 abbrev pub is_empty_cell : AttrCell → Bool
 is_empty_cell a = is_none a.cleared && (len a.values == 0)
 
+-- a cell, if it has a clear or a value (own)
+abbrev pub some_cell : AttrCell → Option AttrCell
+some_cell a = if is_empty_cell a then None else Some a
+
 -- what is left of a cell, if anything (own)
 abbrev pub cell_left : Stamp → AttrCell → Option AttrCell
-cell_left t a = if is_empty_cell (purged_cell t a) then None else Some (purged_cell t a)
+cell_left t a = some_cell (purged_cell t a)
+
+-- a mark, if it is later than t (own)
+abbrev pub mark_after : Stamp → ValueMark → Option ValueMark
+mark_after t m = if is_up_to t m.stamp then None else Some m
+
+-- what of a cell is later than t: its clear, and its marks, present or absent (own)
+abbrev pub after_cell : Stamp → AttrCell → AttrCell
+after_cell t a = record { cleared = option_and_then (clear_left t) a.cleared; values = map_some (mark_after t) a.values }
+
+-- what of a cell is later than t, if anything (own)
+abbrev pub cell_after : Stamp → AttrCell → Option AttrCell
+cell_after t a = some_cell (after_cell t a)

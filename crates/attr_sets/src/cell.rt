@@ -1,10 +1,12 @@
 // The cell of an attribute.
-ghost use Rattle.std.specs.Prelude.{◌≡◌, List, ℕ, [], ◌∷◌, true, false, IfOk, OnOk, OnErr, MatchBool};
+ghost use Rattle.std.specs.Prelude.{◌≡◌, IsTrue, List, ℕ, [], ◌∷◌, true, false, IfOk, OnOk, OnErr, MatchBool};
 ghost use Rattle.std.specs.FinMap as map;
+ghost use Rattle.std.specs.Option.{option_and_then};
 ghost use Rattle.cds_stamps.specs.Semilattice.{maybe};
 ghost use Rattle.cds_stamps.specs.Stamps.{later_stamp};
 ghost use Rattle.attr_sets.specs.Marks.{kept, present_at, absent_at, RaisesKept, AgreesOnKept};
 ghost use Rattle.attr_sets.specs.Cells.{Cleared, Marked, cell_of, cell_values, join_cells, IsValidCell};
+ghost use Rattle.attr_sets.specs.CellPurges.{clear_left, purged_cell, after_cell, is_empty_cell};
 ghost use Rattle.attr_sets.specs.CellUndoWords.{undo_cell};
 ghost use Rattle.attr_sets.specs.CellChanges.{change_marks};
 ghost use Rattle.attr_sets.specs.CellLawProofs.{join_cells-comm, join_cells-assoc, join_cells-idem, join_cells-valid};
@@ -147,6 +149,17 @@ impl AttrCell {
         Ok(cell)
     }
 
+    /// Whether joining another cell in changes nothing, where this one is valid. It takes no memory. Where it is false, the
+    /// join may change nothing all the same.
+    pub fn outdates(&self, other: &AttrCell) -> bool
+        ensures { IsTrue result → IsValidCell self.now → join_cells self.now other.now ≡ self.now }
+    {
+        if covers_clear(&self.cleared, &other.cleared) {
+            return self.values.outdates_all(&other.values, &self.cleared);
+        }
+        false
+    }
+
     /// Joins another cell in. What takes it back. A later clear has no cell to be put back into: then the old cell is
     /// kept whole, and the marks that the clear leaves of it are copied.
     pub fn join_logged(&mut self, alloc: Global, other: &AttrCell) -> Result<CellUndo, AllocError>
@@ -178,6 +191,41 @@ impl AttrCell {
                 self.values.take_back(log);
             }
         }
+    }
+
+    /// Drops the clear and the absent marks that are stamped at most t, in place and with no memory.
+    pub fn drop_up_to(&mut self, t: Stamp)
+        ensures { self.new ≡ purged_cell t self.old }
+    {
+        let t = &t;
+        self.cleared = clear_after(self.cleared, *t);
+        self.values.drop_up_to(*t);
+    }
+
+    /// The clear and the marks that are later than t.
+    pub fn after(&self, alloc: Global, t: Stamp) -> Result<AttrCell, AllocError>
+        ensures { IfOk result (λ c. c ≡ after_cell t self.now) }
+    {
+        let t = &t;
+        Ok(AttrCell {
+            cleared: clear_after(self.cleared, *t),
+            values: self.values.after(alloc, *t)?,
+        })
+    }
+
+    /// Whether its clear and its marks are all later than t.
+    pub fn is_after(&self, t: Stamp) -> bool
+        ensures { MatchBool result (after_cell t self.now ≡ self.now) (Unit {0}) }
+    {
+        let t = &t;
+        clear_after(self.cleared, *t) == self.cleared && self.values.is_after(*t)
+    }
+
+    /// Whether it has neither a clear nor a mark.
+    pub fn is_empty(&self) -> bool
+        ensures { result ≡ is_empty_cell self.now }
+    {
+        self.cleared.is_none() && self.values.is_empty()
     }
 
     /// Both cells joined, apart from either.
@@ -259,5 +307,15 @@ fn covers_clear(own: &Option<Stamp>, other: &Option<Stamp>) -> bool
         (Some(a), Some(b)) => *b <= *a,
         (None, Some(_)) => false,
         (_, None) => true,
+    }
+}
+
+/// The clear, if it is later than t.
+fn clear_after(clear: Option<Stamp>, t: Stamp) -> Option<Stamp>
+    ensures { result ≡ option_and_then (clear_left t) clear }
+{
+    match clear {
+        Some(clear) if t < clear => Some(clear),
+        _ => None,
     }
 }

@@ -3,11 +3,12 @@ ghost use Rattle.std.specs.Prelude.{◌≡◌, ℕ, IsTrue, ◌++◌, ◌↔◌,
 ghost use Rattle.std.specs.List.{Contains};
 ghost use Rattle.std.specs.List.Sorted.{IsStrictlySortedBy};
 ghost use Rattle.cds_stamps.specs.Octets.{octets_cmp};
+ghost use Rattle.cds_stamps.specs.Stamps.{is_up_to};
 ghost use Rattle.cds_stamps.specs.declared.stamp.Stamp.{Stamp};
 ghost use Rattle.attr_sets.specs.declared.cell.AttrCell.{AttrCell};
-ghost use Rattle.attr_sets.specs.CellPurges.{is_empty_cell};
+ghost use Rattle.attr_sets.specs.CellPurges.{is_empty_cell, purged_cell, after_cell};
 ghost use Rattle.attr_sets.specs.Marks.{present_at, absent_at};
-ghost use Rattle.attr_sets.specs.Cells.{AttrMark, Cleared, Marked, cell_of, empty_cell, join_cells, shown_values, IsValidCell};
+ghost use Rattle.attr_sets.specs.Cells.{AttrMark, Cleared, Marked, attr_stamp, cell_of, cell_values, empty_cell, join_cells, shown_values, IsValidCell};
 ghost use Rattle.attr_sets.specs.ShownValues.{IsBefore, IsShown};
 ghost use Rattle.attr_sets.specs.Values.{longest_value};
 ghost use Rattle.attr_sets.specs.declared.value.TheConstants.{LONGEST_VALUE};
@@ -48,6 +49,18 @@ pub fn later_updates_show()
     ensures put { (h : List AttrMark) (v : List ℕ) (s : Stamp) → IsBefore h s →
         (w : List ℕ) → Contains (shown_values (h ++ Cleared s ∷ Marked v (present_at s) ∷ [])) w ↔ (w ≡ v) }
     ensures cleared { (h : List AttrMark) (s : Stamp) → IsBefore h s → (w : List ℕ) → ¬ Contains (shown_values (h ++ Cleared s ∷ [])) w }
+{}
+
+/// What is left of a cell up to t, joined with what is later of the cell of a history of which it has all marks up to t,
+/// is what is left of the cell of both histories.
+pub fn purged_cells_merge()
+    ensures { (t : Stamp) (g h : List AttrMark) → ((m : AttrMark) → Contains h m → is_up_to t (attr_stamp m) ≡ true → Contains g m) →
+        join_cells (purged_cell t (cell_of g)) (after_cell t (cell_of h)) ≡ purged_cell t (cell_of (g ++ h)) }
+{}
+
+/// A cell shows the same values when its deletions are dropped.
+pub fn purged_cells_show_the_same()
+    ensures { (t : Stamp) (a : AttrCell) → cell_values (purged_cell t a) ≡ cell_values a }
 {}
 
 /// The limit that the code names is that of the definition.

@@ -14,7 +14,8 @@ pub use cell::AttrCell;
 pub use change::CellChange;
 pub use laws::{
     cells_are_valid, empty_cells_are_one, joins_are_unions, later_updates_show,
-    named_limit_is_that_of_the_definition, shown_values_are_present, shown_values_ascend,
+    named_limit_is_that_of_the_definition, purged_cells_merge, purged_cells_show_the_same,
+    shown_values_are_present, shown_values_ascend,
 };
 pub use mark::ValueMark;
 pub use order::{all_in_order, in_order};

@@ -1,11 +1,15 @@
 // The marks of an attribute's values.
-ghost use Rattle.std.specs.Prelude.{◌≡◌, ◌↔◌, IsTrue, List, ℕ, [], ◌∷◌, Some, None, MatchOption, IfOk, IfSome, OnOk, OnErr, if◌then◌else◌, option_copied};
+ghost use Rattle.std.specs.Prelude.{◌≡◌, ◌↔◌, IsTrue, List, ℕ, [], ◌∷◌, Some, None, MatchOption, MatchBool, IfOk, IfSome, OnOk, OnErr};
+ghost use Rattle.std.specs.Prelude.{if◌then◌else◌, option_copied};
 ghost use Rattle.std.specs.FinMap as map;
 ghost use Rattle.std.specs.BTreeMap as tree;
+ghost use Rattle.std.specs.Option.{option_and_then};
 ghost use Rattle.std.specs.Ordering.{eq_by_cmp};
+ghost use Rattle.cds_stamps.specs.Keyed.{map_some};
 ghost use Rattle.cds_stamps.specs.Octets.{octets_cmp};
 ghost use Rattle.cds_stamps.specs.Semilattice.{maybe};
 ghost use Rattle.cds_stamps.specs.Undos.{RaisesAt, TakesBack, LogsChange, MendsAt, back_at, put_back};
+ghost use Rattle.attr_sets.specs.CellPurges.{mark_left, mark_after};
 ghost use Rattle.attr_sets.specs.Marks.{kept, later, RaisesKept, JoinsKept};
 
 use crate::mark::ValueMark;
@@ -204,6 +208,29 @@ impl ValueMap {
         }
     }
 
+    /// Whether joining one mark in, unless it is earlier than the clear, changes nothing.
+    fn outdates_uncovered(&self, value: &Value, mark: &ValueMark, clear: &Option<Stamp>) -> bool
+        ensures { IsTrue result → RaisesKept clear.now self.now self.now value.now mark.now }
+    {
+        if covers(clear, mark) {
+            return true;
+        }
+        self.outdates(value, mark)
+    }
+
+    /// Whether joining the marks of another map in that are not earlier than the clear changes nothing.
+    pub(crate) fn outdates_all(&self, other: &ValueMap, clear: &Option<Stamp>) -> bool
+        ensures { IsTrue result → JoinsKept clear.now self.now self.now other.now }
+    {
+        for (value, mark) in other.marks.iter() {
+            let outdated = self.outdates_uncovered(value, mark, clear);
+            if !outdated {
+                return false;
+            }
+        }
+        true
+    }
+
     /// Joins one mark in, and logs the change, if it is one. Room in the log comes first.
     fn raise_logged(
         &mut self,
@@ -333,12 +360,50 @@ impl ValueMap {
     {
         keep_marks_from(&mut self.marks, clear);
     }
+
+    /// Drops the absent marks that are stamped at most t.
+    pub(crate) fn drop_up_to(&mut self, t: Stamp)
+        ensures { self.new ≡ map_some (mark_left t) self.old }
+    {
+        drop_marks_up_to(&mut self.marks, t);
+    }
+
+    /// The marks that are later than t.
+    pub(crate) fn after(&self, alloc: Global, t: Stamp) -> Result<ValueMap, AllocError>
+        ensures { IfOk result (λ m. m ≡ map_some (mark_after t) self.now) }
+    {
+        let mut later = ValueMap::new(alloc);
+        for (value, mark) in self.marks.iter() {
+            if t < mark.stamp {
+                later.insert(value.copy(alloc)?, *mark)?;
+            }
+        }
+        Ok(later)
+    }
+
+    /// Whether each mark is later than t.
+    pub(crate) fn is_after(&self, t: Stamp) -> bool
+        ensures { MatchBool result (map_some (mark_after t) self.now ≡ self.now) (Unit {0}) }
+    {
+        for (_, mark) in self.marks.iter() {
+            if mark.stamp <= t {
+                return false;
+            }
+        }
+        true
+    }
 }
 
 fn keep_marks_from(marks: &mut BTreeMap<Value, ValueMark>, clear: Stamp)
     ensures { (q : List ℕ) → tree.get octets_cmp marks.new q ≡ kept (Some clear) (tree.get octets_cmp marks.old q) }
 {
     marks.retain(|_, mark| !(mark.stamp < clear));
+}
+
+fn drop_marks_up_to(marks: &mut BTreeMap<Value, ValueMark>, t: Stamp)
+    ensures { (q : List ℕ) → tree.get octets_cmp marks.new q ≡ option_and_then (mark_left t) (tree.get octets_cmp marks.old q) }
+{
+    marks.retain(|_, mark| mark.present || t < mark.stamp);
 }
 
 /// Whether the mark is earlier than the clear.
