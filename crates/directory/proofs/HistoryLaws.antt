@@ -58,7 +58,8 @@ cells_joined [] y = refl
 cells_joined (x ∷ xs) [] = ap cell_of_some (sym (append-nil (x ∷ xs)))
 cells_joined (x ∷ xs) (y ∷ ys) = ap Some (join_cells-cell_of (x ∷ xs) (y ∷ ys))
 
-attrs_joined : (g h : List Mark) (n : List ℕ) (c : Stamp) → join_maps join_cells (attrs_of g n c) (attrs_of h n c) ≡ attrs_of (g ++ h) n c
+-- the attributes of one birth in two histories
+pub attrs_joined : (g h : List Mark) (n : List ℕ) (c : Stamp) → join_maps join_cells (attrs_of g n c) (attrs_of h n c) ≡ attrs_of (g ++ h) n c
 attrs_joined g h n c = same_map nat_list_cmp_total octets_exact (join_maps join_cells (attrs_of g n c) (attrs_of h n c)) (attrs_of (g ++ h) n c) (λ a.
     cc (
       get-join_maps nat_list_cmp_total octets_exact join_cells (attrs_of g n c) (attrs_of h n c) a,
@@ -154,7 +155,7 @@ no_death_right None = refl
 no_death_right (Some x) = refl
 
 -- a history that knows no such birth adds nothing to the entry
-entry_right : (g h : List Mark) (n : List ℕ) (b : Born) → HasBirths g → before (birth_of g n) b.at ≡ true → entry_at h n b ≡ entry_at (g ++ h) n b
+pub entry_right : (g h : List Mark) (n : List ℕ) (b : Born) → HasBirths g → before (birth_of g n) b.at ≡ true → entry_at h n b ≡ entry_at (g ++ h) n b
 entry_right g h n b born e =
     let none = no_birth g n b.at e in
     let death : death_of h n b.at ≡ death_of (g ++ h) n b.at = cc (death_joined g h n b.at, no_death g g n b.at born none) in
@@ -162,8 +163,9 @@ entry_right g h n b born e =
     cc (get-attrs_of h n b.at a, get-attrs_of (g ++ h) n b.at a, filter_map-append (attr_mark_in n b.at a) g h, no_attrs g g n b.at a born none)) in
     λ i. record { birth = b.at; kind = b.kind; death = death i; attrs = attrs i }
 
-entry_left : (g h : List Mark) (n : List ℕ) (b : Born) → HasBirths h → before (birth_of h n) b.at ≡ true → entry_at g n b ≡ entry_at (g ++ h) n b
-entry_left g h n b born e =
+-- nor does one that is joined from the other side
+pub entry_front : (g h : List Mark) (n : List ℕ) (b : Born) → HasBirths h → before (birth_of h n) b.at ≡ true → entry_at g n b ≡ entry_at (g ++ h) n b
+entry_front g h n b born e =
     let none = no_birth h n b.at e in
     let death : death_of g n b.at
     ≡ death_of (g ++ h) n b.at = cc (death_joined g h n b.at, no_death h h n b.at born none, no_death_right (death_of g n b.at)) in
@@ -179,7 +181,7 @@ entry_left g h n b born e =
     λ i. record { birth = b.at; kind = b.kind; death = death i; attrs = attrs i }
 
 -- entries of one birth
-entries_tied : (g h : List Mark) (n : List ℕ) (b d : Born) → b.at ≡ d.at
+pub entries_tied : (g h : List Mark) (n : List ℕ) (b d : Born) → b.at ≡ d.at
     → join_tied (entry_at g n b) (entry_at h n d) ≡ entry_at (g ++ h) n (if is_lt (kind_cmp b.kind d.kind) then d else b)
 entries_tied g h n b d same = at (is_lt (kind_cmp b.kind d.kind))
   where
@@ -203,7 +205,8 @@ entries_tied g h n b d same = at (is_lt (kind_cmp b.kind d.kind))
         let cells = attrs b.at d.at same ∙ ap (attrs_of (g ++ h) n) same in
         record { birth = same i; kind = d.kind; death = deaths i; attrs = cells i }
 
-entries_joined : (g h : List Mark) (n : List ℕ) → HasBirths g → HasBirths h → maybe join_entries (entry_of g n) (entry_of h n) ≡ entry_of (g ++ h) n
+-- what two histories have of a name, joined
+pub entries_joined : (g h : List Mark) (n : List ℕ) → HasBirths g → HasBirths h → maybe join_entries (entry_of g n) (entry_of h n) ≡ entry_of (g ++ h) n
 entries_joined g h n p q = by_births (birth_of g n) (birth_of h n) refl refl
     ∙ ap (option_map (entry_at (g ++ h) n)) (sym (join_of-append births (birth_in n) g h))
   where
@@ -212,13 +215,13 @@ entries_joined g h n p q = by_births (birth_of g n) (birth_of h n) refl refl
         ≡ entry_at (g ++ h) n (if is_lt (ordering_then r (kind_cmp b.kind d.kind)) then d else b)
     picked b d x y Less e = entry_right g h n d p (ap (λ o. before o d.at) x ∙ ap is_lt e)
     picked b d x y Equal e = entries_tied g h n b d (stamp_exact b.at d.at e)
-    picked b d x y Greater e = entry_left g h n b q (ap (λ o. before o b.at) y ∙ ap is_lt (stamp_total.antisymm d.at b.at ∙ ap ordering_reverse e))
+    picked b d x y Greater e = entry_front g h n b q (ap (λ o. before o b.at) y ∙ ap is_lt (stamp_total.antisymm d.at b.at ∙ ap ordering_reverse e))
 
     by_births : (x y : Option Born) → birth_of g n ≡ x → birth_of h n ≡ y
         → maybe join_entries (option_map (entry_at g n) x) (option_map (entry_at h n) y) ≡ option_map (entry_at (g ++ h) n) (maybe (greater birth_cmp) x y)
     by_births None None x y = refl
     by_births None (Some d) x y = ap Some (entry_right g h n d p (ap (λ o. before o d.at) x))
-    by_births (Some b) None x y = ap Some (entry_left g h n b q (ap (λ o. before o b.at) y))
+    by_births (Some b) None x y = ap Some (entry_front g h n b q (ap (λ o. before o b.at) y))
     by_births (Some b) (Some d) x y = ap Some (picked b d x y _ refl)
 
 -- the table of two histories together

@@ -12,3 +12,10 @@ pub mod FragmentLaws
 pub mod Leads
 pub mod Untouched
 pub mod Applying
+pub mod KnownLaws
+pub mod PurgeLaws
+pub mod TakeLaws
+pub mod DropLaws
+pub mod AppliedPurges
+pub mod Collected
+pub mod EntryUnchanged

@@ -18,7 +18,8 @@ no_marks =
     same_map nat_list_cmp_total octets_exact (marks_kept []) empty (λ v. get-of_keys nat_list_cmp_total octets_exact []
     (λ v. None) v ∙ sym (get-empty octets_cmp v))
 
-no_entries : entries (empty {K = List ℕ} {X = ValueMark} {R = octets_cmp}) ≡ []
+-- the empty map has no entries
+pub no_entries : entries (empty {K = List ℕ} {X = ValueMark} {R = octets_cmp}) ≡ []
 unfolding IsStrictlySortedBy
 no_entries = entries-view nat_list_cmp_total octets_exact [] tt
 

@@ -1,50 +1,23 @@
 -- Tables of histories are valid, and what one update joins in.
-use Rattle.std.proofs.Common.{◌≡◌, ℕ, Bool, true, false, List, [], ◌∷◌, ◌++◌, Option, Some, None, refl, sym, ap, subst, ◌∙◌, is_eq}
+use Rattle.std.proofs.Common.{◌≡◌, ℕ, Bool, true, false, List, [], ◌∷◌, ◌++◌, Option, Some, None, refl, sym, ap, subst, ◌∙◌}
 use Rattle.std.specs.Prelude.{IfSome, if◌then◌else◌}
 use Rattle.std.specs.FinMap.{empty, get, get-empty, same_map}
 use Rattle.std.specs.List.{AllByRecursion}
 use Rattle.std.specs.Option.{option_map}
-use Rattle.std.specs.Cmp.{tied_itself}
 use Rattle.std.specs.Cmp.Lexicographic.{nat_list_cmp_total}
 use Rattle.cds_stamps.specs.Semilattice.{maybe, greater}
-use Rattle.cds_stamps.specs.Stamps.{later_stamp}
 use Rattle.cds_stamps.specs.Keyed.{tied}
 use Rattle.cds_stamps.specs.Octets.{octets_cmp, octets_exact, is_octets}
 use Rattle.cds_stamps.specs.Joins.{get-join_maps}
 use Rattle.cds_stamps.specs.Undos.{RaisesAt}
-use Rattle.attr_sets.specs.declared.mark.ValueMark.{ValueMark}
-use Rattle.attr_sets.specs.declared.cell.AttrCell.{AttrCell}
-use Rattle.attr_sets.specs.Marks.{later, kept}
-use Rattle.attr_sets.specs.Cells.{AttrMark, Cleared, Marked, cell_of, empty_cell, greatest_clear, greatest_mark}
-use Rattle.attr_sets.specs.CellLawProofs.{cell_of-valid, get-cell_of}
+use Rattle.attr_sets.specs.Cells.{AttrMark}
+use Rattle.attr_sets.specs.CellLawProofs.{cell_of-valid}
+use Rattle.attr_sets.proofs.SomeCellLaws.{has_some}
 use Rattle.directory.specs.declared.entry.EntryCell.{EntryCell}
 use Rattle.directory.specs.Entries.{Entries, join_entries, IsHeldCell, IsValidEntry, IsValidTable}
 use Rattle.directory.specs.Histories.{Mark, Birth, Death, Attr, Born, name_in, birth_of}
 use Rattle.directory.specs.Histories.{attr_history, birth_cmp, cell_of_some, entry_at, entry_of, table_of, HasBirths}
 use Rattle.directory.proofs.HistoryLaws.{get-table_of, get-attrs_of, join_tables-table_of}
-
-some_stays : {X : Type 0} (f : X → X → X) (x : X) (y : Option X) → maybe f (Some x) y ≡ None → ⊥
-some_stays f x None e = cc (e)
-some_stays f x (Some y) e = cc (e)
-
--- a cell of some marks has a clear or a value
-has_some : (x : AttrMark) (xs : List AttrMark) → cell_of (x ∷ xs) ≡ empty_cell → ⊥
-has_some (Cleared s) xs e = some_stays later_stamp s (greatest_clear xs) (ap (λ (c : AttrCell). c.cleared) e)
-has_some (Marked v m) xs e =
-    let clear : greatest_clear xs ≡ None = ap (λ (c : AttrCell). c.cleared) e in
-    let gone : kept (greatest_clear xs) (greatest_mark (Marked v m ∷ xs) v) ≡ None = sym (get-cell_of (Marked v m ∷ xs) v)
-    ∙ ap (λ (c : AttrCell). get c.values v) e ∙ get-empty octets_cmp v in
-    at (is_octets v v) (ap is_eq (tied_itself nat_list_cmp_total v)) (ap (λ c. kept c (greatest_mark (Marked v m ∷ xs) v)) (sym clear) ∙ gone)
-  where
-    kept_all : (y : Option ValueMark) → kept None y ≡ y
-    kept_all None = refl
-    kept_all (Some y) = refl
-
-    at : (t : Bool) → t ≡ true → kept None (maybe later (if t then Some m else None) (greatest_mark xs v)) ≡ None → ⊥
-    at t is gone =
-        some_stays later m (greatest_mark xs v) (ap (λ t. maybe later
-        (if t then Some m else None) (greatest_mark xs v)) (sym is) ∙ sym (kept_all (maybe later
-        (if t then Some m else None) (greatest_mark xs v))) ∙ gone)
 
 cell_of_some-held : (x : List AttrMark) → IfSome (cell_of_some x) IsHeldCell
 cell_of_some-held [] = tt

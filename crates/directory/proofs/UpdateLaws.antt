@@ -41,14 +41,17 @@ all_map : {X : Type 0} (P Q : X → Type 0) → ((x : X) → P x → Q x) → (x
 all_map P Q f [] p = tt
 all_map P Q f (x ∷ xs) p = (f x p.0, all_map P Q f xs p.1)
 
-all_at : {X : Type 0} (P : X → Type 0) (xs : List X) (x : X) → AllByRecursion P xs → Contains xs x → P x
+-- what holds of each item holds of one that stands there
+pub all_at : {X : Type 0} (P : X → Type 0) (xs : List X) (x : X) → AllByRecursion P xs → Contains xs x → P x
 all_at P [] x p c = absurd (Contains-none x c)
 all_at P (y ∷ xs) x p c = ⊎_elim (λ same. subst P same p.0) (λ r. all_at P xs x p.1 r) (Contains-cases y xs x c)
 
-or_left : (a b : Bool) → a ≡ true → (a || b) ≡ true
+-- one of two is true
+pub or_left : (a b : Bool) → a ≡ true → (a || b) ≡ true
 or_left a b e = ap (λ a. a || b) e
 
-or_right : (a b : Bool) → b ≡ true → (a || b) ≡ true
+-- or the other
+pub or_right : (a b : Bool) → b ≡ true → (a || b) ≡ true
 or_right true b e = refl
 or_right false b e = e
 
@@ -179,7 +182,7 @@ marks_are (Some e) (Repoint n master others) s ok =
 
 module _ (h : List Mark) (n : List ℕ) (s : Stamp) (ms : List Mark) (known : IsHistory h) (before : IsBefore h s) (u : IsUpdate (shown h n) n s ms) where
   -- the birth of an entry that shows is a mark of the history
-  old_birth : (x : Shown) → shown h n ≡ Some x → x.birth ≡ u.birth → x.kind ≡ u.kind → Contains h (Birth n u.kind u.birth)
+  pub old_birth : (x : Shown) → shown h n ≡ Some x → x.birth ≡ u.birth → x.kind ≡ u.kind → Contains h (Birth n u.kind u.birth)
   old_birth x is birth kind =
       subst (λ
       (b : Born). Contains h
@@ -212,7 +215,7 @@ module _ (h : List Mark) (n : List ℕ) (s : Stamp) (ms : List Mark) (known : Is
   )
 
   -- each birth of the marks is their first mark
-  one_birth_of : (q : List ℕ) (j : Kind) (d : Stamp) → Contains all (Birth q j d) → (n ≡ q) × (u.kind ≡ j) × (u.birth ≡ d)
+  pub one_birth_of : (q : List ℕ) (j : Kind) (d : Stamp) → Contains all (Birth q j d) → (n ≡ q) × (u.kind ≡ j) × (u.birth ≡ d)
   one_birth_of q j d c =
       ⊎_elim (λ same. (ap name_in same, kind_same same, ap born_in same)) (λ r. absurd (no_birth (all_at
       (IsAbout n u.birth s) u.rest (Birth q j d) u.about r).3)) (Contains-cases (Birth n u.kind u.birth) u.rest (Birth q j d) c)
@@ -229,6 +232,7 @@ module _ (h : List Mark) (n : List ℕ) (s : Stamp) (ms : List Mark) (known : Is
   kinds_of_all : HasOneKind all
   kinds_of_all q d j k a b = sym (one_birth_of q j d a).1 ∙ (one_birth_of q k d b).1
 
+  -- the marks are a history
   pub all_history : IsHistory all
   all_history = record { births = births_of_all; ordered = ordered_all; kinds = kinds_of_all }
 
@@ -245,6 +249,7 @@ module _ (h : List Mark) (n : List ℕ) (s : Stamp) (ms : List Mark) (known : Is
       (λ x. ⊎_elim (λ y. sym (agree q k j d y x)) (λ y. kinds_of_all q d j k x y) (Contains-append_cases h all (Birth q k d) b))
       (Contains-append_cases h all (Birth q j d) a)
 
+  -- also with the one before
   pub both_history : IsHistory (h ++ all)
   both_history = record {
     births = births-append h all known.births births_of_all;
@@ -252,6 +257,7 @@ module _ (h : List Mark) (n : List ℕ) (s : Stamp) (ms : List Mark) (known : Is
     kinds = kinds_of_both;
   }
 
+  -- and are about one name
   pub names_of_all : AllByRecursion (λ m. name_in m ≡ n) all
   names_of_all = (refl, all_map (IsAbout n u.birth s) (λ m. name_in m ≡ n) (λ m a. a.0) u.rest u.about)
 

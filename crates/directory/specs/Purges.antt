@@ -1,11 +1,14 @@
--- What is left of entries and tables when deletions up to a stamp are dropped (own, after C705, skulks and AllUpTo).
-use Rattle.std.specs.Prelude.{Bool, false, List, Option, Some, None, if◌then◌else◌}
+-- What is left of entries and tables when deletions up to a stamp are dropped, and what is taken of other tables up to it
+-- (own, after C705, skulks and AllUpTo).
+use Rattle.std.specs.Prelude.{Bool, false, not, ◌&&◌, List, Option, Some, None, if◌then◌else◌}
+use Rattle.std.specs.Option.{option_and_then}
 use Rattle.cds_stamps.specs.declared.stamp.Stamp.{Stamp}
-use Rattle.cds_stamps.specs.Keyed.{map_some}
-use Rattle.cds_stamps.specs.Stamps.{is_up_to}
-use Rattle.attr_sets.specs.CellPurges.{cell_left}
+use Rattle.cds_stamps.specs.Keyed.{map_some, merge}
+use Rattle.cds_stamps.specs.Semilattice.{maybe}
+use Rattle.cds_stamps.specs.Stamps.{is_stamp, is_up_to}
+use Rattle.attr_sets.specs.CellPurges.{clear_left, cell_left, cell_after}
 use Rattle.directory.specs.declared.entry.EntryCell.{EntryCell}
-use Rattle.directory.specs.Entries.{Entries}
+use Rattle.directory.specs.Entries.{Entries, join_entries}
 use Rattle.directory.specs.Histories.{Mark, table_of}
 
 -- an entry without the deletions of its attributes (own)
@@ -29,3 +32,28 @@ purged_table t = map_some (entry_left t)
 abbrev pub purged : List Mark → Option Stamp → Entries
 purged h None = table_of h
 purged h (Some t) = purged_table t (table_of h)
+
+-- what is later than t of an entry, whatever its birth: its death and the marks of its attributes (own)
+abbrev pub after_entry : Stamp → EntryCell → EntryCell
+after_entry t e = record e { death = option_and_then (clear_left t) e.death; attrs = map_some (cell_after t) e.attrs }
+
+-- the entry that was born at c stands there (own)
+abbrev pub holds : Option EntryCell → Stamp → Bool
+holds None c = false
+holds (Some o) c = is_stamp o.birth c
+
+-- an entry that is passed by: its birth is not later than t, and what stands there is not it (own)
+abbrev pub is_passed : Stamp → Option EntryCell → EntryCell → Bool
+is_passed t own e = is_up_to t e.birth && not (holds own e.birth)
+
+-- what is taken up to t of an entry, beside the one that stands there (own, after C705, skulks and AllUpTo)
+abbrev pub taken_entry : Stamp → Option EntryCell → EntryCell → Option EntryCell
+taken_entry t own e = if is_passed t own e then None else Some (after_entry t e)
+
+-- an entry with what is taken up to t of another (own)
+abbrev pub take_entry : Stamp → Option EntryCell → Option EntryCell → Option EntryCell
+take_entry t own e = maybe join_entries own (option_and_then (taken_entry t own) e)
+
+-- a table with what is taken up to t of another (own)
+abbrev pub take_table : Stamp → Entries → Entries → Entries
+take_table t = merge (take_entry t)

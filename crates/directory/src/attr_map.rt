@@ -1,12 +1,16 @@
 // The cells of an entry's attributes.
-ghost use Rattle.std.specs.Prelude.{◌≡◌, List, ℕ, [], ◌∷◌, Some, None, MatchOption, MatchBool, IfOk, IfSome, OnOk, OnErr, if◌then◌else◌, option_copied};
+ghost use Rattle.std.specs.Prelude.{◌≡◌, IsTrue, List, ℕ, [], ◌∷◌, Some, None, MatchOption, MatchBool, IfOk, IfSome, OnOk, OnErr, if◌then◌else◌, option_copied};
 ghost use Rattle.std.specs.FinMap as map;
+ghost use Rattle.std.specs.BTreeMap as tree;
+ghost use Rattle.std.specs.Option.{option_and_then};
 ghost use Rattle.std.specs.Ordering.{eq_by_cmp};
+ghost use Rattle.cds_stamps.specs.Keyed.{map_some};
 ghost use Rattle.cds_stamps.specs.Octets.{octets_cmp};
 ghost use Rattle.cds_stamps.specs.Joins.{join_maps, EachValue};
 ghost use Rattle.cds_stamps.specs.Undos.{RaisesAt, TakesBack, LogsChange, MendsAt, back_at};
 ghost use Rattle.attr_sets.specs.Cells.{cell_of, join_cells};
 ghost use Rattle.attr_sets.specs.CellChanges.{change_marks};
+ghost use Rattle.attr_sets.specs.CellPurges.{is_empty_cell, cell_left, cell_after};
 ghost use Rattle.attr_sets.specs.CellUndoWords.{undo_cell};
 ghost use Rattle.directory.specs.Entries.{IsHeldCell};
 ghost use Rattle.directory.specs.Applied.{JoinsCell, TakesMarks};
@@ -299,6 +303,29 @@ impl AttrMap {
         Ok(())
     }
 
+    /// Whether joining one cell in changes nothing.
+    fn outdates(&self, name: &AttrName, cell: &AttrCell) -> bool
+        ensures { IsTrue result → JoinsCell self.now self.now name.now cell.now }
+    {
+        match self.get(name) {
+            Some(own) => own.outdates(cell),
+            None => false,
+        }
+    }
+
+    /// Whether joining another map in changes nothing. It takes no memory.
+    pub(crate) fn outdates_all(&self, other: &AttrMap) -> bool
+        ensures { IsTrue result → EachValue IsHeldCell self.now → EachValue IsHeldCell other.now → join_maps join_cells self.now other.now ≡ self.now }
+    {
+        for (name, cell) in other.cells.iter() {
+            let outdated = self.outdates(name, cell);
+            if !outdated {
+                return false;
+            }
+        }
+        true
+    }
+
     /// Joins one cell in, and logs the change. Room in the log comes first.
     fn raise_logged(
         &mut self,
@@ -375,4 +402,61 @@ impl AttrMap {
     {
         self.cells.remove(name)
     }
+
+    /// Drops the deletions of each cell that are stamped at most t, and the cells of which nothing is left.
+    pub(crate) fn drop_up_to(&mut self, t: Stamp)
+        ensures { self.new ≡ map_some (cell_left t) self.old }
+    {
+        drop_cells_up_to(&mut self.cells, t);
+    }
+
+    /// What of each cell is later than t, where it is anything.
+    pub(crate) fn after(&self, alloc: Global, t: Stamp) -> Result<AttrMap, AllocError>
+        ensures { IfOk result (λ m. m ≡ map_some (cell_after t) self.now) }
+    {
+        let t = &t;
+        let mut later = AttrMap::new(alloc);
+        for (name, cell) in self.cells.iter() {
+            let part = cell.after(alloc, *t)?;
+            later.insert_some(alloc, name, part)?;
+        }
+        Ok(later)
+    }
+
+    /// Gives an attribute this cell, unless it is empty.
+    fn insert_some(
+        &mut self,
+        alloc: Global,
+        name: &AttrName,
+        cell: AttrCell,
+    ) -> Result<(), AllocError>
+        ensures { OnOk result (self.new ≡ (if is_empty_cell cell then self.old else map.insert self.old name.now cell)) }
+    {
+        if !cell.is_empty() {
+            self.insert(name.copy(alloc)?, cell)?;
+        }
+        Ok(())
+    }
+
+    /// Whether each cell has something, all of it later than t.
+    pub(crate) fn is_after(&self, t: Stamp) -> bool
+        ensures { MatchBool result (map_some (cell_after t) self.now ≡ self.now) (Unit {0}) }
+    {
+        let t = &t;
+        for (_, cell) in self.cells.iter() {
+            if cell.is_empty() || !cell.is_after(*t) {
+                return false;
+            }
+        }
+        true
+    }
+}
+
+fn drop_cells_up_to(cells: &mut BTreeMap<AttrName, AttrCell>, t: Stamp)
+    ensures { (q : List ℕ) → tree.get octets_cmp cells.new q ≡ option_and_then (cell_left t) (tree.get octets_cmp cells.old q) }
+{
+    cells.retain(|_, cell| {
+        cell.drop_up_to(t);
+        !cell.is_empty()
+    });
 }

@@ -1,5 +1,6 @@
 // Entries.
-ghost use Rattle.std.specs.Prelude.{◌≡◌, ℕ, List, true, Some, None, IsSome, IfOk, OnOk, OnErr, if◌then◌else◌, filter, is_some, option_copied};
+ghost use Rattle.std.specs.Prelude.{◌≡◌, IsTrue, ℕ, List, true, Some, None, MatchBool, IsSome, IfOk, OnOk, OnErr, if◌then◌else◌, filter, is_some, option_copied};
+ghost use Rattle.std.specs.Option.{option_and_then};
 ghost use Rattle.cds_stamps.specs.Semilattice.{maybe, greater};
 ghost use Rattle.cds_stamps.specs.Stamps.{earlier_stamp};
 ghost use Rattle.directory.specs.Kinds.{kind_cmp, is_child};
@@ -8,6 +9,8 @@ ghost use Rattle.directory.specs.EntryLawProofs.{entry_join};
 ghost use Rattle.directory.specs.EntryUndoWords.{undo_entry};
 ghost use Rattle.attr_sets.specs.Cells.{cell_values};
 ghost use Rattle.attr_sets.specs.CellChanges.{change_marks};
+ghost use Rattle.attr_sets.specs.CellPurges.{clear_left};
+ghost use Rattle.directory.specs.Purges.{is_dead_up_to, purged_entry, after_entry};
 ghost use Rattle.directory.specs.Applied.{changed_entry, deleted_entry};
 ghost use Rattle.cds_stamps.specs.Outcomes.{ok_unless};
 ghost use Rattle.directory.specs.Updates.{Clear};
@@ -197,6 +200,30 @@ impl EntryCell {
         self.death = earlier_of(self.death, Some(stamp));
     }
 
+    /// Whether joining another entry in changes nothing. It takes no memory.
+    pub(crate) fn outdates(&self, other: &EntryCell) -> bool
+        ensures { IsTrue result → IsValidEntry self.now → IsValidEntry other.now → join_entries self.now other.now ≡ self.now }
+    {
+        match self.birth.cmp(&other.birth) {
+            Ordering::Less => false,
+            Ordering::Greater => true,
+            Ordering::Equal => self.outdates_tied(other),
+        }
+    }
+
+    /// The same of an entry of the same birth.
+    #[tactic(auto, using(crate::proofs::EntryUnchanged::tied_unchanged))]
+    fn outdates_tied(&self, other: &EntryCell) -> bool
+        ensures { IsTrue result → IsValidEntry self.now → IsValidEntry other.now → join_tied self.now other.now ≡ self.now }
+    {
+        let kind = greater_kind(self.kind, other.kind);
+        let death = earlier_of(self.death, other.death);
+        if kind == self.kind && death == self.death {
+            return self.attrs.outdates_all(&other.attrs);
+        }
+        false
+    }
+
     /// Joins another entry in. What takes it back. Where the other birth is later, the old entry is kept whole.
     pub(crate) fn join_logged(
         &mut self,
@@ -251,6 +278,44 @@ impl EntryCell {
             replace(&mut self.death, death),
             log,
         ))
+    }
+
+    /// Whether it died up to t.
+    pub(crate) fn is_dead_up_to(&self, t: Stamp) -> bool
+        ensures { result ≡ is_dead_up_to t self.now.death }
+    {
+        match self.death {
+            Some(death) => !(t < death),
+            None => false,
+        }
+    }
+
+    /// Drops the deletions of its attributes that are stamped at most t.
+    pub(crate) fn drop_up_to(&mut self, t: Stamp)
+        ensures { self.new ≡ purged_entry t self.old }
+    {
+        self.attrs.drop_up_to(t);
+    }
+
+    /// What of it is later than t, with its birth, however old: its death, and the clears and the marks of its attributes.
+    pub fn after(&self, alloc: Global, t: Stamp) -> Result<EntryCell, AllocError>
+        ensures { IfOk result (λ e. e ≡ after_entry t self.now) }
+    {
+        let t = &t;
+        Ok(EntryCell {
+            birth: self.birth,
+            kind: self.kind,
+            death: death_after(self.death, *t),
+            attrs: self.attrs.after(alloc, *t)?,
+        })
+    }
+
+    /// Whether all of it is later than t, but for its birth. It takes no memory.
+    pub fn is_after(&self, t: Stamp) -> bool
+        ensures { MatchBool result (after_entry t self.now ≡ self.now) (Unit {0}) }
+    {
+        let t = &t;
+        !self.is_dead_up_to(*t) && self.attrs.is_after(*t)
     }
 
     /// Takes a join back, with no memory.
@@ -362,5 +427,15 @@ fn earlier_of(a: Option<Stamp>, b: Option<Stamp>) -> Option<Stamp>
         (Some(x), Some(y)) => Some(if y < x { y } else { x }),
         (Some(x), None) => Some(x),
         (None, y) => y,
+    }
+}
+
+/// The death, if it is later than t.
+fn death_after(death: Option<Stamp>, t: Stamp) -> Option<Stamp>
+    ensures { result ≡ option_and_then (clear_left t) death }
+{
+    match death {
+        Some(death) if t < death => Some(death),
+        _ => None,
     }
 }

@@ -1,8 +1,10 @@
 // The laws of histories, tables and updates, each the contract of a function that does nothing.
-ghost use Rattle.std.specs.Prelude.{◌≡◌, ◌≢◌, ◌⊎◌, ℕ, List, [], ◌∷◌, ◌++◌, if◌then◌else◌, true, Some, None, IsSome, IfSome, IsSomeAnd, is_none};
+ghost use Rattle.std.specs.Prelude.{◌≡◌, ◌≢◌, ◌⊎◌, ℕ, List, [], ◌∷◌, ◌++◌, if◌then◌else◌, true, Option, Some, None, IsSome, IfSome, IsSomeAnd, is_none};
 ghost use Rattle.std.specs.FinMap as map;
 ghost use Rattle.std.specs.List.{AllByRecursion, Contains};
 ghost use Rattle.cds_stamps.specs.Octets.{is_octets};
+ghost use Rattle.cds_stamps.specs.Semilattice.{maybe};
+ghost use Rattle.cds_stamps.specs.Stamps.{is_earlier, later_stamp};
 ghost use Rattle.cds_stamps.specs.Undos.{RaisesAt};
 ghost use Rattle.cell_names.specs.FullNames.{spelling, IsComponentList};
 ghost use Rattle.cell_names.specs.ChildPointers.{Pointer, pointer_octets};
@@ -15,7 +17,8 @@ ghost use Rattle.directory.specs.declared.entry.Kind.TheVariants.{Object, Link, 
 ghost use Rattle.directory.specs.Kinds.{link_target, replicas};
 ghost use Rattle.directory.specs.Updates.{Change, Create, MakeLink, MakeChild, Delete, Add, Remove, Put, Clear, Repoint, changed_name};
 ghost use Rattle.directory.specs.Applied.{TakesIn};
-ghost use Rattle.directory.specs.Histories.{Mark, name_in, entry_of, table_of, HasBirths, IsHistory, IsBefore, SameMarks};
+ghost use Rattle.directory.specs.Purges.{purged, purged_table, take_table};
+ghost use Rattle.directory.specs.Histories.{Mark, name_in, entry_of, table_of, HasBirths, IsHistory, IsBefore, SameMarks, CanMerge};
 ghost use Rattle.directory.specs.EntryChanges.{creation, ChangesValue, AreAccepted};
 ghost use Rattle.directory.specs.Shown.{is_readable, lead_of, shown, shown_in, shown_dir, refusal_of, marks_of, Shown, ChangesValues};
 
@@ -137,4 +140,31 @@ pub fn entry_changes_are_accepted()
         → AllByRecursion (ChangesValue n) us → AreAccepted h us }
     ensures created { (h : List Mark) (n : List ℕ) (us : List Change) → IsHistory h
         → AllByRecursion (ChangesValue n) us → AreAccepted h (creation n (is_none (shown h n)) ++ us) }
+{}
+
+/// What is left of the table of a history when deletions up to a stamp are dropped is valid.
+pub fn purged_tables_are_valid()
+    ensures { (h : List Mark) (t : Option Stamp) → IsValidTable (purged h t) }
+{}
+
+/// It shows what the history shows.
+pub fn purged_tables_show_histories()
+    ensures { (h : List Mark) (t : Option Stamp) (n : List ℕ) → shown_in (purged h t) n ≡ shown h n }
+{}
+
+/// What is taken up to a stamp of a purged table, of marks that can be merged, makes the purged table of both: beside a table
+/// that was purged up to that stamp, and beside one that was purged up to an earlier one, where deletions are dropped afterwards.
+pub fn purged_tables_merge()
+    ensures purged { (h g : List Mark) (s : Option Stamp) (t : Stamp) → maybe later_stamp s (Some t) ≡ Some t → CanMerge h g (Some t) →
+        take_table t (purged h (Some t)) (purged g s) ≡ purged (h ++ g) (Some t) }
+    ensures dropped { (h g : List Mark) (a s : Option Stamp) (t : Stamp) → maybe later_stamp a (Some t) ≡ Some t → maybe later_stamp s (Some t) ≡ Some t →
+        CanMerge h g (Some t) → purged_table t (take_table t (purged h a) (purged g s)) ≡ purged (h ++ g) (Some t) }
+{}
+
+/// A purged table stands for a history with the marks of an accepted update, once it is applied in place: where the update is
+/// stamped later than what was dropped.
+pub fn applied_purged_tables_stand()
+    ensures { (h : List Mark) (u : Change) (s : Stamp) → IsHistory h → IsBefore h s → refusal_of (shown h (changed_name u)) u ≡ None →
+        (a : Option Stamp) → IfSome a (λ t. is_earlier t s ≡ true) → (old new : Entries) → old ≡ purged h a →
+        TakesIn old new (changed_name u) (marks_of (shown_in old (changed_name u)) u s) → new ≡ purged (h ++ marks_of (shown h (changed_name u)) u s) a }
 {}

@@ -1,8 +1,12 @@
 // The table of a directory.
-ghost use Rattle.std.specs.Prelude.{◌≡◌, List, ℕ, [], ◌∷◌, Option, Some, None, true, if◌then◌else◌, option_copied};
+ghost use Rattle.std.specs.Prelude.{◌≡◌, IsTrue, List, ℕ, [], ◌∷◌, Option, Some, None, true, if◌then◌else◌, option_copied};
 ghost use Rattle.std.specs.Prelude.{MatchOption, MatchBool, IsSome, IfOk, IfSome, OnOk, OnErr};
 ghost use Rattle.std.specs.FinMap as map;
-ghost use Rattle.std.specs.Option.{option_map};
+ghost use Rattle.std.specs.BTreeMap as tree;
+ghost use Rattle.std.specs.List.{fold};
+ghost use Rattle.std.specs.Option.{option_map, option_and_then};
+ghost use Rattle.cds_stamps.specs.Semilattice.{maybe};
+ghost use Rattle.cds_stamps.specs.Stamps.{later_stamp};
 ghost use Rattle.cds_stamps.specs.Octets.{octets_cmp, is_octets};
 ghost use Rattle.cds_stamps.specs.Outcomes.{ok_unless};
 ghost use Rattle.cds_stamps.specs.Undos.{RaisesAt, TakesBack, LogsChange, MendsAt, back_at};
@@ -17,7 +21,8 @@ ghost use Rattle.directory.specs.EntryUndoWords.{undo_entry};
 ghost use Rattle.directory.specs.Applied.{changed_entry, deleted_entry, TakesOwn, TakesIn, JoinsEntry, LeavesOthers};
 ghost use Rattle.attr_sets.specs.CellChanges.{change_marks};
 ghost use Rattle.directory.specs.Updates.{Delete, Clear, Repoint, changed_name, change_of};
-ghost use Rattle.directory.specs.Histories.{entry_of};
+ghost use Rattle.directory.specs.Histories.{Mark, entry_of};
+ghost use Rattle.directory.specs.Purges.{entry_left, purged_table, purged};
 ghost use Rattle.directory.specs.Shown.{Shown, face_of, shown_in, live_count, new_refusal, live_refusal, refusal_of, marks_of, shown_dir};
 
 use crate::attr_map::AttrMap;
@@ -103,6 +108,18 @@ impl Table {
         ensures err { OnErr result (self.new ≡ self.old) }
     {
         Ok(self.entries.insert(name, entry)?)
+    }
+
+    /// The table of these entries, inserted in turn, and faster than that where their names ascend: each is compared with the
+    /// next one alone.
+    pub fn from_pairs(
+        alloc: Global,
+        pairs: Vec<(SimpleName, EntryCell)>,
+    ) -> Result<Table, AllocError>
+        ensures { IfOk result (λ t. t ≡ fold (λ m p. map.insert m p.0 p.1) map.empty pairs.items) }
+    {
+        let entries = collected(alloc, pairs)?;
+        Ok(Table { entries })
     }
 
     /// A table of the same entries.
@@ -613,7 +630,17 @@ impl Table {
         Ok(())
     }
 
-    /// Joins one entry in, and logs the change. Room in the log comes first.
+    /// Whether joining one entry in changes nothing.
+    fn outdates(&self, name: &SimpleName, entry: &EntryCell) -> bool
+        ensures { IsTrue result → JoinsEntry self.now self.now name.now entry.now }
+    {
+        match self.get(name) {
+            Some(own) => own.outdates(entry),
+            None => false,
+        }
+    }
+
+    /// Joins one entry in, and logs the change, if it is one. Room in the log comes first.
     fn raise_logged(
         &mut self,
         alloc: Global,
@@ -624,6 +651,9 @@ impl Table {
         ensures ok { OnOk result (JoinsEntry self.old self.new name.now entry.now) }
         ensures back { LogsChange undo_entry self.old self.new log.old.items log.new.items }
     {
+        if self.outdates(name, entry) {
+            return Ok(());
+        }
         log.reserve(1)?;
         let key = name.copy(alloc)?;
         let undo = self.raise(alloc, name, entry)?;
@@ -667,6 +697,19 @@ impl Table {
     }
 }
 
+// Deletions.
+impl Table {
+    /// Drops each entry that died up to t, and the deletions of attributes that are stamped at most t. It takes no memory.
+    pub fn drop_up_to(&mut self, t: Stamp)
+        ensures dropped { self.new ≡ purged_table t self.old }
+        ensures histories { (h : List Mark) (a : Option Stamp) → maybe later_stamp a (Some t) ≡ Some t →
+            self.old ≡ purged h a → self.new ≡ purged h (Some t) }
+        ensures valid { IsValidTable self.old → IsValidTable self.new }
+    {
+        drop_entries_up_to(&mut self.entries, t);
+    }
+}
+
 impl Lattice for Table {
     ghost valid = { IsValidTable };
 
@@ -688,6 +731,16 @@ impl Lattice for Table {
         }
         Ok(())
     }
+}
+
+/// The tree of these entries, inserted in turn.
+fn collected(
+    alloc: Global,
+    pairs: Vec<(SimpleName, EntryCell)>,
+) -> Result<BTreeMap<SimpleName, EntryCell>, AllocError>
+    ensures { IfOk result (tree.IsFromIterResult octets_cmp pairs.items) }
+{
+    pairs.into_iter().collect(alloc)
 }
 
 /// Refuses an update of what shows where the kind of the entry or of the attribute is wrong.
@@ -767,4 +820,13 @@ fn one_attr(alloc: Global, attr: AttrName, cell: AttrCell) -> Result<AttrMap, Al
     let mut attrs = AttrMap::new(alloc);
     attrs.insert(attr, cell)?;
     Ok(attrs)
+}
+
+fn drop_entries_up_to(entries: &mut BTreeMap<SimpleName, EntryCell>, t: Stamp)
+    ensures { (q : List ℕ) → tree.get octets_cmp entries.new q ≡ option_and_then (entry_left t) (tree.get octets_cmp entries.old q) }
+{
+    entries.retain(|_, entry| {
+        entry.drop_up_to(t);
+        !entry.is_dead_up_to(t)
+    });
 }

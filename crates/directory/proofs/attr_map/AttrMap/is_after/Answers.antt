@@ -1,0 +1,11 @@
+use Rattle.std.proofs.Common.{◌∙◌}
+use Rattle.std.specs.Cmp.Lexicographic.{nat_list_cmp_total}
+use Rattle.cds_stamps.specs.Octets.{octets_exact}
+use Rattle.attr_sets.specs.CellPurges.{cell_after}
+use Rattle.attr_sets.proofs.PartLoops.{whole_starts}
+use Rattle.directory.proofs.attr_map.AttrMap.is_after.Goals as goal
+
+pub loop-cell-init : goal.loop-cell-init
+loop-cell-init c =
+    whole_starts nat_list_cmp_total octets_exact (cell_after c.args.t) c.args.self.now c.self.inside.cells.entries _ c.self.view_is
+    (c.into_iter-cell-iterator.ensures.into_iter_gives ∙ c.iter-cell-items.ensures.rest)
