@@ -1,50 +1,71 @@
 -- Replicas of histories, merged.
-use Rattle.std.proofs.Common.{◌≡◌, Bool, true, false, List, ◌++◌, Option, Some, None, sym, ap, subst, ◌∙◌}
+use Rattle.std.proofs.Common.{◌≡◌, ℕ, Bool, true, false, List, ◌++◌, Option, Some, None, sym, ap, subst, ◌∙◌}
 use Rattle.std.specs.Prelude.{IfSome, if◌then◌else◌}
-use Rattle.std.specs.FinMap.{get}
+use Rattle.std.specs.FinMap.{get, same_map}
+use Rattle.std.specs.Cmp.Lexicographic.{nat_list_cmp_total}
 use Rattle.cds_stamps.specs.declared.stamp.Stamp.{Stamp}
-use Rattle.cds_stamps.specs.Semilattice.{maybe_join}
-use Rattle.cds_stamps.specs.Octets.{is_octets}
-use Rattle.cds_stamps.specs.Undos.{RaisesAt}
+use Rattle.cds_stamps.specs.Octets.{octets_exact, is_octets}
 use Rattle.directory.specs.declared.entry.EntryCell.{EntryCell}
 use Rattle.directory.specs.declared.entry.Fragment.{Fragment}
-use Rattle.directory.specs.Entries.{Entries, join_entries, join_tables, IsValidEntry, IsValidTable}
-use Rattle.directory.specs.EntryLawProofs.{entry_join}
-use Rattle.directory.specs.Histories.{Mark, table_of, CanMerge}
-use Rattle.directory.proofs.HistoryLaws.{join_tables-table_of}
-use Rattle.directory.proofs.TableLaws.{table_of-valid, joined-table_of}
+use Rattle.directory.specs.Entries.{Entries, IsValidEntry, IsValidTable}
+use Rattle.directory.specs.Histories.{Mark, entry_of, CanMerge, SameMarks}
+use Rattle.directory.specs.Purges.{purged_table, purged}
+use Rattle.directory.proofs.MemberLaws.{table_of-same}
+use Rattle.directory.proofs.PurgeLaws.{purged-valid}
+use Rattle.directory.proofs.TableLaws.{entry_of-valid}
 use Rattle.purge_rule.specs.declared.replica.Replica.{Replica}
-use Rattle.purge_rule.specs.Replicas.{replica_of, IsFragmentOf}
+use Rattle.purge_rule.specs.Latest.{EntryUpTo, TableUpTo}
+use Rattle.purge_rule.specs.Replicas.{replica_of, together, merged_table, merged_entry, IsFragmentOf}
+use Rattle.purge_rule.proofs.MergeLaws.{merged_purged, merged_name, fragment_at, merged_entry-valid, merged_entry-up_to}
 
 -- a replica is its table and its AllUpTo
 pub same_replica : (t u : Entries) (a b : Option Stamp) → t ≡ u → a ≡ b
     → ◌≡◌ {A = Replica} (record { table = t; all_up_to = a }) (record { table = u; all_up_to = b })
 same_replica t u a b p q = λ i. record { table = p i; all_up_to = q i }
 
--- the tables of two histories, joined
-pub merged_tables : (h g : List Mark) (t : Option Stamp) (old other : Replica) (a b : Option Stamp) (new : Entries) → CanMerge h g t
+-- neither the order nor repeats of marks count
+pub purged-same : (g h : List Mark) (t : Option Stamp) → SameMarks g h → purged g t ≡ purged h t
+purged-same g h None same = table_of-same g h same
+purged-same g h (Some t) same = ap (purged_table t) (table_of-same g h same)
+
+-- the tables of two histories, merged
+pub merged_tables : (h g : List Mark) (t : Option Stamp) (old other : Replica) (a b : Option Stamp) (new : Entries) → together a b ≡ t → CanMerge h g t
     → old ≡ replica_of h a → other ≡ replica_of g b
-    → (IsValidTable old.table → IsValidTable other.table → new ≡ join_tables old.table other.table) → new ≡ table_of (h ++ g)
-merged_tables h g t old other a b new can mine theirs joins =
-    let one : old.table ≡ table_of h = ap (λ (r : Replica). r.table) mine in
-    let two : other.table ≡ table_of g = ap (λ (r : Replica). r.table) theirs in
-    joins (subst IsValidTable (sym one) (table_of-valid h)) (subst IsValidTable (sym two) (table_of-valid g))
-    ∙ ap (λ u. join_tables u other.table) one ∙ ap (join_tables (table_of h)) two ∙ join_tables-table_of h g can.mine.births can.theirs.births
+    → (IsValidTable old.table → IsValidTable other.table → new ≡ merged_table t old.table other.table) → new ≡ purged (h ++ g) t
+merged_tables h g t old other a b new later can mine theirs merges =
+    let one : old.table ≡ purged h a = ap (λ (r : Replica). r.table) mine in
+    let two : other.table ≡ purged g b = ap (λ (r : Replica). r.table) theirs in
+    merges (subst IsValidTable (sym one) (purged-valid h a)) (subst IsValidTable (sym two) (purged-valid g b))
+    ∙ ap (λ u. merged_table t u other.table) one ∙ ap (merged_table t (purged h a)) two ∙ merged_purged h g a b t later can
 
--- the entry of marks of one name, joined into the table of a history
-pub merged_marks : (h marks : List Mark) (t : Option Stamp) (old : Replica) (a : Option Stamp) (f : Fragment) (new : Entries) → CanMerge h marks t
-    → IsFragmentOf marks f → old ≡ replica_of h a
-    → (IfSome (get old.table f.name) IsValidEntry → IsValidEntry f.entry → RaisesAt join_entries old.table new f.name f.entry) → new ≡ table_of (h ++ marks)
-merged_marks h marks t old a f new can fragment mine joins =
-    joined-table_of h marks f.name f.entry old.table new can.mine.births can.theirs.births fragment.named fragment.entry (ap (λ
-    (r : Replica). r.table) mine) joins
+-- the entry of marks of one name, merged into the table of a history
+pub merged_marks : (h marks : List Mark) (t : Option Stamp) (old : Replica) (f : Fragment) (new : Entries) → CanMerge h marks t
+    → IsFragmentOf marks f → old ≡ replica_of h t
+    → (IfSome (get old.table f.name) IsValidEntry → IsValidEntry f.entry
+    → (q : List ℕ) → get new q ≡ merged_entry t (get old.table q) (if is_octets q f.name then Some f.entry else None))
+    → new ≡ purged (h ++ marks) t
+merged_marks h marks t old f new can fragment mine merges =
+    let own : old.table ≡ purged h t = ap (λ (r : Replica). r.table) mine in
+    let entry : IsValidEntry f.entry = subst (λ x. IfSome x IsValidEntry) fragment.entry (entry_of-valid marks f.name) in
+    same_map nat_list_cmp_total octets_exact new (purged (h ++ marks) t) (λ q.
+    merges (subst IsValidTable (sym own) (purged-valid h t) f.name) entry q
+    ∙ ap (merged_entry t (get old.table q)) (fragment_at marks f fragment q)
+    ∙ ap (λ m. merged_entry t (get m q) (entry_of marks q)) own ∙ merged_name h marks t can q)
 
-if_valid : (e : EntryCell) (b : Bool) → IsValidEntry e → IfSome (if b then Some e else None) IsValidEntry
-if_valid e true v = v
-if_valid e false v = tt
+if_holds : (P : EntryCell → Type 0) (e : EntryCell) (b : Bool) → P e → IfSome (if b then Some e else None) P
+if_holds P e true p = p
+if_holds P e false p = tt
 
--- a valid table into which a valid entry was joined
-pub raised_table-valid : (old new : Entries) (f : Fragment) → IsValidTable old → IsValidEntry f.entry → RaisesAt join_entries old new f.name f.entry
-    → IsValidTable new
-raised_table-valid old new f valid entry raises q =
-    subst (λ x. IfSome x IsValidEntry) (sym (raises q)) ((maybe_join entry_join).keeps (get old q) _ (valid q) (if_valid f.entry (is_octets q f.name) entry))
+-- a valid table into which a valid entry was merged
+pub raised_table-valid : (t : Option Stamp) (old new : Entries) (f : Fragment) → IsValidTable old → IsValidEntry f.entry
+    → ((q : List ℕ) → get new q ≡ merged_entry t (get old q) (if is_octets q f.name then Some f.entry else None)) → IsValidTable new
+raised_table-valid t old new f valid entry merges q =
+    subst (λ x. IfSome x IsValidEntry) (sym (merges q))
+    (merged_entry-valid t (get old q) _ (valid q) (if_holds IsValidEntry f.entry (is_octets q f.name) entry))
+
+-- with no later time
+pub raised_table-up_to : (n : ℕ) (t : Option Stamp) (old new : Entries) (f : Fragment) → TableUpTo n old → EntryUpTo n f.entry
+    → ((q : List ℕ) → get new q ≡ merged_entry t (get old q) (if is_octets q f.name then Some f.entry else None)) → TableUpTo n new
+raised_table-up_to n t old new f p entry merges q =
+    subst (λ x. IfSome x (EntryUpTo n)) (sym (merges q))
+    (merged_entry-up_to n t (get old q) _ (p q) (if_holds (EntryUpTo n) f.entry (is_octets q f.name) entry))

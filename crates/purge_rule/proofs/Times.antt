@@ -76,7 +76,7 @@ module _ {X : Type 0} (P : X → Type 0) where
       by_case false = p
 
   -- and of the join, where either may be missing
-  maybe-holds : (f : X → X → X) → ((x y : X) → P x → P y → P (f x y)) → (x y : Option X) → IfSome x P → IfSome y P → IfSome (maybe f x y) P
+  pub maybe-holds : (f : X → X → X) → ((x y : X) → P x → P y → P (f x y)) → (x y : Option X) → IfSome x P → IfSome y P → IfSome (maybe f x y) P
   maybe-holds f keeps None y p q = q
   maybe-holds f keeps (Some x) None p q = p
   maybe-holds f keeps (Some x) (Some y) p q = keeps x y p q

@@ -1,20 +1,34 @@
 -- Replicas of histories (own, after C705, replicas and AllUpTo).
-use Rattle.std.specs.Prelude.{◌≡◌, List, Option, Some}
+use Rattle.std.specs.Prelude.{◌≡◌, List, Option, Some, None}
 use Rattle.std.specs.List.{AllByRecursion}
 use Rattle.cds_stamps.specs.declared.stamp.Stamp.{Stamp}
 use Rattle.cds_stamps.specs.Semilattice.{maybe}
 use Rattle.cds_stamps.specs.Stamps.{later_stamp}
+use Rattle.directory.specs.declared.entry.EntryCell.{EntryCell}
 use Rattle.directory.specs.declared.entry.Fragment.{Fragment}
-use Rattle.directory.specs.Histories.{Mark, name_in, entry_of, table_of}
+use Rattle.directory.specs.Entries.{Entries, join_entries, join_tables}
+use Rattle.directory.specs.Histories.{Mark, name_in, entry_of}
+use Rattle.directory.specs.Purges.{purged_table, purged, take_entry, take_table}
 use Rattle.purge_rule.specs.declared.replica.Replica.{Replica}
 
--- the replica of a history up to an AllUpTo: the table of the history, of which nothing is dropped yet (own)
+-- the replica of a history up to an AllUpTo: the table of the history, without the deletions stamped at most that (own)
 abbrev pub replica_of : List Mark → Option Stamp → Replica
-replica_of h t = record { table = table_of h; all_up_to = t }
+replica_of h t = record { table = purged h t; all_up_to = t }
 
 -- the later of two stamps of which either may be missing (own)
 abbrev pub together : Option Stamp → Option Stamp → Option Stamp
 together = maybe later_stamp
+
+-- two tables, merged up to an AllUpTo: of the other what is later is taken, and deletions up to it are dropped (own, after C705,
+-- skulks and AllUpTo)
+abbrev pub merged_table : Option Stamp → Entries → Entries → Entries
+merged_table None own other = join_tables own other
+merged_table (Some t) own other = purged_table t (take_table t own other)
+
+-- an entry with what is taken up to an AllUpTo of another of its name (own)
+abbrev pub merged_entry : Option Stamp → Option EntryCell → Option EntryCell → Option EntryCell
+merged_entry None = maybe join_entries
+merged_entry (Some t) = take_entry t
 
 -- the fragment has the entry of these marks, which are all of its name (own)
 pub record IsFragmentOf (marks : List Mark) (f : Fragment) : Type 0 where

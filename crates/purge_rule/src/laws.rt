@@ -1,13 +1,14 @@
 //! Laws of the definitions: functions that do nothing, whose contracts are proved.
-ghost use Rattle.std.specs.Prelude.{◌≡◌, ◌≤◌, ◌↔◌, ℕ, List, Option, IfSome};
+ghost use Rattle.std.specs.Prelude.{◌≡◌, ◌≤◌, ◌↔◌, ◌++◌, ℕ, List, Option, Some, IfSome};
 ghost use Rattle.std.specs.FinMap as map;
 ghost use Rattle.std.specs.List.{AllByRecursion};
 ghost use Rattle.cds_stamps.specs.declared.stamp.Stamp.{Stamp};
 ghost use Rattle.directory.specs.declared.entry.EntryCell.{EntryCell};
 ghost use Rattle.directory.specs.Entries.{Entries, IsValidTable};
-ghost use Rattle.directory.specs.Histories.{Mark, entry_of, table_of, SameMarks};
+ghost use Rattle.directory.specs.Histories.{Mark, entry_of, table_of, SameMarks, CanMerge};
+ghost use Rattle.directory.specs.Purges.{purged_table, purged, take_table};
 ghost use Rattle.directory.specs.Shown.{shown, shown_in};
-ghost use Rattle.purge_rule.specs.Replicas.{replica_of};
+ghost use Rattle.purge_rule.specs.Replicas.{replica_of, together};
 ghost use Rattle.purge_rule.specs.declared.replica.Replica.{Replica};
 ghost use Rattle.purge_rule.specs.Latest.{EntryUpTo, TableUpTo, ReplicaUpTo, MarkUpTo, latest_in, latest_in_entry, latest_time};
 
@@ -26,6 +27,13 @@ pub fn replicas_show_histories()
     ensures { (h : List Mark) (t : Option Stamp) (n : List ℕ) → shown_in (replica_of h t).table n ≡ shown h n }
 {}
 
+/// What is left of the table of a history up to the later AllUpTo, with what is taken of that of another that can be merged,
+/// is what is left of the table of both.
+pub fn purged_replicas_merge()
+    ensures { (h g : List Mark) (a b : Option Stamp) (t : Stamp) → together a b ≡ Some t → CanMerge h g (Some t) →
+        take_table t (purged_table t (table_of h)) (purged g b) ≡ purged (h ++ g) (Some t) }
+{}
+
 /// The greatest time is at most n exactly where no time is later than n.
 pub fn greatest_times_are_the_latest()
     ensures entry { (e : EntryCell) (n : ℕ) → (latest_in_entry e ≤ n) ↔ EntryUpTo n e }
@@ -33,10 +41,12 @@ pub fn greatest_times_are_the_latest()
     ensures replica { (r : Replica) (n : ℕ) → (latest_time r ≤ n) ↔ ReplicaUpTo n r }
 {}
 
-/// The table of marks, and the entry of a name among them, have no later time than the marks, and the empty table has none.
+/// The table of marks, purged or not, and the entry of a name among them, have no later time than the marks, and the empty table
+/// has none.
 pub fn marks_make_no_later_time()
     ensures entry { (h : List Mark) (name : List ℕ) (n : ℕ) → AllByRecursion (MarkUpTo n) h →
         IfSome (entry_of h name) (EntryUpTo n) }
     ensures table { (h : List Mark) (n : ℕ) → AllByRecursion (MarkUpTo n) h → TableUpTo n (table_of h) }
+    ensures purged { (h : List Mark) (t : Option Stamp) (n : ℕ) → AllByRecursion (MarkUpTo n) h → TableUpTo n (purged h t) }
     ensures empty { (n : ℕ) → TableUpTo n map.empty }
 {}

@@ -4,6 +4,7 @@
 mod held;
 mod latest;
 pub mod laws;
+mod merging;
 mod replica;
 
 pub use latest::latest_in_entry;

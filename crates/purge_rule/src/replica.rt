@@ -1,15 +1,16 @@
 // A replica of a directory.
-ghost use Rattle.std.specs.Prelude.{◌≡◌, ◌≢◌, ◌≤◌, ◌++◌, ℕ, List, Option, Some, IfOk, OnOk, OnErr, IfSome, min};
-ghost use Rattle.cds_stamps.specs.Undos.{RaisesAt};
+ghost use Rattle.std.specs.Prelude.{◌≡◌, ◌≢◌, ◌≤◌, ◌++◌, ℕ, List, Option, Some, None, IfOk, OnOk, OnErr, IfSome, min, if◌then◌else◌};
+ghost use Rattle.cds_stamps.specs.Octets.{is_octets};
 ghost use Rattle.std.specs.FinMap as map;
-ghost use Rattle.directory.specs.Entries.{join_entries, join_tables, IsValidEntry, IsValidTable};
+ghost use Rattle.directory.specs.Entries.{IsValidEntry, IsValidTable};
 ghost use Rattle.directory.specs.Histories.{Mark, CanMerge};
-ghost use Rattle.purge_rule.specs.Replicas.{replica_of, together, IsFragmentOf};
+ghost use Rattle.purge_rule.specs.Replicas.{replica_of, together, merged_table, merged_entry, IsFragmentOf};
 ghost use Rattle.purge_rule.specs.Held.{held_in, most_held};
 ghost use Rattle.purge_rule.specs.Latest.{EntryUpTo, ReplicaUpTo, latest_time};
 
 use crate::held::held_in;
 use crate::latest::{latest_in, time_of};
+use crate::merging::{merge_entry, merge_table};
 use cds_stamps::{Lattice, Stamp, later_of};
 use directory::{Fragment, Table};
 use std::alloc::{AllocError, Global};
@@ -32,33 +33,35 @@ impl Replica {
         })
     }
 
-    /// Merges another replica in: the tables are joined, up to the later AllUpTo. Of two histories that can be merged it
-    /// becomes the replica of both together.
+    /// Merges another replica in, up to the later AllUpTo: of its table what is later than that is taken, and deletions up to it
+    /// are dropped. Of two histories that can be merged it becomes the replica of both together.
     pub fn take(&mut self, alloc: Global, other: &Replica) -> Result<(), AllocError>
         ensures merged { OnOk result ((h g : List Mark) →
             let t = together self.old.all_up_to other.now.all_up_to in
             CanMerge h g t → self.old ≡ replica_of h self.old.all_up_to → other.now ≡ replica_of g other.now.all_up_to → self.new ≡ replica_of (h ++ g) t) }
-        ensures joined { OnOk result (
-            IsValidTable self.old.table → IsValidTable other.now.table → self.new.table ≡ join_tables self.old.table other.now.table) }
+        ensures joined { OnOk result (let t = together self.old.all_up_to other.now.all_up_to in
+            IsValidTable self.old.table → IsValidTable other.now.table → self.new.table ≡ merged_table t self.old.table other.now.table) }
         ensures all_up_to { OnOk result (self.new.all_up_to ≡ together self.old.all_up_to other.now.all_up_to) }
         ensures valid { OnOk result (IsValidTable self.old.table → IsValidTable other.now.table → IsValidTable self.new.table) }
         ensures times { OnOk result ((n : ℕ) → IsValidTable self.old.table → IsValidTable other.now.table →
             ReplicaUpTo n self.old → ReplicaUpTo n other.now → ReplicaUpTo n self.new) }
         ensures err { OnErr result (self.new ≡ self.old) }
     {
-        self.table.join(alloc, &other.table)?;
-        self.all_up_to = later_of(self.all_up_to, other.all_up_to);
+        let up_to = &later_of(self.all_up_to, other.all_up_to);
+        merge_table(&mut self.table, alloc, &other.table, *up_to)?;
+        self.all_up_to = *up_to;
         Ok(())
     }
 
-    /// Merges the marks of one update in: their entry is joined in, and every other name stays as it is. Of a history that
-    /// they can be merged with it becomes the replica of both together, up to the same stamp.
+    /// Merges the marks of one update in: of their entry what is later than AllUpTo is taken, and every other name stays as it
+    /// is. Of a history that they can be merged with it becomes the replica of both together, up to the same stamp.
     pub fn take_marks(&mut self, alloc: Global, fragment: &Fragment) -> Result<(), AllocError>
         ensures merged { OnOk result ((h marks : List Mark) →
             CanMerge h marks self.old.all_up_to → IsFragmentOf marks fragment.now →
             self.old ≡ replica_of h self.old.all_up_to → self.new ≡ replica_of (h ++ marks) self.old.all_up_to) }
         ensures joined { OnOk result (let f = fragment.now in
-            IfSome (map.get self.old.table f.name) IsValidEntry → IsValidEntry f.entry → RaisesAt join_entries self.old.table self.new.table f.name f.entry) }
+            IfSome (map.get self.old.table f.name) IsValidEntry → IsValidEntry f.entry → (q : List ℕ) → map.get self.new.table q ≡
+            merged_entry self.old.all_up_to (map.get self.old.table q) (if is_octets q f.name then Some f.entry else None)) }
         ensures others { OnOk result ((q : List ℕ) → q ≢ fragment.now.name → map.get self.new.table q ≡ map.get self.old.table q) }
         ensures all_up_to { self.new.all_up_to ≡ self.old.all_up_to }
         ensures valid { OnOk result (IsValidTable self.old.table → IsValidEntry fragment.now.entry → IsValidTable self.new.table) }
@@ -67,18 +70,20 @@ impl Replica {
             ReplicaUpTo n self.old → EntryUpTo n f.entry → ReplicaUpTo n self.new) }
         ensures err { OnErr result (self.new ≡ self.old) }
     {
-        self.table.join_entry(alloc, fragment)?;
+        merge_entry(&mut self.table, alloc, fragment, self.all_up_to)?;
         Ok(())
     }
 
-    /// Raises AllUpTo to this stamp, if that is later. It takes no memory.
+    /// Raises AllUpTo to this stamp, if that is later, and drops the deletions up to it. It takes no memory.
     pub fn advance(&mut self, t: Stamp)
         ensures merged { (h : List Mark) → self.old ≡ replica_of h self.old.all_up_to → self.new ≡ replica_of h (together self.old.all_up_to (Some t)) }
         ensures all_up_to { self.new.all_up_to ≡ together self.old.all_up_to (Some t) }
         ensures valid { IsValidTable self.old.table → IsValidTable self.new.table }
         ensures times { (n : ℕ) → ReplicaUpTo n self.old → t.time ≤ n → ReplicaUpTo n self.new }
     {
-        self.all_up_to = later_of(self.all_up_to, Some(t));
+        let up_to = &later_than(self.all_up_to, t);
+        self.all_up_to = Some(*up_to);
+        self.table.drop_up_to(*up_to);
     }
 
     /// How many entries, deaths, clears and marks of values it holds, or the last number of 64 bits where there are more.
@@ -93,5 +98,15 @@ impl Replica {
         ensures { result ≡ latest_time self.now }
     {
         latest_in(&self.table).max(time_of(self.all_up_to))
+    }
+}
+
+/// The later of a stamp that may be missing and another.
+fn later_than(own: Option<Stamp>, t: Stamp) -> Stamp
+    ensures { together own (Some t) ≡ Some result }
+{
+    match own {
+        Some(own) if !(own < t) => own,
+        _ => t,
     }
 }

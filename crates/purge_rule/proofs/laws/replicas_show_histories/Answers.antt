@@ -1,5 +1,5 @@
-use Rattle.directory.proofs.ShownLaws.{shown_in-table_of}
+use Rattle.directory.proofs.PurgeLaws.{shown_in-purged}
 use Rattle.purge_rule.proofs.laws.replicas_show_histories.Goals as goal
 
 pub returns : goal.returns
-returns c = λ h t n. shown_in-table_of h n
+returns c = shown_in-purged

@@ -1,7 +1,6 @@
 use Rattle.std.proofs.Common.{refl}
-use Rattle.directory.proofs.MemberLaws.{table_of-same}
-use Rattle.purge_rule.proofs.ReplicaLaws.{same_replica}
+use Rattle.purge_rule.proofs.ReplicaLaws.{same_replica, purged-same}
 use Rattle.purge_rule.proofs.laws.same_marks_make_one_replica.Goals as goal
 
 pub returns : goal.returns
-returns c = λ g h t same. same_replica _ _ _ _ (table_of-same g h same) refl
+returns c = λ g h t same. same_replica _ _ _ _ (purged-same g h t same) refl
