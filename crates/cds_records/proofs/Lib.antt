@@ -1,6 +1,7 @@
 pub mod LayoutLaws
 pub mod NameLaws
 pub mod MapLoops
+pub mod ListLoops
 pub mod Valid
 pub mod Listed
 pub mod DecodingLaws

@@ -1,5 +1,5 @@
 -- Words of private contracts: what a reader of fields returned, by the reading of its layout (own).
-use Rattle.std.specs.Prelude.{◌≡◌, ℕ, List, Result, Ok, Err}
+use Rattle.std.specs.Prelude.{◌≡◌, ℕ, List, [], ◌∷◌, ◌++◌, Result, Ok, Err}
 use Rattle.std.specs.FinMap.{FinMap, insert}
 use Rattle.std.specs.declared.cmp.Ordering.{Ordering}
 use Rattle.cds_stamps.specs.declared.alloc_or.AllocOr.{AllocOr}
@@ -20,3 +20,9 @@ abbrev pub Adds : {Y K X : Type 0} {R : K → K → Ordering} → (Y → K) → 
 Adds {X = X} view l m n old new (Ok y) = (x : X) × (read l old ≡ Ok ((view y, x), new)) × (n ≡ insert m (view y) x)
 Adds view l m n old new (Err (Fault b)) = read l old ≡ Err b
 Adds view l m n old new (Err OutOfMemory) = Unit {0}
+
+-- the same where the items are put behind one another (own)
+abbrev pub Puts : {Y K X : Type 0} → (Y → K) → Layout (K × X) → (old new : List (K × X)) → List ℕ → List ℕ → Result Y (AllocOr Broken) → Type 0
+Puts {X = X} view l es fs old new (Ok y) = (x : X) × (read l old ≡ Ok ((view y, x), new)) × (fs ≡ es ++ (view y, x) ∷ [])
+Puts view l es fs old new (Err (Fault b)) = read l old ≡ Err b
+Puts view l es fs old new (Err OutOfMemory) = Unit {0}

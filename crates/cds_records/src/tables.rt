@@ -5,9 +5,9 @@ ghost use Rattle.std.specs.Int.{w64};
 ghost use Rattle.std.specs.Option.{option_map};
 ghost use Rattle.cds_stamps.specs.Octets.{octets_cmp};
 ghost use Rattle.directory.specs.Kinds.{kind_of_rank};
-ghost use Rattle.cds_records.specs.PrivateReading.{Reads, Adds};
+ghost use Rattle.cds_records.specs.PrivateReading.{Reads, Adds, Puts};
 ghost use Rattle.cds_records.specs.Fields.{number, value, attr_name, simple_name};
-ghost use Rattle.cds_records.specs.Records.{item, map_of, mark, empty_cell, cell, kind, entry, replica};
+ghost use Rattle.cds_records.specs.Records.{item, ascending, map_of, mark, empty_cell, cell, kind, entry, replica};
 ghost use Rattle.cds_records.specs.declared.fault.Rule.TheVariants.{BadLength};
 
 use crate::fault::{ReadError, Rule};
@@ -164,33 +164,49 @@ fn insert_cell(attrs: &mut AttrMap, name: AttrName, cell: AttrCell) -> Result<()
 
 // Tables and replicas.
 impl<'a> Reader<'a> {
-    /// Adds the next entry. The octets of its name.
+    /// Puts the next entry behind those before it. The octets of its name.
     #[tactic(auto, unfolding(crate::specs::Records::item))]
-    fn add_entry(
+    fn push_entry(
         &mut self,
         alloc: Global,
-        table: &mut Table,
+        entries: &mut Vec<(SimpleName, EntryCell)>,
         before: Option<&[u8]>,
     ) -> Result<&'a [u8], ReadError>
-        ensures { Adds (λ x. x.now) (item simple_name entry (option_map (λ b. b.now) before.entry)) table.old table.new self.old self.new result }
+        ensures { Puts (λ x. x.now) (item simple_name entry (option_map (λ b. b.now) before.entry))
+            entries.old.items entries.new.items self.old self.new result }
     {
         let own = self.simple_name(before)?;
         let entry = self.entry(alloc)?;
         let name = SimpleName::known(alloc, own)?;
-        insert_entry(table, name, entry)?;
+        entries.push((name, entry))?;
         Ok(own)
     }
 
     /// So many entries, ascending.
+    fn entries(
+        &mut self,
+        alloc: Global,
+        count: u64,
+    ) -> Result<Vec<(SimpleName, EntryCell)>, ReadError>
+        ensures { Reads (λ v. v.items) (ascending simple_name entry count None) self.old self.new result }
+    {
+        let mut entries = Vec::new(alloc);
+        let mut before = None;
+        for _ in 0..count {
+            let own = self.push_entry(alloc, &mut entries, before)?;
+            before = Some(own);
+        }
+        Ok(entries)
+    }
+
+    /// The table of so many entries, ascending. They are listed first, since a table is made of a list in less time than by
+    /// inserting each.
+    #[tactic(auto, unfolding(crate::specs::Records::map_of))]
     fn table(&mut self, alloc: Global, count: u64) -> Result<Table, ReadError>
         ensures { Reads (λ x. x) (map_of simple_name entry count) self.old self.new result }
     {
-        let mut table = Table::new(alloc);
-        let mut before = None;
-        for _ in 0..count {
-            let own = self.add_entry(alloc, &mut table, before)?;
-            before = Some(own);
-        }
+        let entries = self.entries(alloc, count)?;
+        let table = Table::from_pairs(alloc, entries)?;
         Ok(table)
     }
 
@@ -204,14 +220,6 @@ impl<'a> Reader<'a> {
         let table = self.table(alloc, count)?;
         Ok(Replica { table, all_up_to })
     }
-}
-
-/// Gives a new name its entry.
-fn insert_entry(table: &mut Table, name: SimpleName, entry: EntryCell) -> Result<(), AllocError>
-    ensures { OnOk result (table.new ≡ map.insert table.old name entry) }
-{
-    table.insert(name, entry)?;
-    Ok(())
 }
 
 /// The kind of a number that is not 0.

@@ -1,31 +1,9 @@
-use Rattle.std.proofs.Common.{Bor, List, ℕ}
-use Rattle.std.proofs.lemmas.Result.{err_from_is_err_and}
-use Rattle.std.specs.Option.{option_map}
-use Rattle.cds_stamps.specs.Octets.{octets_cmp}
-use Rattle.cds_records.specs.Reading.{read}
 use Rattle.cds_records.specs.Fields.{simple_name}
-use Rattle.cds_records.specs.Records.{entry, map_of}
-use Rattle.cds_records.proofs.MapLoops.{begins, goes_on, ends, is_done}
+use Rattle.cds_records.specs.Records.{entry}
+use Rattle.cds_records.proofs.ListLoops.{map_is_read}
 use Rattle.cds_records.proofs.fields.Reader.table.Goals as goal
-
-pub loop-init : goal.loop-init
-loop-init c = rw c.new-table.ensures (begins simple_name entry c.args.count c.args.self.now)
-
-pub returns-in_err-own : goal.returns-in_err-own
-returns-in_err-own c =
-    let p = err_from_is_err_and c.from_residual.result c.from_residual.ensures.1 in
-    rw (p.1, p.2) (ends simple_name entry (λ x. x)
-    (λ (x : Bor (List ℕ)). x.now) c.in_err-own.field-0.0 c.loop.table c.add_entry.new.table c.args.count c.loop.counter
-    (option_map (λ b. b.now) c.loop.before) c.loop.self c.add_entry.new.self c.add_entry.new.self c.args.self.now c.loop-test.true c.in_err-own.ensures
-    c.loop.invariant)
-
-pub loop-preserved : goal.loop-preserved
-loop-preserved c =
-    goes_on simple_name entry (λ (x : Bor (List ℕ)). x.now) c.in_ok-own.own c.loop.table c.add_entry.new.table c.args.count c.loop.counter
-    (option_map (λ b. b.now) c.loop.before) c.loop.self c.add_entry.new.self
-    (read (map_of {R = octets_cmp} simple_name entry c.args.count) c.args.self.now) c.loop-test.true c.in_ok-own.ensures c.loop.invariant
 
 pub returns : goal.returns
 returns c =
-    is_done simple_name entry c.loop.table c.args.count c.loop.counter (option_map (λ b. b.now) c.loop.before) c.loop.self
-    (read (map_of {R = octets_cmp} simple_name entry c.args.count) c.args.self.now) c.loop-test.false c.loop.invariant
+    map_is_read simple_name entry c.args.count c.args.self.now c.entries.new.self c.in_ok-entries.entries.items c.in_ok-table.table
+    c.in_ok-entries.ensures c.in_ok-table.ensures
