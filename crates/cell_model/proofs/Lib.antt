@@ -43,3 +43,13 @@ pub mod Completing
 pub mod Downs
 pub mod AtHouses
 pub mod Fine
+pub mod Deliveries
+pub mod Readiness
+pub mod Answerings
+pub mod ReadySkulks
+pub mod PresentLists
+pub mod Agreed
+pub mod Starting
+pub mod JoinRuns
+pub mod Mended
+pub mod Mendings

@@ -80,7 +80,7 @@ purged_deletion-dump_4_left : left_at (replay (take 20 purged_deletion)) 3 1 (co
 purged_deletion-dump_4_left = refl
 
 -- an old master comes back in a new term
-abbrev old_master : List Command
+abbrev pub old_master : List Command
 old_master =
     House 1 10 ∷ House 2 11 ∷ Root 1 (2 ∷ []) ∷ Deliver 1 ∷ Epoch 1 2 [] ∷ Accept 1 1 (Create (codes "lone")) ∷ Deliver 3 ∷ Skulk 2 1 ∷
     Epoch 1 2 (1 ∷ []) ∷ Epoch 1 1 (2 ∷ []) ∷ Deliver 4 ∷ Deliver 2 ∷ []
@@ -119,7 +119,7 @@ missed_epochs-read_2 : value_at (replay (take 17 missed_epochs)) 1 1 (codes "new
 missed_epochs-read_2 = refl
 
 -- a crash in the second round
-abbrev crash_in_second : List Command
+abbrev pub crash_in_second : List Command
 crash_in_second =
     House 1 10 ∷ House 2 11 ∷ Root 1 (2 ∷ []) ∷ Deliver 1 ∷ Skulk 1 1 ∷ Deliver 2 ∷ Deliver 3 ∷ Deliver 4 ∷ Crash 1 ∷ Deliver 5 ∷ Start 1 ∷
     Deliver 5 ∷ Skulk 1 1 ∷ Deliver 6 ∷ Deliver 7 ∷ Deliver 8 ∷ Deliver 9 ∷ []
@@ -141,7 +141,7 @@ above_gather-answers : answers above_gather ≡
 above_gather-answers = refl
 
 -- a Join that a Leave of a later epoch has overtaken does not bring the directory back
-abbrev overtaken : List Command
+abbrev pub overtaken : List Command
 overtaken = House 1 10 ∷ House 2 11 ∷ Root 1 (2 ∷ []) ∷ Epoch 1 1 [] ∷ Deliver 2 ∷ Deliver 1 ∷ Deliver 2 ∷ []
 
 overtaken-answers : answers overtaken ≡

@@ -15,3 +15,4 @@ pub mod Rounds
 pub mod Holdings
 pub mod Completions
 pub mod Taking
+pub mod Mending

@@ -1,6 +1,6 @@
 // What holds of every run of the model. A law is a function without parameters and with an empty body: its contract is
 // the theorem, for every list of commands.
-ghost use Rattle.std.specs.Prelude.{List};
+ghost use Rattle.std.specs.Prelude.{ℕ, List};
 ghost use Rattle.cell_model.specs.Cells.{Message, Cell};
 ghost use Rattle.cell_model.specs.Commands.{Command};
 ghost use Rattle.cell_model.specs.Sets.{In};
@@ -15,6 +15,7 @@ ghost use Rattle.cell_model.specs.Provenance.{ProvenanceHolds};
 ghost use Rattle.cell_model.specs.Holdings.{HistoriesHold, MembersHold, NumbersHold};
 ghost use Rattle.cell_model.specs.Taking.{CanTake};
 ghost use Rattle.cell_model.specs.Completions.{AnswersHold};
+ghost use Rattle.cell_model.specs.Mending.{SkulkCompletes, IsNeverStuck, NeedsStamp};
 ghost use Rattle.cell_model.specs.Rounds.{GatheringHolds, SecondHolds, SpreadingHolds, CompletedHolds, CompletedAtOnce};
 
 /// From each completed skulk on, the replicas of its epoch and of later ones agree up to its stamp.
@@ -78,4 +79,15 @@ pub fn taking()
 /// No answer says that a sender is no member, and a skulk completes at its last answer, or at once where its master is alone.
 pub fn answers()
     ensures { (g : Cell) (c : Command) → IsReached g → AnswersHold g c }
+{}
+
+/// Where each house of a directory's present list is up and holds its last epoch, a skulk and its messages complete it.
+pub fn ready()
+    ensures { (commands : List Command) (d : ℕ) → SkulkCompletes commands d }
+{}
+
+/// No state is stuck: wherever the master has a stamp left, the commands that `mending` names complete its skulk.
+pub fn mending()
+    ensures completes { (commands : List Command) (d : ℕ) → IsNeverStuck commands d }
+    ensures stamp { (commands : List Command) (d : ℕ) → NeedsStamp commands d }
 {}

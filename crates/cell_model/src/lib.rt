@@ -4,6 +4,6 @@
 mod laws;
 
 pub use laws::{
-    absences, answers, completion, convergence, floors, holdings, invariant, merges, reached,
-    taking,
+    absences, answers, completion, convergence, floors, holdings, invariant, mending, merges,
+    reached, ready, taking,
 };

@@ -1,0 +1,115 @@
+-- The Joins of a new epoch are taken, one after the other: each house then holds the epoch and is ready for a skulk.
+use Rattle.std.proofs.Common.{◌≡◌, ◌≢◌, ℕ, ◌+◌, ◌<◌, suc, inl, inr, Bool, true, false, ◌&&◌, cond, List, [], ◌∷◌, length, Option, Some, None}
+use Rattle.std.proofs.Common.{refl, sym, ap, ◌∙◌, subst, arith, nat_lt, nat_le}
+use Rattle.cds_stamps.specs.declared.stamp.Stamp.{Stamp}
+use Rattle.cds_stamps.specs.Members.{Member, is_listed, since_in}
+use Rattle.cell_model.specs.Cells.{Replica, Slot, Absent, Gone, Held, House, Copy, Join, Message, Cell, IsHeld}
+use Rattle.cell_model.specs.Commands.{Deliver, Foreign}
+use Rattle.cell_model.specs.Sets.{In, has}
+use Rattle.cell_model.specs.Turns.{HouseStep, Stays, holding, floor_after, taken, to_each, stamp_at, copied, kept_at_join, joined, late_join, unless_late, take}
+use Rattle.cell_model.specs.Provenance.{epoch_of}
+use Rattle.cell_model.specs.Mending.{delivering}
+use Rattle.cell_model.proofs.Lists.{append_nil}
+use Rattle.cell_model.proofs.Views.{put_at, put_same, put_other}
+use Rattle.cell_model.proofs.Deliveries.{Run, run_none, run_first, run_map, Waiting, delivered, waiting_next}
+use Rattle.cell_model.proofs.Readiness.{changed, letter}
+use Rattle.cell_model.proofs.Answerings.{Once, AreOthers}
+use Rattle.cell_model.proofs.ReadySkulks.{CanSkulk}
+
+-- a Join of an epoch above that of the slot is not late
+not_late : (k : ℕ) (s : Slot) → epoch_of s < k → late_join k s ≡ None
+not_late k Absent lt = refl
+not_late k (Gone e) lt = let q : nat_le k e ≡ false = grind arith in ap (λ (b : Bool). cond b (Some e) None) q
+not_late k (Held r) lt = let q : nat_lt k r.epoch ≡ false = grind arith in ap (λ (b : Bool). cond b (Some r.epoch) None) q
+
+-- what a Join leaves is of its epoch, with its list
+joined_is : (z : Message) (ms : List Member) (copy : Copy) (s : Slot) → ((joined z ms copy s).epoch ≡ z.epoch) × ((joined z ms copy s).members ≡ ms)
+joined_is z ms copy Absent = (refl, refl)
+joined_is z ms copy (Gone e) = (refl, refl)
+joined_is z ms copy (Held r) = by_since (nat_le (since_in ms z.receiver 0) r.epoch)
+  where
+    by_since : (b : Bool) → ((cond b (kept_at_join z ms copy r) (copied z ms copy)).epoch ≡ z.epoch)
+        × ((cond b (kept_at_join z ms copy r) (copied z ms copy)).members ≡ ms)
+    by_since true = (refl, refl)
+    by_since false = (refl, refl)
+
+-- a house of an older epoch takes the Join
+join_taken : (now : House) (d k y m floor : ℕ) (ms : List Member) (copy : Copy) → epoch_of (now.slots d) < k → is_listed y ms ≡ true → is_listed m ms ≡ true
+    → take now (letter d k y m floor (Join ms copy))
+    ≡ taken now (letter d k y m floor (Join ms copy)) (Held (joined (letter d k y m floor (Join ms copy)) ms copy (now.slots d))) []
+join_taken now d k y m floor ms copy lt at by =
+    let z : Message = letter d k y m floor (Join ms copy) in
+    let s : HouseStep = taken now z (Held (joined z ms copy (now.slots d))) [] in
+    let both : (is_listed y ms && is_listed m ms) ≡ true = ap (λ (b : Bool). b && is_listed m ms) at ∙ by in
+    ap (λ (o : Option ℕ). unless_late z o (cond (is_listed y ms && is_listed m ms) s (Stays Foreign))) (not_late k (now.slots d) lt)
+    ∙ ap (λ (b : Bool). cond b s (Stays Foreign)) both
+
+-- the master holds the new epoch, and so does each house of its list but for these, whose Joins wait
+pub record Joining (d m k : ℕ) (ms : List Member) (next : Option Stamp) (floor : ℕ) (copy : Copy) (ys : List ℕ) (p : ℕ) (g : Cell) : Type 0 where
+  pub up : (x : ℕ) → is_listed x ms ≡ true → (g.house x).up ≡ true
+  pub holds : (x : ℕ) → is_listed x ms ≡ true → (In x ys → ⊥) → (r : Replica) × IsHeld g x d r × (r.epoch ≡ k) × (r.members ≡ ms)
+  pub below : (x : ℕ) → In x ys → epoch_of ((g.house x).slots d) < k
+  pub waiting : Waiting g p (to_each ys d m k floor (Join ms copy))
+  pub known : g.top d ≢ 0
+  pub made : has m g.made ≡ true
+  pub stamp : stamp_at (g.house m) ≡ next
+
+module _ (d m k : ℕ) (ms : List Member) (next : Option Stamp) (floor : ℕ) (copy : Copy) (master_listed : is_listed m ms ≡ true) where
+  joined_none : (g : Cell) (p : ℕ) → Joining d m k ms next floor copy [] p g → CanSkulk d m k ms next (p + 0) g
+  joined_none g p j =
+      let place : p ≡ p + 0 = omega arith in
+      record {
+        ready = record { up = j.up; holds = λ x l. j.holds x l (λ i. elim i [ ]) };
+        waiting = subst (λ (n : ℕ). Waiting g n []) place j.waiting;
+        known = j.known;
+        made = j.made;
+        stamp = j.stamp;
+      }
+
+  -- one of them takes its Join
+  joining_next : (y : ℕ) (ys : List ℕ) (g : Cell) (p : ℕ) → Once (y ∷ ys) → AreOthers m ms (y ∷ ys) → Joining d m k ms next floor copy (y ∷ ys) p g
+      → Joining d m k ms next floor copy ys (p + 1)
+      (changed g y d (floor_after (g.house y) (letter d k y m floor (Join ms copy)))
+      (joined (letter d k y m floor (Join ms copy)) ms copy ((g.house y).slots d)) [])
+  joining_next y ys g p once others j =
+      let z : Message = letter d k y m floor (Join ms copy) in
+      let f : ℕ = floor_after (g.house y) z in
+      let r : Replica = joined z ms copy ((g.house y).slots d) in
+      let is = joined_is z ms copy ((g.house y).slots d) in
+      let now : House = holding (g.house y) d f (Held r) in
+      let h : Cell = changed g y d f r [] in
+      let here = others y (inl refl) in
+      record {
+        up = put_at (λ x (w : House). is_listed x ms ≡ true → w.up ≡ true) g.house y now (λ l. j.up y l) (λ x _ l. j.up x l);
+        holds = put_at
+            (λ x (w : House). is_listed x ms ≡ true → (In x ys → ⊥) → (q : Replica) × (w.slots d ≡ Held q) × (q.epoch ≡ k) × (q.members ≡ ms)) g.house y now
+            (λ l n. (r, put_same (g.house y).slots d (Held r), is.0, is.1))
+            (λ x apart l n. j.holds x l (λ i. by_place x apart n i));
+        below = λ x i. subst (λ (w : House). epoch_of (w.slots d) < k)
+            (sym (put_other g.house y now x (λ e. once.0 (subst (λ (v : ℕ). In v ys) e i)))) (j.below x (inr i));
+        waiting = subst (λ (l : List Message). Waiting h (p + 1) l) (append_nil (to_each ys d m k floor (Join ms copy)))
+            (waiting_next g h p z (to_each ys d m k floor (Join ms copy)) [] j.waiting refl refl);
+        known = j.known;
+        made = j.made;
+        stamp = ap stamp_at (put_other g.house y now m (λ e. here.0 (sym e))) ∙ j.stamp;
+      }
+    where
+      by_place : (x : ℕ) → x ≢ y → (In x ys → ⊥) → In x (y ∷ ys) → ⊥
+      by_place x apart n (inl e) = apart e
+      by_place x apart n (inr i) = n i
+
+  -- all of them take their Joins
+  pub join_run : (ys : List ℕ) (g : Cell) (p : ℕ) → Once ys → AreOthers m ms ys → Joining d m k ms next floor copy ys p g
+      → Run g (delivering p (length ys)) (CanSkulk d m k ms next (p + length ys))
+  join_run [] g p once others j = run_none g (CanSkulk d m k ms next (p + 0)) (joined_none g p j)
+  join_run (y ∷ ys) g p once others j =
+      let here = others y (inl refl) in
+      let z : Message = letter d k y m floor (Join ms copy) in
+      let h : Cell = changed g y d (floor_after (g.house y) z) (joined z ms copy ((g.house y).slots d)) [] in
+      let place : (p + 1) + length ys ≡ p + suc (length ys) = omega arith in
+      run_first g (Deliver (p + 1)) (delivering (p + 1) (length ys)) (CanSkulk d m k ms next (p + suc (length ys))) _
+      (delivered g p z (to_each ys d m k floor (Join ms copy)) _ j.waiting (j.up y here.1)
+      (join_taken (g.house y) d k y m floor ms copy (j.below y (inl refl)) here.1 master_listed)) tt
+      (run_map h (delivering (p + 1) (length ys)) (CanSkulk d m k ms next ((p + 1) + length ys)) (CanSkulk d m k ms next (p + suc (length ys)))
+      (join_run ys h (p + 1) once.1 (λ x i. others x (inr i)) (joining_next y ys g p once others j))
+      (λ c s. subst (λ (n : ℕ). CanSkulk d m k ms next n c) place s))
