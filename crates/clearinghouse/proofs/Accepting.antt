@@ -1,6 +1,6 @@
 -- An update that is accepted: its marks are added, and posted.
-use Rattle.std.proofs.Common.{◌≡◌, ℕ, ◌<◌, true, List, [], ◌++◌, Option, Some, None, Result, Ok, Err, refl, sym, ap, subst, ◌∙◌, arith}
-use Rattle.std.specs.Prelude.{if◌then◌else◌, unwrap_or}
+use Rattle.std.proofs.Common.{◌≡◌, ℕ, ◌<◌, ◌≤◌, true, List, [], ◌++◌, Option, Some, None, Result, Ok, Err, refl, sym, ap, subst, ◌∙◌, arith}
+use Rattle.std.specs.Prelude.{if◌then◌else◌, unwrap_or, IfSome}
 use Rattle.std.specs.List.{AllByRecursion}
 use Rattle.cds_stamps.specs.declared.numbers.DirId.{DirId}
 use Rattle.cds_stamps.specs.declared.numbers.HouseNo.{HouseNo}
@@ -13,11 +13,13 @@ use Rattle.directory.specs.declared.update.UpdateRefusal.{UpdateRefusal}
 use Rattle.directory.specs.declared.update.UpdateRefusal.TheVariants as why
 use Rattle.directory.specs.Applied.{TakesIn}
 use Rattle.directory.specs.Entries.{Entries}
-use Rattle.directory.specs.Histories.{Mark, IsBefore, name_in, stamp_in, entry_of, table_of}
+use Rattle.directory.specs.Histories.{Mark, IsBefore, name_in, stamp_in, entry_of}
+use Rattle.directory.specs.Purges.{purged}
 use Rattle.directory.specs.Updates.{Change, changed_name}
 use Rattle.directory.specs.Shown.{shown, shown_in, refusal_of, marks_of}
-use Rattle.directory.proofs.ShownLaws.{shown_in-table_of}
-use Rattle.directory.proofs.UpdateLaws.{applied-table_of, marks_of-names}
+use Rattle.directory.proofs.AppliedPurges.{applied-purged}
+use Rattle.directory.proofs.PurgeLaws.{shown_in-purged}
+use Rattle.directory.proofs.UpdateLaws.{marks_of-names}
 use Rattle.purge_rule.specs.declared.replica.Replica.{Replica}
 use Rattle.purge_rule.specs.Replicas.{replica_of}
 use Rattle.purge_rule.proofs.ReplicaLaws.{same_replica}
@@ -41,7 +43,7 @@ use Rattle.clearinghouse.proofs.Posts.{posts_stand}
 
 -- what is held shows what the replica of the model shows
 pub held_shows : (me floor : ℕ) (held : Held) (r : model.Replica) (n : List ℕ) → StandsHeld me floor held r → shown_in held.replica.table n ≡ shown r.history n
-held_shows me floor held r n stands = ap (λ (x : Replica). shown_in x.table n) stands.replica ∙ shown_in-table_of r.history n
+held_shows me floor held r n stands = ap (λ (x : Replica). shown_in x.table n) stands.replica ∙ shown_in-purged r.history r.all_up_to n
 
 -- the replica of the model of what is held, up to the AllUpTo of that
 pub held_replica : (me floor : ℕ) (held : Held) (r : model.Replica) → StandsHeld me floor held r → held.replica ≡ replica_of r.history held.replica.all_up_to
@@ -69,15 +71,20 @@ module _ (held : Held) (table : Entries) (u : Change) (s : Stamp) (fine : refusa
   before : IsBefore r.history s
   before = before_stamp r floor s stands.below above
 
+  up_to_before : (a : Option Stamp) → ((t : Stamp) → a ≡ Some t → t.time ≤ floor) → IfSome a (λ t. is_earlier t s ≡ true)
+  up_to_before None below = tt
+  up_to_before (Some t) below = by_time t s (let low = below t refl in omega arith)
+
   grown_stands : StandsHeld me s.time (record held { replica = record held.replica { table = table } }) (grown r (new_marks r u s))
   grown_stands =
       let up : held.replica.all_up_to ≡ r.all_up_to = ap (λ (x : Replica). x.all_up_to) stands.replica in
       let after = accepted_fine r floor u s (fine_held me floor held r stands) above accepted in
-      let now : table ≡ table_of (r.history ++ new_marks r u s) =
-      applied-table_of r.history u s stands.history before accepted held.replica.table table (ap (λ (x : Replica). x.table) stands.replica) takes in
+      let now : table ≡ purged (r.history ++ new_marks r u s) r.all_up_to =
+      applied-purged r.history u s stands.history before accepted r.all_up_to (up_to_before r.all_up_to stands.below.all_up_to)
+      held.replica.table table (ap (λ (x : Replica). x.table) stands.replica) takes in
       record {
         looks = record { epoch = stands.looks.epoch; members = stands.looks.members; phase = stands.looks.phase };
-        replica = same_replica table (table_of (r.history ++ new_marks r u s)) held.replica.all_up_to r.all_up_to now up;
+        replica = same_replica table (purged (r.history ++ new_marks r u s) r.all_up_to) held.replica.all_up_to r.all_up_to now up;
         history = after.history;
         below = after.below;
       }

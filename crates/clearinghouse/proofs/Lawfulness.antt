@@ -91,7 +91,7 @@ adds_lawful held table u s fine takes me floor lawful above =
         let raises = joins (lawful.valid (changed_name u)) in
         let after = lawful_later me floor s.time held (omega arith) lawful in
         record {
-          valid = raised_table-valid held.replica.table table f lawful.valid valid raises;
+          valid = raised_table-valid None held.replica.table table f lawful.valid valid raises;
           replica = record {
             table =
                 raised-up_to s.time held.replica.table table (changed_name u) e after.replica.table

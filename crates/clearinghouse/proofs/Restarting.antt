@@ -7,7 +7,8 @@ use Rattle.cds_stamps.specs.declared.numbers.DirId.{DirId}
 use Rattle.cds_stamps.specs.declared.stamp.Stamp.{Stamp}
 use Rattle.purge_rule.specs.Latest.{ReplicaUpTo, StampUpTo}
 use Rattle.purge_rule.proofs.MapValues.{greatest_value-≤}
-use Rattle.purge_rule.proofs.Times.{latest_time-≤, table_of-up_to}
+use Rattle.purge_rule.proofs.Times.{latest_time-≤}
+use Rattle.purge_rule.proofs.MergeLaws.{purged-up_to}
 use Rattle.cds_records.specs.Dirs.{dir_total, dir_exact}
 use Rattle.cds_records.specs.declared.image.ImageDir.{ImageDir}
 use Rattle.cell_model.specs.Cells as model
@@ -78,7 +79,7 @@ held_up_to : (me n : ℕ) (h : Held) (r : model.Replica) → StandsHeld me n h r
 held_up_to me n h r stands =
     subst (ReplicaUpTo n) (sym stands.replica)
     (record {
-      table = table_of-up_to n r.history (each_mark n r.history stands.below.marks);
+      table = purged-up_to n r.history r.all_up_to (each_mark n r.history stands.below.marks);
       all_up_to = stamp_below n r.all_up_to stands.below.all_up_to;
     })
 

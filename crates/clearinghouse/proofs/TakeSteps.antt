@@ -15,7 +15,8 @@ use Rattle.directory.specs.declared.entry.Fragment.{Fragment}
 use Rattle.purge_rule.specs.declared.replica.Replica.{Replica}
 use Rattle.purge_rule.specs.Replicas.{replica_of, together, IsFragmentOf}
 use Rattle.purge_rule.specs.Latest.{EntryUpTo, MarkUpTo, ReplicaUpTo, StampUpTo, latest_time}
-use Rattle.purge_rule.proofs.Times.{latest_in_entry-≤, latest_time-≤, entry_of-up_to, table_of-up_to}
+use Rattle.purge_rule.proofs.Times.{latest_in_entry-≤, latest_time-≤, entry_of-up_to}
+use Rattle.purge_rule.proofs.MergeLaws.{purged-up_to}
 use Rattle.skulk_core.specs.declared.skulk.Skulk.{Skulk}
 use Rattle.skulk_core.specs.declared.skulk.Next.{Next}
 use Rattle.skulk_core.specs.declared.skulk.Next.TheVariants as next
@@ -460,7 +461,8 @@ stamp_up_to n (Some t) h = h t refl
 copy_up_to : (n : ℕ) (rep : Replica) (c : model.Copy) → StandsCopy rep c → ((k : Mark) → In k c.history → MarkUpTo n k)
     → ((t : Stamp) → c.all_up_to ≡ Some t → t.time ≤ n) → ReplicaUpTo n rep
 copy_up_to n rep c is marks up =
-    subst (ReplicaUpTo n) (sym is) (record { table = table_of-up_to n c.history (each_mark n c.history marks); all_up_to = stamp_up_to n c.all_up_to up })
+    subst (ReplicaUpTo n) (sym is)
+    (record { table = purged-up_to n c.history c.all_up_to (each_mark n c.history marks); all_up_to = stamp_up_to n c.all_up_to up })
 
 some_entry : (n : ℕ) (o : Option EntryCell) (e : EntryCell) → o ≡ Some e → IfSome o (EntryUpTo n) → EntryUpTo n e
 some_entry n o e is h = subst (λ x. IfSome x (EntryUpTo n)) is h

@@ -41,7 +41,8 @@ pub record LooksHeld (me : ℕ) (h : Held) (r : model.Replica) : Type 0 where
   pub members : r.members ≡ members_of h.members
   pub phase : StandsPhase me (members_of h.members) h.skulk r.phase
 
--- it stands for one: it is also the replica of that one's history, of which no time is above the floor (own)
+-- it stands for one: it is also the replica of that one's history, without the deletions up to AllUpTo, and no time of it is above the
+-- floor (own)
 pub record StandsHeld (me floor : ℕ) (h : Held) (r : model.Replica) : Type 0 where
   pub looks : LooksHeld me h r
   pub replica : h.replica ≡ replica_of r.history r.all_up_to
