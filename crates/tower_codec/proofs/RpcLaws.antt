@@ -1,6 +1,6 @@
 -- What is read of an RPC tower is spelled so, and what is spelled so is read.
 use Rattle.std.proofs.Common.{◌≡◌, ℕ, ◌+◌, ◌*◌, ◌/◌, ◌%◌, ◌<◌, ◌^◌, true, eqb, ◌&&◌, List, [], ◌∷◌, ◌++◌, length, get_or, take, drop, Option, Some, None}
-use Rattle.std.proofs.Common.{refl, sym, ap, subst, ◌∙◌, arith}
+use Rattle.std.proofs.Common.{refl, sym, ap, subst, ◌∙◌, arith, lit<}
 use Rattle.std.specs.Prelude.{IfSome, slice_get}
 use Rattle.std.specs.Int.{w16, to_le_bytes, to_be_bytes}
 use Rattle.std.proofs.lemmas.Bool.{eqb-true, eq-eqb, and_parts}
@@ -13,7 +13,7 @@ use Rattle.tower_codec.specs.declared.rpc.Protseq.{Protseq}
 use Rattle.tower_codec.specs.declared.rpc.Protseq.TheVariants.{Tcp, Udp}
 use Rattle.tower_codec.specs.declared.rpc.RpcTower.{RpcTower}
 use Rattle.tower_codec.specs.Tower.{Floor, IsTower}
-use Rattle.tower_codec.specs.Spelling.{number_octets}
+use Rattle.tower_codec.specs.Spelling.{number_octets, FloorFits, HasSpelling}
 use Rattle.tower_codec.specs.Rpc.{rpc_protocol, port_protocol, port_octets, interface_floor, rpc_floors, IsInterface, IsInterfaceFloor, IsPortFloor}
 use Rattle.tower_codec.specs.Rpc.{FitsRpc, IsRpcTower}
 use Rattle.tower_codec.specs.RpcReading.{is_interface, interface_at, protseq_at, port_at, address_at, rpc_at}
@@ -188,3 +188,18 @@ pub rpc_reads_back : (tower : RpcTower) (any octets : List ℕ) (floors : List F
     → IsTower floors octets → IsRpcTower floors tower
 rpc_reads_back tower any octets floors fits written read =
     (fits, (any, (towers_apart floors (rpc_floors tower any) octets octets [] [] read written refl).0))
+
+-- ---- Spellings.
+
+interface_fits : (i : Interface) → FloorFits (interface_floor i)
+interface_fits i = record { some = lit< tt; left = lit< tt; right = lit< tt }
+
+-- The floors of an RPC tower have a spelling.
+pub rpc_fits : (tower : RpcTower) → length tower.address ≡ 4 → HasSpelling (rpc_floors tower (0 ∷ 0 ∷ []))
+rpc_fits tower four =
+    let protocol : FloorFits (record { left = rpc_protocol tower.protseq ∷ []; right = 0 ∷ 0 ∷ [] }) =
+    record { some = lit< tt; left = lit< tt; right = lit< tt } in
+    let port : FloorFits (record { left = port_protocol tower.protseq ∷ []; right = port_octets tower.port }) =
+    record { some = lit< tt; left = lit< tt; right = lit< tt } in
+    let address : FloorFits (record { left = 9 ∷ []; right = tower.address }) = record { some = lit< tt; left = lit< tt; right = omega (arith, four) } in
+    (lit< tt, (interface_fits tower.interface, (interface_fits tower.transfer, (protocol, (port, (address, tt))))))

@@ -1,10 +1,11 @@
-ghost use Rattle.std.specs.Prelude.{◌≡◌, ℕ, ◌<◌, ◌^◌, List, [], ◌∷◌, ◌++◌, length, Some, IfSome, IfOk, OnOk};
+ghost use Rattle.std.specs.Prelude.{◌≡◌, ℕ, ◌^◌, List, [], ◌∷◌, ◌++◌, length, Some, IfSome, IfOk};
 ghost use Rattle.tower_codec.specs.Tower.{IsTower};
+ghost use Rattle.tower_codec.specs.Spelling.{number_octets, part_octets, floor_octets};
 ghost use Rattle.tower_codec.specs.Rpc.{rpc_protocol, port_protocol, port_octets, IsInterfaceFloor, IsPortFloor};
 ghost use Rattle.tower_codec.specs.RpcReading.{interface_at, protseq_at, port_at, address_at};
 
+use crate::TowerView;
 use crate::octets::{high_first, low_first};
-use crate::{TowerView, TowerWriter};
 use std::alloc::{AllocError, Global};
 use std::fmt;
 use uuid::Uuid;
@@ -21,6 +22,9 @@ const TCP_PORT: u8 = 0x07;
 const UDP_PORT: u8 = 0x08;
 
 const HOST_ADDRESS: u8 = 0x09;
+
+// How many octets a tower has.
+const SIZE: usize = 75;
 
 /// An interface or a transfer syntax, and its version.
 #[derive(Clone, Copy, Debug, PartialEq, Eq)]
@@ -123,6 +127,7 @@ fn address_of(left: &[u8], right: &[u8]) -> Option<[u8; 4]>
 impl Interface {
     ghost use Rattle.tower_codec.specs.Rpc.{interface_floor};
     ghost use Rattle.tower_codec.specs.Serving.{serves};
+    ghost use Rattle.tower_codec.specs.Spelling.{floor_octets};
 
     /// Whether this interface, where it is offered, serves one that is wanted: it has the same UUID and
     /// major version, and the same minor version or a later one.
@@ -132,26 +137,17 @@ impl Interface {
         self.uuid == wanted.uuid && self.major == wanted.major && wanted.minor <= self.minor
     }
 
-    // The left part of the floor.
-    fn left(&self) -> [u8; 19]
-        ensures { result ≡ (interface_floor self.now).left }
+    // The octets of the floor.
+    fn floor(&self) -> [u8; 25]
+        ensures { result ≡ floor_octets (interface_floor self.now) }
     {
         let u = self.uuid.to_bytes_le();
-        let [low, high] = low_first(self.major);
+        let [major_low, major_high] = low_first(self.major);
+        let [minor_low, minor_high] = low_first(self.minor);
         [
-            UUID, u[0], u[1], u[2], u[3], u[4], u[5], u[6], u[7], u[8], u[9], u[10], u[11], u[12],
-            u[13], u[14], u[15], low, high,
+            19, 0, UUID, u[0], u[1], u[2], u[3], u[4], u[5], u[6], u[7], u[8], u[9], u[10], u[11],
+            u[12], u[13], u[14], u[15], major_low, major_high, 2, 0, minor_low, minor_high,
         ]
-    }
-
-    // Puts the floor behind the others.
-    fn push_to(&self, writer: &mut TowerWriter) -> Result<(), AllocError>
-        requires { length writer.old < 65535 }
-        ensures { OnOk result (writer.new ≡ writer.old ++ interface_floor self.now ∷ []) }
-    {
-        let left = self.left();
-        let right = low_first(self.minor);
-        writer.push(&left, &right)
     }
 }
 
@@ -174,26 +170,18 @@ impl Protseq {
         }
     }
 
-    // Puts the floor of the RPC protocol behind the others.
-    fn push_to(self, writer: &mut TowerWriter) -> Result<(), AllocError>
-        requires { length writer.old < 65535 }
-        ensures { OnOk result (writer.new ≡ writer.old
-            ++ record { left = rpc_protocol self ∷ []; right = 0 ∷ 0 ∷ [] } ∷ []) }
+    // The octets of the floors of the RPC protocol and of a port, and those before the host's address.
+    fn floors(self, port: u16) -> [u8; 19]
+        ensures { result ≡ floor_octets (record { left = rpc_protocol self ∷ []; right = 0 ∷ 0 ∷ [] })
+            ++ (floor_octets (record { left = port_protocol self ∷ []; right = port_octets port })
+            ++ (part_octets (9 ∷ []) ++ number_octets 4)) }
     {
-        let left = [self.rpc_protocol()];
-        let right = [0, 0];
-        writer.push(&left, &right)
-    }
-
-    // Puts the floor of a port behind the others.
-    fn push_port_to(self, port: u16, writer: &mut TowerWriter) -> Result<(), AllocError>
-        requires { length writer.old < 65535 }
-        ensures { OnOk result (writer.new ≡ writer.old
-            ++ record { left = port_protocol self ∷ []; right = port_octets port } ∷ []) }
-    {
-        let left = [self.port_protocol()];
-        let right = high_first(port);
-        writer.push(&left, &right)
+        let (rpc, transport) = (self.rpc_protocol(), self.port_protocol());
+        let host = HOST_ADDRESS;
+        let [high, low] = high_first(port);
+        [
+            1, 0, rpc, 2, 0, 0, 0, 1, 0, transport, 2, 0, high, low, 1, 0, host, 4, 0,
+        ]
     }
 }
 
@@ -252,18 +240,18 @@ impl RpcTower {
         RpcTower::from_floors(view)
     }
 
-    // A writer that holds the five floors.
-    fn written(&self, alloc: Global) -> Result<TowerWriter, AllocError>
-        ensures { IfOk result (λ writer. writer ≡ rpc_floors self.now (0 ∷ 0 ∷ [])) }
+    // The octets of the number of floors, and of the five floors.
+    fn spelled(&self, alloc: Global) -> Result<Vec<u8>, AllocError>
+        ensures octets { IfOk result (λ octets. octets.items ≡ rpc_octets self.now) }
+        ensures four { length self.now.address ≡ 4 }
     {
-        let mut writer = TowerWriter::new(alloc)?;
-        self.interface.push_to(&mut writer)?;
-        self.transfer.push_to(&mut writer)?;
-        self.protseq.push_to(&mut writer)?;
-        self.protseq.push_port_to(self.port, &mut writer)?;
-        let left = [HOST_ADDRESS];
-        writer.push(&left, &self.address)?;
-        Ok(writer)
+        let mut octets = Vec::with_capacity(alloc, SIZE)?;
+        octets.extend_from_slice(&low_first(5))?;
+        octets.extend_from_slice(&self.interface.floor())?;
+        octets.extend_from_slice(&self.transfer.floor())?;
+        octets.extend_from_slice(&self.protseq.floors(self.port))?;
+        octets.extend_from_slice(&self.address)?;
+        Ok(octets)
     }
 
     /// The octets of the tower. The right part of the third floor, the minor version of the RPC
@@ -273,6 +261,6 @@ impl RpcTower {
             (λ octets. IsTower (rpc_floors self.now (0 ∷ 0 ∷ [])) octets.items) }
         ensures spelled { IfOk result (λ octets. octets.items ≡ rpc_octets self.now) }
     {
-        Ok(self.written(alloc)?.into_octets())
+        self.spelled(alloc)
     }
 }

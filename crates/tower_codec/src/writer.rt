@@ -116,12 +116,4 @@ impl TowerWriter {
     {
         &self.octets
     }
-
-    /// The octets of the tower of all floors.
-    pub(crate) fn into_octets(self) -> Vec<u8>
-        ensures tower { IsTower self result.items }
-        ensures spelled { result.items ≡ tower_octets self }
-    {
-        self.octets
-    }
 }
