@@ -23,8 +23,8 @@ use Rattle.cell_script.specs.declared.answer.ScriptRefusal.TheVariants as why
 use Rattle.cell_script.specs.declared.fault.ParseFault.{ParseFault}
 use Rattle.cell_script.specs.declared.fault.ParseFault.TheVariants.{UnknownCommand, WrongCount, BadWord}
 use Rattle.cell_script.specs.Words.{words_of, number_of, number_to, most_house}
-use Rattle.cell_script.specs.ServiceWords.{interface_of, element_interface_of, interface_or_none_of, all_said, binding_said, bindings_of, object_said}
-use Rattle.cell_script.specs.ServiceWords.{objects_of, object_of, protocols_of, priority_of, note_of}
+use Rattle.cell_script.specs.NameService.{interface_of, element_interface_of, interface_or_none_of, all_said, binding_said, bindings_of, object_said}
+use Rattle.cell_script.specs.NameService.{objects_of, object_of, protocols_of, priority_of, note_of}
 use Rattle.cell_script.specs.Notes.{note_in}
 use Rattle.cell_script.specs.Forms.{counted, taken}
 use Rattle.cell_script.specs.Commands.{said_in, said_by}

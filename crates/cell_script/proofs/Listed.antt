@@ -1,7 +1,7 @@
 -- Lists of texts in one word, each read behind the others.
 use Rattle.std.proofs.Common.{◌≡◌, ℕ, zero, suc, ◌<◌, List, [], ◌∷◌, ◌++◌, length, get_or, refl, sym, ap, ◌∙◌, arith}
 use Rattle.std.specs.Prelude.{Option, Some, None}
-use Rattle.cell_script.specs.ServiceWords.{◌>>=◌, all_said}
+use Rattle.cell_script.specs.NameService.{◌>>=◌, all_said}
 
 -- what two lists of texts say, one behind the other
 abbrev both : {A : Type 0} → Option (List A) → Option (List A) → Option (List A)

@@ -1,12 +1,13 @@
 -- The first word of a line, and the words behind it.
-use Rattle.std.proofs.Common.{◌≡◌, ℕ, ◌+◌, ◌<◌, ◌≤◌, suc, Bool, true, false, List, [], ◌∷◌, take, drop, drop-cons, get_or, add-one, length, refl, ap, ◌∙◌}
-use Rattle.std.proofs.Common.{sym, arith}
+use Rattle.std.proofs.Common.{◌≡◌, ℕ, ◌+◌, ◌<◌, ◌≤◌, suc, Bool, true, false, List, [], ◌∷◌, ◌++◌, take, drop, drop-cons, get_or, add-one, append-nil}
+use Rattle.std.proofs.Common.{length, refl, ap, ◌∙◌, sym, arith}
 use Rattle.std.specs.Prelude.{not, ◌==◌, ◌&&◌, filter, if◌then◌else◌}
 use Rattle.std.specs.List.{slice_split, prefix_len, onto_first}
 use Rattle.std.proofs.lemmas.Bool.Decides.{nat_tests}
 use Rattle.std.proofs.Math.Numerals.{one-add}
 use mir.Val.{bool_byte}
 use Rattle.cell_script.specs.Words.{words_of}
+use Rattle.cell_script.specs.PrivateCounts.{words_behind}
 
 abbrev is_space : ℕ → Bool
 is_space b = b == 32
@@ -54,11 +55,6 @@ first_word l n is some =
 
 -- ---- how many words there are
 
--- how many words begin in these octets, in the midst of a word or not
-abbrev pub words_behind : Bool → List ℕ → ℕ
-words_behind true l = length (words_of (drop (prefix_len is_other l) l))
-words_behind false l = length (words_of l)
-
 -- the octets behind the first word of these, and with one more octet in front that is no space
 behind_word : (b : ℕ) (bs : List ℕ) → (b == 32) ≡ false → drop (prefix_len is_other (b ∷ bs)) (b ∷ bs) ≡ drop (prefix_len is_other bs) bs
 behind_word b bs other = rw (other, one-add (prefix_len is_other bs)) refl
@@ -102,14 +98,27 @@ byte_is true = refl
 byte_is false = refl
 
 -- one octet further, with the word that begins there counted
-pub counted_on : (xs : List ℕ) (i count k total : ℕ) (in_word : Bool) → i < length xs → count + words_behind in_word (drop i xs) ≡ total
-    → k ≡ bool_byte (not (get_or xs i 0 == 32) && not in_word) → (count + k) + words_behind (not (get_or xs i 0 == 32)) (drop (i + 1) xs) ≡ total
-counted_on xs i count k total in_word within so_far is =
-    let e = counts_on in_word (not (get_or xs i 0 == 32)) (get_or xs i 0) (drop (i + 1) xs) refl in
+pub counted_on : (xs rest : List ℕ) (i count k total : ℕ) (in_word : Bool) → i < length xs → count + words_behind in_word (drop i xs ++ rest) ≡ total
+    → k ≡ bool_byte (not (get_or xs i 0 == 32) && not in_word) → (count + k) + words_behind (not (get_or xs i 0 == 32)) (drop (i + 1) xs ++ rest) ≡ total
+counted_on xs rest i count k total in_word within so_far is =
+    let e = counts_on in_word (not (get_or xs i 0 == 32)) (get_or xs i 0) (drop (i + 1) xs ++ rest) refl in
     let here : drop i xs ≡ get_or xs i 0 ∷ drop (i + 1) xs = drop-cons xs i 0 within ∙ ap (λ (n : ℕ). get_or xs i 0 ∷ drop n xs) (sym (add-one i)) in
-    let all = ap (words_behind in_word) here ∙ e in
+    let all = ap (λ (l : List ℕ). words_behind in_word (l ++ rest)) here ∙ e in
     let one = is ∙ byte_is (not (get_or xs i 0 == 32) && not in_word) in
     omega (arith, so_far, all, one)
+
+-- no word begins where no octet is
+none_behind : (in_word : Bool) → words_behind in_word [] ≡ 0
+none_behind true = refl
+none_behind false = refl
+
+-- all octets further
+pub begun_at_end : (xs : List ℕ) (begun count total : ℕ) (in_word goes_on : Bool)
+    → ((rest : List ℕ) → begun + words_behind goes_on rest ≡ words_behind in_word (xs ++ rest)) → count + words_behind in_word xs ≡ total
+    → count + begun ≡ total
+begun_at_end xs begun count total in_word goes_on more so_far =
+    let all = more [] ∙ ap (words_behind in_word) (append-nil xs) in
+    omega (arith, so_far, all, none_behind goes_on)
 
 -- no more than one
 pub at_most_one : (b : Bool) (k : ℕ) → k ≡ bool_byte b → k ≤ 1

@@ -11,8 +11,8 @@ use Rattle.cell_script.specs.declared.fault.ParseFault.{ParseFault}
 use Rattle.cell_script.specs.declared.fault.ParseFault.TheVariants.{WrongCount, BadWord}
 use Rattle.cell_script.specs.Words.{number_of, house_of, directory_of, serial_of, node_of, simple_name_of, full_name_of, attr_name_of, octets_value_of}
 use Rattle.cell_script.specs.Words.{octets_of, confidence_of, octets_asked}
-use Rattle.cell_script.specs.ServiceWords.{interface_of, element_interface_of, interface_or_none_of, bindings_of, objects_of}
-use Rattle.cell_script.specs.ServiceWords.{object_of, protocols_of, priority_of, note_of}
+use Rattle.cell_script.specs.NameService.{interface_of, element_interface_of, interface_or_none_of, bindings_of, objects_of}
+use Rattle.cell_script.specs.NameService.{object_of, protocols_of, priority_of, note_of}
 
 -- the forms of words; the last but one stands for two words, and the last for any number of them (own)
 pub data Form : Type 0 where

@@ -1,6 +1,7 @@
 pub mod Words
+pub mod PrivateCounts
 pub mod Notes
-pub mod ServiceWords
+pub mod NameService
 pub mod Forms
 pub mod Commands
 pub mod RowWords

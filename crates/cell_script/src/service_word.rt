@@ -1,8 +1,8 @@
 // What a single word of the commands of the name service says.
 ghost use Rattle.std.specs.Prelude.{◌≡◌, ◌≤◌, ◌<◌, IfOk};
-ghost use Rattle.cell_script.specs.ServiceWords.{number_within, most_version, interface_of, interface_unless, element_interface_of, interface_or_none_of};
-ghost use Rattle.cell_script.specs.ServiceWords.{all_said, texts_of, binding_said, object_said, bindings_of, objects_of, object_of, protocols_of};
-ghost use Rattle.cell_script.specs.ServiceWords.{priority_of, note_of};
+ghost use Rattle.cell_script.specs.NameService.{number_within, most_version, interface_of, interface_unless, element_interface_of, interface_or_none_of};
+ghost use Rattle.cell_script.specs.NameService.{all_said, texts_of, binding_said, object_said, bindings_of, objects_of, object_of, protocols_of};
+ghost use Rattle.cell_script.specs.NameService.{priority_of, note_of};
 
 use crate::lists::{Note, StringBindings, Uuids};
 use crate::word::number;
@@ -42,7 +42,7 @@ fn version(word: &[u8]) -> Option<u16>
 }
 
 /// An interface, its major and its minor version.
-#[tactic(auto, unfolding(crate::specs::ServiceWords::interface_of))]
+#[tactic(auto, unfolding(crate::specs::NameService::interface_of))]
 pub(crate) fn interface(word: &[u8]) -> Option<Interface>
     ensures { result ≡ interface_of word.now }
 {
@@ -56,7 +56,7 @@ pub(crate) fn interface(word: &[u8]) -> Option<Interface>
 }
 
 /// An interface, or none for `default`.
-#[tactic(auto, unfolding(crate::specs::ServiceWords::element_interface_of))]
+#[tactic(auto, unfolding(crate::specs::NameService::element_interface_of))]
 pub(crate) fn element_interface(word: &[u8]) -> Option<Option<Interface>>
     ensures { result ≡ element_interface_of word.now }
 {
@@ -64,7 +64,7 @@ pub(crate) fn element_interface(word: &[u8]) -> Option<Option<Interface>>
 }
 
 /// An interface, or none for `-`.
-#[tactic(auto, unfolding(crate::specs::ServiceWords::interface_or_none_of))]
+#[tactic(auto, unfolding(crate::specs::NameService::interface_or_none_of))]
 pub(crate) fn interface_or_none(word: &[u8]) -> Option<Option<Interface>>
     ensures { result ≡ interface_or_none_of word.now }
 {
@@ -82,7 +82,7 @@ fn interface_unless(none: &[u8], word: &[u8]) -> Option<Option<Interface>>
 }
 
 // A string binding without an object part.
-#[tactic(auto, unfolding(crate::specs::ServiceWords::binding_said))]
+#[tactic(auto, unfolding(crate::specs::NameService::binding_said))]
 fn binding(text: &[u8]) -> Option<StringBinding>
     ensures { result ≡ binding_said text.now }
 {
@@ -93,6 +93,7 @@ fn binding(text: &[u8]) -> Option<StringBinding>
 }
 
 // String bindings with commas between.
+#[inline(never)]
 fn some_bindings(alloc: Global, word: &[u8]) -> Result<Option<StringBindings>, AllocError>
     ensures { IfOk result (λ list. list ≡ all_said binding_said (texts_of word.now)) }
 {
@@ -107,7 +108,7 @@ fn some_bindings(alloc: Global, word: &[u8]) -> Result<Option<StringBindings>, A
 }
 
 /// String bindings with commas between, or none for `-`.
-#[tactic(auto, unfolding(crate::specs::ServiceWords::bindings_of))]
+#[tactic(auto, unfolding(crate::specs::NameService::bindings_of))]
 pub(crate) fn bindings(alloc: Global, word: &[u8]) -> Result<Option<StringBindings>, AllocError>
     ensures { IfOk result (λ list. list ≡ bindings_of word.now) }
 {
@@ -118,7 +119,7 @@ pub(crate) fn bindings(alloc: Global, word: &[u8]) -> Result<Option<StringBindin
 }
 
 // An object: a UUID other than nil.
-#[tactic(auto, unfolding(crate::specs::ServiceWords::object_said))]
+#[tactic(auto, unfolding(crate::specs::NameService::object_said))]
 fn object_in_list(text: &[u8]) -> Option<Uuid>
     ensures { result ≡ object_said text.now }
 {
@@ -129,6 +130,7 @@ fn object_in_list(text: &[u8]) -> Option<Uuid>
 }
 
 // Objects with commas between.
+#[inline(never)]
 fn some_objects(alloc: Global, word: &[u8]) -> Result<Option<Uuids>, AllocError>
     ensures { IfOk result (λ list. list ≡ all_said object_said (texts_of word.now)) }
 {
@@ -143,7 +145,7 @@ fn some_objects(alloc: Global, word: &[u8]) -> Result<Option<Uuids>, AllocError>
 }
 
 /// Objects with commas between, or none for `-`.
-#[tactic(auto, unfolding(crate::specs::ServiceWords::objects_of))]
+#[tactic(auto, unfolding(crate::specs::NameService::objects_of))]
 pub(crate) fn objects(alloc: Global, word: &[u8]) -> Result<Option<Uuids>, AllocError>
     ensures { IfOk result (λ list. list ≡ objects_of word.now) }
 {
@@ -154,7 +156,7 @@ pub(crate) fn objects(alloc: Global, word: &[u8]) -> Result<Option<Uuids>, Alloc
 }
 
 /// The object that is looked for: nil for `-`.
-#[tactic(auto, unfolding(crate::specs::ServiceWords::object_of))]
+#[tactic(auto, unfolding(crate::specs::NameService::object_of))]
 pub(crate) fn object(word: &[u8]) -> Option<Uuid>
     ensures { result ≡ object_of word.now }
 {
@@ -166,7 +168,7 @@ pub(crate) fn object(word: &[u8]) -> Option<Uuid>
 }
 
 /// The protocol sequences that are looked for: whether TCP, and whether UDP.
-#[tactic(auto, unfolding(crate::specs::ServiceWords::protocols_of))]
+#[tactic(auto, unfolding(crate::specs::NameService::protocols_of))]
 pub(crate) fn protocols(word: &[u8]) -> Option<(bool, bool)>
     ensures { result ≡ protocols_of word.now }
 {
@@ -182,7 +184,7 @@ pub(crate) fn protocols(word: &[u8]) -> Option<(bool, bool)>
 }
 
 /// The priority of an element, as far as it has an octet.
-#[tactic(auto, unfolding(crate::specs::ServiceWords::priority_of))]
+#[tactic(auto, unfolding(crate::specs::NameService::priority_of))]
 pub(crate) fn priority(word: &[u8]) -> Option<u8>
     ensures { result ≡ priority_of word.now }
 {
@@ -193,7 +195,7 @@ pub(crate) fn priority(word: &[u8]) -> Option<u8>
 }
 
 /// The annotation of an element: the word itself, or none for `-`.
-#[tactic(auto, unfolding(crate::specs::ServiceWords::note_of, crate::specs::Notes::note_in))]
+#[tactic(auto, unfolding(crate::specs::NameService::note_of, crate::specs::Notes::note_in))]
 pub(crate) fn note(alloc: Global, word: &[u8]) -> Result<Option<Note>, AllocError>
     ensures { IfOk result (λ note. note ≡ note_of word.now) }
 {

@@ -1,13 +1,16 @@
 // The words of a line, read one after another.
 #![tactic(auto, unfolding(crate::specs::Forms::taken, crate::specs::Forms::counted))]
 
-ghost use Rattle.std.specs.Prelude.{◌≡◌, ◌≢◌, ◌+◌, ◌^◌, ◌<◌, ◌≤◌, ◌==◌, not, true, false, [], ◌∷◌, length, get_or, Result, Ok, IfOk, IfErr, IfSome, IfNone};
+ghost use Rattle.std.specs.Prelude.{◌≡◌, ◌≢◌, ◌+◌, ◌^◌, ◌<◌, ◌≤◌, ◌==◌, not, true, false, ℕ, List, [], ◌∷◌, ◌++◌, length, get_or, Result, Ok};
+ghost use Rattle.std.specs.Prelude.{IfOk, IfErr, IfSome, IfNone};
 ghost use Rattle.std.specs.Result.{result_ok};
 ghost use Rattle.std.specs.List.{prefix_len};
 ghost use Rattle.cds_stamps.specs.Outcomes.{Answers};
 ghost use Rattle.cds_stamps.specs.declared.alloc_or.AllocOr.TheVariants.{Fault};
 ghost use Rattle.cell_script.specs.declared.fault.ParseFault.TheVariants.{WrongCount};
 ghost use Rattle.cell_script.specs.Words.{words_of};
+ghost use Rattle.cell_script.specs.PrivateCounts.{words_behind};
+ghost use Rattle.cell_script.specs.declared.words.TheConstants.{STRIDE};
 ghost use Rattle.cell_script.specs.Forms as form;
 ghost use Rattle.cell_script.specs.Forms.{Takes, taken, counted, said_at};
 
@@ -20,6 +23,9 @@ use cds_stamps::{AllocOr, AttrName, DirId, HouseNo, Node, SimpleName};
 use cell_names::FullName;
 use std::alloc::Global;
 use std::marker::Model;
+
+// Octets that are looked at together.
+const STRIDE: usize = 128;
 
 pub(crate) type Parsed<T> = Result<T, AllocOr<ParseFault>>;
 
@@ -58,6 +64,7 @@ fn skip_spaces(octets: &[u8]) -> &[u8]
 }
 
 // How many octets stand before the first space.
+#[inline(never)]
 fn word_len(octets: &[u8]) -> usize
     ensures len { result ≡ prefix_len (λ b. not (b == 32)) octets.now }
     ensures within { result ≤ length octets.now }
@@ -70,19 +77,40 @@ fn word_len(octets: &[u8]) -> usize
     octets.len()
 }
 
-// How many words there are: each begins behind a space or at the front.
+// How many words begin in a few octets, behind a word that goes on in them or not, and whether one goes on behind them. A count of
+// one octet lets many octets be looked at together.
+fn words_begun(octets: &[u8], in_word: bool) -> (u8, bool)
+    requires { length octets.now ≤ STRIDE }
+    ensures begun { (rest : List ℕ) → result.0 + words_behind result.1 rest ≡ words_behind in_word (octets.now ++ rest) }
+    ensures few { result.0 ≤ length octets.now }
+{
+    let mut count = 0;
+    let mut goes_on = in_word;
+    for octet in octets {
+        let is_other = *octet != b' ';
+        count += u8::from(is_other & !goes_on);
+        goes_on = is_other;
+    }
+    (count, goes_on)
+}
+
+// How many words there are.
 fn word_count(octets: &[u8]) -> usize
     ensures counted { result ≡ length (words_of octets.now) }
     ensures within { result ≤ length octets.now }
 {
     let mut count = 0;
     let mut in_word = false;
-    for octet in octets {
-        let is_other = *octet != b' ';
-        count += usize::from(is_other & !in_word);
-        in_word = is_other;
+    let mut rest = octets;
+    'strides: while rest.len() > STRIDE {
+        let (stride, behind) = rest.split_at(STRIDE);
+        let (begun, goes_on) = words_begun(stride, in_word);
+        count += usize::from(begun);
+        in_word = goes_on;
+        rest = behind;
     }
-    count
+    let (begun, _) = words_begun(rest, in_word);
+    count + usize::from(begun)
 }
 
 impl<'a> Words<'a> {

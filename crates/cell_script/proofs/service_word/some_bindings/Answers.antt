@@ -3,7 +3,7 @@ use Rattle.std.specs.Prelude.{Some}
 use Rattle.std.proofs.lemmas.List.{map-append}
 use Rattle.std.proofs.lemmas.Iterator.Splits.{YieldsList-from_slice_split}
 use Rattle.std.proofs.lemmas.Iterator.Consumers.{YieldsList-at, YieldsList-turn, YieldsList-end}
-use Rattle.cell_script.specs.ServiceWords.{all_said, binding_said, texts_of}
+use Rattle.cell_script.specs.NameService.{all_said, binding_said, texts_of}
 use Rattle.cell_script.proofs.Listed.{all_said-push, all_said-stops}
 use Rattle.cell_script.proofs.service_word.some_bindings.Goals as goal
 
