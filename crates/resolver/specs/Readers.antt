@@ -1,6 +1,11 @@
 -- What a reader of a cell tells (own, after C705, clerks and clearinghouses).
-use Rattle.std.specs.Prelude.{◌≡◌, ℕ, List, Option}
+use Rattle.std.specs.Prelude.{◌≡◌, ℕ, List, [], Option}
+use Rattle.std.specs.FinMap.{FinMap, get}
 use Rattle.std.specs.List.{Contains}
+use Rattle.std.specs.Option.{option_map_or}
+use Rattle.cds_stamps.specs.Octets.{octets_cmp}
+use Rattle.attr_sets.specs.declared.cell.AttrCell.{AttrCell}
+use Rattle.attr_sets.specs.Cells.{cell_values}
 use Rattle.cell_names.specs.ChildPointers.{Pointer, pointer_in}
 use Rattle.directory.specs.declared.entry.Kind.TheVariants as kind
 use Rattle.resolver.specs.declared.seen.Seen.{Seen}
@@ -23,6 +28,10 @@ pub record Reader : Type 0 where
   pub root : Option Pointer
   pub sees : Pointer → List ℕ → Sight
   pub values : Found → List ℕ → List (List ℕ)
+
+-- the values that show by the cells of an entry's attributes; none of an attribute without a cell (own, after C705, attributes)
+abbrev pub values_by : FinMap octets_cmp AttrCell → List ℕ → List (List ℕ)
+values_by cells attr = option_map_or cell_values (get cells attr) []
 
 -- what is seen, as the program tells it (own)
 abbrev pub sight_of : Seen → Sight

@@ -1,16 +1,17 @@
 // What the walk of a full name asks for.
-ghost use Rattle.std.specs.Prelude.{◌≡◌, List, IfOk};
+ghost use Rattle.std.specs.Prelude.{◌≡◌, ℕ, List, IfOk, IfSome, option_copied};
 ghost use Rattle.std.specs.List.Sorted.{IsStrictlySortedBy};
 ghost use Rattle.std.specs.Option.{option_map};
 ghost use Rattle.cds_stamps.specs.Octets.{octets_cmp};
 ghost use Rattle.cell_names.specs.ChildPointers.{pointer_in};
 ghost use Rattle.resolver.specs.declared.seen.Found.{Found};
-ghost use Rattle.resolver.specs.Readers.{Reader, ShowsOnly, sight_of};
+ghost use Rattle.resolver.specs.Readers.{Reader, ShowsOnly, sight_of, values_by};
 
 use crate::seen::{Found, Seen};
 use attr_sets::Value;
 use cds_stamps::{AttrName, SimpleName};
 use cell_names::ChildPointer;
+use directory::AttrMap;
 use std::alloc::{AllocError, Global};
 
 /// A reader of the entries of a cell. Each call answers what the reader tells, or want of memory.
@@ -38,6 +39,14 @@ pub trait EntryReader {
     fn values(&self, alloc: Global, at: &Found, attr: &AttrName) -> Result<Vec<Value>, AllocError>
         ensures told { IfOk result (λ found. found.items ≡ (tells self.now).values at.now attr.now) }
         ensures ascending { IfOk result (λ found. IsStrictlySortedBy octets_cmp found.items) };
+
+    /// The cells of an entry's attributes, by which the same values show, where the reader keeps them: they are read in place.
+    /// A reader need keep none.
+    fn attributes(&self, at: &Found) -> Option<&AttrMap>
+        ensures { IfSome (option_copied result) (λ cells. (attr : List ℕ) → values_by cells attr ≡ (tells self.now).values at.now attr) }
+    {
+        None
+    }
 
     /// It shows no other objects.
     ghost shows_only: { (r : Self) → ShowsOnly (tells r) (objects r) };
