@@ -5,5 +5,5 @@ pub mod laws;
 mod member;
 mod updates;
 
-pub use member::{GroupFault, member_of, members};
+pub use member::{GroupFault, member_of, members, members_in_order};
 pub use updates::{GROUP, add, delete};

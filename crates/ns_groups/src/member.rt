@@ -38,11 +38,12 @@ pub fn members(alloc: Global, values: &[Value]) -> Result<Vec<FullName>, AllocEr
     ensures { IfOk result (λ v. v.items ≡ members_of values.now) }
 {
     let sorted = all_in_order(alloc, values)?;
-    readable_names(alloc, &sorted)
+    members_in_order(alloc, &sorted)
 }
 
-// The full names among values, in their order.
-fn readable_names(alloc: Global, values: &[&Value]) -> Result<Vec<FullName>, AllocError>
+/// The members that these values spell, in the order of the values: where they ascend, as those that show of an entry do, the
+/// order of `members`.
+pub fn members_in_order(alloc: Global, values: &[&Value]) -> Result<Vec<FullName>, AllocError>
     ensures { IfOk result (λ v. v.items ≡ map components_of (filter is_full_name (map (λ value. value.now) values.now))) }
 {
     let mut names = Vec::with_capacity(alloc, values.len())?;

@@ -274,18 +274,18 @@ all_behind P [] all = tt
 all_behind P (b ∷ bs) all = (all.0, all_behind P bs all.1)
 
 -- the values that pass a test, sorted and each once
-pub in_order_is : (p : List ℕ → Bool) (values found sorted : List (List ℕ)) → sorted ≡ ascending found → found ≡ filter p values
+in_order_is : (p : List ℕ → Bool) (values found sorted : List (List ℕ)) → sorted ≡ ascending found → found ≡ filter p values
     → sorted ≡ filter p (ascending values)
 in_order_is p values found sorted s f = s ∙ ap ascending f ∙ ascending-filter p values
 
 -- what a search takes is elements
-pub all_whole : (wanted : Interface) (values : List (List ℕ)) (bs : List (Bor (List ℕ))) → behind bs ≡ filter (is_sought wanted) (ascending values)
+pub all_whole : (wanted : Interface) (values : List (List ℕ)) (bs : List (Bor (List ℕ))) → behind bs ≡ filter (is_sought wanted) values
     → All (λ b. element_fault b.now ≡ None) bs
 all_whole wanted values bs e =
     let P : List ℕ → Type 0 = λ o. element_fault o ≡ None in
-    let whole : All P (filter (is_sought wanted) (ascending values)) =
-    All-weaker (λ o. is_sought wanted o ≡ true) P (sought_whole wanted) (filter (is_sought wanted) (ascending values))
-    (filter_passes (is_sought wanted) (ascending values)) in
+    let whole : All P (filter (is_sought wanted) values) =
+    All-weaker (λ o. is_sought wanted o ≡ true) P (sought_whole wanted) (filter (is_sought wanted) values)
+    (filter_passes (is_sought wanted) values) in
     All-from_recursion (λ b. P b.now) bs (all_behind P bs (recursion_from_All P (behind bs) (subst (All P) (sym e) whole)))
 
 -- ---- values that are deleted

@@ -12,5 +12,5 @@ mod updates;
 
 pub use element::{Annotation, Element};
 pub use fault::ProfileFault;
-pub use search::elements_for;
+pub use search::{elements_for, elements_in_order};
 pub use updates::{PROFILE, add, check_new, delete};

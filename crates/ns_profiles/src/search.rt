@@ -6,7 +6,7 @@ ghost use Rattle.ns_profiles.specs.Elements.{element_fault, said};
 ghost use Rattle.ns_profiles.specs.Profiles.{is_for, is_meant, is_element, is_taken, is_sought, search_order};
 
 use crate::element::{DEFAULT, check, interface_of, known_name, member_of, priority_of};
-use attr_sets::{Value, in_order};
+use attr_sets::{Value, all_in_order};
 use cell_names::FullName;
 use std::alloc::{AllocError, Global};
 use tower_codec::Interface;
@@ -21,9 +21,21 @@ pub fn elements_for(
 ) -> Result<Vec<FullName>, AllocError>
     ensures { IfOk result (λ v. v.items ≡ search_order interface.now values.now) }
 {
+    let sorted = all_in_order(alloc, values)?;
+    elements_in_order(alloc, &sorted, interface)
+}
+
+/// The members of the elements among these values that a search for the interface takes, in the order of the values: where
+/// they ascend, as those that show of an entry do, the order of `elements_for`.
+pub fn elements_in_order(
+    alloc: Global,
+    values: &[&Value],
+    interface: &Interface,
+) -> Result<Vec<FullName>, AllocError>
+    ensures { IfOk result (λ v. v.items ≡ map (λ octets. (said octets).member) (filter (is_sought interface.now) (map (λ value. value.now) values.now))) }
+{
     let found = sought(alloc, values, interface)?;
-    let sorted = in_order(found);
-    members_of(alloc, &sorted)
+    members_of(alloc, &found)
 }
 
 // The values that are elements for this interface and have this member. No memory is asked for where there are none.
@@ -49,15 +61,15 @@ pub(crate) fn elements_of<'a>(
 // The values that are elements which a search for the interface takes.
 fn sought<'a>(
     alloc: Global,
-    values: &'a [Value],
+    values: &[&'a Value],
     interface: &Interface,
 ) -> Result<Vec<&'a Value>, AllocError>
-    ensures { IfOk result (λ v. map (λ value. value.now) v.items ≡ filter (is_sought interface.now) values.now) }
+    ensures { IfOk result (λ v. map (λ value. value.now) v.items ≡ filter (is_sought interface.now) (map (λ value. value.now) values.now)) }
 {
     let mut found = Vec::new(alloc);
     for value in values {
         if is_sought(value.octets(), interface) {
-            found.push(value)?;
+            found.push(*value)?;
         }
     }
     Ok(found)

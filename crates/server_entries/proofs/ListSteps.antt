@@ -1,8 +1,8 @@
 -- Steps of loops over values.
 use Rattle.std.proofs.Common.{◌≡◌, ℕ, zero, suc, ◌+◌, ◌<◌, Bool, true, false, cond, List, [], ◌∷◌, ◌++◌, map, length, get_or, take, Option, Some}
 use Rattle.std.proofs.Common.{None, refl, sym, ap, ◌∙◌, append_assoc, arith}
-use Rattle.std.specs.Prelude.{filter}
-use Rattle.std.specs.List.{filter_map, cons_option}
+use Rattle.std.specs.Prelude.{◌||◌, filter}
+use Rattle.std.specs.List.{filter_map, cons_option, list_any}
 use Rattle.std.specs.Option.{option_to_list}
 use Rattle.std.proofs.lemmas.List.{map_more, map_push, append-nil}
 use Rattle.std.proofs.lemmas.List.Elements.{filter_more, filter_map-append}
@@ -10,20 +10,6 @@ use Rattle.std.proofs.lemmas.List.Elements.{filter_more, filter_map-append}
 -- ---- what passes a test
 
 module _ (p : List ℕ → Bool) (vs : List (List ℕ)) (i : ℕ) (v : List ℕ) (inside : i < length vs) (at : v ≡ get_or vs i v) where
-  -- one more value that passes stands behind those that passed
-  pub passes_more : (old : List (List ℕ)) → old ≡ filter p (take i vs) → p v ≡ true → old ++ v ∷ [] ≡ filter p (take (i + 1) vs)
-  passes_more old is pass =
-      let one : cond (p (get_or vs i v)) (get_or vs i v ∷ []) [] ≡ v ∷ [] = ap (λ (w : List ℕ). cond (p w) (w ∷ []) []) (sym at)
-      ∙ ap (λ (b : Bool). cond b (v ∷ []) []) pass in
-      ap (λ (o : List (List ℕ)). o ++ v ∷ []) is ∙ ap (λ (t : List (List ℕ)). filter p (take i vs) ++ t) (sym one) ∙ sym (filter_more p vs i v inside)
-
-  -- one more value that fails leaves those that passed
-  pub fails_more : (old : List (List ℕ)) → old ≡ filter p (take i vs) → p v ≡ false → old ≡ filter p (take (i + 1) vs)
-  fails_more old is fail =
-      let none : cond (p (get_or vs i v)) (get_or vs i v ∷ []) [] ≡ [] = ap (λ (w : List ℕ). cond (p w) (w ∷ []) []) (sym at)
-      ∙ ap (λ (b : Bool). cond b (v ∷ []) []) fail in
-      is ∙ sym (append-nil (filter p (take i vs))) ∙ ap (λ (t : List (List ℕ)). filter p (take i vs) ++ t) (sym none) ∙ sym (filter_more p vs i v inside)
-
   -- what passes is left
   pub passes_some : p v ≡ true → filter p vs ≡ [] → ⊥
   passes_some pass none = some_left vs i inside at none
@@ -40,6 +26,11 @@ module _ (p : List ℕ → Bool) (vs : List (List ℕ)) (i : ℕ) (v : List ℕ)
       some_left [] k less e f = absurd (omega arith)
       some_left (w ∷ ws) zero less e f = cons_not_nil (p w) w (filter p ws) (ap p (sym e) ∙ pass) f
       some_left (w ∷ ws) (suc k) less e f = some_left ws k (omega (arith, less)) e (rest_nil (p w) w (filter p ws) f)
+
+-- a test of what is seen through a function
+pub list_any_seen : {X : Type 0} (p : List ℕ → Bool) (f : X → List ℕ) (xs : List X) → list_any p (map f xs) ≡ list_any (λ x. p (f x)) xs
+list_any_seen p f [] = refl
+list_any_seen p f (x ∷ xs) = ap (λ (b : Bool). p (f x) || b) (list_any_seen p f xs)
 
 -- ---- what values give
 

@@ -70,10 +70,13 @@ carried wanted held =
     if is_nil_bytes wanted then Some (unwrap_or (least_object held) zero_bytes)
     else (if list_any (λ v. bytes_eq v wanted) held then Some wanted else None)
 
--- The bindings of an entry with these values, in ascending order of the octets of the towers (own, after C706, importing
--- bindings).
+-- The bindings of an entry with these values, in the order of the towers (own, after C706, importing bindings).
+abbrev pub bindings_of : Wanted → (towers held : List (List ℕ)) → List StringBinding
+bindings_of wanted towers held = option_map_or (λ object. filter_map (binding_in wanted object) towers) (carried wanted.object held) []
+
+-- The same in ascending order of the octets of the towers, each once (own, after C706, importing bindings).
 abbrev pub entry_bindings : Wanted → (towers held : List (List ℕ)) → List StringBinding
-entry_bindings wanted towers held = option_map_or (λ object. filter_map (binding_in wanted object) (ascending towers)) (carried wanted.object held) []
+entry_bindings wanted towers held = bindings_of wanted (ascending towers) held
 
 -- The binding is one to a compatible server whose tower the entry has, and carries the object that it is to (own, after
 -- C706, importing bindings).

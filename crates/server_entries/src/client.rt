@@ -1,10 +1,10 @@
 // What a client wants, and which bindings an entry has for it.
-ghost use Rattle.std.specs.Prelude.{◌≡◌, ◌==◌, ◌++◌, length, IfOk, OnOk, Some, if◌then◌else◌};
+ghost use Rattle.std.specs.Prelude.{◌≡◌, ◌==◌, ◌++◌, length, map, IfOk, OnOk, Some, if◌then◌else◌};
 ghost use Rattle.std.specs.Option.{option_to_list};
 ghost use Rattle.std.specs.List.{filter_map, list_any};
 ghost use Rattle.std.specs.Str.{bytes_eq};
-ghost use Rattle.cds_stamps.specs.Ascending.{ascending};
-ghost use Rattle.server_entries.specs.Clients.{ndr_syntax, wants, is_ndr, is_compatible, binding_in, least_object, lesser, carried, entry_bindings};
+ghost use Rattle.server_entries.specs.Clients.{ndr_syntax, wants, is_ndr, is_compatible, binding_in, least_object, lesser, carried};
+ghost use Rattle.server_entries.specs.Clients.{bindings_of, entry_bindings};
 
 use crate::tower::tower_of_value;
 use attr_sets::{Value, all_in_order};
@@ -95,19 +95,18 @@ impl Wanted {
         }
     }
 
-    // The bindings that there are for the client in these values, which carry the object.
+    // The bindings that there are for the client in these values, in their order, which carry the object.
     fn bindings_in(
         &self,
         alloc: Global,
         object: Uuid,
-        towers: &[Value],
+        towers: &[&Value],
     ) -> Result<Vec<StringBinding>, AllocError>
         ensures { IfOk result
-            (λ list. list.items ≡ filter_map (binding_in self.now object) (ascending towers.now)) }
+            (λ list. list.items ≡ filter_map (binding_in self.now object) (map (λ v. v.now) towers.now)) }
     {
-        let values = all_in_order(alloc, towers)?;
         let mut list = Vec::new(alloc);
-        for value in &values {
+        for value in towers {
             push_some(&mut list, self.binding_in(object, value))?;
         }
         Ok(list)
@@ -139,8 +138,8 @@ fn least_with(value: &Value, least: Option<Uuid>) -> Option<Uuid>
 }
 
 // The least of the values that are objects.
-fn least_object(held: &[Value]) -> Option<Uuid>
-    ensures { result ≡ least_object held.now }
+fn least_object(held: &[&Value]) -> Option<Uuid>
+    ensures { result ≡ least_object (map (λ v. v.now) held.now) }
 {
     let mut least = None;
     for value in held {
@@ -150,8 +149,8 @@ fn least_object(held: &[Value]) -> Option<Uuid>
 }
 
 // Whether the object is one of the values.
-fn has_object(held: &[Value], object: &Uuid) -> bool
-    ensures { result ≡ list_any (λ v. bytes_eq v object.now) held.now }
+fn has_object(held: &[&Value], object: &Uuid) -> bool
+    ensures { result ≡ list_any (λ v. bytes_eq v object.now) (map (λ v. v.now) held.now) }
 {
     for value in held {
         if value.octets() == object.as_bytes().as_slice() {
@@ -162,8 +161,8 @@ fn has_object(held: &[Value], object: &Uuid) -> bool
 }
 
 // The object that bindings carry for one that is wanted, where there are bindings.
-fn carried_object(wanted: Uuid, held: &[Value]) -> Option<Uuid>
-    ensures { result ≡ carried wanted held.now }
+fn carried_object(wanted: Uuid, held: &[&Value]) -> Option<Uuid>
+    ensures { result ≡ carried wanted (map (λ v. v.now) held.now) }
 {
     if wanted.is_nil() {
         return Some(least_object(held).unwrap_or(Uuid::nil()));
@@ -184,6 +183,33 @@ pub fn bindings(
 ) -> Result<Vec<StringBinding>, AllocError>
     ensures { IfOk result
         (λ list. list.items ≡ entry_bindings wanted.now towers.now objects.now) }
+{
+    let towers = all_in_order(alloc, towers)?;
+    let objects = all_of(alloc, objects)?;
+    bindings_in_order(alloc, &towers, &objects, wanted)
+}
+
+// All of these values, in their order.
+fn all_of(alloc: Global, values: &[Value]) -> Result<Vec<&Value>, AllocError>
+    ensures { IfOk result (λ v. map (λ v. v.now) v.items ≡ values.now) }
+{
+    let mut all = Vec::with_capacity(alloc, values.len())?;
+    for value in values {
+        all.push(value)?;
+    }
+    Ok(all)
+}
+
+/// The bindings of an entry with these values, in the order of the towers: where they ascend, as those that show of an entry
+/// do, the order of `bindings`.
+pub fn bindings_in_order(
+    alloc: Global,
+    towers: &[&Value],
+    objects: &[&Value],
+    wanted: &Wanted,
+) -> Result<Vec<StringBinding>, AllocError>
+    ensures { IfOk result
+        (λ list. list.items ≡ bindings_of wanted.now (map (λ v. v.now) towers.now) (map (λ v. v.now) objects.now)) }
 {
     match carried_object(wanted.object, objects) {
         Some(object) => wanted.bindings_in(alloc, object, towers),

@@ -7,6 +7,6 @@ mod exports;
 pub mod laws;
 mod tower;
 
-pub use client::{Wanted, bindings};
+pub use client::{Wanted, bindings, bindings_in_order};
 pub use exports::{ExportFault, OBJECTS, TOWERS, check_export, export, unexport};
 pub use tower::{ServerFault, tower_of_value};

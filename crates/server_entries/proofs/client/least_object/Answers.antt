@@ -6,6 +6,7 @@ use Rattle.server_entries.proofs.client.least_object.Goals as goal
 
 pub loop-value-preserved : goal.loop-value-preserved
 loop-value-preserved c =
-    let v = c.value-item.result in
+    let value = c.value-item.result in
+    let v = value.now in
     c.least_with-least.ensures ∙ ap (λ o. cond (eqb (length v) 16) (Some (lesser v o)) o) c.loop-value.invariant
-    ∙ sym (least_more c.args.held.now c.loop-value.value-index v c.loop-value-test.true c.value-item.is)
+    ∙ sym (least_more (λ b. b.now) c.args.held.now c.loop-value.value-index value c.loop-value-test.true c.value-item.is)

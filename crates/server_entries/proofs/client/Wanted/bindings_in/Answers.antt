@@ -10,7 +10,7 @@ pub loop-value-preserved : goal.loop-value-preserved
 loop-value-preserved c =
     let h = binding_in c.args.self.now c.args.object in
     let value = c.value-item.result in
-    let items = c.deref-value-items.result.now in
+    let items = c.args.towers.now in
     let i = c.loop-value.value-index in
     c.in_ok-push_some.ensures
     ∙ ap (λ o. c.loop-value.list.items ++ option_to_list o) c.binding_in.ensures
