@@ -1,3 +1,4 @@
+mod Lent
 mod OrderExamples
 mod ImportExamples
 mod Firsts

@@ -7,7 +7,7 @@ ghost use Rattle.ns_import.specs.Imports.{same_entry, object_at, names_of, bindi
 ghost use Rattle.ns_import.specs.DepthFirst.{behind_seen};
 ghost use Rattle.ns_import.specs.Coming.{coming, resolved};
 
-use crate::client::Client;
+use crate::client::{Client, Said};
 use crate::fault::ImportFault;
 use cds_stamps::AllocOr;
 use cell_names::FullName;
@@ -75,8 +75,11 @@ impl Progress {
             ≡ names_of (R.tells reader.now) client.now.interface entry ++ reverse self.old.names.items) }
         ensures ready { OnOk result (reverse self.new.ready.items ≡ bindings_at (R.tells reader.now) client.now entry) }
     {
-        self.ready = client.bindings(alloc, reader, &entry)?;
-        let mut names = client.names(alloc, reader, &entry)?;
+        let Said {
+            mut names,
+            bindings,
+        } = client.read(alloc, reader, &entry)?;
+        self.ready = bindings;
         self.names.append(&mut names)?;
         self.searched.insert(entry)?;
         Ok(())
