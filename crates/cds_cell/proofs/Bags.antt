@@ -12,7 +12,8 @@ use Rattle.cds_stamps.specs.declared.numbers.HouseNo.{HouseNo}
 use Rattle.cds_stamps.specs.Outcomes.{Answers}
 use Rattle.cds_stamps.proofs.Masks.{same_place, other_place}
 use Rattle.directory.specs.Entries.{IsValidEntry, IsValidTable}
-use Rattle.directory.proofs.TableLaws.{entry_of-valid, table_of-valid}
+use Rattle.directory.proofs.TableLaws.{entry_of-valid}
+use Rattle.directory.proofs.PurgeLaws.{purged-valid}
 use Rattle.purge_rule.specs.declared.replica.Replica.{Replica}
 use Rattle.cds_records.specs.Decoding.{Decodes, IsWhole}
 use Rattle.cds_records.specs.Octets.{message_octets}
@@ -207,7 +208,7 @@ each_at (q ∷ ps) (m ∷ ms) (suc i) p h is = each_at ps ms i p h.1 is
 
 -- the replica of a history has a valid table
 copy_valid : (r : Replica) (c : model.Copy) → StandsCopy r c → IsValidTable r.table
-copy_valid r c is = subst (λ (x : Replica). IsValidTable x.table) (sym is) (table_of-valid c.history)
+copy_valid r c is = subst (λ (x : Replica). IsValidTable x.table) (sym is) (purged-valid c.history c.all_up_to)
 
 -- so what a message carries that stands for one of the model is valid
 body_valid : (b : Body) (n : model.Body) → StandsBody b n → IsValidBody b

@@ -6,6 +6,7 @@ pub mod Bags
 pub mod Children
 pub mod Counts
 pub mod EpochSteps
+pub mod EntrySights
 pub mod Handing
 pub mod Growth
 pub mod HouseActs

@@ -3,7 +3,7 @@ ghost use Rattle.std.specs.Prelude.{◌≡◌, ℕ, ◌∷◌, not, ◌||◌, �
 ghost use Rattle.std.specs.Option.{option_map};
 ghost use Rattle.cds_stamps.specs.Members.{master_of, members_fault, members_of, others_of};
 ghost use Rattle.cell_names.specs.ChildPointers.{pointer_of};
-ghost use Rattle.directory.specs.Shown.{shown_in};
+ghost use Rattle.directory.specs.Shown.{shown_entry, shown_in};
 ghost use Rattle.cell_model.specs.Sets.{has};
 ghost use Rattle.resolver.specs.Readers.{sight_of};
 ghost use Rattle.clearinghouse.specs.Posting.{numbers_of};
@@ -19,7 +19,7 @@ use attr_sets::Value;
 use cds_stamps::{AllocOr, AttrName, DirId, HouseNo, Members, SimpleName};
 use cell_names::{ChildPointer, FullName, HouseList};
 use clearinghouse::{DirState, Held};
-use directory::{Kind, Table};
+use directory::{AttrMap, EntryCell, Kind, Table};
 use resolver::{EntryReader, Found, Seen};
 use std::alloc::{AllocError, Global};
 
@@ -73,6 +73,12 @@ impl EntryReader for CellReader<'_> {
             Some(held) => values_in(alloc, &held.replica.table, &at.name, attr),
             None => Ok(Vec::new(alloc)),
         }
+    }
+
+    fn attributes(&self, at: &Found) -> Option<&AttrMap> {
+        let held = held(self.cell, at.dir, at.house)?;
+        let entry = held.replica.table.live(&at.name)?;
+        Some(&entry.attrs)
     }
 }
 
@@ -186,9 +192,20 @@ fn held(cell: &Cell, dir: DirId, house: HouseNo) -> Option<&Held>
 fn see(alloc: Global, house: HouseNo, table: &Table, name: &SimpleName) -> Result<Seen, AllocError>
     ensures { IfOk result (λ seen. sight_of seen ≡ shown_sight house.0 (shown_in table.now name.now)) }
 {
-    match table.live(name) {
-        Some(entry) => see_led(alloc, house, entry.kind, entry.lead()),
+    match table.get(name) {
+        Some(entry) => see_entry(alloc, house, entry),
         None => Ok(Seen::Absent(house)),
+    }
+}
+
+// What a house shows of an entry. Where it leads is read once: a link or a child that leads nowhere is not shown either.
+fn see_entry(alloc: Global, house: HouseNo, entry: &EntryCell) -> Result<Seen, AllocError>
+    ensures { IfOk result (λ seen. sight_of seen ≡ shown_sight house.0 (shown_entry entry.now)) }
+{
+    if entry.death.is_none() {
+        see_led(alloc, house, entry.kind, entry.lead())
+    } else {
+        Ok(Seen::Absent(house))
     }
 }
 
