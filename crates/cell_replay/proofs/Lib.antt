@@ -5,6 +5,7 @@ pub mod Progress
 pub mod Turns
 pub mod FaultyLines
 pub mod TowerLines
+pub mod DigitValues
 pub mod Streams
 pub mod TowerTurns
 pub mod TowerLaws

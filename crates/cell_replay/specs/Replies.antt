@@ -88,7 +88,8 @@ wanted_by interface object tcp udp = record { interface = interface; object = ob
 
 -- ---- what is held, and its octets
 
--- what a house has of a directory, told whole: its epoch, its AllUpTo, its members and its table (own)
+-- what a house has of a directory, told whole: its epoch, its AllUpTo, its members, and its table without the deletions up to AllUpTo
+-- (own)
 abbrev pub slot_told : Slot → Answer
 slot_told Absent = answer.Refused why.NoReplica
 slot_told (Gone e) = answer.Refused why.NoReplica

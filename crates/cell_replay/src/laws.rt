@@ -1,5 +1,5 @@
 // The laws of what an input demands, each the contract of a function that does nothing.
-ghost use Rattle.std.specs.Prelude.{◌≡◌, ℕ, ◌+◌, ◌^◌, ◌++◌, List, Option};
+ghost use Rattle.std.specs.Prelude.{◌≡◌, ℕ, ◌+◌, ◌*◌, ◌^◌, ◌++◌, List, Option};
 ghost use Rattle.hex.specs.Hex.{IsBytes};
 ghost use Rattle.cell_model.specs.Cells.{Cell};
 ghost use Rattle.cell_model.specs.Reached.{IsReached};
@@ -79,6 +79,6 @@ pub fn limits_of_towers()
     ensures longest { LONGEST_TOWER ≡ 1024 }
     ensures sight { TOWER_SIGHT ≡ LONGEST_TOWER + 1 }
     ensures most { MOST_TOWERS ≡ 16777216 }
-    ensures updates { MOST_UPDATES ≡ 2 ^ 30 }
+    ensures updates { MOST_UPDATES ≡ 3 * 2 ^ 30 }
     ensures waiting { MOST_WAITING ≡ 65536 }
 {}

@@ -3,6 +3,7 @@
 
 mod answers;
 mod check;
+mod digits;
 mod endings;
 mod forms;
 pub mod laws;

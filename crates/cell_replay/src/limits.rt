@@ -12,6 +12,6 @@ pub const MOST_TOWERS: u32 = 16_777_216;
 /// Replies are written at the latest when this many octets wait.
 pub const MOST_WAITING: usize = 65_536;
 
-/// How many updates one command of the name service makes at most: a longer list counts as want of memory, which it would come
-/// to before, since it takes some hundred gigabytes.
-pub const MOST_UPDATES: usize = 1_073_741_824;
+/// How many updates one command of the name service makes at most. A longer list would count as want of memory, but none comes to
+/// it: a line of 4,096 octets gives an entry at most 170 values, and a script has at most 16,777,216 lines.
+pub const MOST_UPDATES: usize = 3_221_225_472;

@@ -1,14 +1,16 @@
 // What a cell says to questions.
-ghost use Rattle.std.specs.Prelude.{◌≡◌, true, false, Some, IfOk};
+ghost use Rattle.std.specs.Prelude.{◌≡◌, true, false, Some, None, IfOk, option_copied};
+ghost use Rattle.std.specs.Option.{option_map};
 ghost use Rattle.cell_model.specs.Cells as model;
 ghost use Rattle.directory.specs.Kinds.{link_target};
 ghost use Rattle.cds_cell.specs.Standing.{Stands};
 ghost use Rattle.cds_cell.specs.Readings.{objects_of, reading};
 ghost use Rattle.cds_cell.specs.Telling.{told};
+ghost use Rattle.ns_commands.specs.Asks as ask;
 ghost use Rattle.ns_commands.specs.Asks.{refusal_of_walk};
 ghost use Rattle.ns_commands.specs.Imported.{import_answer};
 ghost use Rattle.cell_replay.specs.PrivateSaid.{ActsAtUp, IsSaid};
-ghost use Rattle.cell_replay.specs.Replies.{asked_of, first_target, question_said, target_of};
+ghost use Rattle.cell_replay.specs.Replies.{asked_of, does, first_target, question_said, target_of, trusted};
 ghost use Rattle.cell_replay.specs.Replies.{target_read, values_read};
 ghost use Rattle.resolver.specs.WalkEnds.{walked};
 ghost use Rattle.directory.specs.Shown.{targets};
@@ -20,7 +22,7 @@ use cds_cell::laws::{asked_houses_accept, cells_show_finitely_many_objects, cell
 use cds_cell::{Cell, CellReader};
 use cds_stamps::{AllocOr, AttrName, HouseNo};
 use cell_names::FullName;
-use cell_script::{Answer, Question, ScriptRefusal, Values};
+use cell_script::{Answer, Note, Question, ScriptRefusal, StringBindings, Uuids, Values};
 use directory::{Kind, LINK_TARGET};
 use ns_commands::{
     add_element, add_member, delete_element, delete_member, export, import, refusal_of_walk,
@@ -29,6 +31,7 @@ use ns_commands::{
 use resolver::{EntryReader, Found, resolve};
 use server_entries::Wanted;
 use std::alloc::{AllocError, Global};
+use tower_codec::Interface;
 
 /// What a cell says to a question.
 pub(crate) fn reply_to_question(
@@ -40,44 +43,32 @@ pub(crate) fn reply_to_question(
     ensures up { IfOk result (λ r. ActsAtUp r cell.now) }
 {
     cells_tell_the_model();
-    cells_show_finitely_many_objects();
-    asked_houses_accept();
-    let reader = CellReader {
-        cell,
-        prefer: None,
-        high: true,
-    };
     match question {
         Question::Read(house, high, name, attr) => {
             told(read(alloc, cell, *house, *high, name, attr))
         }
         Question::Readlink(house, high, name) => told(read_link(alloc, cell, *house, *high, name)),
         Question::Export(name, interface, bindings, objects) => {
-            asked(export(
-                alloc,
-                &reader,
-                name,
-                interface,
-                bindings.list(),
-                objects.list(),
-            ))
+            reply_to_export(alloc, cell, name, interface, bindings, objects)
         }
         Question::Unexport(name, interface, objects) => {
-            asked(unexport(alloc, &reader, name, interface.as_ref(), objects.list()))
+            reply_to_unexport(alloc, cell, name, interface.as_ref(), objects)
         }
-        Question::Groupadd(name, member) => asked(add_member(alloc, &reader, name, member)),
-        Question::Groupdel(name, member) => asked(delete_member(alloc, &reader, name, member)),
-        Question::Profadd(name, interface, member, priority, note) => asked(add_element(
-            alloc,
-            &reader,
-            name,
-            interface.as_ref(),
-            member,
-            *priority,
-            note.octets(),
-        )),
+        Question::Groupadd(name, member) => reply_to_groupadd(alloc, cell, name, member),
+        Question::Groupdel(name, member) => reply_to_groupdel(alloc, cell, name, member),
+        Question::Profadd(name, interface, member, priority, note) => {
+            reply_to_profadd(
+                alloc,
+                cell,
+                name,
+                interface.as_ref(),
+                member,
+                *priority,
+                note,
+            )
+        }
         Question::Profdel(name, interface, member) => {
-            asked(delete_element(alloc, &reader, name, interface.as_ref(), member))
+            reply_to_profdel(alloc, cell, name, interface.as_ref(), member)
         }
         Question::Import(house, high, name, interface, object, tcp, udp) => {
             let (interface, object, tcp, udp) = (*interface, *object, *tcp, *udp);
@@ -94,6 +85,134 @@ pub(crate) fn reply_to_question(
         Question::OctetsHouse(house) => told(house_octets(alloc, cell, *house)),
         Question::Decode(octets) => told(decoded(alloc, octets.list())),
     }
+}
+
+// A reader of masters alone, which prefers no house: commands of the name service read by it before they change an entry.
+fn reader_of_masters(cell: &Cell) -> CellReader<'_>
+    ensures { told result.cell.now (option_map (λ house. house.0) result.prefer) result.high ≡ told cell.now None true }
+{
+    CellReader {
+        cell,
+        prefer: None,
+        high: true,
+    }
+}
+
+fn reply_to_export(
+    alloc: Global,
+    cell: &Cell,
+    name: &FullName,
+    interface: &Interface,
+    bindings: &StringBindings,
+    objects: &Uuids,
+) -> Result<Reply, AllocError>
+    ensures said { (g : model.Cell) → Stands cell.now g → IfOk result (λ r. IsSaid r g
+        (does g (ask.export (trusted g) name.now interface.now bindings.now objects.now))) }
+    ensures up { IfOk result (λ r. ActsAtUp r cell.now) }
+{
+    cells_tell_the_model();
+    asked_houses_accept();
+    let reader = reader_of_masters(cell);
+    asked(export(
+        alloc,
+        &reader,
+        name,
+        interface,
+        bindings.list(),
+        objects.list(),
+    ))
+}
+
+fn reply_to_unexport(
+    alloc: Global,
+    cell: &Cell,
+    name: &FullName,
+    interface: Option<&Interface>,
+    objects: &Uuids,
+) -> Result<Reply, AllocError>
+    ensures said { (g : model.Cell) → Stands cell.now g → IfOk result (λ r. IsSaid r g
+        (does g (ask.unexport (trusted g) name.now (option_copied interface.entry) objects.now))) }
+    ensures up { IfOk result (λ r. ActsAtUp r cell.now) }
+{
+    cells_tell_the_model();
+    asked_houses_accept();
+    asked(unexport(
+        alloc,
+        &reader_of_masters(cell),
+        name,
+        interface,
+        objects.list(),
+    ))
+}
+
+fn reply_to_groupadd(
+    alloc: Global,
+    cell: &Cell,
+    name: &FullName,
+    member: &FullName,
+) -> Result<Reply, AllocError>
+    ensures said { (g : model.Cell) → Stands cell.now g → IfOk result (λ r. IsSaid r g (does g (ask.add_member (trusted g) name.now member.now))) }
+    ensures up { IfOk result (λ r. ActsAtUp r cell.now) }
+{
+    cells_tell_the_model();
+    asked_houses_accept();
+    asked(add_member(alloc, &reader_of_masters(cell), name, member))
+}
+
+fn reply_to_groupdel(
+    alloc: Global,
+    cell: &Cell,
+    name: &FullName,
+    member: &FullName,
+) -> Result<Reply, AllocError>
+    ensures said { (g : model.Cell) → Stands cell.now g → IfOk result (λ r. IsSaid r g (does g (ask.delete_member (trusted g) name.now member.now))) }
+    ensures up { IfOk result (λ r. ActsAtUp r cell.now) }
+{
+    cells_tell_the_model();
+    asked_houses_accept();
+    asked(delete_member(alloc, &reader_of_masters(cell), name, member))
+}
+
+fn reply_to_profadd(
+    alloc: Global,
+    cell: &Cell,
+    name: &FullName,
+    interface: Option<&Interface>,
+    member: &FullName,
+    priority: u8,
+    note: &Note,
+) -> Result<Reply, AllocError>
+    ensures said { (g : model.Cell) → Stands cell.now g → IfOk result (λ r. IsSaid r g
+        (does g (ask.add_element (trusted g) name.now (option_copied interface.entry) member.now priority note.now))) }
+    ensures up { IfOk result (λ r. ActsAtUp r cell.now) }
+{
+    cells_tell_the_model();
+    asked_houses_accept();
+    asked(add_element(
+        alloc,
+        &reader_of_masters(cell),
+        name,
+        interface,
+        member,
+        priority,
+        note.octets(),
+    ))
+}
+
+fn reply_to_profdel(
+    alloc: Global,
+    cell: &Cell,
+    name: &FullName,
+    interface: Option<&Interface>,
+    member: &FullName,
+) -> Result<Reply, AllocError>
+    ensures said { (g : model.Cell) → Stands cell.now g → IfOk result (λ r. IsSaid r g
+        (does g (ask.delete_element (trusted g) name.now (option_copied interface.entry) member.now))) }
+    ensures up { IfOk result (λ r. ActsAtUp r cell.now) }
+{
+    cells_tell_the_model();
+    asked_houses_accept();
+    asked(delete_element(alloc, &reader_of_masters(cell), name, interface, member))
 }
 
 fn import_bindings(

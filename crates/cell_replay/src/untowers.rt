@@ -8,6 +8,7 @@ ghost use Rattle.cell_replay.specs.TowerTexts.{floor_of_parts, floor_said, floor
 ghost use Rattle.cell_replay.specs.Demand.{spelled};
 ghost use Rattle.cell_replay.specs.PrivateStanding.{Spells, AddsFloor, ReadsTower};
 
+use crate::digits::read_digits;
 use crate::limits::LONGEST_TOWER;
 use crate::replies::{LineEnd, Waiting};
 use crate::words::split_words;
@@ -40,9 +41,11 @@ fn is_no_floors(words: &[&[u8]]) -> bool
 fn read_part(digits: &[u8], part: &mut Vec<u8>) -> Result<bool, AllocError>
     ensures { IfOk result (λ is. MatchOption (result_ok (decode_of digits.now)) (is ≡ false) (λ octets. (is ≡ true) × (part.new.items ≡ octets))) }
 {
-    part.clear();
+    if digits.len() % 2 == 1 {
+        return Ok(false);
+    }
     part.resize(digits.len() / 2, 0)?;
-    Ok(hex::decode_to_slice(digits, part.as_mut_slice()).is_ok())
+    Ok(read_digits(digits, part.as_mut_slice()))
 }
 
 impl Speller {
