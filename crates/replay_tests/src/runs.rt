@@ -94,8 +94,6 @@ const ANSWERS: &[u8] = b"2 ok\n\
     18 refused NoSuchEntry\n\
     19 ok complete 109@00000000000a\n\
     20 dump epoch 1 allupto 109@00000000000a members 1:1:m\n\
-    20 entry e object 102@00000000000a 108@00000000000a\n\
-    20 attr A 107@00000000000a\n\
     20 end\n\
     21 ok 110@00000000000a posted 5\n\
     22 ok\n\
