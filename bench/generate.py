@@ -11,6 +11,8 @@
     generate.py bag N        a directory at three houses, and N updates whose messages are delivered twice and then lost
     generate.py skulks N     a directory of 10,000 entries with four values each at four houses, and N skulks of it
     generate.py crashes N    a house with 10,000 entries that goes down and starts again N times
+    generate.py purges N     an entry that gets N values and loses them again, with a skulk each thousand lines
+    generate.py deaths N     N entries at three houses, each created and deleted, with a skulk each thousand lines
     generate.py exports N    N servers, each exported with three bindings and an object
     generate.py imports N    a profile of 200 elements over 50 groups of 200 members, and N imports from it
 
@@ -159,6 +161,35 @@ def crashes(count):
     yield "octets house 1\n"
 
 
+def purges(count):
+    yield from houses(1)
+    yield "create 1 1 entry\n"
+    for command in "add", "remove":
+        for at, i in enumerate(mixed(count), 1):
+            yield f"{command} 1 1 entry Attribute {i:08x}\n"
+            if at % 1_000 == 0:
+                yield "skulk 1 1\n"
+    yield "skulk 1 1\noctets house 1\n"
+
+
+def deaths(count):
+    yield from houses(3)
+    yield from replicate(3)
+    serial = 3
+    for at, i in enumerate(mixed(count), 1):
+        yield f"create 1 1 entry-{i:08}\ndelete 1 1 entry-{i:08}\n"
+        # The other houses hear of it by the next skulk alone.
+        yield from delivered(range(serial, serial + 4), 0)
+        serial += 4
+        if at % 500 == 0 or at == count:
+            yield "skulk 1 1\n"
+            for _ in range(5):
+                yield from delivered(range(serial, serial + 2), 1)
+                serial += 2
+    for house in 1, 2, 3:
+        yield f"octets house {house}\n"
+
+
 def interface(number):
     return f"a0000000-0000-0000-0000-{number:012x}"
 
@@ -255,6 +286,8 @@ KINDS = {
     "bag": lambda count: encoded(bag(count)),
     "skulks": lambda count: encoded(skulks(count)),
     "crashes": lambda count: encoded(crashes(count)),
+    "purges": lambda count: encoded(purges(count)),
+    "deaths": lambda count: encoded(deaths(count)),
     "exports": lambda count: encoded(exports(count)),
     "imports": lambda count: encoded(imports(count)),
 }

@@ -38,6 +38,8 @@ SIZES = {
     "bag": 100_000,
     "skulks": 200,
     "crashes": 1_000,
+    "purges": 100_000,
+    "deaths": 100_000,
     "exports": 100_000,
     "imports": 200,
 }

@@ -72,6 +72,20 @@ impl Attribute {
         }
     }
 
+    /// Forgets what was deleted up to a stamp, and returns whether anything is left.
+    fn forget(&mut self, stamp: Stamp) -> bool {
+        self.cleared = self.cleared.filter(|cleared| stamp < *cleared);
+        self.marks.retain(|_, mark| mark.present || stamp < mark.stamp);
+        self.cleared.is_some() || !self.marks.is_empty()
+    }
+
+    /// Keeps what is later than a stamp, and returns whether that is anything.
+    fn keep_later(&mut self, stamp: Stamp) -> bool {
+        self.cleared = self.cleared.filter(|cleared| stamp < *cleared);
+        self.marks.retain(|_, mark| stamp < mark.stamp);
+        self.cleared.is_some() || !self.marks.is_empty()
+    }
+
     /// The values that are present, ascending.
     pub fn values(&self) -> impl DoubleEndedIterator<Item = &[u8]> {
         self.marks.iter().filter(|(_, mark)| mark.present).map(|(value, _)| value.as_slice())
@@ -138,6 +152,19 @@ impl Entry {
         }
     }
 
+    /// Forgets what was deleted up to a stamp, and returns whether the entry was not.
+    fn forget(&mut self, stamp: Stamp) -> bool {
+        self.attributes.retain(|_, attribute| attribute.forget(stamp));
+        self.death.is_none_or(|death| stamp < death)
+    }
+
+    /// The entry with what is later than a stamp.
+    fn later(mut self, stamp: Stamp) -> Entry {
+        self.death = self.death.filter(|death| stamp < *death);
+        self.attributes.retain(|_, attribute| attribute.keep_later(stamp));
+        self
+    }
+
     pub fn is_live(&self) -> bool {
         self.death.is_none() && (self.kind == Kind::Object || self.lead().is_some())
     }
@@ -192,22 +219,46 @@ impl Replica {
         self.entries.get_mut(name).filter(|entry| entry.is_live())
     }
 
+    /// Takes in marks of an entry. What is not later than AllUpTo came before, and was deleted where it is not there.
     pub fn join_entry(&mut self, name: Vec<u8>, entry: Entry) {
-        match self.entries.entry(name) {
-            Occupied(mut own) => own.get_mut().join(entry),
-            Vacant(place) => {
+        self.take(name, entry, self.all_up_to);
+    }
+
+    /// Takes in what of an entry is later than a stamp, where there is one.
+    fn take(&mut self, name: Vec<u8>, entry: Entry, up_to: Option<Stamp>) {
+        match (self.entries.entry(name), up_to) {
+            (Occupied(mut own), None) => own.get_mut().join(entry),
+            (Occupied(mut own), Some(stamp)) if stamp < entry.birth || own.get().birth == entry.birth => {
+                own.get_mut().join(entry.later(stamp));
+            }
+            (Vacant(place), None) => {
                 place.insert(entry);
             }
+            (Vacant(place), Some(stamp)) if stamp < entry.birth => {
+                place.insert(entry.later(stamp));
+            }
+            _ => {}
         }
     }
 
     pub fn join(&mut self, other: Replica) {
-        join_maps(&mut self.entries, other.entries, Entry::join);
-        self.all_up_to = self.all_up_to.max(other.all_up_to);
+        let up_to = self.all_up_to.max(other.all_up_to);
+        for (name, entry) in other.entries {
+            self.take(name, entry, up_to);
+        }
+        self.forget(up_to);
     }
 
     pub fn advance(&mut self, stamp: Stamp) {
-        self.all_up_to = self.all_up_to.max(Some(stamp));
+        self.forget(self.all_up_to.max(Some(stamp)));
+    }
+
+    /// Raises AllUpTo, and forgets what was deleted up to it.
+    fn forget(&mut self, up_to: Option<Stamp>) {
+        if let Some(stamp) = up_to.filter(|_| self.all_up_to < up_to) {
+            self.entries.retain(|_, entry| entry.forget(stamp));
+        }
+        self.all_up_to = up_to;
     }
 }
 
