@@ -8,15 +8,20 @@ ghost use Rattle.std.specs.Hash as fed;
 ghost use Rattle.std.proofs.Common.{rules};
 
 use crate::octet_order::octet_order;
+use smallvec::SmallVec;
 use std::alloc::{AllocError, Global};
 use std::cmp::Ordering;
 use std::hash::{Hash, Hasher};
 use std::marker::Model;
 
-/// Octets, ordered one by one: what names and values are made of.
+/// So many octets are kept in place, with no memory taken.
+const IN_PLACE: usize = 16;
+
+/// Octets, ordered one by one: what names and values are made of. Up to 16 of them take no memory, and stand in a map's node beside
+/// those that they are compared with.
 #[derive(Debug, Drop)]
 pub struct Octets {
-    items: Vec<u8>,
+    items: SmallVec<u8, IN_PLACE>,
 }
 
 impl Model for Octets {
@@ -89,7 +94,7 @@ impl Octets {
         ensures { IfOk result (λ v. v ≡ octets.now) }
     {
         Ok(Octets {
-            items: Vec::from_slice(alloc, octets)?,
+            items: SmallVec::from_slice(alloc, octets)?,
         })
     }
 
