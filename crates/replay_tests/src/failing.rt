@@ -1,28 +1,12 @@
 // Runs over sources and sinks that fail, and how much is read ahead and held back.
-use crate::runs::{ROOM, words_of};
+use crate::runs::{ROOM, outcome_of, words_of};
+use crate::scripts::{
+    OLD_MASTER, OLD_MASTER_ANSWERS, PLAIN, PLAIN_ANSWERS, USUAL_CELL, USUAL_CELL_ANSWERS,
+};
 use cds_base::{MemSink, MemSource};
 use cell_replay::{Status, run};
 use std::alloc::Global;
 use std::test::Fail;
-
-// A script of 170 octets, of which the first line has 21, and its answers.
-const SCRIPT: &[u8] = b"house 1 00000000000a\n\
-    root 1\n\
-    clock 1 100\n\
-    create 1 1 lpr\n\
-    add 1 1 lpr CDS_Class 5072\n\
-    read 1 low /.:/lpr CDS_Class\n\
-    remove 1 1 lpr CDS_Class 5072\n\
-    read 1 low /.:/lpr CDS_Class\n";
-
-const ANSWERS: &[u8] = b"1 ok\n\
-    2 ok\n\
-    3 ok\n\
-    4 ok 100@00000000000a\n\
-    5 ok 101@00000000000a\n\
-    6 ok 1 5072\n\
-    7 ok 102@00000000000a\n\
-    8 ok 0\n";
 
 // The most octets of a read, the number of the read that fails, the most octets of a write, and the number of the write that
 // fails (at 0 none does). What is written then, how many octets are left, and how the run ends.
@@ -37,7 +21,7 @@ static RUNS: [Row<'static>; 6] = [
     (21, 0, 4096, 1, b"", 149, Status::WriteFault),
     (21, 2, 4096, 0, b"1 ok\n", 149, Status::ReadFault),
     // The read that would give the end of the input.
-    (4096, 2, 4096, 0, ANSWERS, 0, Status::ReadFault),
+    (4096, 2, 4096, 0, PLAIN_ANSWERS, 0, Status::ReadFault),
 ];
 
 // Whether a form over these octets, whose source and sink fail as a row says, ends as it says.
@@ -54,7 +38,53 @@ fn ends_so(alloc: Global, form: &str, octets: &[u8], row: Row) -> Result<bool, F
 #[test]
 fn scripts_over_ends_that_fail(rt: HostRuntime) -> Result<(), Fail> {
     for row in RUNS {
-        assert!(rt; ends_so(rt.alloc(), "run", SCRIPT, row)?, "{:?}", row.4);
+        assert!(rt; ends_so(rt.alloc(), "run", PLAIN, row)?, "{:?}", row.4);
+    }
+    Ok(())
+}
+
+// Scripts and their answers.
+static SCRIPTS: [(&[u8], &[u8]); 3] = [
+    (PLAIN, PLAIN_ANSWERS),
+    (OLD_MASTER, OLD_MASTER_ANSWERS),
+    (USUAL_CELL, USUAL_CELL_ANSWERS),
+];
+
+// The most octets of a read or a write where each of them fails in turn.
+const PIECE: usize = 64;
+
+// How many runs of a script meet a failed call, where the first call fails, then the second and so on. Each ends with this status,
+// a front of the answers being written, and the run behind them ends well with all answers.
+fn runs_that_fail(
+    alloc: Global,
+    script: &[u8],
+    answers: &[u8],
+    status: Status,
+) -> Result<usize, Fail> {
+    for call in 1..1_000 {
+        let failing = match status {
+            Status::ReadFault => (call as u64, 0),
+            _ => (0, call as u64),
+        };
+        let (written, end) = outcome_of(alloc, "run", script, PIECE, failing)?;
+        if end == Status::Ok && written.as_slice() == answers {
+            return Ok(call - 1);
+        }
+        if end != status || !answers.starts_with(&written) {
+            return Err("a run ended otherwise".into());
+        }
+    }
+    Err("no run ended well".into())
+}
+
+#[test]
+fn each_read_and_each_write_fails_in_turn(rt: HostRuntime) -> Result<(), Fail> {
+    let alloc = rt.alloc();
+    for (script, answers) in SCRIPTS {
+        let reads = runs_that_fail(alloc, script, answers, Status::ReadFault)?;
+        assert_eq!(rt; reads, script.len().div_ceil(PIECE) + 1);
+        let writes = runs_that_fail(alloc, script, answers, Status::WriteFault)?;
+        assert!(rt; writes >= answers.len().div_ceil(PIECE));
     }
     Ok(())
 }
@@ -110,14 +140,23 @@ fn stopped(alloc: Global, script: Vec<u8>, failing: u64) -> Result<(usize, usize
     Ok((sink.written().len(), source.left().len()))
 }
 
+// A comment of 100 octets with its line end.
+const COMMENT: &[u8] =
+    b"###################################################################################################\n";
+
+// Lines behind the plain script, of 100,000 octets: with an answer each, and with none.
+static BEHIND: [(&[u8], usize); 2] = [(b"clock 1 1\n", 10_000), (COMMENT, 1_000)];
+
 #[test]
 fn little_is_read_ahead(rt: HostRuntime) -> Result<(), Fail> {
     let alloc = rt.alloc();
-    let mut script = SCRIPT.to_vec(alloc)?;
-    script.extend_from_slice(&repeated(alloc, b"clock 1 1\n", 10_000)?)?;
-    let (written, left) = stopped(alloc, script, 1)?;
-    // All but what is read at once, and the first line.
-    assert!(rt; written == 0 && left >= 100_170 - 8_192 - 21);
+    for (line, times) in BEHIND {
+        let mut script = PLAIN.to_vec(alloc)?;
+        script.extend_from_slice(&repeated(alloc, line, times)?)?;
+        let (written, left) = stopped(alloc, script, 1)?;
+        // All but what is read at once, and the first line.
+        assert!(rt; written == 0 && left >= 100_170 - 8_192 - 21);
+    }
     Ok(())
 }
 

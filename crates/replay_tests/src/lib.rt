@@ -8,3 +8,5 @@ mod failing;
 mod places;
 #[cfg(test)]
 mod runs;
+#[cfg(test)]
+mod scripts;

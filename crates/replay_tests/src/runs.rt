@@ -13,18 +13,19 @@ pub fn words_of(alloc: Global, form: &str) -> Result<Vec<String>, AllocError> {
     Ok(vec![in alloc; String::from_str(alloc, form)?]?)
 }
 
-// What a form writes over an input, and how it ends.
-fn outcome_of(
+// What a form writes over an input in pieces, and how it ends, where the read and the write of these numbers fail; at 0 none does.
+pub fn outcome_of(
     alloc: Global,
     form: &str,
     input: &[u8],
     most: usize,
+    failing: (u64, u64),
 ) -> Result<(Vec<u8>, Status), AllocError>
     requires { 0 < most }
 {
     let words = words_of(alloc, form)?;
-    let mut source = MemSource::new(input.to_vec(alloc)?, Vec::new(alloc), most);
-    let mut sink = MemSink::new(alloc, ROOM, Vec::new(alloc), most)?;
+    let mut source = MemSource::new(input.to_vec(alloc)?, vec![in alloc; failing.0]?, most);
+    let mut sink = MemSink::new(alloc, ROOM, vec![in alloc; failing.1]?, most)?;
     let status = run(alloc, &words, &mut source, &mut sink);
     Ok((sink.written().to_vec(alloc)?, status))
 }
@@ -37,8 +38,8 @@ fn gives(
     output: &[u8],
     status: Status,
 ) -> Result<bool, AllocError> {
-    let (slow, slow_end) = outcome_of(alloc, form, input, 1)?;
-    let (fast, fast_end) = outcome_of(alloc, form, input, 4096)?;
+    let (slow, slow_end) = outcome_of(alloc, form, input, 1, (0, 0))?;
+    let (fast, fast_end) = outcome_of(alloc, form, input, 4096, (0, 0))?;
     let is_same = slow.as_slice() == output && fast.as_slice() == output;
     Ok(is_same && slow_end == status && fast_end == status)
 }

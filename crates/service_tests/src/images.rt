@@ -1,15 +1,32 @@
 // What a house keeps over a crash, whole and cut.
-use crate::houses::{ROOT, both, created, entries_at};
-use cds_records::RecordFault;
-use cds_stamps::AllocOr;
+use crate::houses::{Answer, ROOT, answer_to, both, created, entries_at};
+use cds_records::{Body, Message, RecordFault};
+use cds_stamps::{AllocOr, DirId, EpochNo, HouseNo};
 use clearinghouse::{Clearinghouse, DirState, StartFault};
 use skulk_core::Skulk;
 use std::alloc::Global;
 use std::test::Fail;
 
-// The image of a house with one entry, whose skulk runs.
+const LEFT: DirId = DirId(2);
+
+// Has a house leave that directory, which it does not have.
+fn leave(alloc: Global, house: &mut Clearinghouse) -> Result<Answer, Fail> {
+    let message = Message {
+        dir: LEFT,
+        from: HouseNo(2),
+        epoch: EpochNo(3),
+        floor: 0,
+        body: Body::Leave,
+    };
+    Ok(answer_to(alloc, house, &message)?.0)
+}
+
+// The image of a house with one entry, whose skulk runs, and that was told to leave another directory.
 fn kept(alloc: Global) -> Result<Vec<u8>, Fail> {
     let mut pair = both(alloc)?;
+    if leave(alloc, &mut pair.first)? != Answer::Taken {
+        return Err("not taken".into());
+    }
     created(alloc, &mut pair.first, &mut pair.mail, b"kept")?;
     pair.first.start_skulk(alloc, 9, ROOT)?;
     Ok(pair.first.image(alloc)?)
@@ -30,6 +47,7 @@ fn a_house_starts_of_its_image(rt: HostRuntime) -> Result<(), Fail> {
     let started = Clearinghouse::start(alloc, &image)?;
     assert!(rt; started.floor() == 9 && entries_at(&started) == Some(1));
     assert!(rt; is_idle(&started) && !started.is_spent());
+    assert!(rt; matches!(started.state(LEFT), Some(DirState::Gone(EpochNo(3)))));
     assert!(rt; started.copy(alloc)?.image(alloc)? == image);
     Ok(())
 }

@@ -1,0 +1,107 @@
+// Scripts and their answers, which are run over ends that fail.
+
+// One entry of one house. The script has 170 octets, of which the first line has 21.
+pub const PLAIN: &[u8] = b"house 1 00000000000a\n\
+    root 1\n\
+    clock 1 100\n\
+    create 1 1 lpr\n\
+    add 1 1 lpr CDS_Class 5072\n\
+    read 1 low /.:/lpr CDS_Class\n\
+    remove 1 1 lpr CDS_Class 5072\n\
+    read 1 low /.:/lpr CDS_Class\n";
+
+pub const PLAIN_ANSWERS: &[u8] = b"1 ok\n\
+    2 ok\n\
+    3 ok\n\
+    4 ok 100@00000000000a\n\
+    5 ok 101@00000000000a\n\
+    6 ok 1 5072\n\
+    7 ok 102@00000000000a\n\
+    8 ok 0\n";
+
+// A master that missed two epochs comes back.
+pub const OLD_MASTER: &[u8] = b"house 1 00000000000a\n\
+    house 2 00000000000b\n\
+    root 1 2\n\
+    deliver 1\n\
+    epoch 1 2\n\
+    create 1 1 lone\n\
+    deliver 3\n\
+    skulk 2 1\n\
+    epoch 1 2 1\n\
+    epoch 1 1 2\n\
+    deliver 4\n\
+    read 1 low /.:/lone A\n\
+    deliver 2\n\
+    dump 1 1\n";
+
+pub const OLD_MASTER_ANSWERS: &[u8] = b"1 ok\n\
+    2 ok\n\
+    3 ok posted 1\n\
+    4 ok taken\n\
+    5 ok 2 posted 2\n\
+    6 ok 1@00000000000a posted 3\n\
+    7 ok late 1 2\n\
+    8 ok complete 1@00000000000b\n\
+    9 ok 3 posted 4\n\
+    10 refused NotJoined 1 3\n\
+    11 ok taken\n\
+    12 refused NoSuchName 0\n\
+    13 ok late 2 3\n\
+    14 dump epoch 3 allupto 1@00000000000b members 1:3:r 2:1:m\n\
+    14 end\n";
+
+// A usual cell: three servers, an alias, a group, and two profiles that lead to each other.
+pub const USUAL_CELL: &[u8] = b"house 1 00000000000a\n\
+    root 1\n\
+    export /.:/srv-a a0000000-0000-0000-0000-000000000001:1.2 ncacn_ip_tcp:10.0.0.1[1025],ncadg_ip_udp:10.0.0.1[1026] \
+    00000000-0000-0000-0000-0000000000b2,00000000-0000-0000-0000-0000000000b1\n\
+    export /.:/srv-b a0000000-0000-0000-0000-000000000001:1.1 ncacn_ip_tcp:10.0.0.2[1025] -\n\
+    export /.:/srv-c a0000000-0000-0000-0000-000000000001:1.3 ncacn_ip_tcp:10.0.0.3 -\n\
+    link 1 1 srv-alias /.:/srv-a\n\
+    groupadd /.:/print-group /.:/srv-c\n\
+    groupadd /.:/print-group /.:/srv-alias\n\
+    groupadd /.:/print-group /.:/gone\n\
+    groupadd /.:/print-group /.:/srv-b\n\
+    profadd /.:/user-profile a0000000-0000-0000-0000-000000000001:1.2 /.:/print-group 3 -\n\
+    profadd /.:/user-profile a0000000-0000-0000-0000-000000000001:1.2 /.:/srv-a 0 local\n\
+    profadd /.:/user-profile default /.:/cell-profile 8 -\n\
+    profadd /.:/cell-profile default /.:/user-profile 8 -\n\
+    import 1 high /.:/user-profile a0000000-0000-0000-0000-000000000001:1.2 - ncacn_ip_tcp,ncadg_ip_udp\n\
+    import 1 high /.:/user-profile a0000000-0000-0000-0000-000000000001:1.2 00000000-0000-0000-0000-0000000000b2 ncacn_ip_tcp\n\
+    unexport /.:/srv-a a0000000-0000-0000-0000-000000000001:1.2 -\n\
+    import 1 high /.:/user-profile a0000000-0000-0000-0000-000000000001:1.2 - ncacn_ip_tcp,ncadg_ip_udp\n\
+    unexport /.:/srv-a a0000000-0000-0000-0000-000000000001:1.2 -\n\
+    groupdel /.:/print-group /.:/gone\n\
+    groupdel /.:/print-group /.:/gone\n\
+    profdel /.:/user-profile default /.:/cell-profile\n\
+    profadd /.:/user-profile default /.:/srv-a 3 -\n";
+
+pub const USUAL_CELL_ANSWERS: &[u8] = b"1 ok\n\
+    2 ok\n\
+    3 ok 5\n\
+    4 ok 2\n\
+    5 ok 2\n\
+    6 ok 10@00000000000a\n\
+    7 ok 2\n\
+    8 ok 1\n\
+    9 ok 1\n\
+    10 ok 1\n\
+    11 ok 2\n\
+    12 ok 1\n\
+    13 ok 1\n\
+    14 ok 2\n\
+    15 binding 00000000-0000-0000-0000-0000000000b1@ncadg_ip_udp:10.0.0.1[1026]\n\
+    15 binding 00000000-0000-0000-0000-0000000000b1@ncacn_ip_tcp:10.0.0.1[1025]\n\
+    15 binding ncacn_ip_tcp:10.0.0.3\n\
+    15 end 3\n\
+    16 binding 00000000-0000-0000-0000-0000000000b2@ncacn_ip_tcp:10.0.0.1[1025]\n\
+    16 end 1\n\
+    17 ok 2\n\
+    18 binding ncacn_ip_tcp:10.0.0.3\n\
+    18 end 1\n\
+    19 refused NothingToUnexport\n\
+    20 ok 1\n\
+    21 refused NoSuchMember\n\
+    22 ok 1\n\
+    23 refused BadPriority\n";
