@@ -54,7 +54,7 @@ tail_of-slice_split (b ∷ bs) = by_slash (b == slash) refl (slice_split (λ b. 
     by_slash false e (c ∷ parts) is = cc
 
 -- a simple name has no slash
-no_slash : (c : List ℕ) → IsSimpleName c → All (λ b. (b == slash) ≡ false) c
+pub no_slash : (c : List ℕ) → IsSimpleName c → All (λ b. (b == slash) ≡ false) c
 no_slash c name = All-weaker (λ b. IsTrue (is_name_octet b)) (λ b. (b == slash) ≡ false) (λ b e. grind (arith, e)) c name.each
 
 -- what was spelled is split again

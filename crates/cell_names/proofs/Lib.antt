@@ -9,3 +9,4 @@ pub mod FullNameLaws
 pub mod SpelledWalks
 mod Examples
 pub mod NameFaults
+pub mod LentNames

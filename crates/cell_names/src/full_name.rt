@@ -1,6 +1,6 @@
 // Full names.
 ghost use Rattle.std.specs.Prelude.{◌≡◌, ◌==◌, ◌↔◌, ◌+◌, ◌-◌, ◌≤◌, ◌<◌, ◌++◌};
-ghost use Rattle.std.specs.Prelude.{None, length, slice_get, option_copied, IsSome, SomeIff, OnSome, IfOk, OnOk, IfSome};
+ghost use Rattle.std.specs.Prelude.{None, length, take, slice_get, option_copied, IsSome, SomeIff, OnSome, IfOk, OnOk, IfSome};
 ghost use Rattle.std.specs.List.{All, slice_split};
 ghost use Rattle.std.specs.Cmp.Rules.{comparing, hashing};
 ghost use Rattle.std.specs.Hash as fed;
@@ -111,6 +111,14 @@ impl FullName {
         ensures faulty { IfSome (name_fault octets.now) (λ fault. result ≡ Err (Fault fault)) }
     {
         FullName::check(octets).map_err(AllocOr::Fault)?;
+        Ok(FullName::known(alloc, octets)?)
+    }
+
+    /// The full name of octets that are known to be one: only memory can be wanting.
+    pub fn known(alloc: Global, octets: &[u8]) -> Result<FullName, AllocError>
+        requires { name_fault octets.now ≡ None }
+        ensures { IfOk result (λ v. v ≡ components_of octets.now) }
+    {
         Ok(FullName {
             components: components_in(alloc, octets)?,
         })
@@ -212,6 +220,14 @@ impl FullName {
             Some(_) => Ok(()),
             None => Err(SpliceFault::NameTooLong),
         }
+    }
+
+    /// The name without its last component. That of the root has none, and stays.
+    pub fn without_last(mut self) -> FullName
+        ensures { result ≡ take (length self - 1) self }
+    {
+        self.components.pop();
+        self
     }
 
     /// Another full name of the same components.

@@ -1,5 +1,5 @@
 // Octets that spell components, compared without memory.
-ghost use Rattle.std.specs.Prelude.{◌≡◌, ◌≢◌, ◌↔◌, ◌++◌, ◌∷◌, ℕ, List, IsTrue, MatchOption};
+ghost use Rattle.std.specs.Prelude.{◌≡◌, ◌≢◌, ◌++◌, ◌∷◌, ℕ, List, MatchOption};
 ghost use Rattle.cds_stamps.specs.Octets.{is_octets};
 ghost use Rattle.cell_names.specs.FullNames.{slash, spelling, behind_slashes};
 
@@ -10,24 +10,35 @@ use cds_stamps::SimpleName;
 pub(crate) fn spell(octets: &[u8], components: &[SimpleName]) -> bool
     ensures { result ≡ is_octets (spelling components.now) octets.now }
 {
-    match octets.strip_prefix(ROOT) {
-        Some(behind) => are_components(behind, components),
+    match behind_name(octets, components) {
+        Some(rest) => rest.is_empty(),
         None => false,
     }
 }
 
-// Whether octets are these components, each behind a slash.
-fn are_components(octets: &[u8], components: &[SimpleName]) -> bool
-    ensures { IsTrue result ↔ (octets.now ≡ behind_slashes components.now) }
+/// What stands behind the root of the cell and these components, if octets begin so.
+pub(crate) fn behind_name<'a>(octets: &'a [u8], components: &[SimpleName]) -> Option<&'a [u8]>
+    ensures { MatchOption result
+        ((rest : List ℕ) → octets.now ≢ spelling components.now ++ rest)
+        (λ rest. octets.now ≡ spelling components.now ++ rest.now) }
+{
+    behind_components(octets.strip_prefix(ROOT)?, components)
+}
+
+// What stands behind these components, each behind a slash, if octets begin so.
+fn behind_components<'a>(octets: &'a [u8], components: &[SimpleName]) -> Option<&'a [u8]>
+    ensures { MatchOption result
+        ((rest : List ℕ) → octets.now ≢ behind_slashes components.now ++ rest)
+        (λ rest. octets.now ≡ behind_slashes components.now ++ rest.now) }
 {
     let mut rest = octets;
     for component in components {
         match behind_component(rest, component.octets()) {
             Some(behind) => rest = behind,
-            None => return false,
+            None => return None,
         }
     }
-    rest.is_empty()
+    Some(rest)
 }
 
 // What stands behind a slash and this component, if octets begin so.
