@@ -51,6 +51,17 @@ impl<'a> LentName<'a> {
         FullName::known(alloc, self.octets)
     }
 
+    /// The same names, with memory of their own.
+    pub fn copies(alloc: Global, names: &[LentName<'_>]) -> Result<Vec<FullName>, AllocError>
+        ensures { IfOk result (λ v. v.items ≡ names.now) }
+    {
+        let mut copies = Vec::with_capacity(alloc, names.len())?;
+        for name in names {
+            copies.push(name.copy(alloc)?)?;
+        }
+        Ok(copies)
+    }
+
     /// The octets of the last component, where those in front of it are the components of this name. Takes no memory.
     pub fn last_behind(&self, front: &FullName) -> Option<&'a [u8]>
         ensures value { MatchOption result

@@ -7,7 +7,7 @@ ghost use Rattle.ns_groups.specs.Groups.{member_fault, members_of};
 
 use attr_sets::{Value, all_in_order};
 use cds_stamps::AllocOr;
-use cell_names::FullName;
+use cell_names::{FullName, LentName};
 use std::alloc::{AllocError, Global};
 use thiserror::Error;
 
@@ -38,35 +38,34 @@ pub fn members(alloc: Global, values: &[Value]) -> Result<Vec<FullName>, AllocEr
     ensures { IfOk result (λ v. v.items ≡ members_of values.now) }
 {
     let sorted = all_in_order(alloc, values)?;
-    members_in_order(alloc, &sorted)
+    let names = members_in_order(alloc, &sorted)?;
+    LentName::copies(alloc, &names)
 }
 
 /// The members that these values spell, in the order of the values: where they ascend, as those that show of an entry do, the
-/// order of `members`.
-pub fn members_in_order(alloc: Global, values: &[&Value]) -> Result<Vec<FullName>, AllocError>
+/// order of `members`. Their octets stay in the values.
+pub fn members_in_order<'a>(
+    alloc: Global,
+    values: &[&'a Value],
+) -> Result<Vec<LentName<'a>>, AllocError>
     ensures { IfOk result (λ v. v.items ≡ map components_of (filter is_full_name (map (λ value. value.now) values.now))) }
 {
     let mut names = Vec::with_capacity(alloc, values.len())?;
     for value in values {
-        push_if_readable(alloc, &mut names, value.octets())?;
+        push_if_readable(&mut names, value.octets())?;
     }
     Ok(names)
 }
 
 // Puts the full name of these octets behind others, if they are one.
-fn push_if_readable(
-    alloc: Global,
-    names: &mut Vec<FullName>,
-    octets: &[u8],
+fn push_if_readable<'a>(
+    names: &mut Vec<LentName<'a>>,
+    octets: &'a [u8],
 ) -> Result<(), AllocError>
     ensures { OnOk result (names.new.items ≡ names.old.items ++ map components_of (filter is_full_name (octets.now ∷ []))) }
 {
-    match FullName::parse(alloc, octets) {
-        Ok(name) => {
-            names.push(name)?;
-            Ok(())
-        }
-        Err(AllocOr::Fault(_)) => Ok(()),
-        Err(AllocOr::OutOfMemory) => Err(AllocError),
+    match LentName::of(octets) {
+        Ok(name) => Ok(names.push(name)?),
+        Err(_) => Ok(()),
     }
 }

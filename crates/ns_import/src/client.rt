@@ -1,13 +1,17 @@
 // What a client wants to find, and what an entry says of it.
-ghost use Rattle.std.specs.Prelude.{◌≡◌, ◌++◌, map, reverse, IfOk};
+ghost use Rattle.std.specs.Prelude.{◌≡◌, ◌++◌, map, filter, reverse, IfOk};
+ghost use Rattle.cell_names.specs.FullNames.{components_of, is_full_name};
 ghost use Rattle.attr_sets.specs.Cells.{cell_values};
 ghost use Rattle.resolver.specs.Readers.{values_by};
+ghost use Rattle.ns_groups.specs.Groups.{members_of};
+ghost use Rattle.ns_profiles.specs.Elements.{said};
+ghost use Rattle.ns_profiles.specs.Profiles.{is_sought, search_order};
 ghost use Rattle.ns_import.specs.Imports.{names_of, bindings_at};
 ghost use Rattle.ns_import.specs.Coming.{names_in, bindings_in};
 
+use crate::waiting::Waiting;
 use attr_sets::{AttrCell, Value};
 use cds_stamps::AttrName;
-use cell_names::FullName;
 use directory::AttrMap;
 use ns_groups::{GROUP, members, members_in_order};
 use ns_profiles::{PROFILE, elements_for, elements_in_order};
@@ -15,7 +19,7 @@ use resolver::{EntryReader, Found};
 use server_entries::{OBJECTS, TOWERS, Wanted, bindings, bindings_in_order};
 use std::alloc::{AllocError, Global};
 use std::marker::Model;
-use tower_codec::StringBinding;
+use tower_codec::{Interface, StringBinding};
 
 /// What a client wants, with the names of the attributes that say where it is.
 #[derive(Drop)]
@@ -44,18 +48,18 @@ impl Model for Client {
 
 /// What an entry says: the names at which a search goes on from it, and its bindings, of both the next one last.
 #[derive(Drop)]
-pub(crate) struct Said {
-    pub(crate) names: Vec<FullName>,
+pub(crate) struct Said<'a> {
+    pub(crate) names: Vec<Waiting<'a>>,
     pub(crate) bindings: Vec<StringBinding>,
 }
 
-impl Said {
+impl<'a> Said<'a> {
     // What these members, then these elements and these bindings say, all of them in the order of a search.
     fn of(
-        mut members: Vec<FullName>,
-        mut elements: Vec<FullName>,
+        mut members: Vec<Waiting<'a>>,
+        mut elements: Vec<Waiting<'a>>,
         mut bindings: Vec<StringBinding>,
-    ) -> Result<Said, AllocError>
+    ) -> Result<Said<'a>, AllocError>
         ensures names { IfOk result (λ said. reverse said.names.items ≡ members.items ++ elements.items) }
         ensures bindings { IfOk result (λ said. reverse said.bindings.items ≡ bindings.items) }
     {
@@ -85,12 +89,12 @@ impl Client {
     }
 
     /// What an entry says to the client. Its values are read in place, where the reader keeps them.
-    pub(crate) fn read<R: EntryReader>(
+    pub(crate) fn read<'a, R: EntryReader>(
         &self,
         alloc: Global,
-        reader: &R,
+        reader: &'a R,
         at: &Found,
-    ) -> Result<Said, AllocError>
+    ) -> Result<Said<'a>, AllocError>
         ensures names { IfOk result (λ said. reverse said.names.items ≡ names_of (R.tells reader.now) self.now.interface at.now) }
         ensures bindings { IfOk result (λ said. reverse said.bindings.items ≡ bindings_at (R.tells reader.now) self.now at.now) }
     {
@@ -101,7 +105,7 @@ impl Client {
     }
 
     // What the cells of an entry's attributes say.
-    fn read_cells(&self, alloc: Global, cells: &AttrMap) -> Result<Said, AllocError>
+    fn read_cells<'a>(&self, alloc: Global, cells: &'a AttrMap) -> Result<Said<'a>, AllocError>
         ensures names { IfOk result (λ said. reverse said.names.items ≡ names_in (values_by cells.now) self.now.interface) }
         ensures bindings { IfOk result (λ said. reverse said.bindings.items ≡ bindings_in (values_by cells.now) self.now) }
     {
@@ -109,19 +113,19 @@ impl Client {
         let objects = values_in(alloc, cells, &self.objects)?;
         let group = values_in(alloc, cells, &self.group)?;
         let profile = values_in(alloc, cells, &self.profile)?;
-        let members = members_in_order(alloc, &group)?;
-        let elements = elements_in_order(alloc, &profile, &self.wanted.interface)?;
+        let members = lent_members(alloc, &group)?;
+        let elements = lent_elements(alloc, &profile, &self.wanted.interface)?;
         let bindings = bindings_in_order(alloc, &towers, &objects, &self.wanted)?;
         Said::of(members, elements, bindings)
     }
 
     // What copies of an entry's values say.
-    fn read_copies<R: EntryReader>(
+    fn read_copies<'a, R: EntryReader>(
         &self,
         alloc: Global,
         reader: &R,
         at: &Found,
-    ) -> Result<Said, AllocError>
+    ) -> Result<Said<'a>, AllocError>
         ensures names { IfOk result (λ said. reverse said.names.items ≡ names_of (R.tells reader.now) self.now.interface at.now) }
         ensures bindings { IfOk result (λ said. reverse said.bindings.items ≡ bindings_at (R.tells reader.now) self.now at.now) }
     {
@@ -130,11 +134,48 @@ impl Client {
         let group = reader.values(alloc, at, &self.group)?;
         let profile = reader.values(alloc, at, &self.profile)?;
         Said::of(
-            members(alloc, &group)?,
-            elements_for(alloc, &profile, &self.wanted.interface)?,
+            own_members(alloc, &group)?,
+            own_elements(alloc, &profile, &self.wanted.interface)?,
             bindings(alloc, &towers, &objects, &self.wanted)?,
         )
     }
+}
+
+// The members that these values spell, in the order of the values, which keep their octets.
+fn lent_members<'a>(alloc: Global, values: &[&'a Value]) -> Result<Vec<Waiting<'a>>, AllocError>
+    ensures { IfOk result (λ v. v.items ≡ map components_of (filter is_full_name (map (λ value. value.now) values.now))) }
+{
+    Waiting::all_lent(alloc, members_in_order(alloc, values)?)
+}
+
+// The members of the elements among these values that a search for the interface takes, in the order of the values, which keep
+// their octets.
+fn lent_elements<'a>(
+    alloc: Global,
+    values: &[&'a Value],
+    interface: &Interface,
+) -> Result<Vec<Waiting<'a>>, AllocError>
+    ensures { IfOk result (λ v. v.items ≡ map (λ octets. (said octets).member) (filter (is_sought interface.now) (map (λ value. value.now) values.now))) }
+{
+    Waiting::all_lent(alloc, elements_in_order(alloc, values, interface)?)
+}
+
+// The members that copies of values spell.
+fn own_members<'a>(alloc: Global, values: &[Value]) -> Result<Vec<Waiting<'a>>, AllocError>
+    ensures { IfOk result (λ v. v.items ≡ members_of values.now) }
+{
+    Waiting::all_own(alloc, members(alloc, values)?)
+}
+
+// The members at which a search for the interface goes on by copies of values.
+fn own_elements<'a>(
+    alloc: Global,
+    values: &[Value],
+    interface: &Interface,
+) -> Result<Vec<Waiting<'a>>, AllocError>
+    ensures { IfOk result (λ v. v.items ≡ search_order interface.now values.now) }
+{
+    Waiting::all_own(alloc, elements_for(alloc, values, interface)?)
 }
 
 // The values of an attribute that show by these cells.

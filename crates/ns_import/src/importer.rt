@@ -8,7 +8,8 @@ ghost use Rattle.ns_import.specs.Imports.{imported, begun, IsCall};
 
 use crate::client::Client;
 use crate::fault::ImportFault;
-use crate::progress::{Progress, object};
+use crate::progress::Progress;
+use crate::waiting::object;
 use cds_stamps::AllocOr;
 use cell_names::FullName;
 use resolver::EntryReader;
@@ -23,18 +24,21 @@ use tower_codec::StringBinding;
 pub struct Importer<'a, R: EntryReader> {
     reader: &'a R,
     client: Client,
-    progress: Progress,
+    progress: Progress<'a>,
     spent: bool,
 }
 
 impl<'a, R: EntryReader> Model for Importer<'a, R> {
     ghost use Rattle.std.specs.Prelude.{List, Option, Some, None, if◌then◌else◌};
     ghost use Rattle.tower_codec.specs.declared.binding.StringBinding.{StringBinding};
+    ghost use Rattle.resolver.specs.Nears.{Knows};
     ghost use Rattle.ns_import.specs.Coming.{coming};
 
     ghost Value = { Option (List StringBinding) };
 
     ghost view = { λ i. if i.spent then None else Some (coming (R.tells i.reader.now) (R.objects i.reader.now) i.client i.progress) };
+
+    ghost invariant = { λ i. Knows (R.tells i.reader.now) i.progress.near };
 }
 
 impl<'a, R: EntryReader> Importer<'a, R> {

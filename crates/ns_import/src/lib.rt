@@ -9,6 +9,7 @@ pub mod laws;
 mod progress;
 #[cfg(test)]
 mod tests;
+mod waiting;
 
 pub use fault::ImportFault;
 pub use importer::Importer;

@@ -1,42 +1,44 @@
 // How far a search has come.
-ghost use Rattle.std.specs.Prelude.{◌≡◌, ◌∷◌, ◌++◌, [], ℕ, List, Bool, false, not, drop, reverse, slice_get, IfOk, IfNone, OnOk};
+ghost use Rattle.std.specs.Prelude.{◌≡◌, ◌∷◌, ◌++◌, [], None, false, drop, reverse, slice_get, IfOk, IfNone, OnOk};
 ghost use Rattle.std.specs.Option.{option_to_list};
 ghost use Rattle.cds_stamps.specs.Firsts.{has};
-ghost use Rattle.cds_stamps.specs.Outcomes.{Answers};
-ghost use Rattle.ns_import.specs.Imports.{same_entry, object_at, names_of, bindings_at};
+ghost use Rattle.resolver.specs.Nears.{Knows};
+ghost use Rattle.ns_import.specs.Imports.{same_entry, names_of, bindings_at};
 ghost use Rattle.ns_import.specs.DepthFirst.{behind_seen};
 ghost use Rattle.ns_import.specs.Coming.{coming, resolved};
 
 use crate::client::{Client, Said};
-use crate::fault::ImportFault;
+use crate::waiting::Waiting;
 use cds_stamps::AllocOr;
-use cell_names::FullName;
-use directory::Kind;
 use indexmap::IndexSet;
-use resolver::{EntryReader, Found, resolve};
+use resolver::{EntryReader, Found, Near};
 use std::alloc::{AllocError, Global};
 use tower_codec::StringBinding;
 
-/// How far a search has come: the entries that were searched, the names that wait, and the bindings of the last entry that
-/// were not given yet. Of names and of bindings the next one stands last.
+/// How far a search has come: the entries that were searched, the names that wait, the bindings of the last entry that
+/// were not given yet, and the directory where the search was last, if one is kept. Of names and of bindings the next one
+/// stands last.
 #[derive(Drop)]
-pub(crate) struct Progress {
+pub(crate) struct Progress<'a> {
     searched: IndexSet<Found>,
-    names: Vec<FullName>,
+    names: Vec<Waiting<'a>>,
     ready: Vec<StringBinding>,
+    near: Option<Near>,
 }
 
-impl Progress {
+impl<'a> Progress<'a> {
     /// A search of nothing.
-    pub(crate) fn new(alloc: Global) -> Progress
+    pub(crate) fn new(alloc: Global) -> Progress<'a>
         ensures searched { result.searched.keys ≡ [] }
         ensures names { result.names.items ≡ [] }
         ensures ready { result.ready.items ≡ [] }
+        ensures near { result.near ≡ None }
     {
         Progress {
             searched: IndexSet::new(alloc),
             names: Vec::new(alloc),
             ready: Vec::new(alloc),
+            near: None,
         }
     }
 
@@ -44,17 +46,19 @@ impl Progress {
     pub(crate) fn advance<R: EntryReader>(
         &mut self,
         alloc: Global,
-        reader: &R,
+        reader: &'a R,
         client: &Client,
     ) -> Result<Option<StringBinding>, AllocError>
-        ensures { let left = coming (R.tells reader.now) (R.objects reader.now) client.now in
+        requires { Knows (R.tells reader.now) self.old.near }
+        ensures near { Knows (R.tells reader.now) self.new.near }
+        ensures next { let left = coming (R.tells reader.now) (R.objects reader.now) client.now in
             IfOk result (λ next. (next ≡ slice_get (left self.old) 0) × (left self.new ≡ drop 1 (left self.old))) }
     {
         'entries: loop {
             if let Some(binding) = self.ready.pop() {
                 return Ok(Some(binding));
             }
-            match next_object(alloc, reader, &self.searched, &mut self.names)? {
+            match next_object(alloc, reader, &self.searched, &mut self.names, &mut self.near)? {
                 Some(entry) => self.enter(alloc, reader, client, entry)?,
                 None => return Ok(None),
             }
@@ -65,11 +69,12 @@ impl Progress {
     pub(crate) fn enter<R: EntryReader>(
         &mut self,
         alloc: Global,
-        reader: &R,
+        reader: &'a R,
         client: &Client,
         entry: Found,
     ) -> Result<(), AllocError>
         requires { has same_entry entry self.old.searched.keys ≡ false }
+        ensures near { self.new.near ≡ self.old.near }
         ensures searched { OnOk result (self.new.searched.keys ≡ self.old.searched.keys ++ entry ∷ []) }
         ensures names { OnOk result (reverse self.new.names.items
             ≡ names_of (R.tells reader.now) client.now.interface entry ++ reverse self.old.names.items) }
@@ -91,14 +96,17 @@ fn next_object<R: EntryReader>(
     alloc: Global,
     reader: &R,
     searched: &IndexSet<Found>,
-    names: &mut Vec<FullName>,
+    names: &mut Vec<Waiting<'_>>,
+    near: &mut Option<Near>,
 ) -> Result<Option<Found>, AllocError>
+    requires { Knows (R.tells reader.now) near.old }
+    ensures near { Knows (R.tells reader.now) near.new }
     ensures next { IfOk result (λ next. option_to_list next ++ resolved (R.tells reader.now) (reverse names.new.items)
         ≡ behind_seen same_entry searched.now.keys (resolved (R.tells reader.now) (reverse names.old.items))) }
     ensures end { IfOk result (λ next. IfNone next (names.new.items ≡ [])) }
 {
     'names: while let Some(name) = names.pop() {
-        match object(alloc, reader, &name) {
+        match name.object(alloc, reader, near) {
             Ok(entry) => {
                 if !searched.contains(&entry) {
                     return Ok(Some(entry));
@@ -109,25 +117,4 @@ fn next_object<R: EntryReader>(
         }
     }
     Ok(None)
-}
-
-/// The object that a name leads to, links followed to the last.
-pub(crate) fn object<R: EntryReader>(
-    alloc: Global,
-    reader: &R,
-    name: &FullName,
-) -> Result<Found, AllocOr<ImportFault>>
-    ensures { Answers result (object_at (R.tells reader.now) name.now) }
-{
-    match resolve(alloc, reader, name, true) {
-        Ok(entry) => {
-            if entry.kind == Kind::Object {
-                Ok(entry)
-            } else {
-                Err(AllocOr::Fault(ImportFault::NotObject))
-            }
-        }
-        Err(AllocOr::Fault(refusal)) => Err(AllocOr::Fault(ImportFault::Walk(refusal))),
-        Err(AllocOr::OutOfMemory) => Err(AllocOr::OutOfMemory),
-    }
 }

@@ -95,20 +95,12 @@ impl Element {
         Ok(Element {
             priority: priority_of(octets),
             interface: interface_of(octets),
-            member: known_name(alloc, member_of(octets))?,
+            member: FullName::known(alloc, member_of(octets))?,
             annotation: Annotation {
                 octets: Octets::of(alloc, annotation_of(octets))?,
             },
         })
     }
-}
-
-// The full name of octets that are one: only memory can be wanting.
-pub(crate) fn known_name(alloc: Global, octets: &[u8]) -> Result<FullName, AllocError>
-    requires { name_fault octets.now ≡ None }
-    ensures { IfOk result (λ name. name ≡ components_of octets.now) }
-{
-    FullName::parse(alloc, octets).map_err(|_| AllocError)
 }
 
 // The priority of the octets of an element.

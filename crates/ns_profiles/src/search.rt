@@ -5,9 +5,9 @@ ghost use Rattle.cell_names.specs.FullNames.{is_name};
 ghost use Rattle.ns_profiles.specs.Elements.{element_fault, said};
 ghost use Rattle.ns_profiles.specs.Profiles.{is_for, is_meant, is_element, is_taken, is_sought, search_order};
 
-use crate::element::{DEFAULT, check, interface_of, known_name, member_of, priority_of};
+use crate::element::{DEFAULT, check, interface_of, member_of, priority_of};
 use attr_sets::{Value, all_in_order};
-use cell_names::FullName;
+use cell_names::{FullName, LentName};
 use std::alloc::{AllocError, Global};
 use tower_codec::Interface;
 
@@ -22,16 +22,17 @@ pub fn elements_for(
     ensures { IfOk result (λ v. v.items ≡ search_order interface.now values.now) }
 {
     let sorted = all_in_order(alloc, values)?;
-    elements_in_order(alloc, &sorted, interface)
+    let names = elements_in_order(alloc, &sorted, interface)?;
+    LentName::copies(alloc, &names)
 }
 
 /// The members of the elements among these values that a search for the interface takes, in the order of the values: where
-/// they ascend, as those that show of an entry do, the order of `elements_for`.
-pub fn elements_in_order(
+/// they ascend, as those that show of an entry do, the order of `elements_for`. Their octets stay in the values.
+pub fn elements_in_order<'a>(
     alloc: Global,
-    values: &[&Value],
+    values: &[&'a Value],
     interface: &Interface,
-) -> Result<Vec<FullName>, AllocError>
+) -> Result<Vec<LentName<'a>>, AllocError>
     ensures { IfOk result (λ v. v.items ≡ map (λ octets. (said octets).member) (filter (is_sought interface.now) (map (λ value. value.now) values.now))) }
 {
     let found = sought(alloc, values, interface)?;
@@ -76,23 +77,23 @@ fn sought<'a>(
 }
 
 // The members of values that are elements, in their order.
-fn members_of(alloc: Global, values: &[&Value]) -> Result<Vec<FullName>, AllocError>
+fn members_of<'a>(alloc: Global, values: &[&'a Value]) -> Result<Vec<LentName<'a>>, AllocError>
     requires { All (λ value. element_fault value.now ≡ None) values.now }
     ensures { IfOk result (λ v. v.items ≡ map (λ value. (said value.now).member) values.now) }
 {
     let mut members = Vec::with_capacity(alloc, values.len())?;
     for value in values {
-        members.push(known_member(alloc, value)?)?;
+        members.push(known_member(value))?;
     }
     Ok(members)
 }
 
 // The member of a value that is an element.
-fn known_member(alloc: Global, value: &Value) -> Result<FullName, AllocError>
+fn known_member(value: &Value) -> LentName<'_>
     requires { element_fault value.now ≡ None }
-    ensures { IfOk result (λ name. name ≡ (said value.now).member) }
+    ensures { result ≡ (said value.now).member }
 {
-    known_name(alloc, member_of(value.octets()))
+    LentName::known(member_of(value.octets()))
 }
 
 // Whether octets are an element that a search for the interface takes.

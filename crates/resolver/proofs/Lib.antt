@@ -2,3 +2,4 @@ mod PassLaws
 mod SeenLaws
 mod EndLaws
 mod Examples
+pub mod NearLaws

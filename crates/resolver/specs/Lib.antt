@@ -6,3 +6,4 @@ pub mod WalkEnds
 pub mod SeenEnds
 pub mod ListedReaders
 pub mod ListedReaderProofs
+pub mod Nears

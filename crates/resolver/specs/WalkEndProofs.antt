@@ -50,7 +50,7 @@ abbrev SomeEndFrom : Reader → Bool → Walker → Type 0
 SomeEndFrom reader last w = (e : End) × EndsFrom reader last w e
 
 -- what is left behind the next component
-behind : (name : List (List ℕ)) (done : ℕ) (c : List ℕ) (rest : List (List ℕ)) → drop done name ≡ c ∷ rest → drop (done + 1) name ≡ rest
+pub behind : (name : List (List ℕ)) (done : ℕ) (c : List ℕ) (rest : List (List ℕ)) → drop done name ≡ c ∷ rest → drop (done + 1) name ≡ rest
 behind name done c rest h =
     let within : done < length name = omega (arith, length-drop done name, ap length h) in
     let next = drop_more name done c within in

@@ -3,12 +3,14 @@
 
 mod component;
 pub mod laws;
+mod near;
 mod reader;
 mod refusal;
 mod resolution;
 mod seen;
 mod walk;
 
+pub use near::{Near, resolve_near};
 pub use reader::EntryReader;
 pub use refusal::Refusal;
 pub use resolution::{place, resolve};

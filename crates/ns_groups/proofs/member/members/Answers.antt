@@ -10,4 +10,5 @@ returns c =
     let sorted : map (λ v. v.now) c.deref.result.now ≡ ascending values = ap (map (λ v. v.now)) c.deref.ensures.value ∙ c.in_ok-sorted.ensures in
     let members : map components_of (filter is_full_name (map (λ v. v.now) c.deref.result.now)) ≡ map components_of (ascending (filter is_full_name values)) =
     ap (λ (vs : List (List ℕ)). map components_of (filter is_full_name vs)) sorted ∙ ap (map components_of) (sym (ascending-filter is_full_name values)) in
-    subst (λ (names : List (List (List ℕ))). IfOk c.members_in_order.result (λ v. v.items ≡ names)) members c.members_in_order.ensures
+    subst (λ (names : List (List (List ℕ))). IfOk c.copies.result (λ v. v.items ≡ names))
+    (c.deref-2.ensures.value ∙ c.in_ok-names.ensures ∙ members) c.copies.ensures

@@ -10,4 +10,5 @@ returns c =
     let sorted : behind c.deref.result.now ≡ ascending c.args.values.now = ap behind c.deref.ensures.value ∙ c.in_ok-sorted.ensures in
     let members = ap (λ (vs : List (List ℕ)). map (λ v. (said v).member) (filter (is_sought c.args.interface.now) vs)) sorted
     ∙ members_in_order c.args.interface.now c.args.values.now in
-    subst (λ (names : List (List (List ℕ))). IfOk c.elements_in_order.result (λ v. v.items ≡ names)) members c.elements_in_order.ensures
+    subst (λ (names : List (List (List ℕ))). IfOk c.copies.result (λ v. v.items ≡ names))
+    (c.deref-2.ensures.value ∙ c.in_ok-names.ensures ∙ members) c.copies.ensures

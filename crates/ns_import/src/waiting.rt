@@ -1,0 +1,129 @@
+// Names that wait in a search.
+ghost use Rattle.std.specs.Prelude.{◌≡◌, Result, IfOk};
+ghost use Rattle.cds_stamps.specs.Outcomes.{Answers};
+ghost use Rattle.resolver.specs.declared.seen.Found.{Found};
+ghost use Rattle.resolver.specs.declared.refusal.Refusal.{Refusal};
+ghost use Rattle.resolver.specs.Nears.{Knows};
+ghost use Rattle.ns_import.specs.Imports.{object_at, object_walked};
+
+use crate::fault::ImportFault;
+use cds_stamps::AllocOr;
+use cell_names::{FullName, LentName};
+use directory::Kind;
+use resolver::{EntryReader, Found, Near, Refusal, resolve, resolve_near};
+use std::alloc::{AllocError, Global};
+use std::marker::Model;
+
+/// A full name at which a search goes on: its octets are where the reader keeps them, or it has memory of its own.
+#[derive(Drop)]
+pub(crate) struct Waiting<'a> {
+    name: Name<'a>,
+}
+
+#[derive(Drop)]
+enum Name<'a> {
+    Lent(LentName<'a>),
+    Own(FullName),
+}
+
+impl<'a> Model for Waiting<'a> {
+    ghost use Rattle.std.specs.Prelude.{ℕ, List};
+
+    ghost Value = { List (List ℕ) };
+
+    ghost use Rattle.ns_import.specs.Waitings.{name_said};
+
+    ghost view = { λ w. name_said w.name };
+}
+
+impl<'a> Waiting<'a> {
+    /// A name whose octets the reader keeps.
+    pub(crate) fn lent(name: LentName<'a>) -> Waiting<'a>
+        ensures { result ≡ name }
+    {
+        Waiting {
+            name: Name::Lent(name),
+        }
+    }
+
+    /// A name with memory of its own.
+    pub(crate) fn own(name: FullName) -> Waiting<'a>
+        ensures { result ≡ name }
+    {
+        Waiting {
+            name: Name::Own(name),
+        }
+    }
+
+    /// Names whose octets the reader keeps.
+    pub(crate) fn all_lent(
+        alloc: Global,
+        names: Vec<LentName<'a>>,
+    ) -> Result<Vec<Waiting<'a>>, AllocError>
+        ensures { IfOk result (λ v. v.items ≡ names.items) }
+    {
+        names
+            .into_iter()
+            .map(|name| Waiting::lent(name))
+            .collect(alloc)
+    }
+
+    /// Names with memory of their own.
+    pub(crate) fn all_own(
+        alloc: Global,
+        names: Vec<FullName>,
+    ) -> Result<Vec<Waiting<'a>>, AllocError>
+        ensures { IfOk result (λ v. v.items ≡ names.items) }
+    {
+        names
+            .into_iter()
+            .map(|name| Waiting::own(name))
+            .collect(alloc)
+    }
+
+    /// The object that the name leads to, links followed to the last. A name whose octets the reader keeps is looked up at once
+    /// in the directory that is near, if it is of that.
+    pub(crate) fn object<R: EntryReader>(
+        &self,
+        alloc: Global,
+        reader: &R,
+        near: &mut Option<Near>,
+    ) -> Result<Found, AllocOr<ImportFault>>
+        requires { Knows (R.tells reader.now) near.old }
+        ensures near { Knows (R.tells reader.now) near.new }
+        ensures answer { Answers result (object_at (R.tells reader.now) self.now) }
+    {
+        match &self.name {
+            Name::Lent(name) => object_found(resolve_near(alloc, reader, near, name)),
+            Name::Own(name) => object(alloc, reader, name),
+        }
+    }
+}
+
+/// The object that a name leads to, links followed to the last.
+pub(crate) fn object<R: EntryReader>(
+    alloc: Global,
+    reader: &R,
+    name: &FullName,
+) -> Result<Found, AllocOr<ImportFault>>
+    ensures { Answers result (object_at (R.tells reader.now) name.now) }
+{
+    object_found(resolve(alloc, reader, name, true))
+}
+
+// What a walk found, if it is an object.
+fn object_found(found: Result<Found, AllocOr<Refusal>>) -> Result<Found, AllocOr<ImportFault>>
+    ensures { (walked : Result Found Refusal) → Answers found walked → Answers result (object_walked walked) }
+{
+    match found {
+        Ok(entry) => {
+            if entry.kind == Kind::Object {
+                Ok(entry)
+            } else {
+                Err(AllocOr::Fault(ImportFault::NotObject))
+            }
+        }
+        Err(AllocOr::Fault(refusal)) => Err(AllocOr::Fault(ImportFault::Walk(refusal))),
+        Err(AllocOr::OutOfMemory) => Err(AllocOr::OutOfMemory),
+    }
+}

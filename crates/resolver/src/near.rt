@@ -1,0 +1,182 @@
+// The directory where names were looked up last.
+ghost use Rattle.std.specs.Prelude.{◌≡◌, true, Some, None, Ok, IfOk, IfSome};
+ghost use Rattle.std.specs.Option.{option_map};
+ghost use Rattle.cds_stamps.specs.Names.{simple_name_fault};
+ghost use Rattle.cds_stamps.specs.Outcomes.{Answers};
+ghost use Rattle.cell_names.specs.ChildPointers.{pointer_in};
+ghost use Rattle.resolver.specs.Readers.{sight_of};
+ghost use Rattle.resolver.specs.Nears.{Knows, IsEntered, child_seen, children, house_seen, object_there};
+ghost use Rattle.resolver.specs.WalkEnds.{walked};
+
+use crate::reader::EntryReader;
+use crate::refusal::Refusal;
+use crate::resolution::resolve;
+use crate::seen::{Found, Seen};
+use cds_stamps::{AllocOr, HouseNo, SimpleName};
+use cell_names::{ChildPointer, FullName, LentName};
+use directory::Kind;
+use std::alloc::{AllocError, Global};
+
+/// A directory that was entered from the root directory, child by child: its full name, and the pointer to it.
+#[derive(Drop)]
+pub struct Near {
+    name: FullName,
+    at: ChildPointer,
+}
+
+/// The entry that a full name leads to, links followed to the last: the same that `resolve` finds. The directory of the name
+/// is kept, so that the next name is looked up there at once if it has the same.
+pub fn resolve_near<R: EntryReader>(
+    alloc: Global,
+    reader: &R,
+    near: &mut Option<Near>,
+    name: &LentName<'_>,
+) -> Result<Found, AllocOr<Refusal>>
+    requires { Knows (R.tells reader.now) near.old }
+    ensures near { Knows (R.tells reader.now) near.new }
+    ensures walked { Answers result (walked (R.tells reader.now) true name.now) }
+{
+    match object_near(alloc, reader, near, name)? {
+        Some(found) => Ok(found),
+        None => resolve(alloc, reader, &name.copy(alloc)?, true),
+    }
+}
+
+// The object that a full name leads to, if it is one of the directory of the name, and that is entered child by child.
+fn object_near<R: EntryReader>(
+    alloc: Global,
+    reader: &R,
+    near: &mut Option<Near>,
+    name: &LentName<'_>,
+) -> Result<Option<Found>, AllocError>
+    requires { Knows (R.tells reader.now) near.old }
+    ensures near { Knows (R.tells reader.now) near.new }
+    ensures walked { IfOk result (λ found. IfSome found (λ f. walked (R.tells reader.now) true name.now ≡ Ok f)) }
+{
+    if let Some(dir) = near {
+        if let Some(last) = name.last_behind(&dir.name) {
+            return dir.object(alloc, reader, last);
+        }
+    }
+    let front = name.copy(alloc)?.without_last();
+    *near = enter(alloc, reader, front)?;
+    match near {
+        Some(dir) => object_in(alloc, reader, dir, name),
+        None => Ok(None),
+    }
+}
+
+// The same, where the directory is known.
+fn object_in<R: EntryReader>(
+    alloc: Global,
+    reader: &R,
+    dir: &Near,
+    name: &LentName<'_>,
+) -> Result<Option<Found>, AllocError>
+    requires { IsEntered (R.tells reader.now) dir.now }
+    ensures { IfOk result (λ found. IfSome found (λ f. walked (R.tells reader.now) true name.now ≡ Ok f)) }
+{
+    match name.last_behind(&dir.name) {
+        Some(last) => dir.object(alloc, reader, last),
+        None => Ok(None),
+    }
+}
+
+impl Near {
+    // The object of these octets in the directory, if it shows one.
+    fn object<R: EntryReader>(
+        &self,
+        alloc: Global,
+        reader: &R,
+        octets: &[u8],
+    ) -> Result<Option<Found>, AllocError>
+        requires { simple_name_fault octets.now ≡ None }
+        ensures { IfOk result (λ found. found ≡ object_there self.now.at.dir.0 octets.now
+            ((R.tells reader.now).sees (pointer_in self.now.at) octets.now)) }
+    {
+        let name = SimpleName::known(alloc, octets)?;
+        match object_house(reader.lookup(alloc, &self.at, &name)?) {
+            Some(house) => Ok(Some(Found {
+                dir: self.at.dir,
+                house,
+                name,
+                kind: Kind::Object,
+            })),
+            None => Ok(None),
+        }
+    }
+}
+
+// The directory of this name, if it is entered from the root directory child by child.
+fn enter<R: EntryReader>(
+    alloc: Global,
+    reader: &R,
+    name: FullName,
+) -> Result<Option<Near>, AllocError>
+    ensures { IfOk result (λ near. option_map (λ dir. pointer_in dir.at) near ≡ children (R.tells reader.now) name (R.tells reader.now).root
+        × IfSome near (λ dir. dir.name ≡ name)) }
+{
+    match entered(alloc, reader, name.components())? {
+        Some(at) => Ok(Some(Near { name, at })),
+        None => Ok(None),
+    }
+}
+
+// The directory to which these components lead from the root directory, each a child of the one before.
+fn entered<R: EntryReader>(
+    alloc: Global,
+    reader: &R,
+    components: &[SimpleName],
+) -> Result<Option<ChildPointer>, AllocError>
+    ensures { IfOk result (λ at. option_map pointer_in at ≡ children (R.tells reader.now) components.now (R.tells reader.now).root) }
+{
+    match reader.root(alloc)? {
+        Some(root) => entered_from(alloc, reader, root, components),
+        None => Ok(None),
+    }
+}
+
+// The same, from this directory on.
+fn entered_from<R: EntryReader>(
+    alloc: Global,
+    reader: &R,
+    from: ChildPointer,
+    components: &[SimpleName],
+) -> Result<Option<ChildPointer>, AllocError>
+    ensures { IfOk result (λ at. option_map pointer_in at ≡ children (R.tells reader.now) components.now (Some (pointer_in from))) }
+{
+    let mut at = from;
+    for component in components {
+        match child(reader.lookup(alloc, &at, component)?) {
+            Some(next) => at = next,
+            None => return Ok(None),
+        }
+    }
+    Ok(Some(at))
+}
+
+// The child that is seen, if a child is.
+fn child(seen: Seen) -> Option<ChildPointer>
+    ensures { option_map pointer_in result ≡ child_seen (sight_of seen) }
+{
+    match seen {
+        Seen::Child(_, child) => Some(child),
+        Seen::Unreachable => None,
+        Seen::Absent(_) => None,
+        Seen::Object(_) => None,
+        Seen::Link(_, _) => None,
+    }
+}
+
+// The house that shows the object that is seen, if an object is.
+fn object_house(seen: Seen) -> Option<HouseNo>
+    ensures { option_map (λ house. house.0) result ≡ house_seen (sight_of seen) }
+{
+    match seen {
+        Seen::Object(house) => Some(house),
+        Seen::Unreachable => None,
+        Seen::Absent(_) => None,
+        Seen::Child(_, _) => None,
+        Seen::Link(_, _) => None,
+    }
+}
