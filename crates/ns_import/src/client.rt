@@ -60,7 +60,7 @@ impl<'a> Said<'a> {
         mut elements: Vec<Waiting<'a>>,
         mut bindings: Vec<StringBinding>,
     ) -> Result<Said<'a>, AllocError>
-        ensures names { IfOk result (λ said. reverse said.names.items ≡ members.items ++ elements.items) }
+        ensures names { IfOk result (λ said. reverse said.names.items ≡ members.entry.items ++ elements.entry.items) }
         ensures bindings { IfOk result (λ said. reverse said.bindings.items ≡ bindings.items) }
     {
         members.reverse();

@@ -39,7 +39,7 @@ impl<'a> Model for Waiting<'a> {
 impl<'a> Waiting<'a> {
     /// A name whose octets the reader keeps.
     pub(crate) fn lent(name: LentName<'a>) -> Waiting<'a>
-        ensures { result ≡ name }
+        ensures { result ≡ name.entry }
     {
         Waiting {
             name: Name::Lent(name),
@@ -60,12 +60,13 @@ impl<'a> Waiting<'a> {
         alloc: Global,
         names: Vec<LentName<'a>>,
     ) -> Result<Vec<Waiting<'a>>, AllocError>
-        ensures { IfOk result (λ v. v.items ≡ names.items) }
+        ensures { IfOk result (λ v. v.items ≡ names.entry.items) }
     {
-        names
-            .into_iter()
-            .map(|name| Waiting::lent(name))
-            .collect(alloc)
+        let mut all = Vec::with_capacity(alloc, names.len())?;
+        for name in names {
+            all.push(Waiting::lent(name))?;
+        }
+        Ok(all)
     }
 
     /// Names with memory of their own.
@@ -75,27 +76,28 @@ impl<'a> Waiting<'a> {
     ) -> Result<Vec<Waiting<'a>>, AllocError>
         ensures { IfOk result (λ v. v.items ≡ names.items) }
     {
-        names
-            .into_iter()
-            .map(|name| Waiting::own(name))
-            .collect(alloc)
+        let mut all = Vec::with_capacity(alloc, names.len())?;
+        for name in names {
+            all.push(Waiting::own(name))?;
+        }
+        Ok(all)
     }
 
     /// The object that the name leads to, links followed to the last. A name whose octets the reader keeps is looked up at once
     /// in the directory that is near, if it is of that.
     pub(crate) fn object<R: EntryReader>(
-        &self,
+        self,
         alloc: Global,
         reader: &R,
         near: &mut Option<Near>,
     ) -> Result<Found, AllocOr<ImportFault>>
         requires { Knows (R.tells reader.now) near.old }
         ensures near { Knows (R.tells reader.now) near.new }
-        ensures answer { Answers result (object_at (R.tells reader.now) self.now) }
+        ensures answer { Answers result (object_at (R.tells reader.now) self.entry) }
     {
-        match &self.name {
-            Name::Lent(name) => object_found(resolve_near(alloc, reader, near, name)),
-            Name::Own(name) => object(alloc, reader, name),
+        match self.name {
+            Name::Lent(name) => object_found(resolve_near(alloc, reader, near, &name)),
+            Name::Own(name) => object(alloc, reader, &name),
         }
     }
 }

@@ -23,16 +23,19 @@ pub entries-preserved : goal.entries-preserved
 entries-preserved g c =
     let tells = g.R.EntryReader.tells c.args.reader.now in
     let objects = g.R.EntryReader.objects c.args.reader.now in
-    coming_stays tells c.entries.self.searched.keys c.in_ok-entry.field-0
+    record {
+      near = rw c.in_ok-enter-in-Some-2.ensures.near c.next_object.ensures.near;
+      same = coming_stays tells c.entries.self.searched.keys c.in_ok-entry.field-0
     (reverse c.entries.self.names.items) (reverse c.next_object.new.names.items) c.in_ok-entry.ensures.next c.in-Some-2.entry c.in-Some-2.is
     objects (shown_lead tells objects (g.met.R.EntryReader.shows_only c.args.reader.now)) c.args.client.now
     c.entries.self.ready.items (reverse c.enter.new.self.ready.items) c.enter.new.self.searched.keys (reverse c.enter.new.self.names.items)
     (nil_from_length c.entries.self.ready.items (sym c.entries.self.ready.ok.0 ∙ c.in_default.ensures.cases.0))
     c.in_ok-enter-in-Some-2.ensures.ready c.in_ok-enter-in-Some-2.ensures.searched c.in_ok-enter-in-Some-2.ensures.names
-    ∙ c.entries.invariant
+    ∙ c.entries.invariant.same;
+    }
 
-pub returns-in-None : goal.returns-in-None
-returns-in-None g c =
+pub returns-in-None-clause-next : goal.returns-in-None-clause-next
+returns-in-None-clause-next g c =
     let tells = g.R.EntryReader.tells c.args.reader.now in
     let objects = g.R.EntryReader.objects c.args.reader.now in
     at_the_end tells objects c.args.client.now c.entries.self.searched.keys c.in_ok-entry.field-0
@@ -40,4 +43,4 @@ returns-in-None g c =
     c.entries.self.ready.items c.pop.new.self.items (coming tells objects c.args.client.now c.args.self.now)
     (nil_from_length c.entries.self.ready.items (sym c.entries.self.ready.ok.0 ∙ c.in_default.ensures.cases.0))
     (nil_from_length c.pop.new.self.items (sym c.pop.new.self.ok.0 ∙ c.in_default.ensures.cases.1))
-    c.entries.invariant
+    c.entries.invariant.same
