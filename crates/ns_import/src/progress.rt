@@ -58,7 +58,13 @@ impl<'a> Progress<'a> {
             if let Some(binding) = self.ready.pop() {
                 return Ok(Some(binding));
             }
-            match next_object(alloc, reader, &self.searched, &mut self.names, &mut self.near)? {
+            match next_object(
+                alloc,
+                reader,
+                &self.searched,
+                &mut self.names,
+                &mut self.near,
+            )? {
                 Some(entry) => self.enter(alloc, reader, client, entry)?,
                 None => return Ok(None),
             }

@@ -1,5 +1,5 @@
 -- Directories that are entered from the root directory, child by child (own, after C705, name resolution by clerks).
-use Rattle.std.specs.Prelude.{◌≡◌, ℕ, List, [], ◌∷◌, Option, Some, None, IfSome}
+use Rattle.std.specs.Prelude.{◌≡◌, ℕ, List, [], ◌∷◌, ◌++◌, Option, Some, None, IfSome}
 use Rattle.std.specs.Option.{option_and_then}
 use Rattle.cell_names.specs.ChildPointers.{Pointer, pointer_in}
 use Rattle.resolver.specs.declared.seen.Found.{Found}
@@ -35,6 +35,17 @@ object_there dir name (Child house child) = None
 abbrev pub children : Reader → List (List ℕ) → Option Pointer → Option Pointer
 children reader [] at = at
 children reader (c ∷ cs) at = children reader cs (option_and_then (λ p. child_seen (reader.sees p c)) at)
+
+-- the name leads to this object, and no link is on the way (own)
+pub record IsDirect (reader : Reader) (name : List (List ℕ)) (f : Found) : Type 0 where
+  pub front : List (List ℕ)
+  pub last : List ℕ
+  pub at : Pointer
+  pub house : ℕ
+  pub parted : name ≡ front ++ last ∷ []
+  pub entered : children reader front reader.root ≡ Some at
+  pub seen : reader.sees at last ≡ Object house
+  pub found : f ≡ object_found at.dir house last
 
 -- the directory is entered from the root directory by its name, child by child (own)
 abbrev pub IsEntered : Reader → Near → Type 0

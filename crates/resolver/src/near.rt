@@ -1,11 +1,11 @@
 // The directory where names were looked up last.
-ghost use Rattle.std.specs.Prelude.{◌≡◌, true, Some, None, Ok, IfOk, IfSome};
+ghost use Rattle.std.specs.Prelude.{◌≡◌, ◌∷◌, ◌++◌, [], true, Some, None, Ok, IfOk, IfSome};
 ghost use Rattle.std.specs.Option.{option_map};
 ghost use Rattle.cds_stamps.specs.Names.{simple_name_fault};
 ghost use Rattle.cds_stamps.specs.Outcomes.{Answers};
 ghost use Rattle.cell_names.specs.ChildPointers.{pointer_in};
 ghost use Rattle.resolver.specs.Readers.{sight_of};
-ghost use Rattle.resolver.specs.Nears.{Knows, IsEntered, child_seen, children, house_seen, object_there};
+ghost use Rattle.resolver.specs.Nears.{Knows, IsEntered, IsDirect, child_seen, children, house_seen, object_there};
 ghost use Rattle.resolver.specs.WalkEnds.{walked};
 
 use crate::reader::EntryReader;
@@ -42,7 +42,7 @@ pub fn resolve_near<R: EntryReader>(
     }
 }
 
-// The object that a full name leads to, if it is one of the directory of the name, and that is entered child by child.
+// The object that a full name leads to, if its directory and that of a link that it is are entered child by child.
 fn object_near<R: EntryReader>(
     alloc: Global,
     reader: &R,
@@ -83,27 +83,69 @@ fn object_in<R: EntryReader>(
 }
 
 impl Near {
-    // The object of these octets in the directory, if it shows one.
+    // The object that these octets are in the directory, or to which they lead as a link. Where more links lead there, or
+    // another, none is told.
     fn object<R: EntryReader>(
         &self,
         alloc: Global,
         reader: &R,
         octets: &[u8],
     ) -> Result<Option<Found>, AllocError>
-        requires { simple_name_fault octets.now ≡ None }
-        ensures { IfOk result (λ found. found ≡ object_there self.now.at.dir.0 octets.now
-            ((R.tells reader.now).sees (pointer_in self.now.at) octets.now)) }
+        requires simple { simple_name_fault octets.now ≡ None }
+        requires entered { IsEntered (R.tells reader.now) self.now }
+        ensures { IfOk result (λ found. IfSome found (λ f. walked (R.tells reader.now) true (self.now.name ++ octets.now ∷ []) ≡ Ok f)) }
     {
         let name = SimpleName::known(alloc, octets)?;
-        match object_house(reader.lookup(alloc, &self.at, &name)?) {
-            Some(house) => Ok(Some(Found {
+        match reader.lookup(alloc, &self.at, &name)? {
+            Seen::Object(house) => Ok(Some(Found {
                 dir: self.at.dir,
                 house,
                 name,
                 kind: Kind::Object,
             })),
-            None => Ok(None),
+            Seen::Link(_, target) => object_at(alloc, reader, target.components()),
+            Seen::Unreachable => Ok(None),
+            Seen::Absent(_) => Ok(None),
+            Seen::Child(_, _) => Ok(None),
         }
+    }
+}
+
+// The object to which these components lead from the root directory, if no link is on the way.
+fn object_at<R: EntryReader>(
+    alloc: Global,
+    reader: &R,
+    components: &[SimpleName],
+) -> Result<Option<Found>, AllocError>
+    ensures { IfOk result (λ found. IfSome found (IsDirect (R.tells reader.now) components.now)) }
+{
+    match components.split_last() {
+        Some((last, front)) => match entered(alloc, reader, front)? {
+            Some(at) => object_of(alloc, reader, &at, last),
+            None => Ok(None),
+        },
+        None => Ok(None),
+    }
+}
+
+// The object of this name in a directory, if that shows one.
+fn object_of<R: EntryReader>(
+    alloc: Global,
+    reader: &R,
+    at: &ChildPointer,
+    name: &SimpleName,
+) -> Result<Option<Found>, AllocError>
+    ensures { IfOk result (λ found. found ≡ object_there at.now.dir.0 name.now
+        ((R.tells reader.now).sees (pointer_in at.now) name.now)) }
+{
+    match object_house(reader.lookup(alloc, at, name)?) {
+        Some(house) => Ok(Some(Found {
+            dir: at.dir,
+            house,
+            name: name.copy(alloc)?,
+            kind: Kind::Object,
+        })),
+        None => Ok(None),
     }
 }
 

@@ -8,7 +8,7 @@ use Rattle.ns_import.proofs.progress.next_object.Given as goal
 abbrev pub invariant-names : goal.invariant-names
 invariant-names g l = record {
   same : behind_seen same_entry l.searched.keys (resolved (g.R.EntryReader.tells l.reader) (reverse l.names.items))
-    ≡ behind_seen same_entry l.searched.keys (resolved (g.R.EntryReader.tells l.reader) (reverse l.initial.names.items));
+      ≡ behind_seen same_entry l.searched.keys (resolved (g.R.EntryReader.tells l.reader) (reverse l.initial.names.items));
   near : Knows (g.R.EntryReader.tells l.reader) l.near;
 }
 

@@ -26,12 +26,12 @@ entries-preserved g c =
     record {
       near = rw c.in_ok-enter-in-Some-2.ensures.near c.next_object.ensures.near;
       same = coming_stays tells c.entries.self.searched.keys c.in_ok-entry.field-0
-    (reverse c.entries.self.names.items) (reverse c.next_object.new.names.items) c.in_ok-entry.ensures.next c.in-Some-2.entry c.in-Some-2.is
-    objects (shown_lead tells objects (g.met.R.EntryReader.shows_only c.args.reader.now)) c.args.client.now
-    c.entries.self.ready.items (reverse c.enter.new.self.ready.items) c.enter.new.self.searched.keys (reverse c.enter.new.self.names.items)
-    (nil_from_length c.entries.self.ready.items (sym c.entries.self.ready.ok.0 ∙ c.in_default.ensures.cases.0))
-    c.in_ok-enter-in-Some-2.ensures.ready c.in_ok-enter-in-Some-2.ensures.searched c.in_ok-enter-in-Some-2.ensures.names
-    ∙ c.entries.invariant.same;
+          (reverse c.entries.self.names.items) (reverse c.next_object.new.names.items) c.in_ok-entry.ensures.next c.in-Some-2.entry c.in-Some-2.is
+          objects (shown_lead tells objects (g.met.R.EntryReader.shows_only c.args.reader.now)) c.args.client.now
+          c.entries.self.ready.items (reverse c.enter.new.self.ready.items) c.enter.new.self.searched.keys (reverse c.enter.new.self.names.items)
+          (nil_from_length c.entries.self.ready.items (sym c.entries.self.ready.ok.0 ∙ c.in_default.ensures.cases.0))
+          c.in_ok-enter-in-Some-2.ensures.ready c.in_ok-enter-in-Some-2.ensures.searched c.in_ok-enter-in-Some-2.ensures.names
+          ∙ c.entries.invariant.same;
     }
 
 pub returns-in-None-clause-next : goal.returns-in-None-clause-next

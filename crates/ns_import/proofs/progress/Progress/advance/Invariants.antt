@@ -8,7 +8,7 @@ use Rattle.ns_import.proofs.progress.Progress.advance.Given as goal
 abbrev pub invariant-entries : goal.invariant-entries
 invariant-entries g l = record {
   same : coming (g.R.EntryReader.tells l.reader) (g.R.EntryReader.objects l.reader) l.client l.self
-    ≡ coming (g.R.EntryReader.tells l.reader) (g.R.EntryReader.objects l.reader) l.client l.initial.self;
+      ≡ coming (g.R.EntryReader.tells l.reader) (g.R.EntryReader.objects l.reader) l.client l.initial.self;
   near : Knows (g.R.EntryReader.tells l.reader) l.self.near;
 }
 
