@@ -58,10 +58,7 @@ pub fn members_in_order<'a>(
 }
 
 // Puts the full name of these octets behind others, if they are one.
-fn push_if_readable<'a>(
-    names: &mut Vec<LentName<'a>>,
-    octets: &'a [u8],
-) -> Result<(), AllocError>
+fn push_if_readable<'a>(names: &mut Vec<LentName<'a>>, octets: &'a [u8]) -> Result<(), AllocError>
     ensures { OnOk result (names.new.items ≡ names.old.items ++ map components_of (filter is_full_name (octets.now ∷ []))) }
 {
     match LentName::of(octets) {
