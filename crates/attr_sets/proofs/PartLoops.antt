@@ -1,7 +1,7 @@
 -- Loops that put a part of one map into another, of each entry what g gives at its key, if anything; and loops that ask
--- whether g gives each value whole. Of any keys in an exact total order and any values.
-use Rattle.std.proofs.Common.{◌≡◌, Bool, true, false, cond, List, [], ◌∷◌, Option, Some, None, refl, sym, ap, subst, ◌∙◌}
-use Rattle.std.specs.Prelude.{if◌then◌else◌}
+-- whether g gives each value whole, or whether each value is valid. Of any keys in an exact total order and any values.
+use Rattle.std.proofs.Common.{◌≡◌, ◌↔◌, Bool, true, false, cond, List, [], ◌∷◌, Option, Some, None, refl, sym, ap, subst, ◌∙◌}
+use Rattle.std.specs.Prelude.{IfSome, if◌then◌else◌}
 use Rattle.std.specs.declared.cmp.Ordering.{Ordering}
 use Rattle.std.specs.Ordering.{eq_by_cmp}
 use Rattle.std.specs.Option.{option_and_then}
@@ -16,7 +16,9 @@ use Rattle.std.proofs.lemmas.Map.Keys.{sorted_tail, IsDistinct-from_sorted}
 use Rattle.std.proofs.lemmas.Map.Entries.{none_past_head}
 use Rattle.cds_stamps.specs.Semilattice.{maybe, join_of}
 use Rattle.cds_stamps.specs.Keyed.{tied, map_some, get-map_some}
+use Rattle.cds_stamps.specs.Joins.{EachValue}
 use Rattle.cds_stamps.proofs.TreeViews.{entry_at, get-view, item_joined}
+use Rattle.cds_stamps.proofs.ValidJoins.{each_of_map}
 
 module _ {K X Y : Type 0} {R : K → K → Ordering} (o : IsTotalOrder R) (same : IsAntisymmetric R) (g : K → X → Option Y) where
   abbrev second : Y → Y → Y
@@ -115,3 +117,23 @@ module _ {K X : Type 0} {R : K → K → Ordering} (o : IsTotalOrder R) (same : 
   whole_starts m es items view all whole = same_map o same (map_some g m) m (λ q.
       let at : get m q ≡ lookup (is_at (R q)) es = ap (λ m. get m q) (sym view) ∙ get-view o es q in
       get-map_some o same g m q ∙ ap (option_and_then g) at ∙ whole_at es q (subst IsWhole all whole) ∙ sym at)
+
+module _ {K X : Type 0} {R : K → K → Ordering} (o : IsTotalOrder R) (V : X → Type 0) where
+  -- each value of the map is valid exactly if those still to come are
+  abbrev pub EachIf : List (K × X) → FinMap R X → Type 0
+  EachIf es m = AllByRecursion (λ e. V e.1) es ↔ EachValue V m
+
+  each_at : (es : List (K × X)) (q : K) → AllByRecursion (λ e. V e.1) es → IfSome (lookup (is_at (R q)) es) V
+  each_at [] q all = tt
+  each_at (e ∷ es) q all = by_case (is_at (R q) e.0) (each_at es q all.1)
+    where
+      by_case : (b : Bool) → IfSome (lookup (is_at (R q)) es) V → IfSome (cond b (Some e.1) (lookup (is_at (R q)) es)) V
+      by_case true others = all.0
+      by_case false others = others
+
+  -- all entries are to come
+  pub each_starts : (m : FinMap R X) (es items : List (K × X)) → from_entries es ≡ m → IsStrictlySortedBy R (keys_of es) → items ≡ es → EachIf items m
+  each_starts m es items view sorted all = (
+    λ valid q. subst (λ x. IfSome x V) (sym (get-view o es q) ∙ ap (λ m. get m q) view) (each_at es q (subst (AllByRecursion (λ e. V e.1)) all valid)),
+    λ valid. subst (AllByRecursion (λ e. V e.1)) (sym all) (each_of_map o V m es view sorted valid),
+  )

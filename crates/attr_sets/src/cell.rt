@@ -1,5 +1,5 @@
 // The cell of an attribute.
-ghost use Rattle.std.specs.Prelude.{◌≡◌, IsTrue, List, ℕ, [], ◌∷◌, true, false, IfOk, OnOk, OnErr, MatchBool};
+ghost use Rattle.std.specs.Prelude.{◌≡◌, ◌↔◌, IsTrue, List, ℕ, [], ◌∷◌, true, false, IfOk, OnOk, OnErr, MatchBool};
 ghost use Rattle.std.specs.FinMap as map;
 ghost use Rattle.std.specs.Option.{option_and_then};
 ghost use Rattle.cds_stamps.specs.Semilattice.{maybe};
@@ -226,6 +226,13 @@ impl AttrCell {
         ensures { result ≡ is_empty_cell self.now }
     {
         self.cleared.is_none() && self.values.is_empty()
+    }
+
+    /// Whether no mark of a value is earlier than its clear.
+    pub fn is_valid(&self) -> bool
+        ensures { IsTrue result ↔ IsValidCell self.now }
+    {
+        self.values.is_kept(&self.cleared)
     }
 
     /// Both cells joined, apart from either.

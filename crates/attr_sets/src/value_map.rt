@@ -6,6 +6,7 @@ ghost use Rattle.std.specs.BTreeMap as tree;
 ghost use Rattle.std.specs.Option.{option_and_then};
 ghost use Rattle.std.specs.Ordering.{eq_by_cmp};
 ghost use Rattle.cds_stamps.specs.Keyed.{map_some};
+ghost use Rattle.cds_stamps.specs.Joins.{EachValue};
 ghost use Rattle.cds_stamps.specs.Octets.{octets_cmp};
 ghost use Rattle.cds_stamps.specs.Semilattice.{maybe};
 ghost use Rattle.cds_stamps.specs.Undos.{RaisesAt, TakesBack, LogsChange, MendsAt, back_at, put_back};
@@ -107,6 +108,14 @@ impl ValueMap {
         ensures err { OnErr result (self.new ≡ self.old) }
     {
         Ok(self.marks.insert(value, mark)?)
+    }
+
+    /// Takes the mark of a value away. That one.
+    pub fn remove(&mut self, value: &Value) -> Option<ValueMark>
+        ensures before { result ≡ map.get self.old value.now }
+        ensures after { self.new ≡ map.remove self.old value.now }
+    {
+        self.marks.remove(value)
     }
 
     /// A map of the same marks.
@@ -352,6 +361,18 @@ impl ValueMap {
                 self.marks.remove(value);
             }
         }
+    }
+
+    /// Whether no mark is earlier than the clear.
+    pub(crate) fn is_kept(&self, clear: &Option<Stamp>) -> bool
+        ensures { IsTrue result ↔ EachValue (λ m. kept clear.now (Some m) ≡ Some m) self.now }
+    {
+        for (_, mark) in self.marks.iter() {
+            if covers(clear, mark) {
+                return false;
+            }
+        }
+        true
     }
 
     /// Drops the marks that are earlier than the clear.

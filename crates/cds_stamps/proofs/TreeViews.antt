@@ -1,4 +1,4 @@
--- A tree map seen as the finite map of its entries: what a key finds, what an insertion, a `retain` and a loop over the
+-- A tree map seen as the finite map of its entries: what a key finds, what an insertion, a removal, a `retain` and a loop over the
 -- entries leave, how many there are. Of any keys in a total order and any values.
 use Rattle.std.proofs.Common.{◌≡◌, Bool, true, false, cond, ◌+◌, length, is_some, add-one, List, [], ◌∷◌, Option, Some, None, refl, sym, ap, subst, ◌∙◌}
 use Rattle.std.specs.Prelude.{◌&&◌, T, if◌then◌else◌}
@@ -13,7 +13,7 @@ use Rattle.std.specs.Map.Calls.{RetainsPairs}
 use Rattle.std.specs.BTreeMap.{is_at}
 use Rattle.std.specs.Cmp.{IsTotalOrder, eq_by_cmp_equiv}
 use Rattle.std.specs.FinMap.{FinMap, IsAntisymmetric, len, len-empty, len-insert, get, insert, find}
-use Rattle.std.specs.FinMap.{from_entries, get-from_entries, get-insert, same_map, entries, from_sorted, get-from_sorted, entries-from_sorted}
+use Rattle.std.specs.FinMap.{from_entries, get-from_entries, get-insert, remove, get-remove, same_map, entries, from_sorted, get-from_sorted, entries-from_sorted}
 use Rattle.std.specs.FinMap.Entries.{is_sorted, below_all}
 use Rattle.std.proofs.lemmas.Map.{NonePasses, lookup-none}
 use Rattle.std.proofs.lemmas.Map.Keys.{sorted_head, sorted_tail, IsDistinct-head, IsDistinct-from_sorted}
@@ -56,6 +56,14 @@ module _ {K X : Type 0} {R : K → K → Ordering} (o : IsTotalOrder R) where
   view-insert same es fs k x h = same_map o same _ _ (λ q.
       get-view fs q ∙ h q ∙ ap (λ b. cond b (Some x) (lookup (is_at (R q)) es)) ((eq_by_cmp_equiv o).symm k q)
       ∙ sym (get-insert o (from_entries es) k x q ∙ ap (cond (is_at (R q) k) (Some x)) (get-view es q)))
+
+  -- entries of which one key is gone make the map without it
+  pub view-remove : IsAntisymmetric R → (es fs : List (K × X)) (k : K)
+      → ((q : K) → lookup (is_at (R q)) fs ≡ cond (is_at (R k) q) None (lookup (is_at (R q)) es))
+      → from_entries {R = R} fs ≡ remove (from_entries es) k
+  view-remove same es fs k h = same_map o same _ _ (λ q.
+      get-view fs q ∙ h q ∙ ap (λ b. cond b None (lookup (is_at (R q)) es)) ((eq_by_cmp_equiv o).symm k q)
+      ∙ sym (get-remove o (from_entries es) k q ∙ ap (cond (is_at (R q) k) None) (get-view es q)))
 
 -- a loop's step: one entry joined in, the others still to come
 pub entry_joined : {K X : Type 0} (R : K → K → Ordering) (f : X → X → X) → ((x y z : Option X) → maybe f (maybe f x y) z ≡ maybe f x (maybe f y z))
