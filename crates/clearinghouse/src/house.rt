@@ -80,16 +80,25 @@ impl Clearinghouse {
         self.spent
     }
 
-    /// The same clearinghouse once more, spent or not.
+    /// The same clearinghouse once more.
     pub fn copy(&self, alloc: Global) -> Result<Clearinghouse, AllocError>
-        ensures { IfOk result (λ c. c ≡ self.now) }
+        ensures same { IfOk result (λ c. c ≡ self.now) }
+        ensures usable { IfOk result (λ _. self.now.spent ≡ false) }
     {
+        self.usable()?;
+        let Clearinghouse {
+            house,
+            node,
+            floor,
+            dirs,
+            spent,
+        } = self;
         Ok(Clearinghouse {
-            house: self.house,
-            node: self.node,
-            floor: self.floor,
-            dirs: self.dirs.copy(alloc)?,
-            spent: self.spent,
+            house: *house,
+            node: *node,
+            floor: *floor,
+            dirs: dirs.copy(alloc)?,
+            spent: *spent,
         })
     }
 
