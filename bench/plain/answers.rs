@@ -110,7 +110,7 @@ fn write_dump(text: &mut Vec<u8>, number: u32, held: &Held) -> io::Result<()> {
         write!(text, " {}:{}:{}", member.house, member.since, if member.is_master { 'm' } else { 'r' })?;
     }
     text.push(b'\n');
-    for (name, entry) in &held.replica.entries {
+    for (name, entry) in held.replica.entries() {
         write_entry(text, number, name, entry)?;
     }
     writeln!(text, "{number} end")

@@ -166,16 +166,16 @@ impl Held {
                 let entry = Entry::born(kind, stamp, lead);
                 let sender = Sender { house: by.house, dir, floor: *floor };
                 let letters = self.term.tell_others(Tag::Update, sender, |out| put_entry(out, name, &entry));
-                self.replica.entries.insert(name.to_vec(), entry);
+                self.replica.insert(name, entry);
                 Ok((stamp, letters))
             }
             (_, None) => Err(Because("NoSuchEntry")),
-            (update, Some(entry)) => {
-                let marks = update.marks(entry)?;
+            (update, Some(live)) => {
+                let marks = update.marks(live.entry)?;
                 let stamp = by.issue(floor)?;
                 let sender = Sender { house: by.house, dir, floor: *floor };
-                let letters = self.term.tell_others(Tag::Update, sender, |out| put_marks(out, name, entry, &marks, stamp));
-                entry.apply(marks, stamp);
+                let letters = self.term.tell_others(Tag::Update, sender, |out| put_marks(out, name, live.entry, &marks, stamp));
+                live.apply(name, marks, stamp);
                 Ok((stamp, letters))
             }
         }

@@ -149,8 +149,8 @@ pub fn put_marks(out: &mut Vec<u8>, name: &[u8], entry: &Entry, marks: &Marks, s
 
 pub fn put_replica(out: &mut Vec<u8>, replica: &Replica) {
     put_optional(out, replica.all_up_to);
-    put_count(out, replica.entries.len());
-    for (name, entry) in &replica.entries {
+    put_count(out, replica.entries().len());
+    for (name, entry) in replica.entries() {
         put_entry(out, name, entry);
     }
 }
@@ -352,7 +352,7 @@ impl<'a> Reader<'a> {
         let all_up_to = self.optional()?;
         let count = self.number()?;
         let entries = self.map(count, |r, before| Ok((r.name(before)?, r.entry()?)))?;
-        Ok(Replica { all_up_to, entries })
+        Ok(Replica::new(all_up_to, entries))
     }
 
     fn members(&mut self) -> Result<Vec<Member>, Fault> {

@@ -1,8 +1,8 @@
 //! What a replica of a directory holds: entries, attributes and values, with the stamps of their marks, and how they are merged.
 
 use std::borrow::Cow;
-use std::collections::BTreeMap;
 use std::collections::btree_map::Entry::{Occupied, Vacant};
+use std::collections::{BTreeMap, BTreeSet};
 
 use crate::names;
 
@@ -30,8 +30,12 @@ pub struct Mark {
 
 impl Mark {
     /// A mark gives way to a later one; of two with one stamp the absent one stays.
+    fn outdates(&self, other: &Mark) -> bool {
+        (self.stamp, !self.present) >= (other.stamp, !other.present)
+    }
+
     fn raise(&mut self, other: Mark) {
-        if (self.stamp, !self.present) < (other.stamp, !other.present) {
+        if !self.outdates(&other) {
             *self = other;
         }
     }
@@ -72,18 +76,23 @@ impl Attribute {
         }
     }
 
-    /// Forgets what was deleted up to a stamp, and returns whether anything is left.
-    fn forget(&mut self, stamp: Stamp) -> bool {
-        self.cleared = self.cleared.filter(|cleared| stamp < *cleared);
-        self.marks.retain(|_, mark| mark.present || stamp < mark.stamp);
-        self.cleared.is_some() || !self.marks.is_empty()
+    /// Whether joining another in changes nothing.
+    fn outdates(&self, other: &Attribute) -> bool {
+        let outdates = |(value, mark): (&Vec<u8>, &Mark)| {
+            Some(mark.stamp) < self.cleared || self.marks.get(value).is_some_and(|own| own.outdates(mark))
+        };
+        other.cleared <= self.cleared && other.marks.iter().all(outdates)
+    }
+
+    fn is_empty(&self) -> bool {
+        self.cleared.is_none() && self.marks.is_empty()
     }
 
     /// Keeps what is later than a stamp, and returns whether that is anything.
     fn keep_later(&mut self, stamp: Stamp) -> bool {
         self.cleared = self.cleared.filter(|cleared| stamp < *cleared);
         self.marks.retain(|_, mark| stamp < mark.stamp);
-        self.cleared.is_some() || !self.marks.is_empty()
+        !self.is_empty()
     }
 
     /// The values that are present, ascending.
@@ -152,10 +161,51 @@ impl Entry {
         }
     }
 
-    /// Forgets what was deleted up to a stamp, and returns whether the entry was not.
-    fn forget(&mut self, stamp: Stamp) -> bool {
-        self.attributes.retain(|_, attribute| attribute.forget(stamp));
-        self.death.is_none_or(|death| stamp < death)
+    /// Whether joining another in changes nothing.
+    fn outdates(&self, other: &Entry) -> bool {
+        if self.birth != other.birth {
+            return other.birth < self.birth;
+        }
+        let outdates = |(name, attribute): (&Vec<u8>, &Attribute)| self.attributes.get(name).is_some_and(|own| own.outdates(attribute));
+        other.kind <= self.kind
+            && other.death.is_none_or(|death| self.death.is_some_and(|own| own <= death))
+            && other.attributes.iter().all(outdates)
+    }
+
+    /// What was deleted of it, and when.
+    fn deletions(&self) -> impl Iterator<Item = (Stamp, What)> + '_ {
+        let death = self.death.map(|stamp| (stamp, What::Death));
+        let clears = self.attributes.iter().filter_map(|(name, attribute)| Some((attribute.cleared?, What::Clear(name.clone()))));
+        let marks = self.attributes.iter().flat_map(|(name, attribute)| attribute.marks.iter().map(move |(value, mark)| (name, value, mark)));
+        let values = marks.filter(|(.., mark)| !mark.present).map(|(name, value, mark)| (mark.stamp, What::Absent(name.clone(), value.clone())));
+        death.into_iter().chain(clears).chain(values)
+    }
+
+    /// Whether this was deleted of it at the stamp.
+    fn lost(&self, stamp: Stamp, what: &What) -> bool {
+        let is_absent = |mark: &Mark| !mark.present && mark.stamp == stamp;
+        match what {
+            What::Death => self.death == Some(stamp),
+            What::Clear(name) => self.attributes.get(name).is_some_and(|attribute| attribute.cleared == Some(stamp)),
+            What::Absent(name, value) => {
+                self.attributes.get(name).and_then(|attribute| attribute.marks.get(value)).is_some_and(is_absent)
+            }
+        }
+    }
+
+    /// Forgets the clear of an attribute, or an absent value.
+    fn forget(&mut self, what: What) {
+        let (What::Clear(name) | What::Absent(name, _)) = &what else { return };
+        let Some(attribute) = self.attributes.get_mut(name) else { return };
+        match &what {
+            What::Absent(_, value) => {
+                attribute.marks.remove(value);
+            }
+            _ => attribute.cleared = None,
+        }
+        if attribute.is_empty() {
+            self.attributes.remove(name);
+        }
     }
 
     /// The entry with what is later than a stamp.
@@ -202,31 +252,103 @@ fn join_maps<V>(own: &mut BTreeMap<Vec<u8>, V>, other: BTreeMap<Vec<u8>, V>, joi
     }
 }
 
+/// What was deleted of an entry: the entry, all values of an attribute, or one value.
+#[derive(PartialEq, Eq, PartialOrd, Ord)]
+enum What {
+    Death,
+    Clear(Vec<u8>),
+    Absent(Vec<u8>, Vec<u8>),
+}
+
+#[derive(PartialEq, Eq, PartialOrd, Ord)]
+struct Deletion {
+    stamp: Stamp,
+    name: Vec<u8>,
+    what: What,
+}
+
+/// So many deletions are kept at least before those that were undone are thrown away.
+const FEW: usize = 64;
+
+/// Entries, and their deletions by stamp; some of these may have been undone since.
 #[derive(Default)]
 pub struct Replica {
     pub all_up_to: Option<Stamp>,
-    pub entries: BTreeMap<Vec<u8>, Entry>,
+    entries: BTreeMap<Vec<u8>, Entry>,
+    deletions: BTreeSet<Deletion>,
+    room: usize,
+}
+
+/// An entry that shows, to be changed.
+pub struct Live<'a> {
+    pub entry: &'a mut Entry,
+    deletions: &'a mut BTreeSet<Deletion>,
+}
+
+impl Live<'_> {
+    pub fn apply(self, name: &[u8], marks: Marks, stamp: Stamp) {
+        let what = match &marks {
+            Marks::Death => Some(What::Death),
+            Marks::Change(change) => {
+                let attribute = || change.attribute.to_vec();
+                match &change.value {
+                    Some((value, false)) => Some(What::Absent(attribute(), value.clone())),
+                    _ if change.clears => Some(What::Clear(attribute())),
+                    _ => None,
+                }
+            }
+        };
+        if let Some(what) = what {
+            self.deletions.insert(Deletion { stamp, name: name.to_vec(), what });
+        }
+        self.entry.apply(marks, stamp);
+    }
 }
 
 impl Replica {
+    pub fn new(all_up_to: Option<Stamp>, entries: BTreeMap<Vec<u8>, Entry>) -> Replica {
+        let of_entry = |(name, entry): (&Vec<u8>, &Entry)| {
+            let name = name.clone();
+            entry.deletions().map(move |(stamp, what)| Deletion { stamp, name: name.clone(), what }).collect::<Vec<_>>()
+        };
+        let deletions = entries.iter().flat_map(of_entry).collect();
+        Replica { all_up_to, entries, deletions, room: FEW }
+    }
+
+    pub fn entries(&self) -> &BTreeMap<Vec<u8>, Entry> {
+        &self.entries
+    }
+
     /// An entry with its name.
     pub fn live(&self, name: &[u8]) -> Option<(&[u8], &Entry)> {
         let (name, entry) = self.entries.get_key_value(name)?;
         if entry.is_live() { Some((name, entry)) } else { None }
     }
 
-    pub fn live_mut(&mut self, name: &[u8]) -> Option<&mut Entry> {
-        self.entries.get_mut(name).filter(|entry| entry.is_live())
+    pub fn live_mut(&mut self, name: &[u8]) -> Option<Live<'_>> {
+        self.tidy();
+        let entry = self.entries.get_mut(name).filter(|entry| entry.is_live())?;
+        Some(Live { entry, deletions: &mut self.deletions })
+    }
+
+    /// A new entry, where none shows.
+    pub fn insert(&mut self, name: &[u8], entry: Entry) {
+        self.entries.insert(name.to_vec(), entry);
     }
 
     /// Takes in marks of an entry. What is not later than AllUpTo came before, and was deleted where it is not there.
     pub fn join_entry(&mut self, name: Vec<u8>, entry: Entry) {
+        self.tidy();
+        for (stamp, what) in entry.deletions().filter(|(stamp, _)| self.all_up_to < Some(*stamp)) {
+            self.deletions.insert(Deletion { stamp, name: name.clone(), what });
+        }
         self.take(name, entry, self.all_up_to);
     }
 
     /// Takes in what of an entry is later than a stamp, where there is one.
     fn take(&mut self, name: Vec<u8>, entry: Entry, up_to: Option<Stamp>) {
         match (self.entries.entry(name), up_to) {
+            (Occupied(own), _) if own.get().outdates(&entry) => {}
             (Occupied(mut own), None) => own.get_mut().join(entry),
             (Occupied(mut own), Some(stamp)) if stamp < entry.birth || own.get().birth == entry.birth => {
                 own.get_mut().join(entry.later(stamp));
@@ -243,10 +365,12 @@ impl Replica {
 
     pub fn join(&mut self, other: Replica) {
         let up_to = self.all_up_to.max(other.all_up_to);
+        self.deletions.extend(other.deletions.into_iter().filter(|deletion| up_to < Some(deletion.stamp)));
         for (name, entry) in other.entries {
             self.take(name, entry, up_to);
         }
         self.forget(up_to);
+        self.tidy();
     }
 
     pub fn advance(&mut self, stamp: Stamp) {
@@ -255,10 +379,33 @@ impl Replica {
 
     /// Raises AllUpTo, and forgets what was deleted up to it.
     fn forget(&mut self, up_to: Option<Stamp>) {
-        if let Some(stamp) = up_to.filter(|_| self.all_up_to < up_to) {
-            self.entries.retain(|_, entry| entry.forget(stamp));
+        while self.deletions.first().is_some_and(|first| Some(first.stamp) <= up_to) {
+            if let Some(first) = self.deletions.pop_first() {
+                self.forget_one(first);
+            }
         }
         self.all_up_to = up_to;
+    }
+
+    fn forget_one(&mut self, deletion: Deletion) {
+        match self.entries.entry(deletion.name) {
+            Occupied(mut own) if own.get().lost(deletion.stamp, &deletion.what) => match deletion.what {
+                What::Death => {
+                    own.remove();
+                }
+                what => own.get_mut().forget(what),
+            },
+            _ => {}
+        }
+    }
+
+    /// Throws deletions away that were undone, where there may be many.
+    fn tidy(&mut self) {
+        if self.deletions.len() > self.room.max(FEW) {
+            let entries = &self.entries;
+            self.deletions.retain(|deletion| entries.get(&deletion.name).is_some_and(|entry| entry.lost(deletion.stamp, &deletion.what)));
+            self.room = 2 * self.deletions.len();
+        }
     }
 }
 

@@ -39,7 +39,8 @@ use Rattle.cds_records.proofs.LayoutLaws.{ok_is, bind_ok, stands_read, read_stan
 
 module _ {K X : Type 0} {R : K → K → Ordering} (o : IsTotalOrder R) (V : X → Type 0) (key : Option K → Layout K) (content : Layout X)
     (each : (x : List ℕ) (c : X) (y : List ℕ) → read content x ≡ Ok (c, y) → V c) where
-  items_valid : (n : ℕ) (before : Option K) (x : List ℕ) (es : List (K × X)) (y : List ℕ) → read (ascending key content n before) x ≡ Ok (es, y)
+  -- each of so many items that were read is valid
+  pub items_valid : (n : ℕ) (before : Option K) (x : List ℕ) (es : List (K × X)) (y : List ℕ) → read (ascending key content n before) x ≡ Ok (es, y)
       → AllByRecursion (λ e. V e.1) es
   unfolding ascending item
   items_valid zero before x es y e = subst (λ (p : List (K × X) × List ℕ). AllByRecursion (λ e. V e.1) p.0) (ok_is ([], x) (es, y) e) tt

@@ -12,7 +12,7 @@ ghost use Rattle.clearinghouse.specs.Posting.{LooksMessage, StandsMessage, posts
 ghost use Rattle.clearinghouse.specs.Standing.{LooksHouse, StandsHouse};
 ghost use Rattle.clearinghouse.specs.Stepping.{IsCall, IsStep, IsTakeAnswer, LooksStep, UnlessTaken, IfTaken, is_taken};
 ghost use Rattle.clearinghouse.specs.Times.{latest_in_message};
-ghost use Rattle.clearinghouse.specs.PrivateTurns.{JoinsCopy, TakesFirst, TakesOwn, TakesSecond, copy_of, second_round_of};
+ghost use Rattle.clearinghouse.specs.PrivateTurns.{Advances, JoinsCopy, TakesFirst, TakesOwn, TakesSecond, copy_of, second_round_of};
 ghost use Rattle.clearinghouse.specs.PrivateTaking.{HasCopy, TakesHere, TakesJoin, TakesLeave, TakesOther, join_bar, join_passed, leave_passed};
 ghost use Rattle.clearinghouse.specs.declared.taking.Taken.TheVariants as answers;
 ghost use Rattle.clearinghouse.specs.declared.states.DirState.TheVariants as state;
@@ -24,9 +24,11 @@ use crate::states::{DirState, Held, since_in};
 use crate::times::latest_in_message;
 use cds_records::{Body, Message};
 use cds_stamps::{EpochNo, HouseNo, Members, Stamp};
-use purge_rule::Replica;
+use purge_rule::{Replica, Steps};
 use skulk_core::{Next, Skulk};
 use std::alloc::{AllocError, Global};
+use std::marker::Brand;
+use std::sync::ledger::{Blank, Ledger};
 
 /// What comes of a message: the answer, and what the house posts. Nothing is posted or changed but for Taken and Complete.
 #[derive(Drop)]
@@ -155,7 +157,7 @@ impl Held {
             }
             Body::SpreadAck(t) => Ok(self.take_ack(from, t)),
             Body::Advance(t) => {
-                self.replica.advance(*t);
+                advance::<Brand>(&mut self.replica, *t, Blank::new(1));
                 Ok(taken_with(None))
             }
             Body::Join(_, _) | Body::Leave => Ok(unchanged(Taken::Foreign)),
@@ -197,7 +199,7 @@ impl Held {
         match self.skulk.spread(*t, from, count) {
             Next::Stale(running) => unchanged(Taken::Stale(*t, running)),
             Next::Complete(_) => {
-                self.replica.advance(*t);
+                advance::<Brand>(&mut self.replica, *t, Blank::new(1));
                 Turn {
                     answer: Taken::Complete(*t),
                     outgoing: Some(Outgoing::Advance(*t)),
@@ -420,4 +422,15 @@ fn time_taken(answer: &Taken, message: &Message) -> u64
     } else {
         0
     }
+}
+
+/// Raises AllUpTo of a replica, in steps that nobody reads.
+fn advance<L: Ledger>(replica: &mut Replica, t: Stamp, blank: Blank)
+    requires name { blank.name ≡ L.name }
+    requires parts { blank.parts ≡ L.parts }
+    requires some { 0 < blank.parts }
+    ensures { Advances replica.old t replica.new }
+{
+    let mut steps = Steps::<L>::new(blank);
+    replica.advance_counted(t, &mut steps);
 }

@@ -6,6 +6,8 @@ pub mod MemberLaws
 pub mod SeenLaws
 pub mod UpdateLaws
 pub mod ChangeLaws
+pub mod DeletionOrder
+pub mod DeletionSets
 pub mod EntryChangeLaws
 pub mod Lookups
 pub mod FragmentLaws
@@ -19,3 +21,9 @@ pub mod DropLaws
 pub mod AppliedPurges
 pub mod Collected
 pub mod EntryUnchanged
+pub mod Counts
+pub mod Dropping
+pub mod LaterLaws
+pub mod DeletionLaws
+pub mod IndexLaws
+pub mod HeldLaws

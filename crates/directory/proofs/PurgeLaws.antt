@@ -42,18 +42,6 @@ map_some-both {X = X} o same f g h both m = same_map o same (map_some f (map_som
     at None = refl
     at (Some x) = both x
 
--- the entries of a tree, where those of another were mapped
-pub map_some-view : {K X : Type 0} {R : K → K → Ordering} → IsTotalOrder R → IsAntisymmetric R → (f : X → Option X) (m : FinMap R X)
-    (es fs : List (K × X)) → from_entries es ≡ m
-    → ((q : K) → lookup (is_at (R q)) fs ≡ option_and_then f (lookup (is_at (R q)) es)) → from_entries fs ≡ map_some f m
-map_some-view o same f m es fs view mapped = same_map o same (from_entries fs) (map_some f m) (λ q.
-    get-view o fs q ∙ mapped q ∙ ap (option_and_then f) (sym (get-view o es q) ∙ ap (λ m. get m q) view) ∙ sym (get-map_some o same f m q))
-
--- a choice the other way round, as a closure of `retain` makes it
-pub unless : {X : Type 0} (b : Bool) (x : X) → (if not b then Some x else None) ≡ (if b then None else Some x)
-unless true x = refl
-unless false x = refl
-
 -- ---- entries, purged twice
 
 -- what is up to a stamp is up to a later one

@@ -8,4 +8,7 @@ pub mod Histories
 pub mod Shown
 pub mod EntryChanges
 pub mod Purges
+pub mod Deletions
+pub mod IndexWords
+pub mod Held
 pub mod Applied

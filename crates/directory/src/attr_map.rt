@@ -1,7 +1,6 @@
 // The cells of an entry's attributes.
-ghost use Rattle.std.specs.Prelude.{◌≡◌, IsTrue, List, ℕ, [], ◌∷◌, Some, None, MatchOption, MatchBool, IfOk, IfSome, OnOk, OnErr, if◌then◌else◌, option_copied};
+ghost use Rattle.std.specs.Prelude.{◌≡◌, ◌↔◌, IsTrue, List, ℕ, [], ◌∷◌, Some, None, MatchOption, MatchBool, IfOk, IfSome, OnOk, OnErr, if◌then◌else◌, option_copied};
 ghost use Rattle.std.specs.FinMap as map;
-ghost use Rattle.std.specs.BTreeMap as tree;
 ghost use Rattle.std.specs.Option.{option_and_then};
 ghost use Rattle.std.specs.Ordering.{eq_by_cmp};
 ghost use Rattle.cds_stamps.specs.Keyed.{map_some};
@@ -10,12 +9,14 @@ ghost use Rattle.cds_stamps.specs.Joins.{join_maps, EachValue};
 ghost use Rattle.cds_stamps.specs.Undos.{RaisesAt, TakesBack, LogsChange, MendsAt, back_at};
 ghost use Rattle.attr_sets.specs.Cells.{cell_of, join_cells};
 ghost use Rattle.attr_sets.specs.CellChanges.{change_marks};
-ghost use Rattle.attr_sets.specs.CellPurges.{is_empty_cell, cell_left, cell_after};
+ghost use Rattle.attr_sets.specs.CellPurges.{is_empty_cell, cell_after};
 ghost use Rattle.attr_sets.specs.CellUndoWords.{undo_cell};
+ghost use Rattle.directory.specs.Deletions.{is_at, is_absent, change_at, cell_without};
+ghost use Rattle.directory.specs.declared.deletions.What.TheVariants.{Clear, Absent};
 ghost use Rattle.directory.specs.Entries.{IsHeldCell};
 ghost use Rattle.directory.specs.Applied.{JoinsCell, TakesMarks};
 
-use attr_sets::{AttrCell, CellChange, CellUndo};
+use attr_sets::{AttrCell, CellChange, CellUndo, Value};
 use cds_stamps::{AttrName, Lattice, Stamp};
 use std::alloc::{AllocError, Global};
 use std::collections::BTreeMap;
@@ -403,11 +404,61 @@ impl AttrMap {
         self.cells.remove(name)
     }
 
-    /// Drops the deletions of each cell that are stamped at most t, and the cells of which nothing is left.
-    pub(crate) fn drop_up_to(&mut self, t: Stamp)
-        ensures { self.new ≡ map_some (cell_left t) self.old }
+    /// Whether an attribute was cleared at the stamp.
+    pub(crate) fn is_cleared_at(&self, name: &AttrName, stamp: Stamp) -> bool
+        ensures { result ≡ is_at (option_and_then (λ c. c.cleared) (map.get self.now name.now)) stamp }
     {
-        drop_cells_up_to(&mut self.cells, t);
+        match self.get(name) {
+            Some(cell) => cell.cleared == Some(stamp),
+            None => false,
+        }
+    }
+
+    /// Whether a value of an attribute is absent since the stamp.
+    pub(crate) fn is_absent_at(&self, name: &AttrName, value: &Value, stamp: Stamp) -> bool
+        ensures { result ≡ is_absent (option_and_then (λ c. map.get c.values value.now) (map.get self.now name.now)) stamp }
+    {
+        match self.get(name) {
+            Some(cell) => is_absent_at(cell, value, stamp),
+            None => false,
+        }
+    }
+
+    /// Whether each cell is valid and not empty.
+    pub(crate) fn is_valid(&self) -> bool
+        ensures { IsTrue result ↔ EachValue IsHeldCell self.now }
+    {
+        for (_, cell) in self.cells.iter() {
+            let held = is_held(cell);
+            if !held {
+                return false;
+            }
+        }
+        true
+    }
+
+    /// Drops the clear of an attribute, and the attribute, if nothing is left of it.
+    pub(crate) fn drop_clear(&mut self, name: &AttrName)
+        ensures { self.new ≡ change_at self.old name.now (cell_without (Clear name.now)) }
+    {
+        if let Some(cell) = self.cells.get_mut(name) {
+            cell.cleared = None;
+            if cell.is_empty() {
+                self.cells.remove(name);
+            }
+        }
+    }
+
+    /// Drops the mark of a value of an attribute, and the attribute, if nothing is left of it.
+    pub(crate) fn drop_value(&mut self, name: &AttrName, value: &Value)
+        ensures { self.new ≡ change_at self.old name.now (cell_without (Absent name.now value.now)) }
+    {
+        if let Some(cell) = self.cells.get_mut(name) {
+            cell.values.remove(value);
+            if cell.is_empty() {
+                self.cells.remove(name);
+            }
+        }
     }
 
     /// What of each cell is later than t, where it is anything.
@@ -452,11 +503,19 @@ impl AttrMap {
     }
 }
 
-fn drop_cells_up_to(cells: &mut BTreeMap<AttrName, AttrCell>, t: Stamp)
-    ensures { (q : List ℕ) → tree.get octets_cmp cells.new q ≡ option_and_then (cell_left t) (tree.get octets_cmp cells.old q) }
+/// Whether a cell is valid and not empty.
+fn is_held(cell: &AttrCell) -> bool
+    ensures { IsTrue result ↔ IsHeldCell cell.now }
 {
-    cells.retain(|_, cell| {
-        cell.drop_up_to(t);
-        !cell.is_empty()
-    });
+    !cell.is_empty() && cell.is_valid()
+}
+
+/// Whether a value of a cell is absent since the stamp.
+fn is_absent_at(cell: &AttrCell, value: &Value, stamp: Stamp) -> bool
+    ensures { result ≡ is_absent (map.get cell.now.values value.now) stamp }
+{
+    match cell.values.get(value) {
+        Some(mark) => !mark.present && mark.stamp == stamp,
+        None => false,
+    }
 }

@@ -1,5 +1,5 @@
 // Entries.
-ghost use Rattle.std.specs.Prelude.{◌≡◌, IsTrue, ℕ, List, true, Some, None, MatchBool, IsSome, IfOk, OnOk, OnErr, if◌then◌else◌, filter, is_some, option_copied};
+ghost use Rattle.std.specs.Prelude.{◌≡◌, ◌↔◌, IsTrue, ℕ, min, List, true, Some, None, MatchBool, IsSome, IfOk, OnOk, OnErr, if◌then◌else◌, filter, is_some, option_copied};
 ghost use Rattle.std.specs.Option.{option_and_then};
 ghost use Rattle.cds_stamps.specs.Semilattice.{maybe, greater};
 ghost use Rattle.cds_stamps.specs.Stamps.{earlier_stamp};
@@ -10,13 +10,16 @@ ghost use Rattle.directory.specs.EntryUndoWords.{undo_entry};
 ghost use Rattle.attr_sets.specs.Cells.{cell_values};
 ghost use Rattle.attr_sets.specs.CellChanges.{change_marks};
 ghost use Rattle.attr_sets.specs.CellPurges.{clear_left};
-ghost use Rattle.directory.specs.Purges.{is_dead_up_to, purged_entry, after_entry};
+ghost use Rattle.directory.specs.Purges.{is_dead_up_to, after_entry};
+ghost use Rattle.directory.specs.Deletions.{has_lost};
+ghost use Rattle.directory.specs.Held.{held_in_entry, held_in_cell, most_held};
 ghost use Rattle.directory.specs.Applied.{changed_entry, deleted_entry};
 ghost use Rattle.cds_stamps.specs.Outcomes.{ok_unless};
 ghost use Rattle.directory.specs.Updates.{Clear};
 ghost use Rattle.directory.specs.Shown.{is_readable, is_reserved, leads, only_one, lead_of, entry_values, face_of, refusal_of, shown_entry, shown_dir};
 
 use crate::attr_map::{AttrMap, CellLog};
+use crate::deletions::What;
 use crate::undo::EntryUndo;
 use crate::update::UpdateRefusal;
 use attr_sets::{AttrCell, CellChange, Value};
@@ -290,13 +293,6 @@ impl EntryCell {
         }
     }
 
-    /// Drops the deletions of its attributes that are stamped at most t.
-    pub(crate) fn drop_up_to(&mut self, t: Stamp)
-        ensures { self.new ≡ purged_entry t self.old }
-    {
-        self.attrs.drop_up_to(t);
-    }
-
     /// What of it is later than t, with its birth, however old: its death, and the clears and the marks of its attributes.
     pub fn after(&self, alloc: Global, t: Stamp) -> Result<EntryCell, AllocError>
         ensures { IfOk result (λ e. e ≡ after_entry t self.now) }
@@ -316,6 +312,35 @@ impl EntryCell {
     {
         let t = &t;
         !self.is_dead_up_to(*t) && self.attrs.is_after(*t)
+    }
+
+    /// Whether each of its cells is valid and not empty, as those of a table are. It takes no memory.
+    pub fn is_valid(&self) -> bool
+        ensures { IsTrue result ↔ IsValidEntry self.now }
+    {
+        self.attrs.is_valid()
+    }
+
+    /// Whether this was deleted of it at the stamp.
+    pub(crate) fn has_lost(&self, stamp: Stamp, what: &What) -> bool
+        ensures { result ≡ has_lost self.now stamp what.now }
+    {
+        match what {
+            What::Death => self.death == Some(stamp),
+            What::Clear(attr) => self.attrs.is_cleared_at(attr, stamp),
+            What::Absent(attr, value) => self.attrs.is_absent_at(attr, value, stamp),
+        }
+    }
+
+    /// The entry itself, its death, and the clears and marks of its attributes, counted as far as 64 bits go.
+    pub fn held(&self) -> u64
+        ensures { result ≡ min (held_in_entry self.now) most_held }
+    {
+        let mut sum: u64 = if self.death.is_some() { 2 } else { 1 };
+        for (_, cell) in self.attrs.iter() {
+            sum = sum.saturating_add(held_in_cell(cell));
+        }
+        sum
     }
 
     /// Takes a join back, with no memory.
@@ -372,6 +397,14 @@ impl Fragment {
             entry: self.entry.copy(alloc)?,
         })
     }
+}
+
+/// The clear and the marks of values of an attribute.
+fn held_in_cell(cell: &AttrCell) -> u64
+    ensures { result ≡ min (held_in_cell cell.now) most_held }
+{
+    let clears = if cell.cleared.is_some() { 1 } else { 0 };
+    (cell.values.len() as u64).saturating_add(clears)
 }
 
 /// Whether the attribute changes only by the updates that make or repoint links and children.

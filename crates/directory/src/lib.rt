@@ -2,13 +2,18 @@
 #![tactic(auto)]
 
 mod attr_map;
+mod deletions;
 mod entry;
+mod entry_map;
+mod later;
 pub mod laws;
 mod table;
 mod undo;
 mod update;
 
 pub use attr_map::AttrMap;
+pub use deletions::{Deletion, What};
 pub use entry::{EntryCell, Fragment, Kind, LINK_TARGET, REPLICAS};
+pub use later::is_passed;
 pub use table::Table;
 pub use update::{Update, UpdateRefusal, creation};

@@ -1,6 +1,5 @@
-mod Counts
 pub mod MapValues
 pub mod ReplicaLaws
 pub mod Times
 pub mod MergeLaws
-pub mod PartLaws
+pub mod StepLaws

@@ -92,7 +92,7 @@ module _ (n : ℕ) (t : Stamp) where
       at true = tt
       at false = p
 
-  some_cell-up_to : (c : AttrCell) → CellUpTo n c → IfSome (some_cell c) (CellUpTo n)
+  pub some_cell-up_to : (c : AttrCell) → CellUpTo n c → IfSome (some_cell c) (CellUpTo n)
   some_cell-up_to c p = at (is_empty_cell c)
     where
       at : (b : Bool) → IfSome (if b then None else Some c) (CellUpTo n)

@@ -1,3 +1,2 @@
 pub mod Replicas
-pub mod Held
 pub mod Latest

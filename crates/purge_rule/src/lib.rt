@@ -6,6 +6,8 @@ mod latest;
 pub mod laws;
 mod merging;
 mod replica;
+mod steps;
 
 pub use latest::latest_in_entry;
 pub use replica::Replica;
+pub use steps::Steps;

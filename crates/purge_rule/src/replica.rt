@@ -1,19 +1,23 @@
 // A replica of a directory.
-ghost use Rattle.std.specs.Prelude.{◌≡◌, ◌≢◌, ◌≤◌, ◌++◌, ℕ, List, Option, Some, None, IfOk, OnOk, OnErr, IfSome, min, if◌then◌else◌};
+ghost use Rattle.std.specs.Prelude.{◌≡◌, ◌≢◌, ◌≤◌, ◌+◌, ◌++◌, ℕ, true, List, Option, Some, None, IfOk, OnOk, OnErr, IfSome, min, if◌then◌else◌};
 ghost use Rattle.cds_stamps.specs.Octets.{is_octets};
 ghost use Rattle.std.specs.FinMap as map;
+ghost use Rattle.directory.specs.declared.deletions.Deletion.{Deletion};
+ghost use Rattle.directory.specs.Deletions.{has_deletion, HasNone};
 ghost use Rattle.directory.specs.Entries.{IsValidEntry, IsValidTable};
 ghost use Rattle.directory.specs.Histories.{Mark, CanMerge};
 ghost use Rattle.purge_rule.specs.Replicas.{replica_of, together, merged_table, merged_entry, IsFragmentOf};
-ghost use Rattle.purge_rule.specs.Held.{held_in, most_held};
+ghost use Rattle.directory.specs.Held.{held_in, most_held};
 ghost use Rattle.purge_rule.specs.Latest.{EntryUpTo, ReplicaUpTo, latest_time};
 
 use crate::held::held_in;
 use crate::latest::{latest_in, time_of};
 use crate::merging::{merge_entry, merge_table};
+use crate::steps::{Steps, forget};
 use cds_stamps::{Lattice, Stamp, later_of};
 use directory::{Fragment, Table};
 use std::alloc::{AllocError, Global};
+use std::sync::ledger::Ledger;
 
 /// What a house holds of a directory: its table, and the stamp up to which each member of the replica set has each mark.
 #[derive(Drop)]
@@ -81,9 +85,36 @@ impl Replica {
         ensures valid { IsValidTable self.old.table → IsValidTable self.new.table }
         ensures times { (n : ℕ) → ReplicaUpTo n self.old → t.time ≤ n → ReplicaUpTo n self.new }
     {
+        let up_to = self.raise(t);
+        self.table.drop_up_to(up_to);
+    }
+
+    /// The same, and its steps are counted: a deletion that the index of the table hands out is one, and so is each further record
+    /// that is dropped with its entry.
+    pub fn advance_counted<L: Ledger>(&mut self, t: Stamp, steps: &mut Steps<L>)
+        ensures merged { (h : List Mark) → self.old ≡ replica_of h self.old.all_up_to → self.new ≡ replica_of h (together self.old.all_up_to (Some t)) }
+        ensures all_up_to { self.new.all_up_to ≡ together self.old.all_up_to (Some t) }
+        ensures valid { IsValidTable self.old.table → IsValidTable self.new.table }
+        ensures times { (n : ℕ) → ReplicaUpTo n self.old → t.time ≤ n → ReplicaUpTo n self.new }
+        ensures cost { steps.new + held_in self.new.table ≤ steps.old + held_in self.old.table + 1 }
+        ensures exact_if_none { held_in self.old.table ≤ most_held → HasNone self.new.table →
+            steps.new + held_in self.new.table ≡ steps.old + held_in self.old.table }
+        ensures exact_if_some { held_in self.old.table ≤ most_held → (d : Deletion) → has_deletion self.new.table d ≡ true →
+            steps.new + held_in self.new.table ≡ steps.old + held_in self.old.table + 1 }
+    {
+        let up_to = self.raise(t);
+        forget(&mut self.table, up_to, steps);
+    }
+
+    /// Raises AllUpTo to this stamp, if that is later. What it is then.
+    fn raise(&mut self, t: Stamp) -> Stamp
+        ensures table { self.new.table ≡ self.old.table }
+        ensures all_up_to { self.new.all_up_to ≡ Some result }
+        ensures later { together self.old.all_up_to (Some t) ≡ Some result }
+    {
         let up_to = &later_than(self.all_up_to, t);
         self.all_up_to = Some(*up_to);
-        self.table.drop_up_to(*up_to);
+        *up_to
     }
 
     /// How many entries, deaths, clears and marks of values it holds, or the last number of 64 bits where there are more.

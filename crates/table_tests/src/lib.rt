@@ -7,6 +7,8 @@ mod cells;
 #[cfg(test)]
 mod names;
 #[cfg(test)]
+mod purges;
+#[cfg(test)]
 mod replicas;
 #[cfg(test)]
 mod skulks;

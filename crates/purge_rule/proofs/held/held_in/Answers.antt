@@ -1,7 +1,7 @@
 use Rattle.std.proofs.Common.{ap}
 use Rattle.std.specs.Prelude.{sum_by}
-use Rattle.purge_rule.specs.Held.{held_in_entry}
-use Rattle.purge_rule.proofs.Counts.{all_counted}
+use Rattle.directory.specs.Held.{held_in_entry}
+use Rattle.directory.proofs.Counts.{all_counted}
 use Rattle.purge_rule.proofs.held.held_in.Goals as goal
 
 pub returns : goal.returns

@@ -1,6 +1,6 @@
 use Rattle.std.proofs.Common.{◌≡◌, ◌+◌, ◌≤◌, min}
 use Rattle.std.specs.Prelude.{sum_by}
-use Rattle.purge_rule.specs.Held.{held_in, held_in_entry, most_held}
+use Rattle.directory.specs.Held.{held_in, held_in_entry, most_held}
 use Rattle.purge_rule.proofs.held.held_in.Given as goal
 
 abbrev pub invariant-loop-entry : goal.invariant-loop-entry

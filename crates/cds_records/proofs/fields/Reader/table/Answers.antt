@@ -1,9 +1,12 @@
+use Rattle.std.proofs.Common.{None}
+use Rattle.std.specs.Cmp.Lexicographic.{nat_list_cmp_total}
+use Rattle.directory.specs.Entries.{IsValidEntry}
 use Rattle.cds_records.specs.Fields.{simple_name}
 use Rattle.cds_records.specs.Records.{entry}
-use Rattle.cds_records.proofs.ListLoops.{map_is_read}
+use Rattle.cds_records.proofs.Valid.{items_valid, entry_valid}
 use Rattle.cds_records.proofs.fields.Reader.table.Goals as goal
 
-pub returns : goal.returns
-returns c =
-    map_is_read simple_name entry c.args.count c.args.self.now c.entries.new.self c.in_ok-entries.entries.items c.in_ok-table.table
-    c.in_ok-entries.ensures c.in_ok-table.ensures
+pub from_pairs-table-requires : goal.from_pairs-table-requires
+from_pairs-table-requires c =
+    items_valid nat_list_cmp_total IsValidEntry simple_name entry entry_valid c.args.count None c.args.self.now c.in_ok-entries.entries.items
+    c.entries.new.self c.in_ok-entries.ensures

@@ -1,0 +1,10 @@
+use Rattle.std.proofs.Common.{◌∙◌}
+use Rattle.std.specs.Cmp.Lexicographic.{nat_list_cmp_total}
+use Rattle.attr_sets.proofs.PartLoops.{each_starts}
+use Rattle.directory.specs.Entries.{IsHeldCell}
+use Rattle.directory.proofs.attr_map.AttrMap.is_valid.Goals as goal
+
+pub loop-cell-init : goal.loop-cell-init
+loop-cell-init c =
+    each_starts nat_list_cmp_total IsHeldCell c.args.self.now c.self.inside.cells.entries _ c.self.view_is
+    c.iter-cell-items.ensures.ordered (c.into_iter-cell-iterator.ensures.into_iter_gives ∙ c.iter-cell-items.ensures.rest)

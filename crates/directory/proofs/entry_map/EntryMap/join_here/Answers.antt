@@ -1,0 +1,47 @@
+use Rattle.std.proofs.Common.{ap, ◌∙◌, sym, refl, Some}
+use Rattle.std.specs.FinMap as map
+use Rattle.directory.proofs.Untouched.{untouched}
+use Rattle.std.specs.BTreeMap.{is_at}
+use Rattle.std.specs.Cmp.Lexicographic.{nat_list_cmp_total}
+use Rattle.std.proofs.lemmas.Map.Steps.{set_value_same}
+use Rattle.cds_stamps.specs.Octets.{octets_exact, octets_cmp}
+use Rattle.directory.specs.Entries.{join_entries}
+use Rattle.cds_stamps.proofs.Undoing.{not_here, on_err}
+use Rattle.cds_stamps.proofs.ValidJoins.{joined_valid}
+use Rattle.directory.specs.Entries.{IsValidEntry}
+use Rattle.directory.proofs.entry_map.EntryMap.join_here.Goals.{in-Some+in_ok-join-in-Some, in-None}
+use Rattle.directory.proofs.entry_map.EntryMap.join_here.Goals as goal
+
+pub returns-in_err-join-in-Some-clause-err : goal.returns-in_err-join-in-Some-clause-err
+returns-in_err-join-in-Some-clause-err c =
+    on_err c.from_residual.result
+    (ap map.from_entries ((c.get_mut.follows.holds c.join.new.self).0 ∙ set_value_same (is_at
+    (octets_cmp c.args.name.now)) c.self.inside.entries.entries c.join.new.self (sym c.in-Some.ensures.value
+    ∙ ap Some (sym c.in_err-join-in-Some.ensures.err)))
+    ∙ c.self.view_is)
+
+pub returns-clause-ok : goal.returns-clause-ok
+returns-clause-ok c = elim c.match-get_mut.branch [
+  | in-Some+in_ok-join-in-Some w ↦ rw (w.result-is, w.self-inside-is)
+      (joined_valid nat_list_cmp_total IsValidEntry octets_exact join_entries c.args.self.now c.self.inside.entries.entries
+      (c.get_mut.follows.lender w.join.new.self).entries c.args.name.now w.in-Some.own.now c.args.entry.now w.join.new.self
+      c.self.view_is w.in-Some.ensures.value (λ own other. sym (w.in_ok-join-in-Some.ensures.ok own other))
+      ((c.get_mut.follows.holds w.join.new.self).3 (rw (← w.in-Some.ensures.value) refl)).0)
+  | in-None w ↦ rw (w.result-is, w.self-inside-is)
+      (not_here nat_list_cmp_total octets_exact c.args.self.now c.self.inside.entries.entries c.get_mut.follows.lender-at-none.entries c.args.name.now
+      c.self.view_is w.in-None.ensures.value
+      (ap (λ m. m.entries) c.get_mut.follows.holds-at-none))
+]
+
+pub returns-clause-others : goal.returns-clause-others
+returns-clause-others c = elim c.match-get_mut.branch [
+  | in-Some+in_ok-join-in-Some w ↦ rw (w.result-is, w.self-inside-is)
+      (untouched nat_list_cmp_total octets_exact c.args.self.now c.self.inside.entries.entries
+      (c.get_mut.follows.lender w.join.new.self).entries c.args.name.now w.join.new.self
+      c.self.view_is ((c.get_mut.follows.holds w.join.new.self).3 (rw (← w.in-Some.ensures.value) refl)).0)
+  | in-None w ↦ rw (w.result-is, w.self-inside-is)
+      (λ q _. ap (λ m. map.get m q)
+      (not_here nat_list_cmp_total octets_exact c.args.self.now c.self.inside.entries.entries c.get_mut.follows.lender-at-none.entries c.args.name.now
+      c.self.view_is w.in-None.ensures.value
+      (ap (λ m. m.entries) c.get_mut.follows.holds-at-none)).1)
+]

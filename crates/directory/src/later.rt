@@ -1,0 +1,128 @@
+// What of another table is later than a stamp.
+ghost use Rattle.std.specs.Prelude.{◌≡◌, IsTrue, IfSome, IfOk, OnOk, OnErr, Some, None, false, option_copied};
+ghost use Rattle.std.specs.FinMap as map;
+ghost use Rattle.cds_stamps.specs.Semilattice.{maybe};
+ghost use Rattle.directory.specs.Applied.{LeavesOthers};
+ghost use Rattle.directory.specs.Entries.{join_entries, join_tables, IsValidEntry, IsValidTable};
+ghost use Rattle.directory.specs.IndexWords.{IsIndexed, Keeps, KnowsAll};
+ghost use Rattle.directory.specs.Purges.{holds, is_passed, take_entry, take_table};
+
+use crate::deletions::Deletions;
+use crate::entry::EntryCell;
+use crate::entry_map::EntryMap;
+use cds_stamps::{Lattice, SimpleName, Stamp};
+use std::alloc::{AllocError, Global};
+
+/// Joins in what of other entries is later than t, and its deletions.
+pub(crate) fn take_later(
+    entries: &mut EntryMap,
+    deletions: &mut Deletions,
+    alloc: Global,
+    other: &EntryMap,
+    t: Stamp,
+) -> Result<(), AllocError>
+    requires { IsValidTable other.now }
+    ensures ok { OnOk result (IsValidTable entries.old → entries.new ≡ take_table t entries.old other.now) }
+    ensures err { OnErr result (entries.new ≡ entries.old) }
+    ensures index { IsIndexed deletions.old entries.old → IsIndexed deletions.new entries.new }
+{
+    let later = later_part(alloc, entries, other, t)?;
+    let mut taken = add_deletions(deletions, alloc, &later);
+    if taken.is_ok() {
+        taken = entries.join(alloc, &later);
+    }
+    deletions.settle(entries);
+    taken
+}
+
+/// Adds the deletions of all entries.
+fn add_deletions(
+    deletions: &mut Deletions,
+    alloc: Global,
+    entries: &EntryMap,
+) -> Result<(), AllocError>
+    ensures keeps { Keeps deletions.old deletions.new }
+    ensures ok { OnOk result (KnowsAll deletions.new entries.now) }
+{
+    for (name, entry) in entries.iter() {
+        deletions.add_entry(alloc, name, entry)?;
+    }
+    Ok(())
+}
+
+/// What is later than t of each entry of the other map, but for those that are passed by and those that change nothing: a copy of
+/// that, and of nothing else.
+fn later_part(
+    alloc: Global,
+    own: &EntryMap,
+    other: &EntryMap,
+    t: Stamp,
+) -> Result<EntryMap, AllocError>
+    ensures valid { IfOk result (λ later. IsValidTable own.now → IsValidTable other.now → IsValidTable later) }
+    ensures joined { IfOk result (λ later. IsValidTable own.now → IsValidTable other.now → join_tables own.now later ≡ take_table t own.now other.now) }
+{
+    let t = &t;
+    let mut later = EntryMap::new(alloc);
+    for (name, entry) in other.iter() {
+        put_later(&mut later, alloc, own, name, entry, *t)?;
+    }
+    Ok(later)
+}
+
+/// Gives a name that has nothing yet what is later than t of an entry, unless that is known.
+fn put_later(
+    later: &mut EntryMap,
+    alloc: Global,
+    own: &EntryMap,
+    name: &SimpleName,
+    entry: &EntryCell,
+    t: Stamp,
+) -> Result<(), AllocError>
+    ensures valid { OnOk result (map.get later.old name.now ≡ None → IsValidEntry entry.now → IfSome (map.get later.new name.now) IsValidEntry) }
+    ensures joined { OnOk result (map.get later.old name.now ≡ None → IfSome (map.get own.now name.now) IsValidEntry → IsValidEntry entry.now →
+        maybe join_entries (map.get own.now name.now) (map.get later.new name.now) ≡ take_entry t (map.get own.now name.now) (Some entry.now)) }
+    ensures others { LeavesOthers later.old later.new name.now }
+{
+    let t = &t;
+    if !is_known(own.get(name), entry, *t) {
+        later.insert(name.copy(alloc)?, entry.after(alloc, *t)?)?;
+    }
+    Ok(())
+}
+
+/// Whether nothing is taken up to t of an entry, beside the one that its name has: it is passed by, or changes nothing.
+fn is_known(own: Option<&EntryCell>, entry: &EntryCell, t: Stamp) -> bool
+    ensures known { IsTrue result → IfSome (option_copied own.entry) IsValidEntry → IsValidEntry entry.now →
+        take_entry t (option_copied own.entry) (Some entry.now) ≡ option_copied own.entry }
+    ensures new { result ≡ false → is_passed t (option_copied own.entry) entry.now ≡ false }
+{
+    is_passed(own, entry, t) || outdates(own, entry)
+}
+
+/// Whether an entry is passed by: it was born up to t, and it is not the one that its name has.
+pub fn is_passed(own: Option<&EntryCell>, entry: &EntryCell, t: Stamp) -> bool
+    ensures { result ≡ is_passed t (option_copied own.entry) entry.now }
+{
+    !(t < entry.birth) && !holds(own, entry.birth)
+}
+
+/// Whether the entry that a name has, if any, was born at this stamp.
+fn holds(own: Option<&EntryCell>, birth: Stamp) -> bool
+    ensures { result ≡ holds (option_copied own.entry) birth }
+{
+    match own {
+        Some(own) => own.birth == birth,
+        None => false,
+    }
+}
+
+/// Whether joining an entry into the one that a name has, if any, changes nothing.
+fn outdates(own: Option<&EntryCell>, entry: &EntryCell) -> bool
+    ensures { IsTrue result → IfSome (option_copied own.entry) IsValidEntry → IsValidEntry entry.now →
+        maybe join_entries (option_copied own.entry) (Some entry.now) ≡ option_copied own.entry }
+{
+    match own {
+        Some(own) => own.outdates(entry),
+        None => false,
+    }
+}

@@ -1,8 +1,0 @@
-use Rattle.std.proofs.Common.{ap}
-use Rattle.std.specs.Prelude.{sum_by}
-use Rattle.purge_rule.specs.Held.{held_in_cell}
-use Rattle.purge_rule.proofs.Counts.{all_counted}
-use Rattle.purge_rule.proofs.held.held_in_entry.Goals as goal
-
-pub returns : goal.returns
-returns c = all_counted _ _ _ (ap (sum_by (λ a. held_in_cell a.1)) c.in-None.ensures.steps.0) c.loop-cell.invariant.fits c.loop-cell.invariant.counted
