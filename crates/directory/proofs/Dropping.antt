@@ -5,7 +5,6 @@ use Rattle.std.specs.Map.{lookup}
 use Rattle.std.specs.Option.{option_and_then}
 use Rattle.std.specs.Cmp.Lexicographic.{nat_list_cmp_total}
 use Rattle.std.specs.FinMap.{FinMap, get, insert, remove, from_entries, get-remove, same_map}
-use Rattle.std.specs.Cmp.{eq_by_cmp_equiv}
 use Rattle.cds_stamps.specs.Keyed.{tied}
 use Rattle.cds_stamps.specs.Octets.{octets_cmp, octets_exact, is_octets}
 use Rattle.cds_stamps.proofs.TreeViews.{get-view, view-insert}

@@ -8,9 +8,6 @@ use Rattle.std.specs.Cmp.Lexicographic.{nat_list_cmp_total}
 use Rattle.cds_stamps.specs.Octets.{octets_cmp, octets_exact, is_octets}
 use Rattle.cds_stamps.specs.Stamps.{is_up_to}
 use Rattle.directory.specs.Purges.{purged_table}
-use Rattle.std.specs.declared.cmp.Ordering.{Ordering}
-use Rattle.std.specs.declared.cmp.Ordering.TheVariants.{Less, Equal, Greater}
-use Rattle.std.specs.Ordering.{is_lt, ordering_reverse}
 use Rattle.std.proofs.lemmas.Bool.{false≢true}
 use Rattle.cds_stamps.specs.declared.stamp.Stamp.{Stamp}
 use Rattle.cds_stamps.specs.Keyed.{tied}
@@ -20,7 +17,7 @@ use Rattle.directory.specs.declared.deletions.What.{What}
 use Rattle.directory.specs.declared.deletions.Deletion.{Deletion}
 use Rattle.directory.specs.declared.deletions.Deletions.{Deletions}
 use Rattle.directory.specs.Applied.{TakesIn, LeavesOthers}
-use Rattle.directory.specs.Deletions.{has_lost, is_lost, has_deletion, without, is_deletion, is_before, deleted_by, deletion_cmp, IsFirst}
+use Rattle.directory.specs.Deletions.{has_lost, is_lost, has_deletion, without, is_deletion, is_before, deleted_by, IsFirst}
 use Rattle.directory.specs.Entries.{Entries, join_entries, join_tables, IsValidEntry, IsValidTable}
 use Rattle.directory.specs.EntryLawProofs.{table_join}
 use Rattle.directory.specs.Histories.{entry_of}

@@ -1,10 +1,8 @@
 -- Tables of which deletions are dropped: again, beside what is later, valid, and showing what they showed.
 use Rattle.std.proofs.Common.{◌≡◌, ℕ, Bool, true, false, List, [], ◌∷◌, Option, Some, None, refl, sym, ap, subst, ◌∙◌, arith}
 use Rattle.std.specs.Prelude.{not, if◌then◌else◌, IfSome}
-use Rattle.std.specs.FinMap.{FinMap, IsAntisymmetric, get, insert, same_map, from_entries}
+use Rattle.std.specs.FinMap.{FinMap, IsAntisymmetric, get, insert, same_map}
 use Rattle.std.specs.Option.{option_and_then, option_map_or}
-use Rattle.std.specs.BTreeMap.{is_at}
-use Rattle.std.specs.Map.{lookup}
 use Rattle.std.specs.declared.cmp.Ordering.{Ordering}
 use Rattle.std.specs.Ordering.{is_lt}
 use Rattle.std.specs.Cmp.{IsTotalOrder}
@@ -14,7 +12,6 @@ use Rattle.cds_stamps.specs.Semilattice.{maybe}
 use Rattle.cds_stamps.specs.Keyed.{map_some, get-map_some}
 use Rattle.cds_stamps.specs.Stamps.{stamp_total, is_earlier, is_up_to, later_stamp}
 use Rattle.cds_stamps.specs.Octets.{octets_cmp, octets_exact}
-use Rattle.cds_stamps.proofs.TreeViews.{get-view}
 use Rattle.attr_sets.specs.declared.cell.AttrCell.{AttrCell}
 use Rattle.attr_sets.specs.Cells.{cell_values, present_in}
 use Rattle.attr_sets.specs.CellPurges.{clear_left, purged_cell, after_cell, is_empty_cell, cell_left, some_cell, cell_after}

@@ -1,7 +1,6 @@
-use Rattle.std.proofs.Common.{◌≡◌, ◌∙◌, Some, None, ap, sym, refl}
+use Rattle.std.proofs.Common.{◌∙◌, Some, None, ap, sym, refl}
 use Rattle.std.specs.Prelude.{if◌then◌else◌}
 use Rattle.attr_sets.specs.declared.cell.AttrCell.{AttrCell}
-use Rattle.attr_sets.specs.CellPurges.{some_cell}
 use Rattle.directory.specs.Deletions.{cell_without}
 use Rattle.directory.specs.declared.deletions.What.TheVariants.{Clear}
 use Rattle.directory.proofs.Dropping.{set_here, gone_here, none_here}

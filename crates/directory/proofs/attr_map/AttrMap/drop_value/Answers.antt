@@ -1,4 +1,4 @@
-use Rattle.std.proofs.Common.{◌≡◌, ◌∙◌, Some, None, ap, sym, refl}
+use Rattle.std.proofs.Common.{◌∙◌, Some, None, ap, sym, refl}
 use Rattle.std.specs.Prelude.{if◌then◌else◌}
 use Rattle.attr_sets.specs.declared.cell.AttrCell.{AttrCell}
 use Rattle.attr_sets.specs.CellPurges.{some_cell}

@@ -1,4 +1,4 @@
-use Rattle.std.proofs.Common.{ap, ◌∙◌, sym, refl, Some}
+use Rattle.std.proofs.Common.{ap, sym, refl, Some}
 use Rattle.directory.specs.declared.entry.EntryCell.{EntryCell}
 use Rattle.directory.specs.declared.deletions.What.TheVariants.{Clear}
 use Rattle.directory.specs.Deletions.{entry_without}

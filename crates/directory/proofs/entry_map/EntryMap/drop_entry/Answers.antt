@@ -1,4 +1,4 @@
-use Rattle.std.proofs.Common.{◌≡◌, ◌∙◌, ◌+◌, ℕ, Option, Some, None, ap, sym, refl, arith, min, ◌-◌}
+use Rattle.std.proofs.Common.{◌≡◌, ◌∙◌, Option, Some, None, ap, sym, refl, arith}
 use Rattle.std.specs.FinMap as map
 use Rattle.std.specs.Option.{option_and_then}
 use Rattle.std.specs.Cmp.Lexicographic.{nat_list_cmp_total}
@@ -8,7 +8,7 @@ use Rattle.attr_sets.proofs.TreeRemovals.{view-remove}
 use Rattle.directory.specs.declared.entry.EntryCell.{EntryCell}
 use Rattle.directory.specs.declared.deletions.What.TheVariants.{Death}
 use Rattle.directory.specs.Deletions.{entry_without}
-use Rattle.directory.specs.Held.{held_in, held_in_entry}
+use Rattle.directory.specs.Held.{held_in}
 use Rattle.directory.proofs.Dropping.{removed_here, remove-none}
 use Rattle.directory.proofs.HeldLaws.{held_death}
 use Rattle.directory.proofs.entry_map.EntryMap.drop_entry.Goals.{in-Some, in-None}

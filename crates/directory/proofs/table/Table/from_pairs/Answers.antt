@@ -3,7 +3,6 @@ use Rattle.std.proofs.lemmas.List.{take_more, take_all}
 use Rattle.std.proofs.lemmas.List.Sums.{fold-append}
 use Rattle.std.specs.FinMap.{empty, insert}
 use Rattle.std.specs.List.{fold}
-use Rattle.cds_stamps.specs.Octets.{octets_cmp}
 use Rattle.directory.specs.declared.entry.EntryCell.{EntryCell}
 use Rattle.directory.specs.Entries.{Entries, IsValidTable}
 use Rattle.directory.specs.IndexWords.{KnowsAll}
