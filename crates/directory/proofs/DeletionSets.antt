@@ -1,7 +1,7 @@
 -- Sets of deletions: what an insertion, a removal and a `retain` leave, what comes first, and loops that add what a map has.
-use Rattle.std.proofs.Common.{◌≡◌, ◌⊎◌, inl, inr, ℕ, ◌<◌, Bool, true, false, not, cond, List, [], ◌∷◌, slice_get, length, Option, Some, None}
+use Rattle.std.proofs.Common.{◌≡◌, ◌⊎◌, inl, inr, ℕ, ◌<◌, Bool, true, false, not, cond, List, [], ◌∷◌, slice_get, length, Option, Some, None, Result, Ok, Err, OnOk, OnErr}
 use Rattle.std.proofs.Common.{arith, refl, sym, ap, subst, ◌∙◌}
-use Rattle.std.specs.Prelude.{◌||◌, ◌&&◌, if◌then◌else◌, IfSome, IfNone}
+use Rattle.std.specs.Prelude.{◌≢◌, ◌||◌, ◌&&◌, if◌then◌else◌, IfSome, IfNone}
 use Rattle.std.specs.declared.cmp.Ordering.{Ordering}
 use Rattle.std.specs.declared.cmp.Ordering.TheVariants.{Less, Equal, Greater}
 use Rattle.std.specs.Ordering.{is_lt, is_gt, eq_by_cmp, ordering_reverse, ordering_then}
@@ -21,7 +21,7 @@ use Rattle.directory.specs.declared.deletions.What.TheVariants.{Clear, Absent}
 use Rattle.directory.specs.declared.deletions.Deletion.{Deletion}
 use Rattle.directory.specs.declared.deletions.Deletions.{Deletions}
 use Rattle.directory.specs.Deletions.{is_at as stamped, what_cmp, deletion_cmp, is_before, is_deletion}
-use Rattle.directory.specs.IndexWords.{is_indexed, Keeps, KnowsAt, KnowsMark, KnowsCell}
+use Rattle.directory.specs.IndexWords.{is_indexed, Keeps, AddsAt, KnowsAt, KnowsMark, KnowsCell}
 use Rattle.directory.proofs.DeletionOrder.{derived, derived_cmp, deletion_total, deletion_exact}
 
 -- deletions that are one are equal
@@ -97,6 +97,33 @@ one_added x y e es rest first put d (inl to_come) = by_case (is_deletion d e) re
     by_case : (b : Bool) → is_deletion d e ≡ b → (list_any (is_at (deletion_cmp d)) rest ≡ true) ⊎ (is_indexed y d ≡ true)
     by_case true at = inr (put d ∙ ap (λ t. if t then true else is_indexed x d) at)
     by_case false at = inl (sym (ap (λ t. t || list_any (is_at (deletion_cmp d)) rest) at) ∙ sym (ap (list_any (is_at (deletion_cmp d))) first) ∙ to_come)
+
+-- a result, either way
+pub on_result : {A E P Q C : Type 0} (r : Result A E) → OnOk r P → OnErr r Q → (P → C) → (Q → C) → C
+on_result (Ok a) p q f g = f p
+on_result (Err e) p q f g = g q
+
+-- nothing is added; and what is added twice
+pub adds_none : (n : List ℕ) (x : Deletions) → AddsAt n x x
+adds_none n x = (λ d has. has, λ d apart. refl)
+
+pub adds_both : (n : List ℕ) (x y z : Deletions) → AddsAt n x y → AddsAt n y z → AddsAt n x z
+adds_both n x y z a b = (λ d has. b.0 d (a.0 d has), λ d apart. b.1 d apart ∙ a.1 d apart)
+
+-- a deletion is added, or none
+pub adds_one : (x y : Deletions) (d : Deletion) → ((e : Deletion) → is_indexed y e ≡ (if is_deletion e d then true else is_indexed x e)) → AddsAt d.name x y
+adds_one x y d put = (λ e has. put e ∙ kept (is_deletion e d) (is_indexed x e) has, λ e apart. other e apart (is_deletion e d) refl)
+  where
+    kept : (b has : Bool) → has ≡ true → (if b then true else has) ≡ true
+    kept true has is = refl
+    kept false has is = is
+
+    other : (e : Deletion) → e.name ≢ d.name → (b : Bool) → is_deletion e d ≡ b → is_indexed y e ≡ is_indexed x e
+    other e apart true same = absurd (apart (ap (λ d. d.name) (one_deletion e d same)))
+    other e apart false is = put e ∙ ap (λ b. if b then true else is_indexed x e) is
+
+pub adds_same : (n : List ℕ) (x y : Deletions) → ((e : Deletion) → is_indexed y e ≡ is_indexed x e) → AddsAt n x y
+adds_same n x y same = (λ d has. same d ∙ has, λ d apart. same d)
 
 -- what is known of a stamp, if there is one
 pub known_at : (x : Deletions) (n : List ℕ) (v w : What) (o : Option Stamp) (t : Stamp) → o ≡ Some t → v ≡ w

@@ -21,7 +21,7 @@ use Rattle.directory.specs.Deletions.{has_lost, is_lost, has_deletion, without, 
 use Rattle.directory.specs.Entries.{Entries, join_entries, join_tables, IsValidEntry, IsValidTable}
 use Rattle.directory.specs.EntryLawProofs.{table_join}
 use Rattle.directory.specs.Histories.{entry_of}
-use Rattle.directory.specs.IndexWords.{is_indexed, Keeps, KnowsAll, BeginsWell, BeginsWellElsewhere, IsIndexed}
+use Rattle.directory.specs.IndexWords.{is_indexed, Keeps, AddsAt, KnowsAll, BeginsWell, BeginsWellElsewhere, IsIndexed}
 use Rattle.directory.specs.Shown.{Shown, marks_of}
 use Rattle.directory.specs.Updates.{Change, Create, MakeLink, MakeChild, Delete, Add, Remove, Put, Clear, Repoint, changed_name}
 use Rattle.directory.proofs.DeletionLaws.{others_stay, raised_deletion, raised_valid, joined_deletion, update_lost, without_has, without_valid, purged_without}
@@ -83,9 +83,6 @@ module _ (x y : Deletions) (m n : Entries) (keeps : Keeps x y) (i : IsIndexed x 
           (raises (i.valid (changed_name u)))
 
   -- what comes first in the entry of another name than was changed
-  pub begins_elsewhere : (k : List ℕ) → ((d : Deletion) → d.name ≢ k → is_indexed y d ≡ is_indexed x d) → LeavesOthers m n k → BeginsWellElsewhere k y n
-  begins_elsewhere k others leaves d apart h least =
-      others_stay m n k leaves d apart ∙ i.first d (sym (others d apart) ∙ h) (λ e has. least e (keeps e has))
 
   -- another table that is joined in
   pub known_joined : (others : Deletions) (other : Entries) → Keeps others y → IsIndexed others other → n ≡ join_tables m other → IsKnown y n
@@ -95,13 +92,10 @@ module _ (x y : Deletions) (m n : Entries) (keeps : Keeps x y) (i : IsIndexed x 
         (joined_deletion m other d (ap (λ m. has_deletion m d) (sym joined) ∙ h));
   }
 
--- a deletion in the entry of another name is another
-pub other_name : (d e : Deletion) → e.name ≢ d.name → is_deletion e d ≡ false
-other_name d e apart = at (is_deletion e d) refl
-  where
-    at : (b : Bool) → is_deletion e d ≡ b → is_deletion e d ≡ false
-    at true same = absurd (apart (ap (λ d. d.name) (one_deletion e d same)))
-    at false other = other
+-- what comes first in the entry of another name than was changed
+pub begins_elsewhere : (x y : Deletions) (m n : Entries) (k : List ℕ) → AddsAt k x y → LeavesOthers m n k → IsIndexed x m → BeginsWellElsewhere k y n
+begins_elsewhere x y m n k adds leaves i d apart h least =
+    others_stay m n k leaves d apart ∙ i.first d (sym (adds.1 d apart) ∙ h) (λ e has. least e (adds.0 e has))
 
 -- the name of a deletion that is there
 name_in : {x : Deletion} (d : Deletion) (n : List ℕ) → Some x ≡ Some d → d.name ≡ x.name
@@ -218,11 +212,6 @@ first_dropped x y m n d i least rest dropped =
     }
 
 -- ---- results
-
--- a result, either way
-pub on_result : {A E P Q C : Type 0} (r : Result A E) → OnOk r P → OnErr r Q → (P → C) → (Q → C) → C
-on_result (Ok a) p q f g = f p
-on_result (Err e) p q f g = g q
 
 -- an answer that may be a refusal, each way
 pub on_answer : {A R E P Q C : Type 0} (r : Result (Result A R) E) → IfOk r (λ a. OnOk a P) → IfOk r (λ a. OnErr a Q) → OnErr r Q → (P → C) → (Q → C) → C

@@ -21,6 +21,10 @@ is_indexed x d = contains deletion_cmp x.known d
 abbrev pub Keeps : Deletions → Deletions → Type 0
 Keeps x y = (d : Deletion) → is_indexed x d ≡ true → is_indexed y d ≡ true
 
+-- the other index knows of the same and of some deletions more, all of them in the entry of the name n (own)
+abbrev pub AddsAt : List ℕ → Deletions → Deletions → Type 0
+AddsAt n x y = Keeps x y × ((d : Deletion) → d.name ≢ n → is_indexed y d ≡ is_indexed x d)
+
 -- the index knows that w was deleted at a stamp, if there is one, in the entry of the name n (own)
 abbrev pub KnowsAt : Deletions → List ℕ → What → Option Stamp → Type 0
 KnowsAt x n w o = (s : Stamp) → is_at o s ≡ true → is_indexed x (record { stamp = s; name = n; what = w }) ≡ true

@@ -6,7 +6,7 @@ ghost use Rattle.directory.specs.declared.deletions.What.{What};
 ghost use Rattle.cds_stamps.specs.declared.stamp.Stamp.{Stamp};
 ghost use Rattle.cds_stamps.specs.Stamps.{is_up_to};
 ghost use Rattle.directory.specs.Deletions.{has_lost, has_deletion, is_before, is_deletion, deleted_by};
-ghost use Rattle.directory.specs.IndexWords.{is_indexed, Keeps, KnowsMark, KnowsCell, KnowsAll, BeginsWell, BeginsWellElsewhere};
+ghost use Rattle.directory.specs.IndexWords.{is_indexed, Keeps, AddsAt, KnowsMark, KnowsCell, KnowsAll, BeginsWell, BeginsWellElsewhere};
 ghost use Rattle.directory.specs.Updates.{change_of, changed_name};
 
 use crate::entry::{EntryCell, REPLICAS};
@@ -131,9 +131,8 @@ impl Deletions {
         update: &Update,
         stamp: Stamp,
     ) -> Result<(), AllocError>
-        ensures keeps { Keeps self.old self.new }
+        ensures adds { AddsAt (changed_name (change_of update.now)) self.old self.new }
         ensures ok { OnOk result (IfSome (deleted_by (change_of update.now) stamp) (λ d. is_indexed self.new d ≡ true)) }
-        ensures others { (e : Deletion) → e.name ≢ changed_name (change_of update.now) → is_indexed self.new e ≡ is_indexed self.old e }
         ensures err { OnErr result ((e : Deletion) → is_indexed self.new e ≡ is_indexed self.old e) }
     {
         match deletion_of(alloc, update, stamp)? {
@@ -150,7 +149,7 @@ impl Deletions {
         stamp: Stamp,
         what: What,
     ) -> Result<(), AllocError>
-        ensures keeps { Keeps self.old self.new }
+        ensures adds { AddsAt name.now self.old self.new }
         ensures ok { OnOk result (is_indexed self.new (record { stamp = stamp; name = name.now; what = what }) ≡ true) }
     {
         let name = name.copy(alloc)?;
@@ -164,7 +163,7 @@ impl Deletions {
         name: &SimpleName,
         entry: &EntryCell,
     ) -> Result<(), AllocError>
-        ensures keeps { Keeps self.old self.new }
+        ensures adds { AddsAt name.now self.old self.new }
         ensures ok { OnOk result ((s : Stamp) (w : What) → has_lost entry.now s w ≡ true →
             is_indexed self.new (record { stamp = s; name = name.now; what = w }) ≡ true) }
     {
@@ -185,7 +184,7 @@ impl Deletions {
         attr: &AttrName,
         cell: &AttrCell,
     ) -> Result<(), AllocError>
-        ensures keeps { Keeps self.old self.new }
+        ensures adds { AddsAt name.now self.old self.new }
         ensures ok { OnOk result (KnowsCell self.new name.now attr.now cell.now) }
     {
         if let Some(clear) = cell.cleared {
@@ -206,7 +205,7 @@ impl Deletions {
         value: &Value,
         mark: &ValueMark,
     ) -> Result<(), AllocError>
-        ensures keeps { Keeps self.old self.new }
+        ensures adds { AddsAt name.now self.old self.new }
         ensures ok { OnOk result (KnowsMark self.new name.now attr.now value.now mark.now) }
     {
         if mark.present {

@@ -350,7 +350,7 @@ fn join_fragment(
     if joined.is_ok() {
         joined = entries.join_entry(alloc, fragment);
     }
-    deletions.settle(entries);
+    deletions.settle_at(entries, &fragment.name);
     joined
 }
 

@@ -12,8 +12,8 @@ returns-clause-index c = λ i.
     let u = change_of c.args.update.now in
     settled y c.settle_at.new.self n
     (on_answer c.accept-answer.result c.accept-answer.ensures.ok c.accept-answer.ensures.refused c.accept-answer.ensures.err
-    (known_update x y m n c.add_update.ensures.keeps i (shown_in m (changed_name u)) u c.args.stamp c.in_ok-add_update.ensures.ok)
-    (known_still x y m n c.add_update.ensures.keeps i))
+    (known_update x y m n c.add_update.ensures.adds.0 i (shown_in m (changed_name u)) u c.args.stamp c.in_ok-add_update.ensures.ok)
+    (known_still x y m n c.add_update.ensures.adds.0 i))
     c.settle_at.ensures.all
     (c.settle_at.ensures.first (rw c.name.ensures
-    (begins_elsewhere x y m n c.add_update.ensures.keeps i (changed_name u) c.add_update.ensures.others c.accept-answer.ensures.others)))
+    (begins_elsewhere x y m n (changed_name u) c.add_update.ensures.adds c.accept-answer.ensures.others i)))

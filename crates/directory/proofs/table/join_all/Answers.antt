@@ -1,5 +1,6 @@
 use Rattle.std.proofs.Common.{sym, ◌∙◌}
-use Rattle.directory.proofs.IndexLaws.{settled, known_still, known_joined, on_result, when_ok}
+use Rattle.directory.proofs.IndexLaws.{settled, known_still, known_joined, when_ok}
+use Rattle.directory.proofs.DeletionSets.{on_result}
 use Rattle.directory.proofs.table.join_all.Goals.{then-is_ok, else-is_ok}
 use Rattle.directory.proofs.table.join_all.Goals as goal
 

@@ -1,5 +1,7 @@
-use Rattle.std.proofs.Common.{refl, sym, ◌∙◌}
-use Rattle.directory.proofs.IndexLaws.{settled, known_still, known_raised, on_result, when_ok, on_any}
+use Rattle.std.proofs.Common.{refl, sym, ap, ◌∙◌}
+use Rattle.std.specs.FinMap.{get}
+use Rattle.directory.proofs.IndexLaws.{settled, known_still, known_raised, begins_elsewhere, when_ok, on_any}
+use Rattle.directory.proofs.DeletionSets.{on_result}
 use Rattle.directory.proofs.table.join_fragment.Goals.{then-is_ok, else-is_ok}
 use Rattle.directory.proofs.table.join_fragment.Goals as goal
 
@@ -16,8 +18,8 @@ returns-clause-index c = λ i.
     let m = c.args.entries.now in
     let k = c.args.fragment.now.name in
     let e = c.args.fragment.now.entry in
-    let keeps = c.add_entry-joined.ensures.keeps in
-    settled y c.settle.new.self c.if-is_ok.entries
+    let keeps = c.add_entry-joined.ensures.adds.0 in
+    settled y c.settle_at.new.self c.if-is_ok.entries
     (elim c.if-is_ok.branch [
       | then-is_ok w ↦ rw w.entries-is
           (on_result w.join_entry-joined.result w.join_entry-joined.ensures.ok w.join_entry-joined.ensures.err
@@ -27,4 +29,11 @@ returns-clause-index c = λ i.
           (known_still x y m w.join_entry-joined.new.self keeps i))
       | else-is_ok w ↦ known_still x y m c.if-is_ok.entries keeps i w.entries-is
     ])
-    c.settle.ensures.all c.settle.ensures.first
+    c.settle_at.ensures.all
+    (c.settle_at.ensures.first (begins_elsewhere x y m c.if-is_ok.entries k c.add_entry-joined.ensures.adds
+    (elim c.if-is_ok.branch [
+      | then-is_ok w ↦ rw w.entries-is
+          (on_result w.join_entry-joined.result w.join_entry-joined.ensures.others w.join_entry-joined.ensures.err (λ leaves. leaves)
+          (λ same q apart. ap (λ n. get n q) same))
+      | else-is_ok w ↦ rw w.entries-is (λ q apart. refl)
+    ]) i))

@@ -1,16 +1,16 @@
 use Rattle.std.proofs.Common.{refl, sym, subst, ◌∙◌}
 use Rattle.cds_stamps.specs.Octets.{octets_exact}
 use Rattle.directory.specs.declared.deletions.What.TheVariants.{Death}
-use Rattle.directory.specs.IndexWords.{Keeps, KnowsAt, KnowsCell}
-use Rattle.directory.proofs.DeletionSets.{known_at, none_at, all_to_come, one_met, more_at, more_of_cell}
+use Rattle.directory.specs.IndexWords.{AddsAt, KnowsAt, KnowsCell}
+use Rattle.directory.proofs.DeletionSets.{adds_none, adds_both, known_at, none_at, all_to_come, one_met, more_at, more_of_cell}
 use Rattle.directory.proofs.deletions.Deletions.add_entry.Goals as goal
 use Rattle.directory.proofs.deletions.Deletions.add_entry.Goals.{in-Some+in_ok-add_what, in_default}
 
 pub loop-attr-init : goal.loop-attr-init
 loop-attr-init c = (
   elim c.match-entry.branch [
-    | in-Some+in_ok-add_what w ↦ subst (λ x. Keeps c.args.self.now x) (sym w.self-is) w.add_what.ensures.keeps
-    | in_default w ↦ subst (λ x. Keeps c.args.self.now x) (sym w.self-is) (λ d has. has)
+    | in-Some+in_ok-add_what w ↦ subst (λ x. AddsAt c.args.name.now c.args.self.now x) (sym w.self-is) w.add_what.ensures.adds
+    | in_default w ↦ subst (λ x. AddsAt c.args.name.now c.args.self.now x) (sym w.self-is) (adds_none c.args.name.now c.args.self.now)
   ],
   elim c.match-entry.branch [
     | in-Some+in_ok-add_what w ↦
@@ -24,9 +24,9 @@ loop-attr-init c = (
 
 pub loop-attr-preserved : goal.loop-attr-preserved
 loop-attr-preserved c = (
-  λ d has. c.add_cell.ensures.keeps d (c.loop-attr.invariant.0 d has),
-  more_at c.loop-attr.self c.add_cell.new.self c.add_cell.ensures.keeps c.args.name.now Death c.args.entry.now.death c.loop-attr.invariant.1,
+  adds_both c.args.name.now c.args.self.now c.loop-attr.self c.add_cell.new.self c.loop-attr.invariant.0 c.add_cell.ensures.adds,
+  more_at c.loop-attr.self c.add_cell.new.self c.add_cell.ensures.adds.0 c.args.name.now Death c.args.entry.now.death c.loop-attr.invariant.1,
   one_met octets_exact c.args.entry.now.attrs (KnowsCell c.loop-attr.self c.args.name.now) (KnowsCell c.add_cell.new.self c.args.name.now)
       c.in-Some-2.attr.now c.in-Some-2.cell.now c.loop-attr.attr-iterator c.next.new.self c.in-Some-2.ensures.steps
-      (more_of_cell c.loop-attr.self c.add_cell.new.self c.add_cell.ensures.keeps c.args.name.now) c.in_ok-add_cell.ensures.ok c.loop-attr.invariant.2,
+      (more_of_cell c.loop-attr.self c.add_cell.new.self c.add_cell.ensures.adds.0 c.args.name.now) c.in_ok-add_cell.ensures.ok c.loop-attr.invariant.2,
 )

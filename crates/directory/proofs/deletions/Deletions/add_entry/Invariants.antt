@@ -1,10 +1,10 @@
 use Rattle.directory.specs.declared.deletions.What.TheVariants.{Death}
-use Rattle.directory.specs.IndexWords.{Keeps, KnowsAt, KnowsCell}
+use Rattle.directory.specs.IndexWords.{AddsAt, KnowsAt, KnowsCell}
 use Rattle.directory.proofs.DeletionSets.{MetOrToCome}
 use Rattle.directory.proofs.deletions.Deletions.add_entry.Given as goal
 
 abbrev pub invariant-loop-attr : goal.invariant-loop-attr
 invariant-loop-attr l =
-    Keeps l.fn.self l.self
+    AddsAt l.fn.name l.fn.self l.self
     × KnowsAt l.self l.fn.name Death l.fn.entry.death
     × MetOrToCome l.fn.entry.attrs (KnowsCell l.self l.fn.name) l.attr-iterator
