@@ -8,7 +8,7 @@ use Rattle.std.specs.FinMap.{FinMap, get, insert, remove, from_entries, get-remo
 use Rattle.cds_stamps.specs.Keyed.{tied}
 use Rattle.cds_stamps.specs.Octets.{octets_cmp, octets_exact, is_octets}
 use Rattle.cds_stamps.proofs.TreeViews.{get-view, view-insert}
-use Rattle.attr_sets.proofs.TreeRemovals.{view-remove}
+use Rattle.cds_stamps.proofs.TreeViews.{view-remove}
 use Rattle.directory.specs.Deletions.{set_at, change_at}
 
 -- a key that has nothing

@@ -4,7 +4,7 @@ use Rattle.std.specs.Option.{option_and_then}
 use Rattle.std.specs.Cmp.Lexicographic.{nat_list_cmp_total}
 use Rattle.cds_stamps.specs.Octets.{octets_exact, octets_cmp}
 use Rattle.cds_stamps.proofs.TreeViews.{get-view}
-use Rattle.attr_sets.proofs.TreeRemovals.{view-remove}
+use Rattle.cds_stamps.proofs.TreeViews.{view-remove}
 use Rattle.directory.specs.declared.entry.EntryCell.{EntryCell}
 use Rattle.directory.specs.declared.deletions.What.TheVariants.{Death}
 use Rattle.directory.specs.Deletions.{entry_without}
