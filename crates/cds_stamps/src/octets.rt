@@ -8,20 +8,15 @@ ghost use Rattle.std.specs.Hash as fed;
 ghost use Rattle.std.proofs.Common.{rules};
 
 use crate::octet_order::octet_order;
-use smallvec::SmallVec;
 use std::alloc::{AllocError, Global};
 use std::cmp::Ordering;
 use std::hash::{Hash, Hasher};
 use std::marker::Model;
 
-/// So many octets are kept in place, with no memory taken.
-const IN_PLACE: usize = 16;
-
-/// Octets, ordered one by one: what names and values are made of. Up to 16 of them take no memory, and stand in a map's node beside
-/// those that they are compared with.
+/// Octets, ordered one by one: what names and values are made of.
 #[derive(Debug, Drop)]
 pub struct Octets {
-    items: SmallVec<u8, IN_PLACE>,
+    items: Vec<u8>,
 }
 
 impl Model for Octets {
@@ -94,7 +89,7 @@ impl Octets {
         ensures { IfOk result (λ v. v ≡ octets.now) }
     {
         Ok(Octets {
-            items: SmallVec::from_slice(alloc, octets)?,
+            items: Vec::from_slice(alloc, octets)?,
         })
     }
 

@@ -12,11 +12,3 @@ loop-value-preserved c = λ q.
     (map.get c.loop-value.self q)) c.in-Some.ensures.items ∙ back_at-push octets_cmp put_back c.pop.new.self.items
     (c.in-Some.value, c.in-Some.before) q (map.get c.loop-value.self q))
     ∙ c.loop-value.invariant q
-
-pub loop-value-preserved-in-Some : goal.loop-value-preserved-in-Some
-loop-value-preserved-in-Some c = λ q.
-    ap (back_at octets_cmp put_back c.pop.new.self.items q) (c.mend.ensures q)
-    ∙ sym (ap (λ log. back_at octets_cmp put_back log q
-    (map.get c.loop-value.self q)) c.in-Some.ensures.items ∙ back_at-push octets_cmp put_back c.pop.new.self.items
-    (c.in-Some.value, c.in-Some.before) q (map.get c.loop-value.self q))
-    ∙ c.loop-value.invariant q
