@@ -517,7 +517,7 @@ purged_none m t valid late = map_some-stays (entry_left t) m (λ n.
 -- ---- valid tables
 
 -- a map of valid values, of which one was set that is valid if there is one
-each_set : {X : Type 0} (V : X → Type 0) (m : FinMap octets_cmp X) (k : List ℕ) (x : Option X) → IfSome x V → EachValue V m → EachValue V (set_at m k x)
+pub each_set : {X : Type 0} (V : X → Type 0) (m : FinMap octets_cmp X) (k : List ℕ) (x : Option X) → IfSome x V → EachValue V m → EachValue V (set_at m k x)
 each_set V m k x here each = set_by m k x (λ q x. IfSome x V) here each
 
 cell_without-held : (w : What) (c : Option AttrCell) → IfSome c IsHeldCell → IfSome (option_and_then (cell_without w) c) IsHeldCell

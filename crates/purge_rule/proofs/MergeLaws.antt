@@ -69,6 +69,14 @@ merged_entry-valid (Some t) own e p q = take_entry-holds IsValidEntry t entry_jo
 
 -- ---- times
 
+-- a cell, if it has anything
+pub some_cell-up_to : (n : ℕ) (c : AttrCell) → CellUpTo n c → IfSome (some_cell c) (CellUpTo n)
+some_cell-up_to n c p = at (is_empty_cell c)
+  where
+    at : (b : Bool) → IfSome (if b then None else Some c) (CellUpTo n)
+    at true = tt
+    at false = p
+
 module _ (n : ℕ) (t : Stamp) where
   clear_left-up_to : (s : Option Stamp) → StampUpTo n s → StampUpTo n (option_and_then (clear_left t) s)
   clear_left-up_to None p = tt
@@ -92,21 +100,14 @@ module _ (n : ℕ) (t : Stamp) where
       at true = tt
       at false = p
 
-  pub some_cell-up_to : (c : AttrCell) → CellUpTo n c → IfSome (some_cell c) (CellUpTo n)
-  some_cell-up_to c p = at (is_empty_cell c)
-    where
-      at : (b : Bool) → IfSome (if b then None else Some c) (CellUpTo n)
-      at true = tt
-      at false = p
-
   cell_left-up_to : (c : AttrCell) → CellUpTo n c → IfSome (cell_left t c) (CellUpTo n)
-  cell_left-up_to c p = some_cell-up_to (purged_cell t c) (record {
+  cell_left-up_to c p = some_cell-up_to n (purged_cell t c) (record {
     cleared = clear_left-up_to c.cleared p.cleared;
     values = each_some nat_list_cmp_total octets_exact (λ m. m.stamp.time ≤ n) (mark_left t) mark_left-up_to c.values p.values;
   })
 
   cell_after-up_to : (c : AttrCell) → CellUpTo n c → IfSome (cell_after t c) (CellUpTo n)
-  cell_after-up_to c p = some_cell-up_to (after_cell t c) (record {
+  cell_after-up_to c p = some_cell-up_to n (after_cell t c) (record {
     cleared = clear_left-up_to c.cleared p.cleared;
     values = each_some nat_list_cmp_total octets_exact (λ m. m.stamp.time ≤ n) (mark_after t) mark_after-up_to c.values p.values;
   })

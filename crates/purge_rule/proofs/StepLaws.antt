@@ -1,7 +1,7 @@
 -- A table that is purged a deletion at a time.
 use Rattle.std.proofs.Common.{◌≡◌, ℕ, ◌+◌, ◌≤◌, Bool, true, false, not, cond, List, Option, Some, None, refl, sym, ap, subst, ◌∙◌, arith}
 use Rattle.std.specs.Prelude.{IfSome, min, ◌-◌, ◌<◌}
-use Rattle.std.specs.FinMap.{get, remove, get-remove}
+use Rattle.std.specs.FinMap.{get, remove}
 use Rattle.std.specs.Option.{option_and_then}
 use Rattle.std.specs.declared.cmp.Ordering.{Ordering}
 use Rattle.std.specs.declared.cmp.Ordering.TheVariants.{Less, Equal, Greater}
@@ -21,33 +21,27 @@ use Rattle.directory.specs.Deletions.{has_deletion, is_before, change_at, IsFirs
 use Rattle.directory.specs.Entries.{Entries, IsValidTable}
 use Rattle.directory.specs.Held.{held_in, most_held}
 use Rattle.directory.specs.Purges.{purged_table}
-use Rattle.directory.proofs.DeletionLaws.{changed_by, purged_without, without_valid, purged_none}
+use Rattle.directory.proofs.DeletionLaws.{each_set, purged_without, without_valid, purged_none}
 use Rattle.purge_rule.specs.Latest.{StampUpTo, CellUpTo, EntryUpTo, TableUpTo}
 use Rattle.purge_rule.proofs.MergeLaws.{some_cell-up_to}
 
 -- ---- times
 
 module _ (n : ℕ) where
-  mark_gone-up_to : (b : Bool) (m : Option ValueMark) → IfSome m (λ m. m.stamp.time ≤ n) → IfSome (cond b None m) (λ m. m.stamp.time ≤ n)
-  mark_gone-up_to true m p = tt
-  mark_gone-up_to false m p = p
-
   cell_without-up_to : (w : What) (c : Option AttrCell) → IfSome c (CellUpTo n) → IfSome (option_and_then (cell_without w) c) (CellUpTo n)
   cell_without-up_to w None p = tt
   cell_without-up_to Death (Some c) p = p
   cell_without-up_to (Clear a) (Some c) p = some_cell-up_to n (record c { cleared = None }) (record { cleared = tt; values = p.values })
   cell_without-up_to (Absent a v) (Some c) p = some_cell-up_to n (record c { values = remove c.values v }) (record {
     cleared = p.cleared;
-    values = λ q. subst (λ m. IfSome m (λ m. m.stamp.time ≤ n)) (sym (get-remove nat_list_cmp_total c.values v q))
-        (mark_gone-up_to (is_octets q v) (get c.values q) (p.values q));
+    values = each_set (λ (m : ValueMark). m.stamp.time ≤ n) c.values v None tt p.values;
   })
 
-  attrs_without-up_to : (w : What) (a : List ℕ) (e : EntryCell) → EntryUpTo n e
-      → EntryUpTo n (record e { attrs = change_at e.attrs a (cell_without w) })
+  attrs_without-up_to : (w : What) (a : List ℕ) (e : EntryCell) → EntryUpTo n e → EntryUpTo n (record e { attrs = change_at e.attrs a (cell_without w) })
   attrs_without-up_to w a e p = record {
     birth = p.birth;
     death = p.death;
-    attrs = changed_by e.attrs a (cell_without w) (λ q c. IfSome c (CellUpTo n)) (cell_without-up_to w (get e.attrs a) (p.attrs a)) p.attrs;
+    attrs = each_set (CellUpTo n) e.attrs a (option_and_then (cell_without w) (get e.attrs a)) (cell_without-up_to w (get e.attrs a) (p.attrs a)) p.attrs;
   }
 
   entry_without-up_to : (w : What) (e : Option EntryCell) → IfSome e (EntryUpTo n) → IfSome (option_and_then (entry_without w) e) (EntryUpTo n)
@@ -58,7 +52,8 @@ module _ (n : ℕ) where
 
   -- a table without one of its deletions has no later time
   pub without-up_to : (m : Entries) (d : Deletion) → TableUpTo n m → TableUpTo n (without m d)
-  without-up_to m d p = changed_by m d.name (entry_without d.what) (λ q e. IfSome e (EntryUpTo n)) (entry_without-up_to d.what (get m d.name) (p d.name)) p
+  without-up_to m d p =
+      each_set (EntryUpTo n) m d.name (option_and_then (entry_without d.what) (get m d.name)) (entry_without-up_to d.what (get m d.name) (p d.name)) p
 
 -- ---- a purge
 

@@ -4,15 +4,14 @@ ghost use Rattle.std.specs.FinMap as map;
 ghost use Rattle.cds_stamps.specs.Octets.{is_octets};
 ghost use Rattle.directory.specs.Applied.{JoinsEntry, LeavesOthers};
 ghost use Rattle.directory.specs.Entries.{IsValidEntry, IsValidTable};
-ghost use Rattle.directory.specs.Purges.{after_entry, take_entry};
+ghost use Rattle.directory.specs.Purges.{after_entry, purged_table, take_entry, take_table};
 ghost use Rattle.purge_rule.specs.Replicas.{merged_table, merged_entry};
 
 use cds_stamps::{Lattice, Stamp};
 use directory::{Fragment, Table, is_passed};
 use std::alloc::{AllocError, Global};
 
-/// Merges another table in, up to a stamp, if there is one: what is later of it is taken, and then deletions are dropped, since
-/// what is dropped could not come back where memory runs out.
+/// Merges another table in, up to a stamp, if there is one.
 pub(crate) fn merge_table(
     own: &mut Table,
     alloc: Global,
@@ -23,13 +22,21 @@ pub(crate) fn merge_table(
     ensures err { OnErr result (own.new ≡ own.old) }
 {
     match up_to {
-        Some(t) => {
-            own.take_up_to(alloc, other, t)?;
-            own.drop_up_to(t);
-            Ok(())
-        }
+        Some(t) => take_table(own, alloc, other, t),
         None => own.join(alloc, other),
     }
+}
+
+/// Takes of another table what is later than t, and then drops deletions up to t, since what is dropped could not come back where
+/// memory runs out.
+fn take_table(own: &mut Table, alloc: Global, other: &Table, t: Stamp) -> Result<(), AllocError>
+    ensures ok { OnOk result (own.new ≡ purged_table t (take_table t own.old other.now)) }
+    ensures err { OnErr result (own.new ≡ own.old) }
+{
+    let t = &t;
+    own.take_up_to(alloc, other, *t)?;
+    own.drop_up_to(*t);
+    Ok(())
 }
 
 /// Takes of the entry of one name what is later than t, unless it is passed by.

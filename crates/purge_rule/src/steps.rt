@@ -1,6 +1,7 @@
 // The steps of a purge.
 ghost use Rattle.std.specs.Prelude.{◌≡◌, ◌+◌, ◌<◌, ◌≤◌, ℕ, true, min};
 ghost use Rattle.cds_stamps.specs.declared.stamp.Stamp.{Stamp};
+ghost use Rattle.cds_stamps.specs.Stamps.{is_earlier};
 ghost use Rattle.directory.specs.declared.deletions.Deletion.{Deletion};
 ghost use Rattle.directory.specs.Deletions.{has_deletion, HasNone};
 ghost use Rattle.directory.specs.Entries.{IsValidTable};
@@ -73,12 +74,19 @@ pub(crate) fn forget<L: Ledger>(table: &mut Table, t: Stamp, steps: &mut Steps<L
     ensures exact_if_some { held_in table.old ≤ most_held → (d : Deletion) → has_deletion table.new d ≡ true →
         steps.new + held_in table.new ≡ steps.old + held_in table.old + 1 }
 {
+    let t = &t;
     while let Some(first) = table.first_deletion() {
-        if t < first {
+        if is_later(first, *t) {
             steps.add(1);
             return;
         }
         let dropped = table.drop_first();
         steps.add(dropped);
     }
+}
+
+fn is_later(stamp: Stamp, t: Stamp) -> bool
+    ensures { result ≡ is_earlier t stamp }
+{
+    t < stamp
 }

@@ -9,12 +9,15 @@ use Rattle.purge_rule.proofs.replica.Replica.advance.Goals as goal
 
 pub returns-clause-merged : goal.returns-clause-merged
 returns-clause-merged c = λ h is.
-    let up_to = c.later_than.ensures in
+    let later = c.raise-up_to.ensures.later in
     same_replica _ _ _ _ (c.drop_up_to.ensures.histories h c.args.self.now.all_up_to (above_left c.args.self.now.all_up_to (Some c.args.t)
-    (Some c.later_than.result) up_to) (ap (λ (r : Replica). r.table) is) ∙ ap (purged h) (sym up_to)) (sym up_to)
+    (Some c.raise-up_to.result) later) (c.raise-up_to.ensures.table ∙ ap (λ (r : Replica). r.table) is) ∙ ap (purged h) (sym later))
+    (c.raise-up_to.ensures.all_up_to ∙ sym later)
 
 pub returns-clause-times : goal.returns-clause-times
 returns-clause-times c = λ n p q. record {
-  table = subst (TableUpTo n) (sym c.drop_up_to.ensures.dropped) (purged_table-up_to n c.later_than.result c.args.self.now.table p.table);
-  all_up_to = subst (StampUpTo n) c.later_than.ensures (together-up_to n c.args.self.now.all_up_to (Some c.args.t) p.all_up_to q);
+  table = subst (TableUpTo n) (sym c.drop_up_to.ensures.dropped) (purged_table-up_to n c.raise-up_to.result c.raise-up_to.new.self.table
+      (subst (TableUpTo n) (sym c.raise-up_to.ensures.table) p.table));
+  all_up_to = subst (StampUpTo n) (c.raise-up_to.ensures.later ∙ sym c.raise-up_to.ensures.all_up_to)
+      (together-up_to n c.args.self.now.all_up_to (Some c.args.t) p.all_up_to q);
 }
