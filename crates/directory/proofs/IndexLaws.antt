@@ -1,17 +1,18 @@
 -- The index of a table's deletions: what it knows of after each call's changes.
-use Rattle.std.proofs.Common.{◌≡◌, ℕ, Bool, true, false, cond, List, [], ◌∷◌, Option, Some, None, Result, Ok, Err, IfOk, OnOk, OnErr, is_ok, refl, sym, ap, subst, ◌∙◌, ⊎_elim}
-use Rattle.std.specs.Prelude.{◌≢◌, if◌then◌else◌, IfSome}
+use Rattle.std.proofs.Common.{◌≡◌, ℕ, Bool, true, false, cond, List, [], ◌∷◌, Option, Some, None, refl, sym, ap, subst, ◌∙◌, ⊎_elim}
+use Rattle.std.proofs.Common.{Result, Ok, Err, IfOk, OnOk, OnErr, is_ok}
+use Rattle.std.specs.Prelude.{if◌then◌else◌, IfSome}
 use Rattle.std.specs.Option.{IsSomeAnd, option_map_or}
 use Rattle.std.specs.FinMap.{get, empty, insert, get-empty, get-insert}
 use Rattle.std.specs.List.{fold, AllByRecursion}
 use Rattle.std.specs.Cmp.Lexicographic.{nat_list_cmp_total}
+use Rattle.std.proofs.lemmas.Bool.{false≢true}
 use Rattle.cds_stamps.specs.Octets.{octets_cmp, octets_exact, is_octets}
 use Rattle.cds_stamps.specs.Stamps.{is_up_to}
-use Rattle.directory.specs.Purges.{purged_table}
-use Rattle.std.proofs.lemmas.Bool.{false≢true}
 use Rattle.cds_stamps.specs.declared.stamp.Stamp.{Stamp}
 use Rattle.cds_stamps.specs.Keyed.{tied}
 use Rattle.cds_stamps.specs.Undos.{RaisesAt}
+use Rattle.directory.specs.Purges.{purged_table}
 use Rattle.directory.specs.declared.entry.EntryCell.{EntryCell}
 use Rattle.directory.specs.declared.deletions.What.{What}
 use Rattle.directory.specs.declared.deletions.Deletion.{Deletion}
@@ -37,14 +38,6 @@ pub record IsKnown (x : Deletions) (m : Entries) : Type 0 where
 -- a call that settles the index
 pub settled : (x y : Deletions) (m : Entries) → IsKnown x m → (KnowsAll x m → KnowsAll y m) → BeginsWell y m → IsIndexed y m
 settled x y m known all first = record { valid = known.valid; all = all known.all; first = first }
-
--- an index of the same deletions
-pub same_index : (x y : Deletions) (m : Entries) → ((d : Deletion) → is_indexed y d ≡ is_indexed x d) → IsIndexed x m → IsIndexed y m
-same_index x y m same i = record {
-  valid = i.valid;
-  all = λ d h. same d ∙ i.all d h;
-  first = λ d h least. i.first d (sym (same d) ∙ h) (λ e k. least e (same e ∙ k));
-}
 
 module _ (x y : Deletions) (m n : Entries) (keeps : Keeps x y) (i : IsIndexed x m) where
   -- entries that stay

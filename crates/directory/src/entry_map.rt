@@ -312,7 +312,12 @@ impl EntryMap {
 
     /// Adds the marks of an accepted update with this stamp, in place: what joining its fragment in would do. Of a change of an
     /// attribute nothing is copied but what is new to the table.
-    pub(crate) fn apply(&mut self, alloc: Global, update: &Update, stamp: Stamp) -> Result<(), AllocError>
+    pub(crate) fn apply(
+        &mut self,
+        alloc: Global,
+        update: &Update,
+        stamp: Stamp,
+    ) -> Result<(), AllocError>
         requires { refusal_of (shown_in self.old (changed_name (change_of update.now))) (change_of update.now) ≡ None }
         ensures ok { let n = changed_name (change_of update.now) in
             OnOk result (TakesIn self.old self.new n (marks_of (shown_in self.old n) (change_of update.now) stamp)) }
@@ -496,7 +501,11 @@ impl EntryMap {
 
     /// Joins what an update adds in, in place, with at most one insertion at each level of the entry: of one mark the cost
     /// grows with the logarithm of the number of entries, attributes and values.
-    pub(crate) fn join_entry(&mut self, alloc: Global, fragment: &Fragment) -> Result<(), AllocError>
+    pub(crate) fn join_entry(
+        &mut self,
+        alloc: Global,
+        fragment: &Fragment,
+    ) -> Result<(), AllocError>
         ensures ok { OnOk result (JoinsEntry self.old self.new fragment.now.name fragment.now.entry) }
         ensures others { OnOk result (LeavesOthers self.old self.new fragment.now.name) }
         ensures err { OnErr result (self.new ≡ self.old) }

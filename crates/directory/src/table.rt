@@ -283,7 +283,13 @@ impl Lattice for Table {
     ghost idempotent = { λ x valid. table_join.idem x valid };
 
     fn join(&mut self, alloc: Global, other: &Self) -> Result<(), AllocError> {
-        join_all(&mut self.entries, &mut self.deletions, alloc, &other.entries, &other.deletions)
+        join_all(
+            &mut self.entries,
+            &mut self.deletions,
+            alloc,
+            &other.entries,
+            &other.deletions,
+        )
     }
 }
 

@@ -10,9 +10,9 @@ loop-name-init c = record {
 
 pub loop-name-preserved : goal.loop-name-preserved
 loop-name-preserved c = record {
-  keeps = λ d known. c.in_ok-add_entry.ensures.keeps d (c.loop-name.invariant.keeps d known);
+  keeps = λ d known. c.in_ok-add_entry.ensures.adds.0 d (c.loop-name.invariant.keeps d known);
   knows = rest_step c.loop-name.deletions c.add_entry.new.self c.args.entries.now c.in-Some.name.now c.in-Some.entry.now
-      c.loop-name.name-iterator c.next.new.self c.in-Some.ensures.steps c.in_ok-add_entry.ensures.keeps c.in_ok-add_entry.ensures.ok
+      c.loop-name.name-iterator c.next.new.self c.in-Some.ensures.steps c.in_ok-add_entry.ensures.adds.0 c.in_ok-add_entry.ensures.ok
       c.loop-name.invariant.knows;
 }
 

@@ -31,7 +31,7 @@ loop-name-preserved c =
     let p = c.loop-name-item.result in
     let same = c.deref-name-items.ensures.value in
     known_inserted c.loop-name.deletions c.add_entry.new.self (fold put none (take i ps)) (fold put none (take (i + 1) ps)) p.0 p.1
-    c.add_entry.ensures.keeps c.in_ok-add_entry.ensures.ok
+    c.add_entry.ensures.adds.0 c.in_ok-add_entry.ensures.ok
     (put_more ps i p (omega (arith, ap length same)) (c.loop-name-item.is ∙ ap (λ ps. get_or ps i p) same))
     c.loop-name.invariant
 
