@@ -15,6 +15,7 @@
     generate.py deaths N     N entries at three houses, each created and deleted, with a skulk each thousand lines
     generate.py exports N    N servers, each exported with three bindings and an object
     generate.py imports N    a profile of 200 elements over 50 groups of 200 members, and N imports from it
+    generate.py script N     the script of the form `load` with N rounds, as text; `loads N` is the same
 
 The same kind and size is the same input, always.
 """
@@ -246,6 +247,35 @@ def imports(count):
         yield f"import 1 {'high' if i % 2 else 'low'} /.:/profile {interface(i % 10)}:1.1 - ncacn_ip_tcp,ncadg_ip_udp\n"
 
 
+def script(count):
+    for house in 1, 2, 3:
+        yield f"house {house} {house:012x}\n"
+    yield "root 1 2 3\n"
+    yield from delivered([1, 2], 1)
+    serial = 3
+    for i in range(16):
+        yield f"create 1 1 e{i}\n"
+        yield from delivered([serial, serial + 1], 0)
+        serial += 2
+    x = count
+    for i in range(1, count + 1):
+        x = (x * 1103515245 + 12345) % 2147483648
+        y = x // 256
+        entry, value, change, told = y % 16, y // 16 % 256, y // 4096 % 8, y // 32768 % 2
+        if change == 7:
+            yield f"delete 1 1 e{entry}\ncreate 1 1 e{entry}\n"
+        else:
+            yield f"{'add' if change < 5 else 'remove'} 1 1 e{entry} A {value:02x}\n"
+        posted = 4 if change == 7 else 2
+        yield from (f"deliver {serial + j}\n" for j in range(0, posted * told, 2))
+        yield from delivered(range(serial, serial + posted), 0)
+        serial += posted
+        if i % 32 == 0 or i == count:
+            yield "skulk 1 1\n"
+            yield from delivered(range(serial, serial + 10), 1)
+            serial += 10
+
+
 def coprime(a, b):
     while b:
         a, b = b, a % b
@@ -290,6 +320,8 @@ KINDS = {
     "deaths": lambda count: encoded(deaths(count)),
     "exports": lambda count: encoded(exports(count)),
     "imports": lambda count: encoded(imports(count)),
+    "script": lambda count: encoded(script(count)),
+    "loads": lambda count: encoded(script(count)),
 }
 
 

@@ -4,7 +4,7 @@
     measure.py [--runs K] [--divide D] [--instructions E] [--kinds KIND,KIND] NAME=PROGRAM [NAME=PROGRAM ..]
 
 Each PROGRAM is run as `PROGRAM FORM`, with the input on its standard input, K times (3); one run at a time. The form is
-`run`, or that of the kind's name, as `towers`. For each input and each program one line tells the number of lines or towers of
+`run`, or that of the kind's name, as `towers`; of `loads` it is `load N`, which reads nothing. For each input and each program one line tells the number of lines or towers of
 the input, the seconds of the fastest run, the lines or towers and the MB that it took in one second, the processor time of
 that run, and the greatest peak of memory of its runs in KiB. The programs have to give the same answers and status 0; if not,
 it says so and ends with status 1. D divides the sizes of the inputs.
@@ -42,16 +42,23 @@ SIZES = {
     "deaths": 100_000,
     "exports": 100_000,
     "imports": 200,
+    "script": 20_000,
+    "loads": 20_000,
 }
-FORMS = {"check": "check", "towers": "towers", "untowers": "untowers"}
+FORMS = {"check": ["check"], "towers": ["towers"], "untowers": ["untowers"]}
 # GNU time has a small peak of its own; this process would lend its children a greater one.
 TIME = shutil.which("time")
+
+
+def form_of(kind, size):
+    """The words behind the program's name."""
+    return ["load", str(size)] if kind == "loads" else FORMS.get(kind, ["run"])
 
 
 def run_once(program, form, script, answers):
     """Seconds, processor seconds and peak KiB of one run, and its status."""
     with tempfile.NamedTemporaryFile("r") as peak, open(script, "rb") as source, open(answers, "wb") as sink:
-        command = [program, form]
+        command = [program, *form]
         if TIME:
             command = [TIME, "-q", "-f", "%M", "-o", peak.name] + command
         before, start = resource.getrusage(resource.RUSAGE_CHILDREN), time.perf_counter()
@@ -63,7 +70,7 @@ def run_once(program, form, script, answers):
 
 def instructions(program, form, script):
     """How many instructions a run takes."""
-    command = ["valgrind", "--tool=callgrind", "--callgrind-out-file=/dev/null", program, form]
+    command = ["valgrind", "--tool=callgrind", "--callgrind-out-file=/dev/null", program, *form]
     with open(script, "rb") as source:
         ran = subprocess.run(command, stdin=source, stdout=subprocess.DEVNULL, stderr=subprocess.PIPE, text=True)
     return int(re.search(r"Collected : (\d+)", ran.stderr)[1])
@@ -83,7 +90,7 @@ def measure(kind, size, programs, runs, folder):
     agreed, first, times = True, None, []
     for name, program in programs:
         answers = os.path.join(folder, f"answers-{name}")
-        results = [run_once(program, FORMS.get(kind, "run"), script, answers) for _ in range(runs)]
+        results = [run_once(program, form_of(kind, size), script, answers) for _ in range(runs)]
         seconds = min(results)[0]
         processor = min(result[1] for result in results)
         peak = max(result[2] for result in results)
@@ -102,7 +109,7 @@ def measure(kind, size, programs, runs, folder):
 def count(kind, size, programs, folder):
     """Prints the instructions of each program, and gives them."""
     script, items = generated(kind, size, folder)
-    counts = [instructions(program, FORMS.get(kind, "run"), script) for _, program in programs]
+    counts = [instructions(program, form_of(kind, size), script) for _, program in programs]
     for (name, _), it in zip(programs, counts):
         print(f"{kind:<10}{name:<12}{items:>12,}{it:>16,} instructions{it / items:>10,.0f} each", flush=True)
     return counts

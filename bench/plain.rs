@@ -1,4 +1,4 @@
-//! The work of `cdsreplay run`, `check`, `towers` and `untowers` in plain Rust: what a proved program is to be compared with.
+//! The work of `cdsreplay run`, `check`, `load`, `towers` and `untowers` in plain Rust: what a proved program is to be compared with.
 //! It aborts where there is no memory.
 
 #[path = "plain/answers.rs"]
@@ -7,6 +7,8 @@ mod answers;
 mod cell;
 #[path = "plain/house.rs"]
 mod house;
+#[path = "plain/load.rs"]
+mod load;
 #[path = "plain/names.rs"]
 mod names;
 #[path = "plain/records.rs"]
@@ -84,22 +86,27 @@ impl<R: Read> Read for Source<'_, R> {
     }
 }
 
-/// The one word that the program is given.
-fn form() -> Option<String> {
-    let mut words = std::env::args().skip(1);
-    let form = words.next()?;
-    if words.next().is_none() { Some(form) } else { None }
+/// How many rounds a word says, from 1 to 20,000.
+fn rounds(word: &str) -> Option<u32> {
+    let digits = word.bytes().all(|digit| digit.is_ascii_digit()) && !word.starts_with('0');
+    if digits { word.parse().ok().filter(|rounds| (1..=20_000).contains(rounds)) } else { None }
 }
 
 fn main() -> ExitCode {
     let mut has_failed = false;
     let source = Source { reader: io::stdin().lock(), has_failed: &mut has_failed };
     let sink = io::stdout().lock();
-    let ended = match form().as_deref() {
-        Some("run") => run(source, sink),
-        Some("check") => check(source, sink),
-        Some("towers") => towers::towers(source, sink),
-        Some("untowers") => towers::untowers(source, sink),
+    let words: Vec<String> = std::env::args().skip(1).collect();
+    let words: Vec<&str> = words.iter().map(String::as_str).collect();
+    let ended = match words[..] {
+        ["run"] => run(source, sink),
+        ["check"] => check(source, sink),
+        ["load", number] => match rounds(number) {
+            Some(rounds) => load::load(rounds, sink),
+            None => return ExitCode::from(2),
+        },
+        ["towers"] => towers::towers(source, sink),
+        ["untowers"] => towers::untowers(source, sink),
         _ => return ExitCode::from(2),
     };
     ExitCode::from(match ended {

@@ -258,7 +258,7 @@ enum Pass<'a, 'n> {
 // Questions.
 impl Cell {
     /// What a house that is up holds of a directory.
-    fn held(&self, dir: u32, house: u8) -> Option<&Held> {
+    pub fn held(&self, dir: u32, house: u8) -> Option<&Held> {
         match &self.houses.get(&house)?.state {
             State::Up(home) => home.held(dir),
             State::Down(_) => None,

@@ -8,10 +8,13 @@ pub mod PrivateSaid
 pub mod PrivateSights
 pub mod Forms
 pub mod Fillings
+pub mod Loading
 pub mod PrivateSteps
 pub mod PrivateRecords
 pub mod PrivateStanding
 pub mod PrivateWaiting
 pub mod Runs
+pub mod PrivateCounting
+pub mod PrivateLoading
 pub mod PrivateEndings
 pub mod Scripts

@@ -5,8 +5,8 @@ use Rattle.cds_base.specs.Counts.{Rose}
 use Rattle.cell_replay.specs.declared.endings.Status.{Status}
 use Rattle.cell_replay.specs.declared.endings.Status.TheVariants.{Ok as AllRead, Usage, BadInput, ReadFault, WriteFault, OutOfMemory}
 use Rattle.cell_replay.specs.Demand.{Demand}
-use Rattle.cell_replay.specs.Forms.{FormState}
-use Rattle.cell_replay.specs.Runs.{Wrote, WroteAllBefore, WroteSoon, IsWhole, IsFaulty, IsPart, IsCutShort}
+use Rattle.cell_replay.specs.Forms.{FormState, Task, Reading, Loading}
+use Rattle.cell_replay.specs.Runs.{LoadEnds, Wrote, WroteAllBefore, WroteSoon, IsWhole, IsFaulty, IsPart, IsCutShort}
 
 -- a source or a sink: the octets that it has left or that it took, where it tells them, and how often it failed
 pub record Side : Type 0 where
@@ -66,3 +66,22 @@ Ended state source source' sink sink' WriteFault =
     × Rose sink.faults sink'.faults × (source'.faults ≡ source.faults)
 Ended state source source' sink sink' OutOfMemory =
     Wrote state source.octets source'.octets sink.octets sink'.octets (IsPart source'.octets) × Calm source source' sink sink'
+
+-- writing failed, or nothing did
+abbrev pub HasWriteCause : (sink sink' : Side) → Status → Type 0
+HasWriteCause sink sink' WriteFault = Rose sink.faults sink'.faults
+HasWriteCause sink sink' _ = sink'.faults ≡ sink.faults
+
+-- the ending of `load`, with what it says of failures
+abbrev pub Loaded : (rounds : ℕ) → (sink sink' : Side) → Status → Type 0
+Loaded rounds sink sink' result = LoadEnds rounds sink.octets sink'.octets result × HasWriteCause sink sink' result
+
+-- the ending of either task
+abbrev pub Did : Task → (source source' sink sink' : Side) → Status → Type 0
+Did (Reading state) source source' sink sink' result = Ended state source source' sink sink' result
+Did (Loading rounds) source source' sink sink' result = (source' ≡ source) × Loaded rounds sink sink' result
+
+-- `load` leaves the source alone
+abbrev pub LeavesSource : {S : Type 0} → Task → (old new : S) → Type 0
+LeavesSource (Reading state) old new = Unit {0}
+LeavesSource (Loading rounds) old new = new ≡ old

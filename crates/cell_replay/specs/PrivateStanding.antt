@@ -7,12 +7,12 @@ use Rattle.cds_cell.specs.declared.cell.Cell.{Cell}
 use Rattle.cds_cell.specs.Standing.{Stands}
 use Rattle.tower_codec.specs.Tower.{Floor}
 use Rattle.tower_codec.specs.Spelling.{tower_octets}
-use Rattle.cell_replay.specs.declared.limits.TheConstants.{LONGEST_TOWER}
+use Rattle.cell_replay.specs.declared.limits.TheConstants.{LONGEST_TOWER, MOST_ROUNDS}
 use Rattle.cell_model.specs.Steps.{replay_from}
 use Rattle.cell_replay.specs.Replies.{Said, said_of}
 use Rattle.cell_replay.specs.Demand.{LineState, Replaying, Checking, Spelling, Response, GoesOn, Stops}
 use Rattle.cell_replay.specs.TowerTexts.{TowerLine, SaysTower, NoTower}
-use Rattle.cell_replay.specs.Forms.{FormState, ByLines, ByTowers}
+use Rattle.cell_replay.specs.Forms.{ByLines, ByTowers, Task, Reading, Loading}
 use Rattle.cell_replay.specs.declared.check.Tally.{Tally}
 use Rattle.cell_replay.specs.declared.forms.Form.{Form}
 use Rattle.cell_replay.specs.declared.forms.Form.TheVariants as chosen
@@ -33,12 +33,18 @@ IsReply a c g l = IsDone a c g (said_of g l)
 
 -- ---- forms
 
--- a form at its start
-abbrev pub start_of : Form → FormState
-start_of chosen.Run = ByLines (Replaying model.empty_cell)
-start_of chosen.Check = ByLines (Checking 0 0)
-start_of chosen.Towers = ByTowers
-start_of chosen.Untowers = ByLines Spelling
+-- what a form is to do, from its start on
+abbrev pub start_of : Form → Task
+start_of chosen.Run = Reading (ByLines (Replaying model.empty_cell))
+start_of chosen.Check = Reading (ByLines (Checking 0 0))
+start_of (chosen.Load rounds) = Loading rounds
+start_of chosen.Towers = Reading ByTowers
+start_of chosen.Untowers = Reading (ByLines Spelling)
+
+-- a script has from 1 round to MOST_ROUNDS
+abbrev pub IsForm : Form → Type 0
+IsForm (chosen.Load rounds) = (1 ≤ rounds) × (rounds ≤ MOST_ROUNDS)
+IsForm _ = Unit {0}
 
 -- what the cell of `run` is at, what is counted by `check`, and what a form that reads lines is at
 abbrev pub StandsAt : Cell → LineState → Type 0

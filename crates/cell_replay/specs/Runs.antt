@@ -1,5 +1,5 @@
 -- How a run of the program ends (own).
-use Rattle.std.specs.Prelude.{◌≡◌, ◌≢◌, ◌⊎◌, ℕ, ◌≤◌, ◌<◌, List, [], ◌∷◌, ◌++◌, length, Option}
+use Rattle.std.specs.Prelude.{◌≡◌, ◌≢◌, ◌⊎◌, ℕ, ◌≤◌, ◌<◌, List, [], ◌∷◌, ◌++◌, length, take, Option}
 use Rattle.std.specs.Io.KnownBytes.{Consumes, Appends, IsAtEnd}
 use Rattle.cds_base.specs.declared.lines.TheConstants.{MOST_HELD}
 use Rattle.cds_base.specs.LineFaults.{IsLine}
@@ -11,6 +11,7 @@ use Rattle.cell_replay.specs.Demand.{Demand, Sound, Faulty, CutShort}
 use Rattle.cell_replay.specs.TowerDemand.{IsTaken}
 use Rattle.cell_replay.specs.Forms.{FormState, ByLines, ByTowers, Demands}
 use Rattle.cell_replay.specs.Fillings.{IsUnfilled}
+use Rattle.cell_replay.specs.Loading.{load_text}
 
 -- xs is a front of ys (own)
 abbrev pub IsFront : List ℕ → List ℕ → Type 0
@@ -101,6 +102,15 @@ pub record WroteSoon (state : FormState) (left left' old new : Option (List ℕ)
   pub answered : IsFront demand.body text
   pub at_once : (one ≡ []) ⊎ IsTakenAtOnce state one
   pub soon : length behind ≤ read_ahead state
+
+-- A run of `load` writes its line; or a front of it, where writing failed; or nothing, where there was no memory. It has no other ending (own)
+abbrev pub LoadEnds : (rounds : ℕ) → (old new : Option (List ℕ)) → Status → Type 0
+LoadEnds rounds old new AllRead = Appends old new (load_text rounds)
+LoadEnds rounds old new Usage = ⊥
+LoadEnds rounds old new BadInput = ⊥
+LoadEnds rounds old new ReadFault = ⊥
+LoadEnds rounds old new WriteFault = (k : ℕ) × (k < length (load_text rounds)) × Appends old new (take k (load_text rounds))
+LoadEnds rounds old new OutOfMemory = Appends old new []
 
 -- the endings that no failed call causes (own)
 abbrev pub NoCallFailed : Status → Type 0

@@ -1,21 +1,22 @@
 // The forms of the program, and what those that read lines make of a line.
-ghost use Rattle.std.specs.Prelude.{◌≡◌, ◌<◌, ◌≤◌, ℕ, [], ◌∷◌, ◌++◌, MatchOption, IfOk, OnOk, OnErr, map, string_bytes};
+ghost use Rattle.std.specs.Prelude.{◌≡◌, ◌<◌, ◌≤◌, ℕ, [], ◌∷◌, ◌++◌, MatchOption, IfOk, IfSome, OnOk, OnErr, map, string_bytes};
 ghost use Rattle.cell_script.specs.Words.{words_of};
 ghost use Rattle.cell_script.specs.Commands.{said_in};
 ghost use Rattle.cds_base.specs.declared.scan.TheConstants.{MOST_LINES};
 ghost use Rattle.std.specs.Option.{option_map};
 ghost use Rattle.cell_replay.specs.Demand.{LineState, response, checked, end_text, told_fault};
-ghost use Rattle.cell_replay.specs.Forms.{form_named, form_of};
-ghost use Rattle.cell_replay.specs.PrivateStanding.{IsAt, Replies, Counts, counted, start_of};
+ghost use Rattle.cell_replay.specs.Forms.{Reading, form_named, load_named, task_of};
+ghost use Rattle.cell_replay.specs.PrivateStanding.{IsAt, IsForm, Replies, Counts, counted, start_of};
 
 use crate::answers::{print_line_fault, reply_to_fault};
 use crate::check::Tally;
+use crate::limits::MOST_ROUNDS;
 use crate::replayer::Replayer;
 use crate::replies::{LineEnd, Waiting};
 use crate::untowers::Speller;
 use cds_base::LineFault;
 use cds_stamps::AllocOr;
-use cell_script::parse_line;
+use cell_script::{number_up_to, parse_line};
 use std::alloc::{AllocError, Global};
 
 /// A form of the program.
@@ -23,6 +24,8 @@ use std::alloc::{AllocError, Global};
 pub(crate) enum Form {
     Run,
     Check,
+    /// So many rounds.
+    Load(u32),
     Towers,
     Untowers,
 }
@@ -37,22 +40,38 @@ pub(crate) enum LineForm {
 
 /// The form that the words of the command line name.
 pub(crate) fn form_in(words: &[String]) -> Option<Form>
-    ensures { form_of (map string_bytes words.now) ≡ option_map start_of result }
+    ensures task { task_of (map string_bytes words.now) ≡ option_map start_of result }
+    ensures sound { IfSome result IsForm }
 {
     match words {
         [word] => form_by_name(word),
+        [word, number] => load_by_name(word, number),
         _ => None,
     }
 }
 
 fn form_by_name(word: &String) -> Option<Form>
-    ensures { form_named (string_bytes word.now) ≡ option_map start_of result }
+    ensures task { option_map Reading (form_named (string_bytes word.now)) ≡ option_map start_of result }
+    ensures sound { IfSome result IsForm }
 {
     match word.as_str() {
         "run" => Some(Form::Run),
         "check" => Some(Form::Check),
         "towers" => Some(Form::Towers),
         "untowers" => Some(Form::Untowers),
+        _ => None,
+    }
+}
+
+fn load_by_name(word: &String, number: &String) -> Option<Form>
+    ensures task { load_named (string_bytes word.now) (string_bytes number.now) ≡ option_map start_of result }
+    ensures sound { IfSome result IsForm }
+{
+    match word.as_str() {
+        "load" => match number_up_to(number.as_bytes(), u64::from(MOST_ROUNDS)) {
+            Some(rounds) => Some(Form::Load(rounds as u32)),
+            None => None,
+        },
         _ => None,
     }
 }

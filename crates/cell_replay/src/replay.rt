@@ -1,19 +1,20 @@
 // The run over a source and a sink.
-ghost use Rattle.std.specs.Prelude.{◌≡◌, ◌≢◌, ◌⊎◌, ◌↔◌, None, Some, map, string_bytes};
+ghost use Rattle.std.specs.Prelude.{◌≡◌, ◌≢◌, ℕ, ◌⊎◌, ◌↔◌, None, Some, map, string_bytes};
 ghost use Rattle.std.specs.Io.KnownBytes.{IsAtEnd};
 ghost use Rattle.cds_base.specs.Counts.{Rose};
 ghost use Rattle.cds_base.specs.Lines.{IsFresh};
 ghost use Rattle.cell_model.specs.Cells as model;
 ghost use Rattle.cell_replay.specs.Demand.{LineState, Replaying, end_text, told_fault};
-ghost use Rattle.cell_replay.specs.Forms.{FormState, ByLines, form_of};
+ghost use Rattle.cell_replay.specs.Forms.{FormState, ByLines, Loading, Reading, task_of};
 ghost use Rattle.cell_replay.specs.Scripts.{IsReplay};
-ghost use Rattle.cell_replay.specs.PrivateStanding.{IsAt, counted, start_of};
-ghost use Rattle.cell_replay.specs.Runs.{Wrote, WroteSoon, IsWhole, IsFaulty, WroteAllBefore, IsPart, IsCutShort, NoCallFailed};
-ghost use Rattle.cell_replay.specs.PrivateEndings.{StopsWith, side_of, Ended};
+ghost use Rattle.cell_replay.specs.PrivateStanding.{IsAt, IsForm, counted, start_of};
+ghost use Rattle.cell_replay.specs.Runs.{LoadEnds, Wrote, WroteSoon, IsWhole, IsFaulty, WroteAllBefore, IsPart, IsCutShort, NoCallFailed};
+ghost use Rattle.cell_replay.specs.PrivateEndings.{Did, Ended, LeavesSource, StopsWith, side_of};
 
 use crate::check::Tally;
 use crate::endings::{Status, finish, stop_with};
 use crate::forms::{Form, LineForm, form_in};
+use crate::load::load;
 use crate::replayer::Replayer;
 use crate::replies::{LineEnd, Waiting};
 use crate::towers::print_towers;
@@ -107,12 +108,15 @@ fn serve_lines<S: Source, K: Sink>(
 
 /// The work of a form.
 fn serve<S: Source, K: Sink>(alloc: Global, form: Form, source: &mut S, sink: &mut K) -> Status
-    ensures { Ended (start_of form) (side_of S.left S.faults source.old) (side_of S.left S.faults source.new) (side_of K.written K.faults sink.old)
+    requires { IsForm form }
+    ensures did { Did (start_of form) (side_of S.left S.faults source.old) (side_of S.left S.faults source.new) (side_of K.written K.faults sink.old)
         (side_of K.written K.faults sink.new) result }
+    ensures source { LeavesSource (start_of form) source.old source.new }
 {
     match form {
         Form::Run => serve_lines(alloc, LineForm::Run(Replayer::new(alloc)), source, sink),
         Form::Check => serve_lines(alloc, LineForm::Check(Tally::new()), source, sink),
+        Form::Load(rounds) => load(alloc, rounds, sink),
         Form::Towers => print_towers(alloc, source, sink),
         Form::Untowers => match Speller::new(alloc) {
             Ok(speller) => serve_lines(alloc, LineForm::Untowers(speller), source, sink),
@@ -128,22 +132,24 @@ pub fn run<S: Source, K: Sink>(
     source: &mut S,
     sink: &mut K,
 ) -> Status
-    ensures usage { (result ≡ Status.Usage) ↔ (form_of (map string_bytes words.now) ≡ None) }
+    ensures usage { (result ≡ Status.Usage) ↔ (task_of (map string_bytes words.now) ≡ None) }
     ensures unused { result ≡ Status.Usage → (source.new ≡ source.old) × (sink.new ≡ sink.old) }
-    ensures ok { (state : FormState) → form_of (map string_bytes words.now) ≡ Some state → result ≡ Status.Ok → IsAtEnd (S.left source.new)
+    ensures ok { (state : FormState) → task_of (map string_bytes words.now) ≡ Some (Reading state) → result ≡ Status.Ok → IsAtEnd (S.left source.new)
         × Wrote state (S.left source.old) (S.left source.new) (K.written sink.old) (K.written sink.new) IsWhole }
-    ensures transcript { form_of (map string_bytes words.now) ≡ Some (ByLines (Replaying model.empty_cell)) → result ≡ Status.Ok
+    ensures transcript { task_of (map string_bytes words.now) ≡ Some (Reading (ByLines (Replaying model.empty_cell))) → result ≡ Status.Ok
         → IsReplay (S.left source.old) (S.left source.new) (K.written sink.old) (K.written sink.new) }
-    ensures bad { (state : FormState) → form_of (map string_bytes words.now) ≡ Some state → result ≡ Status.BadInput
+    ensures bad { (state : FormState) → task_of (map string_bytes words.now) ≡ Some (Reading state) → result ≡ Status.BadInput
         → Wrote state (S.left source.old) (S.left source.new) (K.written sink.old) (K.written sink.new) (IsFaulty (S.left source.new)) }
-    ensures read { (state : FormState) → form_of (map string_bytes words.now) ≡ Some state → result ≡ Status.ReadFault
+    ensures read { (state : FormState) → task_of (map string_bytes words.now) ≡ Some (Reading state) → result ≡ Status.ReadFault
         → WroteAllBefore state (S.left source.old) (S.left source.new) (K.written sink.old) (K.written sink.new) }
-    ensures write { (state : FormState) → form_of (map string_bytes words.now) ≡ Some state → result ≡ Status.WriteFault
+    ensures write { (state : FormState) → task_of (map string_bytes words.now) ≡ Some (Reading state) → result ≡ Status.WriteFault
         → Wrote state (S.left source.old) (S.left source.new) (K.written sink.old) (K.written sink.new) (IsCutShort (S.left source.new)) }
-    ensures soon { (state : FormState) → form_of (map string_bytes words.now) ≡ Some state → (result ≡ Status.WriteFault)
+    ensures soon { (state : FormState) → task_of (map string_bytes words.now) ≡ Some (Reading state) → (result ≡ Status.WriteFault)
         ⊎ (result ≡ Status.ReadFault) → WroteSoon state (S.left source.old) (S.left source.new) (K.written sink.old) (K.written sink.new) }
-    ensures memory { (state : FormState) → form_of (map string_bytes words.now) ≡ Some state → result ≡ Status.OutOfMemory
+    ensures memory { (state : FormState) → task_of (map string_bytes words.now) ≡ Some (Reading state) → result ≡ Status.OutOfMemory
         → Wrote state (S.left source.old) (S.left source.new) (K.written sink.old) (K.written sink.new) (IsPart (S.left source.new)) }
+    ensures load { (rounds : ℕ) → task_of (map string_bytes words.now) ≡ Some (Loading rounds) → (source.new ≡ source.old)
+        × LoadEnds rounds (K.written sink.old) (K.written sink.new) result }
     ensures read_cause { result ≡ Status.ReadFault → Rose (S.faults source.old) (S.faults source.new) × (K.faults sink.new ≡ K.faults sink.old) }
     ensures write_cause { result ≡ Status.WriteFault → Rose (K.faults sink.old) (K.faults sink.new) × (S.faults source.new ≡ S.faults source.old) }
     ensures calm { NoCallFailed result → (S.faults source.new ≡ S.faults source.old) × (K.faults sink.new ≡ K.faults sink.old) }

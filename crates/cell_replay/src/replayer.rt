@@ -52,6 +52,12 @@ impl Replayer {
         }
     }
 
+    pub(crate) fn cell(&self) -> &Cell
+        ensures { result.now ≡ self.now.cell }
+    {
+        &self.cell
+    }
+
     /// Replays a line: its reply waits behind the others.
     pub(crate) fn replay_line(
         &mut self,
@@ -109,8 +115,8 @@ impl Replayer {
         waiting.add_answer(alloc, number, &answer)
     }
 
-    // What the cell replies to a line.
-    fn reply(&mut self, alloc: Global, line: ScriptLine) -> Result<Answer, AllocError>
+    /// What the cell replies to a line.
+    pub(crate) fn reply(&mut self, alloc: Global, line: ScriptLine) -> Result<Answer, AllocError>
         requires few { self.old.steps < MOST_LINES }
         ensures reply { (g : model.Cell) → Stands self.old.cell g → IfOk result (λ a. IsReply a self.new.cell g line) }
         ensures steps { self.new.steps ≤ self.old.steps + 1 }

@@ -1,5 +1,5 @@
 -- The definitions at single words, lines and answers, by computing.
-use Rattle.std.proofs.Common.{◌≡◌, true, false, [], ◌∷◌, ◌++◌, refl, List, ℕ}
+use Rattle.std.proofs.Common.{◌≡◌, true, false, [], ◌∷◌, ◌++◌, map, length, take, drop, refl, List, ℕ}
 use Rattle.std.specs.Prelude.{Some, None, Ok, Err, Result, Option, codes}
 use Rattle.std.specs.Fmt.{digits}
 use Rattle.std.specs.FinMap.{empty}
@@ -27,6 +27,7 @@ use Rattle.cell_script.specs.NameService.{interface_of, element_interface_of, in
 use Rattle.cell_script.specs.NameService.{objects_of, object_of, protocols_of, priority_of, note_of}
 use Rattle.cell_script.specs.Notes.{note_in}
 use Rattle.cell_script.specs.Forms.{counted, taken}
+use Rattle.cell_script.specs.Generated.{script}
 use Rattle.cell_script.specs.Commands.{said_in, said_by}
 use Rattle.cell_script.specs.Texts.{answer_line, answer_lines, line_text, lines_text, parse_fault_text, dump_line, entry_line, attr_line, value_line}
 use Rattle.cell_script.specs.Texts.{lines_of_each, value_lines}
@@ -395,3 +396,29 @@ a_line = refl
 a_fault : parse_fault_text 3 (BadWord 2) ≡ codes "3 fault BadWord 2" ++ 10 ∷ []
 unfolding digits
 a_fault = refl
+
+-- ---- the script of `load`
+
+-- so many commands for one round
+one_round : length (script 1) ≡ 81
+unfolding digits
+one_round = refl
+
+-- its number makes it add a value to the entry `e14`, of which one house is told; the skulk behind it is the last part
+the_round : drop 56 (script 1)
+    ≡ command.Add (record { 0 = 1 }) (record { 0 = 1 }) (codes "e14") (codes "A") (103 ∷ [])
+    ∷ command.Deliver 35 ∷ command.Lose 35 ∷ command.Lose 36
+    ∷ command.Skulk (record { 0 = 1 }) (record { 0 = 1 })
+    ∷ (map command.Deliver (37 ∷ 38 ∷ 39 ∷ 40 ∷ 41 ∷ 42 ∷ 43 ∷ 44 ∷ 45 ∷ 46 ∷ [])
+    ++ map command.Lose (37 ∷ 38 ∷ 39 ∷ 40 ∷ 41 ∷ 42 ∷ 43 ∷ 44 ∷ 45 ∷ 46 ∷ []))
+unfolding digits
+the_round = refl
+
+-- the first commands
+the_opening : take 11 (script 1)
+    ≡ command.House (record { 0 = 1 }) 1 ∷ command.House (record { 0 = 2 }) 2 ∷ command.House (record { 0 = 3 }) 3
+    ∷ command.Root (record { 0 = 1 }) (record { 0 = 2 } ∷ record { 0 = 3 } ∷ [])
+    ∷ command.Deliver 1 ∷ command.Deliver 2 ∷ command.Lose 1 ∷ command.Lose 2
+    ∷ command.Create (record { 0 = 1 }) (record { 0 = 1 }) (codes "e0") ∷ command.Lose 3 ∷ command.Lose 4 ∷ []
+unfolding digits
+the_opening = refl

@@ -5,4 +5,6 @@ pub mod Families
 pub mod Printing
 pub mod DumpLoops
 pub mod Listed
+pub mod Rounds
+pub mod ScriptLengths
 mod Examples

@@ -6,3 +6,6 @@ pub mod Forms
 pub mod Commands
 pub mod RowWords
 pub mod Texts
+pub mod Generated
+pub mod PrivateWorks
+pub mod PrivateGenerated

@@ -62,8 +62,8 @@ pub(crate) fn number(word: &[u8]) -> Option<u64>
     Some(value)
 }
 
-// A number from 1 to this most.
-fn number_up_to(word: &[u8], most: u64) -> Option<u64>
+/// A decimal number from 1 to this most, with no sign and no leading zero.
+pub fn number_up_to(word: &[u8], most: u64) -> Option<u64>
     ensures { result ≡ number_to most word.now }
 {
     let value = number(word)?;

@@ -1,0 +1,9 @@
+-- Words of private contracts: the counts of a cell that is loaded (own).
+use Rattle.std.specs.Prelude.{ℕ, ◌≤◌}
+use Rattle.cell_replay.specs.declared.replayer.Replayer.{Replayer}
+
+-- a step for each command at most, and at most one thing is counted of it
+pub record IsCounting (replayer : Replayer) (commands accepted complete : ℕ) : Type 0 where
+  pub steps : replayer.steps ≤ commands
+  pub accepted : accepted ≤ commands
+  pub complete : complete ≤ commands

@@ -1,0 +1,42 @@
+// The form `load`: a cell replays a script that is made and not read.
+ghost use Rattle.std.specs.Prelude.{◌≡◌, ◌≤◌, IfOk, string_bytes};
+ghost use Rattle.cell_replay.specs.Loading.{load_text};
+ghost use Rattle.cell_replay.specs.PrivateEndings.{Loaded, side_of};
+ghost use Rattle.cell_replay.specs.declared.limits.TheConstants.{MOST_ROUNDS};
+
+use crate::endings::Status;
+use crate::loader::Loader;
+use cds_base::{Sink, put_all};
+use cell_script::script_of;
+use std::alloc::{AllocError, Global};
+
+/// The summary of the script with so many rounds.
+fn summary_line(alloc: Global, rounds: u32) -> Result<String, AllocError>
+    requires least { 1 ≤ rounds }
+    requires most { rounds ≤ MOST_ROUNDS }
+    ensures { IfOk result (λ text. string_bytes text ≡ load_text rounds) }
+{
+    let mut script = script_of(rounds);
+    let mut loader = Loader::new(alloc);
+    'commands: loop {
+        match script.next(alloc)? {
+            Some(line) => loader.take(alloc, line)?,
+            None => return loader.print(alloc, rounds),
+        }
+    }
+}
+
+/// Loads a cell, and writes the summary.
+pub(crate) fn load<K: Sink>(alloc: Global, rounds: u32, sink: &mut K) -> Status
+    requires least { 1 ≤ rounds }
+    requires most { rounds ≤ MOST_ROUNDS }
+    ensures { Loaded rounds (side_of K.written K.faults sink.old) (side_of K.written K.faults sink.new) result }
+{
+    let Ok(line) = summary_line(alloc, rounds) else {
+        return Status::OutOfMemory;
+    };
+    match put_all(sink, line.as_bytes()) {
+        Ok(()) => Status::Ok,
+        Err(_) => Status::WriteFault,
+    }
+}
