@@ -16,7 +16,7 @@ use Rattle.cell_replay.specs.declared.towers.StreamFault.TheVariants as stream
 use Rattle.cell_replay.specs.TowerTexts.{tower_text, floor_said, tower_said, SaysTower, NoTower}
 use Rattle.cell_replay.specs.TowerDemand.{AtFault, PartOf, TowersDemand}
 use Rattle.cell_replay.specs.Demand.{Replaying, Checking, Spelling, Faulty, CutShort, ends_with, faulty_with, demand, demanded}
-use Rattle.cell_replay.specs.Forms.{ByLines, form_of}
+use Rattle.cell_replay.specs.Forms.{ByLines, Loading, Reading, task_of}
 
 -- ---- lines
 
@@ -26,11 +26,27 @@ a_line_fault = refl
 
 -- ---- whole inputs
 
-form_is : form_of (codes "run" ∷ []) ≡ Some (ByLines (Replaying empty_cell))
+form_is : task_of (codes "run" ∷ []) ≡ Some (Reading (ByLines (Replaying empty_cell)))
 form_is = refl
 
-no_form : form_of (codes "run" ∷ codes "run" ∷ []) ≡ None
+no_form : task_of (codes "run" ∷ codes "run" ∷ []) ≡ None
 no_form = refl
+
+load_is : task_of (codes "load" ∷ codes "20000" ∷ []) ≡ Some (Loading 20000)
+unfolding number_of
+load_is = refl
+
+no_rounds : task_of (codes "load" ∷ codes "0" ∷ []) ≡ None
+unfolding number_of
+no_rounds = refl
+
+leading_zero : task_of (codes "load" ∷ codes "01" ∷ []) ≡ None
+unfolding number_of
+leading_zero = refl
+
+too_many_rounds : task_of (codes "load" ∷ codes "20001" ∷ []) ≡ None
+unfolding number_of
+too_many_rounds = refl
 
 -- nothing is due for a comment, and no house is there yet; then the line is at fault, and nothing is due behind it
 three_lines : demanded (Replaying empty_cell) (codes "#" ++ (10 ∷ (codes "root 1" ++ (10 ∷ (codes "rot 1" ++ (10 ∷ (codes "root 1" ++ 10 ∷ [])))))))

@@ -16,3 +16,4 @@ mod RecordAnswers
 pub mod Scripts
 mod Examples
 pub mod UpdateLaws
+pub mod LoadTurns

@@ -1,8 +1,7 @@
 // What shows at the first house.
-ghost use Rattle.std.specs.Prelude.{◌≡◌, ◌+◌, IfOk, length, option_copied};
+ghost use Rattle.std.specs.Prelude.{◌≡◌, ◌+◌, IfOk, count_by, option_copied};
 ghost use Rattle.std.specs.FinMap.{entries};
 ghost use Rattle.cell_model.specs.Cells as model;
-ghost use Rattle.attr_sets.specs.Cells.{present_in};
 ghost use Rattle.cds_cell.specs.Standing.{Stands};
 ghost use Rattle.cell_replay.specs.Loading.{first_table, shown_count, table_told, value_count, values_shown};
 ghost use Rattle.cell_replay.specs.PrivateRecords.{state_told};
@@ -23,7 +22,8 @@ pub(crate) fn first_table(cell: &Cell) -> Option<&Table>
     }
     match cell.house(HouseNo(1)) {
         Some(HouseState::Up(home)) => table_in(home.state(DirId::ROOT)),
-        Some(HouseState::Down(_)) | None => None,
+        Some(HouseState::Down(_)) => None,
+        None => None,
     }
 }
 
@@ -39,7 +39,7 @@ fn table_in(state: Option<&DirState>) -> Option<&Table>
 
 // How many values of an attribute are present.
 fn present_values(values: &ValueMap) -> u64
-    ensures { result ≡ length (present_in (entries values.now)) }
+    ensures { result ≡ count_by (λ v. v.1.present) (entries values.now) }
 {
     values.iter().filter(|(_, mark)| mark.present).count() as u64
 }

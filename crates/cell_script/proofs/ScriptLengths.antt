@@ -1,12 +1,12 @@
 -- How many commands the script of `load` has at most.
-use Rattle.std.proofs.Common.{◌≡◌, ◌≤◌, ◌<◌, ◌+◌, ◌*◌, ℕ, zero, suc, Bool, true, false, List, [], ◌∷◌, ◌++◌, map, length, refl, arith, length-append}
+use Rattle.std.proofs.Common.{◌≤◌, ◌+◌, ◌*◌, ℕ, zero, suc, Bool, true, false, List, [], ◌∷◌, ◌++◌, map, length, arith, length-append}
 use Rattle.std.specs.Prelude.{if◌then◌else◌, ◌==◌}
 use Rattle.std.specs.List.{range_with_len}
 use Rattle.std.proofs.lemmas.List.{length-map}
 use Rattle.std.proofs.lemmas.List.FromFn.{length-range_with_len}
 use Rattle.cell_script.specs.declared.command.Command.{Command}
 use Rattle.cell_script.specs.declared.command.Command.TheVariants as command
-use Rattle.cell_script.specs.Generated.{Part, change_round, drawn_change, entry, is_told, laid_out, new_entry_round, next_draw, nobody, opening, parts_of}
+use Rattle.cell_script.specs.Generated.{Part, change_round, drawn_change, entry, is_told, laid_out, new_entry_round, next_draw, nobody, opening}
 use Rattle.cell_script.specs.Generated.{ends_with_skulk, rounds_behind, script, skulk_if, the_first, value_round}
 
 -- a part has at most 21 commands, wherever its messages begin
@@ -31,13 +31,17 @@ one_more most p ps short more = record {
       let here = short first in
       let lost : List Command = map command.Lose (range_with_len first p.posted) in
       let told : List Command = map command.Deliver (p.delivered first) in
-      omega (arith, rest, here,
-      length-append p.commands (told ++ (lost ++ laid_out (first + p.posted) ps)),
-      length-append told (lost ++ laid_out (first + p.posted) ps),
-      length-append lost (laid_out (first + p.posted) ps),
-      length-map (p.delivered first) command.Deliver,
-      length-map (range_with_len first p.posted) command.Lose,
-      length-range_with_len first p.posted);
+      omega (
+        arith,
+        rest,
+        here,
+        length-append p.commands (told ++ (lost ++ laid_out (first + p.posted) ps)),
+        length-append told (lost ++ laid_out (first + p.posted) ps),
+        length-append lost (laid_out (first + p.posted) ps),
+        length-map (p.delivered first) command.Deliver,
+        length-map (range_with_len first p.posted) command.Lose,
+        length-range_with_len first p.posted,
+      );
 }
 
 -- ---- the parts
@@ -73,7 +77,7 @@ rounds_short last before x zero = none_short
 rounds_short last before x (suc count) =
     let rest = rounds_short last (before + 1) (next_draw x) count in
     let more = one_more (2 * count + 1) (change_round (next_draw x)) _ (change_short (next_draw x))
-      (skulk_short (ends_with_skulk last (before + 1)) (2 * count) (rounds_behind last (before + 1) (next_draw x) count) rest) in
+    (skulk_short (ends_with_skulk last (before + 1)) (2 * count) (rounds_behind last (before + 1) (next_draw x) count) rest) in
     record { few = omega (arith, more.few); short = more.short }
 
 entries_short : (k count most : ℕ) (ps : List Part) → AreShort most ps → AreShort (most + count) (map entry (range_with_len k count) ++ ps)

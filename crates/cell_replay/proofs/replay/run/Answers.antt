@@ -1,14 +1,14 @@
 use Rattle.std.proofs.Common.{◌≡◌}
 use Rattle.cell_model.specs.Cells.{empty_cell}
 use Rattle.cell_replay.specs.Demand.{Replaying}
-use Rattle.cell_replay.specs.Forms.{ByLines}
+use Rattle.cell_replay.specs.Forms.{ByLines, Reading}
 use Rattle.cell_replay.specs.PrivateStanding.{start_of}
 use Rattle.cell_replay.proofs.Scripts.{is_replay}
 use Rattle.cell_replay.proofs.replay.run.Goals as goal
 
 pub returns-in-Some-clause-transcript : goal.returns-in-Some-clause-transcript
 returns-in-Some-clause-transcript g c is ok =
-    let chosen = c.in-Some.ensures in
-    let known : start_of c.in-Some.form ≡ ByLines (Replaying empty_cell) = cc (chosen, is) in
-    let ended = rw (known, ok) at c.serve.ensures in
+    let chosen = c.in-Some.ensures.task in
+    let known : start_of c.in-Some.form ≡ Reading (ByLines (Replaying empty_cell)) = cc (chosen, is) in
+    let ended = rw (known, ok) at c.serve.ensures.did in
     is_replay _ _ _ _ ended.1

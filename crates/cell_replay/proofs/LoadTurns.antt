@@ -1,0 +1,95 @@
+-- How a cell is loaded, from command to command.
+use Rattle.std.proofs.Common.{◌≡◌, ◌≤◌, ◌<◌, ◌+◌, ◌*◌, ℕ, Bool, true, false, cond, List, [], ◌∷◌, map, length, refl, sym, ◌∙◌, ap, subst, arith}
+use Rattle.std.specs.Prelude.{Option, Some, None, count_by, if◌then◌else◌}
+use Rattle.std.specs.FinMap.{entries}
+use Rattle.std.specs.Option.{option_map_or}
+use Rattle.attr_sets.specs.Cells.{present_in}
+use Rattle.attr_sets.specs.declared.mark.ValueMark.{ValueMark}
+use Rattle.directory.specs.Shown.{live_count}
+use Rattle.cell_model.specs.Cells.{Cell, empty_cell}
+use Rattle.cell_model.specs.Steps.{outcome, replay, replay_from}
+use Rattle.cell_script.specs.declared.command.Command.{Command}
+use Rattle.cell_script.specs.declared.command.ScriptLine.{ScriptLine}
+use Rattle.cell_script.specs.declared.command.ScriptLine.TheVariants as line
+use Rattle.cell_script.specs.Generated.{TakesFirst}
+use Rattle.cds_cell.specs.Scripted.{step_of}
+use Rattle.cds_cell.specs.Standing.{Stands}
+use Rattle.cell_replay.specs.declared.loader.Loader.{Loader}
+use Rattle.cell_replay.specs.Loading.{answered_from, completes, first_table, is_accepted, summary_of, summary_text, values_shown}
+use Rattle.cell_replay.specs.PrivateLoading.{Takes}
+
+-- of all commands these are left: the cell stands for the model's behind the others, and the counts are those of the others
+pub record IsLoading (loader : Loader) (left all : List Command) : Type 0 where
+  pub cell : Cell
+  pub stands : Stands loader.replayer.cell cell
+  pub commands : loader.commands + length left ≡ length all
+  pub accepted : loader.accepted + count_by is_accepted (answered_from cell left) ≡ count_by is_accepted (answered_from empty_cell all)
+  pub complete : loader.complete + count_by completes (answered_from cell left) ≡ count_by completes (answered_from empty_cell all)
+  pub behind : replay_from cell (map step_of left) ≡ replay (map step_of all)
+
+pub loading_begins : (loader : Loader) (left all : List Command) → left ≡ all → Stands loader.replayer.cell empty_cell → loader.commands ≡ 0
+    → loader.accepted ≡ 0 → loader.complete ≡ 0 → IsLoading loader left all
+loading_begins loader left all same stands no_command none_accepted none_complete =
+    subst (λ (cs : List Command). IsLoading loader cs all) (sym same)
+    (record {
+      cell = empty_cell;
+      stands = stands;
+      commands = omega (arith, no_command);
+      accepted = omega (arith, none_accepted);
+      complete = omega (arith, none_complete);
+      behind = refl;
+    })
+
+pub loading_goes_on : (old new : Loader) (c : Command) (left left' all : List Command) → left ≡ c ∷ left' → IsLoading old left all
+    → ((g : Cell) → Stands old.replayer.cell g → Takes old new g c) → IsLoading new left' all
+loading_goes_on old new c left left' all first so_far taken =
+    let h : IsLoading old (c ∷ left') all = subst (λ (cs : List Command). IsLoading old cs all) first so_far in
+    let t = taken h.cell h.stands in
+    record {
+      cell = (outcome h.cell (step_of c)).cell;
+      stands = t.stands;
+      commands = omega (arith, h.commands, t.commands);
+      accepted = omega (arith, h.accepted, t.accepted);
+      complete = omega (arith, h.complete, t.complete);
+      behind = h.behind;
+    }
+
+-- the text of the summary, once none is left
+pub loading_ends : (loader : Loader) (left all : List Command) (rounds : ℕ) → left ≡ [] → (so_far : IsLoading loader left all)
+    → summary_text rounds (record { commands = loader.commands; accepted = loader.accepted; complete = loader.complete;
+    live = option_map_or live_count (first_table so_far.cell) 0; values = option_map_or values_shown (first_table so_far.cell) 0 })
+    ≡ summary_text rounds (summary_of all)
+loading_ends loader left all rounds none so_far =
+    let behind : so_far.cell ≡ replay (map step_of all) =
+      ap (λ (cs : List Command). replay_from so_far.cell (map step_of cs)) (sym none) ∙ so_far.behind in
+    let commands : loader.commands ≡ length all = omega (arith, so_far.commands, ap length none) in
+    let accepted : loader.accepted ≡ count_by is_accepted (answered_from empty_cell all) =
+      omega (arith, so_far.accepted, ap (λ (cs : List Command). count_by is_accepted (answered_from so_far.cell cs)) none) in
+    let complete : loader.complete ≡ count_by completes (answered_from empty_cell all) =
+      omega (arith, so_far.complete, ap (λ (cs : List Command). count_by completes (answered_from so_far.cell cs)) none) in
+    rw (behind, commands, accepted, complete) refl
+
+-- ---- what comes next
+
+pub comes_next : (left left' : List Command) (l : ScriptLine) → TakesFirst left left' (Some l) → (c : Command) × (left ≡ c ∷ left') × (l ≡ line.Cell c)
+comes_next [] left' l taken = let e : Some l ≡ None = taken.0 in cc
+comes_next (c ∷ cs) left' l taken =
+    let e : Some l ≡ Some (line.Cell c) = taken.0 in
+    let same : l ≡ line.Cell c = cc in
+    (c, ap (λ (xs : List Command). c ∷ xs) (sym taken.1), same)
+
+pub none_left : (left left' : List Command) → TakesFirst left left' None → left ≡ []
+none_left [] left' taken = refl
+none_left (c ∷ cs) left' taken = let e : None ≡ Some (line.Cell c) = taken.0 in cc
+
+-- ---- values
+
+one_value : (b : Bool) (v : List ℕ) (vs : List (List ℕ)) → length (if b then v ∷ vs else vs) ≡ cond b 1 0 + length vs
+one_value true v vs = omega arith
+one_value false v vs = omega arith
+
+-- the present values of a cell, counted
+pub present_count : (es : List (List ℕ × ValueMark)) → length (present_in es) ≡ count_by (λ e. e.1.present) es
+present_count [] = refl
+present_count (e ∷ es) =
+    one_value e.1.present e.0 (present_in es) ∙ ap (λ (n : ℕ). cond e.1.present 1 0 + n) (present_count es)
