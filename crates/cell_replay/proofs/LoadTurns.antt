@@ -1,22 +1,27 @@
 -- How a cell is loaded, from command to command.
 use Rattle.std.proofs.Common.{◌≡◌, ◌≤◌, ◌<◌, ◌+◌, ◌*◌, ℕ, Bool, true, false, cond, List, [], ◌∷◌, map, length, refl, sym, ◌∙◌, ap, subst, arith}
-use Rattle.std.specs.Prelude.{Option, Some, None, count_by, if◌then◌else◌}
+use Rattle.std.specs.Prelude.{Option, Some, None, count_by, sum_by, not, ◌&&◌, if◌then◌else◌}
 use Rattle.std.specs.FinMap.{entries}
 use Rattle.std.specs.Option.{option_map_or}
-use Rattle.attr_sets.specs.Cells.{present_in}
+use Rattle.attr_sets.specs.Cells.{cell_values, present_in}
+use Rattle.attr_sets.specs.declared.cell.AttrCell.{AttrCell}
 use Rattle.attr_sets.specs.declared.mark.ValueMark.{ValueMark}
 use Rattle.directory.specs.Shown.{live_count}
 use Rattle.cell_model.specs.Cells.{Cell, empty_cell}
+use Rattle.cell_model.specs.Commands as model
 use Rattle.cell_model.specs.Steps.{outcome, replay, replay_from}
+use Rattle.cell_script.specs.declared.answer.Answer.{Answer}
 use Rattle.cell_script.specs.declared.command.Command.{Command}
 use Rattle.cell_script.specs.declared.command.ScriptLine.{ScriptLine}
 use Rattle.cell_script.specs.declared.command.ScriptLine.TheVariants as line
 use Rattle.cell_script.specs.Generated.{TakesFirst}
-use Rattle.cds_cell.specs.Scripted.{step_of}
+use Rattle.cds_cell.specs.Scripted.{answer_of, step_of}
 use Rattle.cds_cell.specs.Standing.{Stands}
 use Rattle.cell_replay.specs.declared.loader.Loader.{Loader}
-use Rattle.cell_replay.specs.Loading.{answered_from, completes, first_table, is_accepted, summary_of, summary_text, values_shown}
+use Rattle.cell_replay.specs.Loading.{answered_from, completes, first_table, is_accepted, is_change, is_completion, is_delivery, is_refusal, summary_of, summary_text, values_shown}
+use Rattle.cell_replay.specs.PrivateKinds.{is_complete, refuses}
 use Rattle.cell_replay.specs.PrivateLoading.{Takes}
+use Rattle.cell_replay.specs.PrivateStanding.{IsReply}
 
 -- of all commands these are left: the cell stands for the model's behind the others, and the counts are those of the others
 pub record IsLoading (loader : Loader) (left all : List Command) : Type 0 where
@@ -93,3 +98,67 @@ pub present_count : (es : List (List ℕ × ValueMark)) → length (present_in e
 present_count [] = refl
 present_count (e ∷ es) =
     one_value e.1.present e.0 (present_in es) ∙ ap (λ (n : ℕ). cond e.1.present 1 0 + n) (present_count es)
+
+-- ---- what the answers of the script tell of the model's
+
+refusal_of_answer : (m : model.Answer) → option_map_or refuses (answer_of m) false ≡ is_refusal m
+refusal_of_answer model.Done = refl
+refusal_of_answer (model.Posted ns) = refl
+refusal_of_answer (model.Made d s ns) = refl
+refusal_of_answer (model.Stamped s ns) = refl
+refusal_of_answer (model.NewEpoch e ns) = refl
+refusal_of_answer (model.Taken ns) = refl
+refusal_of_answer (model.Late k e) = refl
+refusal_of_answer (model.Early k e) = refl
+refusal_of_answer (model.Stale t r) = refl
+refusal_of_answer model.NoReplica = refl
+refusal_of_answer model.Foreign = refl
+refusal_of_answer (model.Complete t ns) = refl
+refusal_of_answer (model.Refused r) = refl
+
+completion_of_answer : (m : model.Answer) → option_map_or is_complete (answer_of m) false ≡ is_completion m
+completion_of_answer model.Done = refl
+completion_of_answer (model.Posted ns) = refl
+completion_of_answer (model.Made d s ns) = refl
+completion_of_answer (model.Stamped s ns) = refl
+completion_of_answer (model.NewEpoch e ns) = refl
+completion_of_answer (model.Taken ns) = refl
+completion_of_answer (model.Late k e) = refl
+completion_of_answer (model.Early k e) = refl
+completion_of_answer (model.Stale t r) = refl
+completion_of_answer model.NoReplica = refl
+completion_of_answer model.Foreign = refl
+completion_of_answer (model.Complete t ns) = refl
+completion_of_answer (model.Refused r) = refl
+
+refusal_told : (m : model.Answer) (a : Answer) → answer_of m ≡ Some a → refuses a ≡ is_refusal m
+refusal_told m a is = ap (λ (o : Option Answer). option_map_or refuses o false) (sym is) ∙ refusal_of_answer m
+
+completion_told : (m : model.Answer) (a : Answer) → answer_of m ≡ Some a → is_complete a ≡ is_completion m
+completion_told m a is = ap (λ (o : Option Answer). option_map_or is_complete o false) (sym is) ∙ completion_of_answer m
+
+-- a command was stepped: the counts are those of the model's answer
+pub took : (old new : Loader) (g : Cell) (c : Command) (a : Answer) → IsReply a new.replayer.cell g (line.Cell c) → new.commands ≡ old.commands + 1
+    → new.accepted ≡ old.accepted + cond (is_change c && not (refuses a)) 1 0
+    → new.complete ≡ old.complete + cond (is_delivery c && is_complete a) 1 0
+    → Takes old new g c
+took old new g c a reply commands accepted complete =
+    let m : model.Answer = (outcome g (step_of c)).answer in
+    record {
+      commands = commands;
+      accepted = accepted ∙ ap (λ (b : Bool). old.accepted + cond (is_change c && not b) 1 0) (refusal_told m a reply.answer);
+      complete = complete ∙ ap (λ (b : Bool). old.complete + cond (is_delivery c && b) 1 0) (completion_told m a reply.answer);
+      stands = reply.stands;
+    }
+
+-- ---- sums
+
+-- the values of one attribute more
+pub values_go_on : (count more now total : ℕ) (rest rest' : List (List ℕ × AttrCell)) (k : List ℕ) (x : AttrCell) → rest ≡ (k, x) ∷ rest'
+    → count + sum_by (λ (a : List ℕ × AttrCell). length (cell_values a.1)) rest ≡ total → more ≡ count_by (λ v. v.1.present) (entries x.values)
+    → now ≡ count + more → now + sum_by (λ (a : List ℕ × AttrCell). length (cell_values a.1)) rest' ≡ total
+values_go_on count more now total rest rest' k x first so_far counted sum =
+    let f : List ℕ × AttrCell → ℕ = λ a. length (cell_values a.1) in
+    let split : sum_by f rest ≡ length (cell_values x) + sum_by f rest' = ap (sum_by f) first in
+    let same : length (cell_values x) ≡ count_by (λ v. v.1.present) (entries x.values) = present_count (entries x.values) in
+    omega (arith, so_far, counted, sum, split, same)

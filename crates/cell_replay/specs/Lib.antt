@@ -14,6 +14,7 @@ pub mod PrivateRecords
 pub mod PrivateStanding
 pub mod PrivateWaiting
 pub mod Runs
+pub mod PrivateKinds
 pub mod PrivateCounting
 pub mod PrivateLoading
 pub mod PrivateEndings

@@ -4,6 +4,6 @@ use Rattle.cell_replay.specs.declared.replayer.Replayer.{Replayer}
 
 -- a step for each command at most, and at most one thing is counted of it
 pub record IsCounting (replayer : Replayer) (commands accepted complete : ℕ) : Type 0 where
-  pub steps : replayer.steps ≤ commands
-  pub accepted : accepted ≤ commands
-  pub complete : complete ≤ commands
+  pub few_steps : replayer.steps ≤ commands
+  pub few_changes : accepted ≤ commands
+  pub few_skulks : complete ≤ commands

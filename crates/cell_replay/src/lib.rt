@@ -6,6 +6,7 @@ mod check;
 mod digits;
 mod endings;
 mod forms;
+mod kinds;
 pub mod laws;
 mod limits;
 mod load;

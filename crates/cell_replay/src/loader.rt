@@ -1,10 +1,10 @@
 // A cell that is loaded, a command at a time.
-ghost use Rattle.std.specs.Prelude.{◌≡◌};
-ghost use Rattle.cell_replay.specs.PrivateLoading.{is_complete, line_changes, line_delivers, refuses};
+ghost use Rattle.cell_replay.specs.PrivateCounting.{IsCounting};
 
+use crate::kinds::{accepts, completes, is_change, is_delivery};
 use crate::replayer::Replayer;
 use crate::shown::{first_table, values_shown};
-use cell_script::{Answer, Command, ScriptLine};
+use cell_script::ScriptLine;
 use std::alloc::{AllocError, Global};
 
 /// A cell, how many commands it took, how many changes it accepted, and how many skulks became complete by a delivery.
@@ -17,36 +17,6 @@ pub(crate) struct Loader {
     ghost few: { IsCounting replayer commands accepted complete },
 }
 
-// Whether a line changes an entry.
-fn is_change(line: &ScriptLine) -> bool
-    ensures { result ≡ line_changes line.now }
-{
-    match line {
-        ScriptLine::Cell(
-            Command::Create(..) | Command::Delete(..) | Command::Add(..) | Command::Remove(..),
-        ) => true,
-        _ => false,
-    }
-}
-
-fn is_delivery(line: &ScriptLine) -> bool
-    ensures { result ≡ line_delivers line.now }
-{
-    matches!(line, ScriptLine::Cell(Command::Deliver(_)))
-}
-
-fn is_refusal(answer: &Answer) -> bool
-    ensures { result ≡ refuses answer.now }
-{
-    matches!(answer, Answer::Refused(_))
-}
-
-fn is_completion(answer: &Answer) -> bool
-    ensures { result ≡ is_complete answer.now }
-{
-    matches!(answer, Answer::Complete(..))
-}
-
 impl Loader {
     ghost use Rattle.std.specs.Prelude.{◌≡◌, ◌+◌, ◌<◌, ◌≤◌, IfOk, OnOk, string_bytes};
     ghost use Rattle.std.specs.Option.{option_map_or};
@@ -57,7 +27,6 @@ impl Loader {
     ghost use Rattle.cell_script.specs.declared.command.ScriptLine.TheVariants as line;
     ghost use Rattle.cds_cell.specs.Standing.{Stands};
     ghost use Rattle.cell_replay.specs.Loading.{first_table, summary_text, values_shown};
-    ghost use Rattle.cell_replay.specs.PrivateCounting.{IsCounting};
     ghost use Rattle.cell_replay.specs.PrivateLoading.{Takes};
 
     /// Over a cell without houses.
@@ -84,12 +53,8 @@ impl Loader {
         let delivers = is_delivery(&line);
         let answer = self.replayer.reply(alloc, line)?;
         self.commands += 1;
-        if changes && !is_refusal(&answer) {
-            self.accepted += 1;
-        }
-        if delivers && is_completion(&answer) {
-            self.complete += 1;
-        }
+        self.accepted += u32::from(accepts(changes, &answer));
+        self.complete += u32::from(completes(delivers, &answer));
         Ok(())
     }
 
