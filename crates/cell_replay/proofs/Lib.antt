@@ -17,3 +17,4 @@ pub mod Scripts
 mod Examples
 pub mod UpdateLaws
 pub mod LoadTurns
+pub mod Tasks

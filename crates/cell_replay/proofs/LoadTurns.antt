@@ -3,13 +3,14 @@ use Rattle.std.proofs.Common.{◌≡◌, ◌≤◌, ◌<◌, ◌+◌, ◌*◌, �
 use Rattle.std.specs.Prelude.{Option, Some, None, count_by, sum_by, not, ◌&&◌, if◌then◌else◌}
 use Rattle.std.specs.FinMap.{entries}
 use Rattle.std.specs.Option.{option_map_or}
+use Rattle.std.proofs.lemmas.List.Sums.{sum_by-cons}
 use Rattle.attr_sets.specs.Cells.{cell_values, present_in}
 use Rattle.attr_sets.specs.declared.cell.AttrCell.{AttrCell}
 use Rattle.attr_sets.specs.declared.mark.ValueMark.{ValueMark}
 use Rattle.directory.specs.Shown.{live_count}
 use Rattle.cell_model.specs.Cells.{Cell, empty_cell}
 use Rattle.cell_model.specs.Commands as model
-use Rattle.cell_model.specs.Steps.{outcome, replay, replay_from}
+use Rattle.cell_model.specs.Steps.{Outcome, outcome, replay, replay_from}
 use Rattle.cell_script.specs.declared.answer.Answer.{Answer}
 use Rattle.cell_script.specs.declared.command.Command.{Command}
 use Rattle.cell_script.specs.declared.command.ScriptLine.{ScriptLine}
@@ -22,6 +23,9 @@ use Rattle.cell_replay.specs.Loading.{answered_from, completes, first_table, is_
 use Rattle.cell_replay.specs.PrivateKinds.{is_complete, refuses}
 use Rattle.cell_replay.specs.PrivateLoading.{Takes}
 use Rattle.cell_replay.specs.PrivateStanding.{IsReply}
+
+count_cons : {A : Type 0} (p : A → Bool) (x : A) (xs : List A) → count_by p (x ∷ xs) ≡ cond (p x) 1 0 + count_by p xs
+count_cons p x xs = sum_by-cons (λ y. cond (p y) 1 0) x xs
 
 -- of all commands these are left: the cell stands for the model's behind the others, and the counts are those of the others
 pub record IsLoading (loader : Loader) (left all : List Command) : Type 0 where
@@ -50,12 +54,15 @@ pub loading_goes_on : (old new : Loader) (c : Command) (left left' all : List Co
 loading_goes_on old new c left left' all first so_far taken =
     let h : IsLoading old (c ∷ left') all = subst (λ (cs : List Command). IsLoading old cs all) first so_far in
     let t = taken h.cell h.stands in
+    let o : Outcome = outcome h.cell (step_of c) in
+    let one = count_cons is_accepted (c, o.answer) (answered_from o.cell left') in
+    let one_skulk = count_cons completes (c, o.answer) (answered_from o.cell left') in
     record {
-      cell = (outcome h.cell (step_of c)).cell;
+      cell = o.cell;
       stands = t.stands;
       commands = omega (arith, h.commands, t.commands);
-      accepted = omega (arith, h.accepted, t.accepted);
-      complete = omega (arith, h.complete, t.complete);
+      accepted = omega (arith, h.accepted, t.accepted, one);
+      complete = omega (arith, h.complete, t.complete, one_skulk);
       behind = h.behind;
     }
 
@@ -98,6 +105,7 @@ pub present_count : (es : List (List ℕ × ValueMark)) → length (present_in e
 present_count [] = refl
 present_count (e ∷ es) =
     one_value e.1.present e.0 (present_in es) ∙ ap (λ (n : ℕ). cond e.1.present 1 0 + n) (present_count es)
+    ∙ sym (count_cons (λ (v : List ℕ × ValueMark). v.1.present) e es)
 
 -- ---- what the answers of the script tell of the model's
 
@@ -159,6 +167,6 @@ pub values_go_on : (count more now total : ℕ) (rest rest' : List (List ℕ × 
     → now ≡ count + more → now + sum_by (λ (a : List ℕ × AttrCell). length (cell_values a.1)) rest' ≡ total
 values_go_on count more now total rest rest' k x first so_far counted sum =
     let f : List ℕ × AttrCell → ℕ = λ a. length (cell_values a.1) in
-    let split : sum_by f rest ≡ length (cell_values x) + sum_by f rest' = ap (sum_by f) first in
+    let split : sum_by f rest ≡ length (cell_values x) + sum_by f rest' = ap (sum_by f) first ∙ sum_by-cons f (k, x) rest' in
     let same : length (cell_values x) ≡ count_by (λ v. v.1.present) (entries x.values) = present_count (entries x.values) in
     omega (arith, so_far, counted, sum, split, same)

@@ -108,5 +108,5 @@ summary_text rounds s =
     ++ (codes " complete " ++ (decimal s.complete ++ (codes " live " ++ (decimal s.live ++ (codes " values " ++ (decimal s.values ++ 10 ∷ [])))))))))))
 
 -- what `load` writes for so many rounds (own)
-abbrev pub load_text : ℕ → List ℕ
+unfoldable pub load_text : ℕ → List ℕ
 load_text rounds = summary_text rounds (summary_of (script rounds))

@@ -6,6 +6,7 @@ use Rattle.cell_replay.specs.declared.endings.Status.{Status}
 use Rattle.cell_replay.specs.declared.endings.Status.TheVariants.{Ok as AllRead, Usage, BadInput, ReadFault, WriteFault, OutOfMemory}
 use Rattle.cell_replay.specs.Demand.{Demand}
 use Rattle.cell_replay.specs.Forms.{FormState, Task, Reading, Loading}
+use Rattle.cell_replay.specs.Loading.{load_text}
 use Rattle.cell_replay.specs.Runs.{LoadEnds, Wrote, WroteAllBefore, WroteSoon, IsWhole, IsFaulty, IsPart, IsCutShort}
 
 -- a source or a sink: the octets that it has left or that it took, where it tells them, and how often it failed
@@ -73,13 +74,13 @@ HasWriteCause sink sink' WriteFault = Rose sink.faults sink'.faults
 HasWriteCause sink sink' _ = sink'.faults ≡ sink.faults
 
 -- the ending of `load`, with what it says of failures
-abbrev pub Loaded : (rounds : ℕ) → (sink sink' : Side) → Status → Type 0
-Loaded rounds sink sink' result = LoadEnds rounds sink.octets sink'.octets result × HasWriteCause sink sink' result
+abbrev pub Loaded : (text : List ℕ) → (sink sink' : Side) → Status → Type 0
+Loaded text sink sink' result = LoadEnds text sink.octets sink'.octets result × HasWriteCause sink sink' result
 
 -- the ending of either task
 abbrev pub Did : Task → (source source' sink sink' : Side) → Status → Type 0
 Did (Reading state) source source' sink sink' result = Ended state source source' sink sink' result
-Did (Loading rounds) source source' sink sink' result = (source' ≡ source) × Loaded rounds sink sink' result
+Did (Loading rounds) source source' sink sink' result = (source' ≡ source) × Loaded (load_text rounds) sink sink' result
 
 -- `load` leaves the source alone
 abbrev pub LeavesSource : {S : Type 0} → Task → (old new : S) → Type 0

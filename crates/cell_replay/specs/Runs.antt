@@ -11,7 +11,6 @@ use Rattle.cell_replay.specs.Demand.{Demand, Sound, Faulty, CutShort}
 use Rattle.cell_replay.specs.TowerDemand.{IsTaken}
 use Rattle.cell_replay.specs.Forms.{FormState, ByLines, ByTowers, Demands}
 use Rattle.cell_replay.specs.Fillings.{IsUnfilled}
-use Rattle.cell_replay.specs.Loading.{load_text}
 
 -- xs is a front of ys (own)
 abbrev pub IsFront : List ℕ → List ℕ → Type 0
@@ -103,14 +102,15 @@ pub record WroteSoon (state : FormState) (left left' old new : Option (List ℕ)
   pub at_once : (one ≡ []) ⊎ IsTakenAtOnce state one
   pub soon : length behind ≤ read_ahead state
 
--- A run of `load` writes its line; or a front of it, where writing failed; or nothing, where there was no memory. It has no other ending (own)
-abbrev pub LoadEnds : (rounds : ℕ) → (old new : Option (List ℕ)) → Status → Type 0
-LoadEnds rounds old new AllRead = Appends old new (load_text rounds)
-LoadEnds rounds old new Usage = ⊥
-LoadEnds rounds old new BadInput = ⊥
-LoadEnds rounds old new ReadFault = ⊥
-LoadEnds rounds old new WriteFault = (k : ℕ) × (k < length (load_text rounds)) × Appends old new (take k (load_text rounds))
-LoadEnds rounds old new OutOfMemory = Appends old new []
+-- A run that reads nothing writes its text; or a front of it, where writing failed; or nothing, where there was no memory. It has no other
+-- ending (own)
+abbrev pub LoadEnds : (text : List ℕ) → (old new : Option (List ℕ)) → Status → Type 0
+LoadEnds text old new AllRead = Appends old new text
+LoadEnds text old new Usage = ⊥
+LoadEnds text old new BadInput = ⊥
+LoadEnds text old new ReadFault = ⊥
+LoadEnds text old new WriteFault = (k : ℕ) × (k < length text) × Appends old new (take k text)
+LoadEnds text old new OutOfMemory = Appends old new []
 
 -- the endings that no failed call causes (own)
 abbrev pub NoCallFailed : Status → Type 0

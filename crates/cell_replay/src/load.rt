@@ -1,20 +1,21 @@
 // The form `load`: a cell replays a script that is made and not read.
-ghost use Rattle.std.specs.Prelude.{◌≡◌, ◌≤◌, IfOk, string_bytes};
+ghost use Rattle.std.specs.Prelude.{◌≡◌, ◌≤◌, IfOk};
 ghost use Rattle.cell_replay.specs.Loading.{load_text};
 ghost use Rattle.cell_replay.specs.PrivateEndings.{Loaded, side_of};
 ghost use Rattle.cell_replay.specs.declared.limits.TheConstants.{MOST_ROUNDS};
 
-use crate::endings::Status;
+use crate::endings::{Status, stop_with};
 use crate::loader::Loader;
-use cds_base::{Sink, put_all};
+use crate::replies::Waiting;
+use cds_base::Sink;
 use cell_script::script_of;
 use std::alloc::{AllocError, Global};
 
-/// The summary of the script with so many rounds.
-fn summary_line(alloc: Global, rounds: u32) -> Result<String, AllocError>
+/// The line of the script with so many rounds.
+fn summary_line(alloc: Global, rounds: u32) -> Result<Vec<u8>, AllocError>
     requires least { 1 ≤ rounds }
     requires most { rounds ≤ MOST_ROUNDS }
-    ensures { IfOk result (λ text. string_bytes text ≡ load_text rounds) }
+    ensures { IfOk result (λ text. text.items ≡ load_text rounds) }
 {
     let mut script = script_of(rounds);
     let mut loader = Loader::new(alloc);
@@ -30,13 +31,13 @@ fn summary_line(alloc: Global, rounds: u32) -> Result<String, AllocError>
 pub(crate) fn load<K: Sink>(alloc: Global, rounds: u32, sink: &mut K) -> Status
     requires least { 1 ≤ rounds }
     requires most { rounds ≤ MOST_ROUNDS }
-    ensures { Loaded rounds (side_of K.written K.faults sink.old) (side_of K.written K.faults sink.new) result }
+    ensures { Loaded (load_text rounds) (side_of K.written K.faults sink.old) (side_of K.written K.faults sink.new) result }
 {
-    let Ok(line) = summary_line(alloc, rounds) else {
-        return Status::OutOfMemory;
-    };
-    match put_all(sink, line.as_bytes()) {
-        Ok(()) => Status::Ok,
-        Err(_) => Status::WriteFault,
-    }
+    let mut waiting = Waiting::new(alloc);
+    stop_with(
+        summary_line(alloc, rounds),
+        &mut waiting,
+        sink,
+        Status::Ok,
+    )
 }

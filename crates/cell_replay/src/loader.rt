@@ -3,7 +3,7 @@ ghost use Rattle.cell_replay.specs.PrivateCounting.{IsCounting};
 
 use crate::kinds::{accepts, completes, is_change, is_delivery};
 use crate::replayer::Replayer;
-use crate::shown::{first_table, values_shown};
+use crate::shown::{first_table, shown_counts};
 use cell_script::ScriptLine;
 use std::alloc::{AllocError, Global};
 
@@ -18,13 +18,13 @@ pub(crate) struct Loader {
 }
 
 impl Loader {
-    ghost use Rattle.std.specs.Prelude.{◌≡◌, ◌+◌, ◌<◌, ◌≤◌, IfOk, OnOk, string_bytes};
+    ghost use Rattle.std.specs.Prelude.{◌≡◌, ◌+◌, ◌<◌, ◌≤◌, IfOk, OnOk};
     ghost use Rattle.std.specs.Option.{option_map_or};
     ghost use Rattle.cds_base.specs.declared.scan.TheConstants.{MOST_LINES};
     ghost use Rattle.directory.specs.Shown.{live_count};
     ghost use Rattle.cell_model.specs.Cells as model;
     ghost use Rattle.cell_script.specs.declared.command.Command.{Command as Command'};
-    ghost use Rattle.cell_script.specs.declared.command.ScriptLine.TheVariants as line;
+    ghost use Rattle.cell_script.specs.declared.command.ScriptLine.TheVariants as says;
     ghost use Rattle.cds_cell.specs.Standing.{Stands};
     ghost use Rattle.cell_replay.specs.Loading.{first_table, summary_text, values_shown};
     ghost use Rattle.cell_replay.specs.PrivateLoading.{Takes};
@@ -47,7 +47,7 @@ impl Loader {
     /// Replays a command, and counts it.
     pub(crate) fn take(&mut self, alloc: Global, line: ScriptLine) -> Result<(), AllocError>
         requires { self.old.commands < MOST_LINES }
-        ensures { (g : model.Cell) (c : Command') → Stands self.old.replayer.cell g → line ≡ line.Cell c → OnOk result (Takes self.old self.new g c) }
+        ensures { (g : model.Cell) (c : Command') → Stands self.old.replayer.cell g → line ≡ says.Cell c → OnOk result (Takes self.old self.new g c) }
     {
         let changes = is_change(&line);
         let delivers = is_delivery(&line);
@@ -59,20 +59,18 @@ impl Loader {
     }
 
     /// The line that tells the counts, and what shows at the first house.
-    pub(crate) fn print(&self, alloc: Global, rounds: u32) -> Result<String, AllocError>
-        ensures { (g : model.Cell) → Stands self.now.replayer.cell g → IfOk result (λ text. string_bytes text ≡ summary_text rounds (record {
+    pub(crate) fn print(&self, alloc: Global, rounds: u32) -> Result<Vec<u8>, AllocError>
+        ensures { (g : model.Cell) → Stands self.now.replayer.cell g → IfOk result (λ text. text.items ≡ summary_text rounds (record {
             commands = self.now.commands; accepted = self.now.accepted; complete = self.now.complete;
             live = option_map_or live_count (first_table g) 0; values = option_map_or values_shown (first_table g) 0 })) }
     {
-        let (live, values) = match first_table(self.replayer.cell()) {
-            Some(table) => (table.live_entries(), values_shown(table)?),
-            None => (0, 0),
-        };
+        let (live, values) = shown_counts(first_table(self.replayer.cell()))?;
         let commands = self.commands;
         let accepted = self.accepted;
         let complete = self.complete;
-        format!(in alloc;
+        let text = format!(in alloc;
             "load {rounds} commands {commands} accepted {accepted} complete {complete} live {live} values {values}\n"
-        )
+        )?;
+        Ok(text.into_bytes())
     }
 }

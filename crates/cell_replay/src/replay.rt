@@ -6,6 +6,7 @@ ghost use Rattle.cds_base.specs.Lines.{IsFresh};
 ghost use Rattle.cell_model.specs.Cells as model;
 ghost use Rattle.cell_replay.specs.Demand.{LineState, Replaying, end_text, told_fault};
 ghost use Rattle.cell_replay.specs.Forms.{FormState, ByLines, Loading, Reading, task_of};
+ghost use Rattle.cell_replay.specs.Loading.{load_text};
 ghost use Rattle.cell_replay.specs.Scripts.{IsReplay};
 ghost use Rattle.cell_replay.specs.PrivateStanding.{IsAt, IsForm, counted, start_of};
 ghost use Rattle.cell_replay.specs.Runs.{LoadEnds, Wrote, WroteSoon, IsWhole, IsFaulty, WroteAllBefore, IsPart, IsCutShort, NoCallFailed};
@@ -149,7 +150,7 @@ pub fn run<S: Source, K: Sink>(
     ensures memory { (state : FormState) → task_of (map string_bytes words.now) ≡ Some (Reading state) → result ≡ Status.OutOfMemory
         → Wrote state (S.left source.old) (S.left source.new) (K.written sink.old) (K.written sink.new) (IsPart (S.left source.new)) }
     ensures load { (rounds : ℕ) → task_of (map string_bytes words.now) ≡ Some (Loading rounds) → (source.new ≡ source.old)
-        × LoadEnds rounds (K.written sink.old) (K.written sink.new) result }
+        × LoadEnds (load_text rounds) (K.written sink.old) (K.written sink.new) result }
     ensures read_cause { result ≡ Status.ReadFault → Rose (S.faults source.old) (S.faults source.new) × (K.faults sink.new ≡ K.faults sink.old) }
     ensures write_cause { result ≡ Status.WriteFault → Rose (K.faults sink.old) (K.faults sink.new) × (S.faults source.new ≡ S.faults source.old) }
     ensures calm { NoCallFailed result → (S.faults source.new ≡ S.faults source.old) × (K.faults sink.new ≡ K.faults sink.old) }

@@ -1,6 +1,8 @@
 // What shows at the first house.
 ghost use Rattle.std.specs.Prelude.{◌≡◌, ◌+◌, IfOk, count_by, option_copied};
 ghost use Rattle.std.specs.FinMap.{entries};
+ghost use Rattle.std.specs.Option.{option_map_or};
+ghost use Rattle.directory.specs.Shown.{live_count};
 ghost use Rattle.cell_model.specs.Cells as model;
 ghost use Rattle.cds_cell.specs.Standing.{Stands};
 ghost use Rattle.cell_replay.specs.Loading.{first_table, shown_count, table_told, value_count, values_shown};
@@ -73,8 +75,8 @@ fn shown_count(entry: &EntryCell) -> Result<u64, AllocError>
     }
 }
 
-/// How many values show in a table.
-pub(crate) fn values_shown(table: &Table) -> Result<u64, AllocError>
+// How many values show in a table.
+fn values_shown(table: &Table) -> Result<u64, AllocError>
     ensures { IfOk result (λ n. n ≡ values_shown table.now) }
 {
     let mut count = 0;
@@ -82,4 +84,15 @@ pub(crate) fn values_shown(table: &Table) -> Result<u64, AllocError>
         count = sum_of(count, shown_count(entry)?)?;
     }
     Ok(count)
+}
+
+/// How many entries show in a table, and how many values; none, where there is no table.
+pub(crate) fn shown_counts(table: Option<&Table>) -> Result<(u64, u64), AllocError>
+    ensures live { IfOk result (λ n. n.0 ≡ option_map_or live_count (option_copied table.entry) 0) }
+    ensures values { IfOk result (λ n. n.1 ≡ option_map_or values_shown (option_copied table.entry) 0) }
+{
+    match table {
+        Some(table) => Ok((table.live_entries(), values_shown(table)?)),
+        None => Ok((0, 0)),
+    }
 }

@@ -1,3 +1,4 @@
+use Rattle.std.proofs.Common.{arith, length}
 use Rattle.cell_replay.proofs.LoadTurns.{comes_next, loading_begins, loading_ends, loading_goes_on, none_left}
 use Rattle.cell_replay.proofs.load.summary_line.Goals as goal
 
@@ -12,5 +13,8 @@ commands-preserved c = ?
 pub commands-smaller : goal.commands-smaller
 commands-smaller c = ?
 
-pub returns-in-Ok-None : goal.returns-in-Ok-None
-returns-in-Ok-None c = ?
+pub take-requires : goal.take-requires
+take-requires c = ?
+
+pub returns-in-None : goal.returns-in-None
+returns-in-None c = ?
