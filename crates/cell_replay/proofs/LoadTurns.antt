@@ -20,7 +20,7 @@ use Rattle.cds_cell.specs.Scripted.{answer_of, step_of}
 use Rattle.cds_cell.specs.Standing.{Stands}
 use Rattle.cell_replay.specs.declared.loader.Loader.{Loader}
 use Rattle.cell_replay.specs.Loading.{answered_from, completes, first_table, is_accepted, is_change, is_completion, is_delivery, is_refusal, summary_of, summary_text, values_shown}
-use Rattle.cell_replay.specs.PrivateKinds.{is_complete, refuses}
+use Rattle.cell_replay.specs.PrivateKinds.{is_complete, line_changes, line_delivers, refuses}
 use Rattle.cell_replay.specs.PrivateLoading.{Takes}
 use Rattle.cell_replay.specs.PrivateStanding.{IsReply}
 
@@ -146,18 +146,42 @@ completion_told : (m : model.Answer) (a : Answer) → answer_of m ≡ Some a →
 completion_told m a is = ap (λ (o : Option Answer). option_map_or is_complete o false) (sym is) ∙ completion_of_answer m
 
 -- a command was stepped: the counts are those of the model's answer
-pub took : (old new : Loader) (g : Cell) (c : Command) (a : Answer) → IsReply a new.replayer.cell g (line.Cell c) → new.commands ≡ old.commands + 1
-    → new.accepted ≡ old.accepted + cond (is_change c && not (refuses a)) 1 0
-    → new.complete ≡ old.complete + cond (is_delivery c && is_complete a) 1 0
+pub took : (old new : Loader) (g : Cell) (l : ScriptLine) (c : Command) (a : Answer) → l ≡ line.Cell c → IsReply a new.replayer.cell g l
+    → new.commands ≡ old.commands + 1
+    → new.accepted ≡ old.accepted + cond (line_changes l && not (refuses a)) 1 0
+    → new.complete ≡ old.complete + cond (line_delivers l && is_complete a) 1 0
     → Takes old new g c
-took old new g c a reply commands accepted complete =
+took old new g l c a said reply commands accepted complete =
     let m : model.Answer = (outcome g (step_of c)).answer in
+    let it : IsReply a new.replayer.cell g (line.Cell c) = subst (IsReply a new.replayer.cell g) said reply in
     record {
       commands = commands;
-      accepted = accepted ∙ ap (λ (b : Bool). old.accepted + cond (is_change c && not b) 1 0) (refusal_told m a reply.answer);
-      complete = complete ∙ ap (λ (b : Bool). old.complete + cond (is_delivery c && b) 1 0) (completion_told m a reply.answer);
-      stands = reply.stands;
+      accepted =
+          accepted ∙ ap (λ (k : ScriptLine). old.accepted + cond (line_changes k && not (refuses a)) 1 0) said
+          ∙ ap (λ (b : Bool). old.accepted + cond (is_change c && not b) 1 0) (refusal_told m a it.answer);
+      complete =
+          complete ∙ ap (λ (k : ScriptLine). old.complete + cond (line_delivers k && is_complete a) 1 0) said
+          ∙ ap (λ (b : Bool). old.complete + cond (is_delivery c && b) 1 0) (completion_told m a it.answer);
+      stands = it.stands;
     }
+
+-- ---- a turn
+
+module _ (left left' : List Command) (next : Option ScriptLine) (l : ScriptLine) (taken : TakesFirst left left' next) (is : next ≡ Some l) where
+  first : (c : Command) × (left ≡ c ∷ left') × (l ≡ line.Cell c)
+  first = comes_next left left' l (subst (TakesFirst left left') is taken)
+
+  pub next_turn : (old new : Loader) (all : List Command) → IsLoading old left all
+      → ((g : Cell) (c : Command) → Stands old.replayer.cell g → l ≡ line.Cell c → Takes old new g c) → IsLoading new left' all
+  next_turn old new all so_far steps = loading_goes_on old new first.0 left left' all first.1 so_far (λ g s. steps g first.0 s first.2)
+
+  pub fewer_left : length left' < length left
+  fewer_left = let e = ap length first.1 in omega (arith, e)
+
+-- so few commands are replayed
+pub few_taken : (loader : Loader) (left all made : List Command) (rounds : ℕ) → IsLoading loader left all → made ≡ all → length made ≤ 42 * rounds + 357
+    → rounds ≤ 20000 → loader.commands < 16777216
+few_taken loader left all made rounds so_far same few most = omega (arith, so_far.commands, ap length same, few, most)
 
 -- ---- sums
 

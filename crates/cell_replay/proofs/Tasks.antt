@@ -26,8 +26,11 @@ loads_with text sink sink' mid result waits (inr none) (inr cut) =
     let empty : length waits ≡ 0 = ap length none.1 in
     absurd (omega (arith, few, empty))
 
-pub loads : (text : List ℕ) (sink sink' : Side) (result : Status) → StopsWith sink sink' AllRead text [] result → Loaded text sink sink' result
-loads text sink sink' result stops = loads_with text sink sink' stops.0 result stops.1 stops.2 stops.3
+pub loads : (text waited : List ℕ) (sink sink' : Side) (result : Status) → waited ≡ [] → StopsWith sink sink' AllRead text waited result
+    → Loaded text sink sink' result
+loads text waited sink sink' result none stops =
+    let it : StopsWith sink sink' AllRead text [] result = subst (λ (w : List ℕ). StopsWith sink sink' AllRead text w result) none stops in
+    loads_with text sink sink' it.0 result it.1 it.2 it.3
 
 -- no call failed, so no count rose
 pub did_calmly : (t : Task) (source source' sink sink' : Side) (result : Status) → Did t source source' sink sink' result → NoCallFailed result

@@ -51,8 +51,8 @@ impl Loader {
     {
         let changes = is_change(&line);
         let delivers = is_delivery(&line);
-        let answer = self.replayer.reply(alloc, line)?;
         self.commands += 1;
+        let answer = self.replayer.reply(alloc, line)?;
         self.accepted += u32::from(accepts(changes, &answer));
         self.complete += u32::from(completes(delivers, &answer));
         Ok(())
