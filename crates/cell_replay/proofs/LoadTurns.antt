@@ -18,10 +18,11 @@ use Rattle.cell_script.specs.declared.command.ScriptLine.TheVariants as line
 use Rattle.cell_script.specs.Generated.{TakesFirst}
 use Rattle.cds_cell.specs.Scripted.{answer_of, step_of}
 use Rattle.cds_cell.specs.Standing.{Stands}
+use Rattle.cell_replay.specs.declared.counts.Counts.{Counts}
 use Rattle.cell_replay.specs.declared.loader.Loader.{Loader}
 use Rattle.cell_replay.specs.Loading.{answered_from, completes, first_table, is_accepted, is_change, is_completion, is_delivery, is_refusal, summary_of, summary_text, values_shown}
 use Rattle.cell_replay.specs.PrivateKinds.{is_complete, line_changes, line_delivers, refuses}
-use Rattle.cell_replay.specs.PrivateLoading.{Takes}
+use Rattle.cell_replay.specs.PrivateLoading.{Takes, Tells}
 use Rattle.cell_replay.specs.PrivateStanding.{IsReply}
 
 count_cons : {A : Type 0} (p : A → Bool) (x : A) (xs : List A) → count_by p (x ∷ xs) ≡ cond (p x) 1 0 + count_by p xs
@@ -66,20 +67,29 @@ loading_goes_on old new c left left' all first so_far taken =
       behind = h.behind;
     }
 
--- the text of the summary, once none is left
-pub loading_ends : (loader : Loader) (left all : List Command) (rounds : ℕ) → left ≡ [] → (so_far : IsLoading loader left all)
-    → summary_text rounds (record { commands = loader.commands; accepted = loader.accepted; complete = loader.complete;
-    live = option_map_or live_count (first_table so_far.cell) 0; values = option_map_or values_shown (first_table so_far.cell) 0 })
-    ≡ summary_text rounds (summary_of all)
-loading_ends loader left all rounds none so_far =
+-- the counts are those of the summary, once none is left
+pub loading_ends : (loader : Loader) (left all : List Command) (rounds : ℕ) (counts : Counts) → left ≡ [] → (so_far : IsLoading loader left all)
+    → Tells counts loader so_far.cell
+    → summary_text rounds (record {
+      commands = counts.commands;
+      accepted = counts.accepted;
+      complete = counts.complete;
+      live = counts.live;
+      values = counts.values;
+    }) ≡ summary_text rounds (summary_of all)
+loading_ends loader left all rounds counts none so_far told =
     let behind : so_far.cell ≡ replay (map step_of all) =
-      ap (λ (cs : List Command). replay_from so_far.cell (map step_of cs)) (sym none) ∙ so_far.behind in
-    let commands : loader.commands ≡ length all = omega (arith, so_far.commands, ap length none) in
-    let accepted : loader.accepted ≡ count_by is_accepted (answered_from empty_cell all) =
-      omega (arith, so_far.accepted, ap (λ (cs : List Command). count_by is_accepted (answered_from so_far.cell cs)) none) in
-    let complete : loader.complete ≡ count_by completes (answered_from empty_cell all) =
-      omega (arith, so_far.complete, ap (λ (cs : List Command). count_by completes (answered_from so_far.cell cs)) none) in
-    rw (behind, commands, accepted, complete) refl
+    ap (λ (cs : List Command). replay_from so_far.cell (map step_of cs)) (sym none) ∙ so_far.behind in
+    let commands : counts.commands ≡ length all = omega (arith, so_far.commands, told.commands, ap length none) in
+    let accepted : counts.accepted ≡ count_by is_accepted (answered_from empty_cell all) =
+    omega (arith, so_far.accepted, told.accepted, ap (λ (cs : List Command). count_by is_accepted (answered_from so_far.cell cs)) none) in
+    let complete : counts.complete ≡ count_by completes (answered_from empty_cell all) =
+    omega (arith, so_far.complete, told.complete, ap (λ (cs : List Command). count_by completes (answered_from so_far.cell cs)) none) in
+    let live : counts.live ≡ option_map_or live_count (first_table (replay (map step_of all))) 0 =
+    told.live ∙ ap (λ (g : Cell). option_map_or live_count (first_table g) 0) behind in
+    let values : counts.values ≡ option_map_or values_shown (first_table (replay (map step_of all))) 0 =
+    told.values ∙ ap (λ (g : Cell). option_map_or values_shown (first_table g) 0) behind in
+    rw (commands, accepted, complete, live, values) refl
 
 -- ---- what comes next
 

@@ -3,6 +3,7 @@
 
 mod answers;
 mod check;
+mod counts;
 mod digits;
 mod endings;
 mod forms;

@@ -22,7 +22,7 @@ fn summary_line(alloc: Global, rounds: u32) -> Result<Vec<u8>, AllocError>
     'commands: loop {
         match script.next(alloc)? {
             Some(line) => loader.take(alloc, line)?,
-            None => return loader.print(alloc, rounds),
+            None => return loader.counts()?.print(alloc, rounds),
         }
     }
 }
@@ -34,10 +34,5 @@ pub(crate) fn load<K: Sink>(alloc: Global, rounds: u32, sink: &mut K) -> Status
     ensures { Loaded (load_text rounds) (side_of K.written K.faults sink.old) (side_of K.written K.faults sink.new) result }
 {
     let mut waiting = Waiting::new(alloc);
-    stop_with(
-        summary_line(alloc, rounds),
-        &mut waiting,
-        sink,
-        Status::Ok,
-    )
+    stop_with(summary_line(alloc, rounds), &mut waiting, sink, Status::Ok)
 }

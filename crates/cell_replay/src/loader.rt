@@ -1,6 +1,7 @@
 // A cell that is loaded, a command at a time.
 ghost use Rattle.cell_replay.specs.PrivateCounting.{IsCounting};
 
+use crate::counts::Counts;
 use crate::kinds::{accepts, completes, is_change, is_delivery};
 use crate::replayer::Replayer;
 use crate::shown::{first_table, shown_counts};
@@ -19,15 +20,12 @@ pub(crate) struct Loader {
 
 impl Loader {
     ghost use Rattle.std.specs.Prelude.{◌≡◌, ◌+◌, ◌<◌, ◌≤◌, IfOk, OnOk};
-    ghost use Rattle.std.specs.Option.{option_map_or};
     ghost use Rattle.cds_base.specs.declared.scan.TheConstants.{MOST_LINES};
-    ghost use Rattle.directory.specs.Shown.{live_count};
     ghost use Rattle.cell_model.specs.Cells as model;
     ghost use Rattle.cell_script.specs.declared.command.Command.{Command as Command'};
     ghost use Rattle.cell_script.specs.declared.command.ScriptLine.TheVariants as says;
     ghost use Rattle.cds_cell.specs.Standing.{Stands};
-    ghost use Rattle.cell_replay.specs.Loading.{first_table, summary_text, values_shown};
-    ghost use Rattle.cell_replay.specs.PrivateLoading.{Takes};
+    ghost use Rattle.cell_replay.specs.PrivateLoading.{Takes, Tells};
 
     /// Over a cell without houses.
     pub(crate) fn new(alloc: Global) -> Loader
@@ -58,19 +56,17 @@ impl Loader {
         Ok(())
     }
 
-    /// The line that tells the counts, and what shows at the first house.
-    pub(crate) fn print(&self, alloc: Global, rounds: u32) -> Result<Vec<u8>, AllocError>
-        ensures { (g : model.Cell) → Stands self.now.replayer.cell g → IfOk result (λ text. text.items ≡ summary_text rounds (record {
-            commands = self.now.commands; accepted = self.now.accepted; complete = self.now.complete;
-            live = option_map_or live_count (first_table g) 0; values = option_map_or values_shown (first_table g) 0 })) }
+    /// The counts, and what shows at the first house.
+    pub(crate) fn counts(&self) -> Result<Counts, AllocError>
+        ensures { (g : model.Cell) → Stands self.now.replayer.cell g → IfOk result (λ counts. Tells counts self.now g) }
     {
         let (live, values) = shown_counts(first_table(self.replayer.cell()))?;
-        let commands = self.commands;
-        let accepted = self.accepted;
-        let complete = self.complete;
-        let text = format!(in alloc;
-            "load {rounds} commands {commands} accepted {accepted} complete {complete} live {live} values {values}\n"
-        )?;
-        Ok(text.into_bytes())
+        Ok(Counts {
+            commands: self.commands,
+            accepted: self.accepted,
+            complete: self.complete,
+            live,
+            values,
+        })
     }
 }

@@ -30,6 +30,7 @@ returns-in-None c =
     let so_far = c.commands.invariant in
     let left = c.commands.script in
     let none : left ≡ [] = none_left left c.next.new.self (subst (TakesFirst left c.next.new.self) c.in-None.is c.in_ok-line.ensures.ok) in
+    let counts = c.in_ok-counts-in-None.field-0 in
+    let told = c.in_ok-counts-in-None.ensures so_far.cell so_far.stands in
     IfOk-weaker c.print.result _ (λ text. text.items ≡ load_text c.args.rounds)
-    (λ text is. is ∙ loading_ends c.commands.loader left (script c.args.rounds) c.args.rounds none so_far)
-    (c.print.ensures so_far.cell so_far.stands)
+    (λ text is. is ∙ loading_ends c.commands.loader left (script c.args.rounds) c.args.rounds counts none so_far told) c.print.ensures
