@@ -265,7 +265,13 @@ impl Table {
         ensures ok { OnOk result (self.new ≡ take_table t self.old other.now) }
         ensures err { OnErr result (self.new ≡ self.old) }
     {
-        take_later(&mut self.entries, &mut self.deletions, alloc, &other.entries, t)
+        take_later(
+            &mut self.entries,
+            &mut self.deletions,
+            alloc,
+            &other.entries,
+            t,
+        )
     }
 }
 

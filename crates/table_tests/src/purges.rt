@@ -50,7 +50,12 @@ fn deletions(alloc: Global) -> Result<AttrMap, Fail> {
 }
 
 // How many steps it takes to advance to these times, one after the other.
-fn steps_to<L: Ledger>(replica: &mut Replica, first: u64, last: u64, blank: Blank) -> Result<u64, Fail>
+fn steps_to<L: Ledger>(
+    replica: &mut Replica,
+    first: u64,
+    last: u64,
+    blank: Blank,
+) -> Result<u64, Fail>
     requires name { blank.name ≡ L.name }
     requires parts { blank.parts ≡ L.parts }
     requires some { 0 < blank.parts }
@@ -82,7 +87,13 @@ fn large(alloc: Global, count: u64) -> Result<Replica, Fail>
     let mut own = empty(alloc);
     for number in 0..count {
         let name = format!(in alloc; "e{number}")?;
-        let birth = object(alloc, name.as_bytes(), number + 1, None, AttrMap::new(alloc))?;
+        let birth = object(
+            alloc,
+            name.as_bytes(),
+            number + 1,
+            None,
+            AttrMap::new(alloc),
+        )?;
         own.take_marks(alloc, &birth)?;
     }
     Ok(own)

@@ -20,7 +20,7 @@ returns-in_ok-insert-clause-joined c = λ none mine entry.
     let own = map.get c.args.own.now c.args.name.now in
     let unknown : c.is_known.result ≡ false = search rules in
     let new : is_passed c.args.t own c.args.entry.now ≡ false =
-        ap (λ x. is_passed c.args.t x c.args.entry.now) (sym c.get.ensures) ∙ c.is_known.ensures.new unknown in
+    ap (λ x. is_passed c.args.t x c.args.entry.now) (sym c.get.ensures) ∙ c.is_known.ensures.new unknown in
     ap (maybe join_entries own) (put_here c.args.later.now c.insert.new.self c.args.name.now c.in_ok-copy.field-0
     (after_entry c.args.t c.args.entry.now) c.in_ok-after.field-0 c.in_ok-insert.ensures.ok c.in_ok-copy.ensures c.in_ok-after.ensures)
     ∙ new_taken c.args.t own c.args.entry.now new

@@ -10,13 +10,13 @@ returns-clause-index c = λ indexed.
     let later = c.in_ok-later.later in
     let keeps = c.add_deletions-taken.ensures.keeps in
     let known : IsValidTable c.if-is_ok.entries × KnowsAll c.add_deletions-taken.new.deletions c.if-is_ok.entries =
-        elim c.if-is_ok.branch [
-          then-is_ok w ↦ subst (λ m. IsValidTable m × KnowsAll c.add_deletions-taken.new.deletions m) (sym w.entries-is)
-              (joins_known c.args.deletions.now c.add_deletions-taken.new.deletions c.args.entries.now later indexed keeps
-              w.join-taken.result w.join-taken.new.self (c.in_ok-later.ensures.valid indexed.valid c.requires)
-              (when_ok c.add_deletions-taken.result (sym c.is_ok.ensures.value ∙ w.if-is_ok.true) c.add_deletions-taken.ensures.ok)
-              w.join-taken.ensures.ok w.join-taken.ensures.err)
-          | else-is_ok w ↦ stays_known c.args.deletions.now c.add_deletions-taken.new.deletions c.args.entries.now later indexed keeps
-              c.if-is_ok.entries w.entries-is
-        ] in
+    elim c.if-is_ok.branch [
+      | then-is_ok w ↦ subst (λ m. IsValidTable m × KnowsAll c.add_deletions-taken.new.deletions m) (sym w.entries-is)
+          (joins_known c.args.deletions.now c.add_deletions-taken.new.deletions c.args.entries.now later indexed keeps
+          w.join-taken.result w.join-taken.new.self (c.in_ok-later.ensures.valid indexed.valid c.requires)
+          (when_ok c.add_deletions-taken.result (sym c.is_ok.ensures.value ∙ w.if-is_ok.true) c.add_deletions-taken.ensures.ok)
+          w.join-taken.ensures.ok w.join-taken.ensures.err)
+      | else-is_ok w ↦ stays_known c.args.deletions.now c.add_deletions-taken.new.deletions c.args.entries.now later indexed keeps
+          c.if-is_ok.entries w.entries-is
+    ] in
     record { valid = known.0; all = c.settle.ensures.all known.1; first = c.settle.ensures.first }
