@@ -37,7 +37,7 @@ use Rattle.directory.specs.declared.deletions.Deletion.{Deletion}
 use Rattle.directory.specs.declared.deletions.Deletions.{Deletions}
 use Rattle.directory.specs.declared.deletions.What.{What}
 use Rattle.directory.specs.Deletions.{has_lost, is_lost, has_deletion}
-use Rattle.directory.specs.Entries.{Entries, join_tied, join_entries, join_tables, IsHeldCell, IsValidEntry, IsValidTable}
+use Rattle.directory.specs.Entries.{Entries, join_entries, join_tables, IsHeldCell, IsValidEntry, IsValidTable}
 use Rattle.directory.specs.EntryLawProofs.{kinds, entry_join, table_join}
 use Rattle.directory.specs.IndexWords.{is_indexed, IsIndexed, Keeps, KnowsAll}
 use Rattle.directory.specs.Purges.{after_entry, is_passed, taken_entry, take_entry, take_table}

@@ -4,38 +4,34 @@ ghost use Rattle.std.specs.Prelude.{◌-◌, min, MatchOption, MatchBool, IsSome
 ghost use Rattle.std.specs.FinMap as map;
 ghost use Rattle.std.specs.BTreeMap as tree;
 ghost use Rattle.std.specs.List.{fold};
-ghost use Rattle.std.specs.Option.{option_map, option_and_then};
-ghost use Rattle.cds_stamps.specs.Semilattice.{maybe};
-ghost use Rattle.cds_stamps.specs.Stamps.{later_stamp};
-ghost use Rattle.cds_stamps.specs.Octets.{octets_cmp, is_octets};
+ghost use Rattle.std.specs.Option.{option_map};
+ghost use Rattle.cds_stamps.specs.Octets.{octets_cmp};
 ghost use Rattle.cds_stamps.specs.Outcomes.{ok_unless};
-ghost use Rattle.cds_stamps.specs.Undos.{RaisesAt, TakesBack, LogsChange, MendsAt, back_at};
-ghost use Rattle.cds_stamps.specs.Names.{attr_fault};
-ghost use Rattle.cell_names.specs.FullNames.{spelling};
-ghost use Rattle.cell_names.specs.ChildPointers.{pointer_in, pointer_octets};
+ghost use Rattle.cds_stamps.specs.Undos.{TakesBack, LogsChange, MendsAt, back_at};
+ghost use Rattle.cell_names.specs.ChildPointers.{pointer_octets};
 ghost use Rattle.attr_sets.specs.Cells.{Cleared, Marked, cell_of};
 ghost use Rattle.directory.specs.Deletions.{has_deletion, without, change_at, entry_without};
 ghost use Rattle.directory.specs.Held.{held_in, most_held};
 ghost use Rattle.directory.specs.declared.deletions.What.TheVariants as what;
 ghost use Rattle.directory.specs.Kinds.{replicas};
-ghost use Rattle.directory.specs.Entries.{join_entries, join_tables, IsValidEntry, IsValidTable};
+ghost use Rattle.directory.specs.Entries.{join_tables, IsValidTable};
 ghost use Rattle.directory.specs.EntryLawProofs.{table_join};
 ghost use Rattle.directory.specs.EntryUndoWords.{undo_entry};
 ghost use Rattle.directory.specs.Applied.{changed_entry, deleted_entry, TakesOwn, TakesIn, JoinsEntry, LeavesOthers};
 ghost use Rattle.attr_sets.specs.CellChanges.{change_marks};
 ghost use Rattle.directory.specs.Updates.{Delete, Clear, Repoint, changed_name, change_of};
 ghost use Rattle.directory.specs.Histories.{Mark, entry_of};
-ghost use Rattle.directory.specs.Purges.{entry_left, purged_table, purged};
-ghost use Rattle.directory.specs.Shown.{Shown, face_of, shown_in, live_count, new_refusal, live_refusal, refusal_of, marks_of, shown_dir};
+ghost use Rattle.directory.specs.Shown.{Shown, face_of, shown_in, new_refusal, live_refusal, refusal_of, marks_of, shown_dir};
 
 use crate::attr_map::AttrMap;
 use crate::deletions::{Deletion, What};
 use crate::entry::{EntryCell, Fragment, Kind, LINK_TARGET, REPLICAS, is_reserved};
+use crate::fragments::{born, born_with, one_attr, pointer_value, target_value};
 use crate::undo::EntryUndo;
 use crate::update::{Update, UpdateRefusal};
 use attr_sets::{AttrCell, CellChange, Value};
 use cds_stamps::{AttrName, Lattice, SimpleName, Stamp};
-use cell_names::{ChildPointer, FullName, HouseList};
+use cell_names::{ChildPointer, HouseList};
 use std::alloc::{AllocError, Global};
 use std::collections::BTreeMap;
 use std::collections::btree_map::Iter;
@@ -787,72 +783,4 @@ fn refuse_if(wrong: bool) -> Result<(), UpdateRefusal>
     } else {
         Ok(())
     }
-}
-
-/// The fragment of a new entry with these cells.
-fn born(
-    alloc: Global,
-    name: &SimpleName,
-    kind: Kind,
-    attrs: AttrMap,
-    stamp: Stamp,
-) -> Result<Fragment, AllocError>
-    ensures name { IfOk result (λ f. f.name ≡ name.now) }
-    ensures entry { IfOk result (λ f. f.entry ≡ record { birth = stamp; kind = kind; death = None; attrs = attrs }) }
-{
-    Ok(Fragment {
-        name: name.copy(alloc)?,
-        entry: EntryCell {
-            birth: stamp,
-            kind,
-            death: None,
-            attrs,
-        },
-    })
-}
-
-/// The fragment of a new entry with one value of one attribute.
-fn born_with(
-    alloc: Global,
-    name: &SimpleName,
-    kind: Kind,
-    attr: &[u8],
-    value: &Value,
-    stamp: Stamp,
-) -> Result<Fragment, AllocError>
-    requires { attr_fault attr.now ≡ None }
-    ensures name { IfOk result (λ f. f.name ≡ name.now) }
-    ensures entry { IfOk result (λ f.
-        let cell = cell_of (Marked value.now (record { present = true; stamp = stamp }) ∷ []) in
-        f.entry ≡ record { birth = stamp; kind = kind; death = None; attrs = map.insert map.empty attr.now cell }) }
-{
-    let stamp = &stamp;
-    let cell = AttrCell::changed(alloc, &CellChange::Add(value), *stamp)?;
-    let attrs = one_attr(alloc, AttrName::known(alloc, attr)?, cell)?;
-    born(alloc, name, kind, attrs, *stamp)
-}
-
-/// The value that spells the target of a link.
-fn target_value(alloc: Global, target: &FullName) -> Result<Value, AllocError>
-    ensures { IfOk result (λ v. v ≡ spelling target.now) }
-{
-    let octets = target.print(alloc)?;
-    Value::known(alloc, &octets)
-}
-
-/// The value that is the pointer of a child.
-fn pointer_value(alloc: Global, pointer: &ChildPointer) -> Result<Value, AllocError>
-    ensures { IfOk result (λ v. v ≡ pointer_octets (pointer_in pointer.now)) }
-{
-    let octets = pointer.write(alloc)?;
-    Value::known(alloc, &octets)
-}
-
-/// The cells of one attribute.
-fn one_attr(alloc: Global, attr: AttrName, cell: AttrCell) -> Result<AttrMap, AllocError>
-    ensures { IfOk result (λ m. m ≡ map.insert map.empty attr cell) }
-{
-    let mut attrs = AttrMap::new(alloc);
-    attrs.insert(attr, cell)?;
-    Ok(attrs)
 }

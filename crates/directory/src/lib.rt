@@ -5,6 +5,7 @@ mod attr_map;
 mod deletions;
 mod entry;
 mod entry_map;
+mod fragments;
 mod later;
 pub mod laws;
 mod table;

@@ -1,6 +1,6 @@
 use Rattle.std.proofs.Common.{sym, subst, ◌∙◌}
 use Rattle.directory.specs.Entries.{IsValidTable}
-use Rattle.directory.specs.IndexWords.{IsIndexed, KnowsAll}
+use Rattle.directory.specs.IndexWords.{KnowsAll}
 use Rattle.directory.proofs.LaterLaws.{when_ok, stays_known, joins_known}
 use Rattle.directory.proofs.later.take_later.Goals as goal
 use Rattle.directory.proofs.later.take_later.Goals.{then-is_ok, else-is_ok}
