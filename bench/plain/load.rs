@@ -89,7 +89,7 @@ impl Loader {
         let Some(held) = self.cell.held(ROOT, MASTER) else {
             return (0, 0);
         };
-        let live = held.replica.entries.values().filter(|entry| entry.is_live());
+        let live = held.replica.entries().values().filter(|entry| entry.is_live());
         let values = |entry: &Entry| entry.attributes.values().map(|attribute| attribute.values().count()).sum::<usize>();
         live.fold((0, 0), |(entries, count), entry| (entries + 1, count + values(entry)))
     }
