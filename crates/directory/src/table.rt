@@ -58,9 +58,11 @@ impl Clone for Table {
     ghost is_clone = { λ x y. y ≡ x };
 
     fn clone(&self) -> Result<Table, AllocError> {
+        // (the pattern names each field, so that there are no others)
+        let Table { entries, deletions } = self;
         Ok(Table {
-            entries: self.entries.clone()?,
-            deletions: self.deletions.clone()?,
+            entries: entries.clone()?,
+            deletions: deletions.clone()?,
         })
     }
 }
