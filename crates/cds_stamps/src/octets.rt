@@ -8,15 +8,19 @@ ghost use Rattle.std.specs.Hash as fed;
 ghost use Rattle.std.proofs.Common.{rules};
 
 use crate::octet_order::octet_order;
+use smallvec::SmallVec;
 use std::alloc::{AllocError, Global};
 use std::cmp::Ordering;
 use std::hash::{Hash, Hasher};
 use std::marker::Model;
 
+/// So many octets are kept in place, and more in an allocation.
+const IN_PLACE: usize = 16;
+
 /// Octets, ordered one by one: what names and values are made of.
-#[derive(Debug, Drop)]
+#[derive(Debug)]
 pub struct Octets {
-    items: Vec<u8>,
+    items: SmallVec<u8, IN_PLACE>,
 }
 
 impl Model for Octets {
@@ -25,6 +29,13 @@ impl Model for Octets {
     ghost Value = { List ℕ };
 
     ghost view = { λ v. v.items.items };
+}
+
+// (a value is let go by one call, wherever its octets are kept)
+impl Drop for Octets {
+    fn drop(self) {
+        let Octets { items: _items } = self;
+    }
 }
 
 impl PartialEq for Octets {
@@ -89,7 +100,7 @@ impl Octets {
         ensures { IfOk result (λ v. v ≡ octets.now) }
     {
         Ok(Octets {
-            items: Vec::from_slice(alloc, octets)?,
+            items: SmallVec::from_slice(alloc, octets)?,
         })
     }
 
