@@ -20,7 +20,8 @@ use Rattle.cds_records.specs.Layouts.{done, next}
 use Rattle.cds_records.specs.Fields.{free, outside, stamp_order, stamp, attr_name, simple_name, value}
 use Rattle.cds_records.specs.Records.{mark, empty_cell, cell, kind, entry, replica}
 use Rattle.std.specs.Int.{w64, to_be_bytes}
-use Rattle.cds_records.specs.Octets.{stamp_octets, optional_stamp_octets, each_octets, name_octets, value_octets, mark_octets, cell_octets, entry_octets, replica_octets}
+use Rattle.cds_records.specs.Octets.{stamp_octets, optional_stamp_octets, each_octets, name_octets, value_octets}
+use Rattle.cds_records.specs.Octets.{mark_octets, cell_octets, entry_octets, replica_octets}
 use Rattle.cds_records.specs.Ranges.{FitsStamp, FitsCell, FitsEntry, FitsReplica}
 use Rattle.cds_records.proofs.WholeFields.{Whole, Keyed, octets_keys, whole_next, whole_last, whole_as, octet_whole, u64_whole, stamp_whole}
 use Rattle.cds_records.proofs.WholeFields.{optional_stamp_whole, simple_name_whole, attr_name_whole, value_whole, map_whole}

@@ -1,6 +1,7 @@
 -- Octets compared several at a time, as the numbers that they spell with the first octet highest.
 use Rattle.std.proofs.Common.{◌≡◌, ◌≢◌, ℕ, zero, suc, ◌+◌, ◌*◌, ◌≤◌, ◌<◌, min, List, [], ◌∷◌, ◌++◌, length, take, drop, get_or}
-use Rattle.std.proofs.Common.{Ordering, Less, Equal, Greater, nat_cmp, refl, sym, ap, subst, ◌∙◌, arith, take-append-drop, length-drop, length-take-le, take-add, take-take, w32, w64}
+use Rattle.std.proofs.Common.{Ordering, Less, Equal, Greater, nat_cmp, refl, sym, ap, subst, ◌∙◌, arith, take-append-drop}
+use Rattle.std.proofs.Common.{length-drop, length-take-le, take-add, take-take, w32, w64}
 use Rattle.std.specs.Int.{from_be_bytes}
 use Rattle.std.specs.Ordering.{ordering_then, MatchOrdering}
 use Rattle.std.proofs.lemmas.List.{drop_more}

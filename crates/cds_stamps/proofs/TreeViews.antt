@@ -13,7 +13,8 @@ use Rattle.std.specs.Map.Calls.{RetainsPairs}
 use Rattle.std.specs.BTreeMap.{is_at}
 use Rattle.std.specs.Cmp.{IsTotalOrder, eq_by_cmp_equiv}
 use Rattle.std.specs.FinMap.{FinMap, IsAntisymmetric, len, len-empty, len-insert, get, insert, find}
-use Rattle.std.specs.FinMap.{from_entries, get-from_entries, get-insert, remove, get-remove, same_map, entries, from_sorted, get-from_sorted, entries-from_sorted}
+use Rattle.std.specs.FinMap.{from_entries, get-from_entries, get-insert, remove, get-remove, same_map}
+use Rattle.std.specs.FinMap.{entries, from_sorted, get-from_sorted, entries-from_sorted}
 use Rattle.std.specs.FinMap.Entries.{is_sorted, below_all}
 use Rattle.std.proofs.lemmas.Map.{NonePasses, lookup-none}
 use Rattle.std.proofs.lemmas.Map.Keys.{sorted_head, sorted_tail, IsDistinct-head, IsDistinct-from_sorted}

@@ -50,7 +50,8 @@ use Rattle.cds_records.specs.Records.{message}
 use Rattle.cds_records.specs.declared.fault.RecordFault.{RecordFault}
 use Rattle.cds_records.specs.declared.message.Message as recorded
 use Rattle.cell_replay.specs.Headline.{Converges, Finds, Settled, accepted_in, cell_behind, commands_from, commands_of, import_line, line_place}
-use Rattle.cell_replay.specs.Replies.{Numbered, Said, asked_of, does, dump_told, first_target, message_told, octets_told, question_said, refusal_behind, reply_to, says}
+use Rattle.cell_replay.specs.Replies.{Numbered, Said, asked_of, does, dump_told, first_target, message_told}
+use Rattle.cell_replay.specs.Replies.{octets_told, question_said, refusal_behind, reply_to, says}
 use Rattle.cell_replay.specs.Replies.{refusal_of_octets, slot_told, steps_of, target_of, target_read, trusted, updates_told, values_read, wanted_by}
 
 -- ---- what questions never answer

@@ -20,7 +20,8 @@ use Rattle.cds_cell.specs.Scripted.{answer_of, step_of}
 use Rattle.cds_cell.specs.Standing.{Stands}
 use Rattle.cell_replay.specs.declared.counts.Counts.{Counts}
 use Rattle.cell_replay.specs.declared.loader.Loader.{Loader}
-use Rattle.cell_replay.specs.Loading.{answered_from, completes, first_table, is_accepted, is_change, is_completion, is_delivery, is_refusal, summary_of, summary_text, values_shown}
+use Rattle.cell_replay.specs.Loading.{answered_from, completes, first_table, is_accepted, is_change, is_completion}
+use Rattle.cell_replay.specs.Loading.{is_delivery, is_refusal, summary_of, summary_text, values_shown}
 use Rattle.cell_replay.specs.PrivateKinds.{is_complete, line_changes, line_delivers, refuses}
 use Rattle.cell_replay.specs.PrivateLoading.{Takes, Tells}
 use Rattle.cell_replay.specs.PrivateStanding.{IsReply}

@@ -1,5 +1,6 @@
 -- Sets of deletions: what an insertion, a removal and a `retain` leave, what comes first, and loops that add what a map has.
-use Rattle.std.proofs.Common.{◌≡◌, ◌⊎◌, inl, inr, ℕ, ◌<◌, Bool, true, false, not, cond, List, [], ◌∷◌, slice_get, length, Option, Some, None, Result, Ok, Err, OnOk, OnErr}
+use Rattle.std.proofs.Common.{◌≡◌, ◌⊎◌, inl, inr, ℕ, ◌<◌, Bool, true, false, not, cond, List, [], ◌∷◌}
+use Rattle.std.proofs.Common.{slice_get, length, Option, Some, None, Result, Ok, Err, OnOk, OnErr}
 use Rattle.std.proofs.Common.{arith, refl, sym, ap, subst, ◌∙◌}
 use Rattle.std.specs.Prelude.{◌≢◌, ◌||◌, ◌&&◌, if◌then◌else◌, IfSome, IfNone}
 use Rattle.std.specs.declared.cmp.Ordering.{Ordering}

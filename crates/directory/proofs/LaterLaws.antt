@@ -3,7 +3,8 @@
 use Rattle.std.proofs.Common.{◌≡◌, Bool, true, false, cond, List, [], ◌∷◌, Option, Some, None, refl, sym, ap, subst, ◌∙◌, ◌⊎◌, inl, inr, ⊎_elim}
 use Rattle.std.proofs.Common.{is_eq, Result, Ok, Err, OnOk, OnErr}
 use Rattle.std.specs.Prelude.{ℕ, ◌&&◌, ◌≢◌, T, IfSome, is_ok, if◌then◌else◌}
-use Rattle.std.specs.FinMap.{FinMap, IsAntisymmetric, get, empty, insert, entries, entries_sorted, from_entries, get-entries, get-empty, get-insert, get-from_entries, same_map}
+use Rattle.std.specs.FinMap.{FinMap, IsAntisymmetric, get, empty, insert, entries, entries_sorted, from_entries}
+use Rattle.std.specs.FinMap.{get-entries, get-empty, get-insert, get-from_entries, same_map}
 use Rattle.std.specs.FinMap.Entries.{is_sorted, below_all}
 use Rattle.std.specs.Option.{option_and_then}
 use Rattle.std.specs.declared.cmp.Ordering.{Ordering}
