@@ -46,7 +46,8 @@ module _ {K X : Type 0} {R : K → K → Ordering} (o : IsTotalOrder R) (same : 
 
 -- ---- entries
 
-tied_joins : (a b : EntryCell) → a.birth ≡ b.birth → join_entries a b ≡ join_tied a b
+-- entries of one birth
+pub tied_joins : (a b : EntryCell) → a.birth ≡ b.birth → join_entries a b ≡ join_tied a b
 tied_joins a b e =
     let pick : Ordering → EntryCell = λ r. elim r [ Less ↦ b | Equal ↦ join_tied a b | Greater ↦ a ] in
     ap pick (ap (stamp_cmp a.birth) (sym e) ∙ tied_itself stamp_total a.birth)

@@ -22,7 +22,7 @@ use Rattle.directory.specs.declared.deletions.What.TheVariants.{Clear, Absent}
 use Rattle.directory.specs.declared.deletions.Deletion.{Deletion}
 use Rattle.directory.specs.declared.deletions.Deletions.{Deletions}
 use Rattle.directory.specs.Deletions.{is_at as stamped, what_cmp, deletion_cmp, is_before, is_deletion}
-use Rattle.directory.specs.IndexWords.{is_indexed, Keeps, AddsAt, KnowsAt, KnowsMark, KnowsCell}
+use Rattle.directory.specs.IndexWords.{is_indexed, Keeps, AddsAt, AddsOnly, KnowsAt, KnowsMark, KnowsCell}
 use Rattle.directory.proofs.DeletionOrder.{derived, derived_cmp, deletion_total, deletion_exact}
 
 -- deletions that are one are equal
@@ -125,6 +125,19 @@ adds_one x y d put = (λ e has. put e ∙ kept (is_deletion e d) (is_indexed x e
 
 pub adds_same : (n : List ℕ) (x y : Deletions) → ((e : Deletion) → is_indexed y e ≡ is_indexed x e) → AddsAt n x y
 adds_same n x y same = (λ d has. same d ∙ has, λ d apart. same d)
+
+-- so it is of what an update deletes, which alone is added
+pub adds_it : (x y : Deletions) (d : Deletion) → ((e : Deletion) → is_indexed y e ≡ (if is_deletion e d then true else is_indexed x e))
+    → AddsOnly (Some d) x y
+adds_it x y d put = (kept_beside x y d put, λ e apart. other e apart (is_deletion e d) refl)
+  where
+    other : (e : Deletion) → Some d ≢ Some e → (b : Bool) → is_deletion e d ≡ b → is_indexed y e ≡ is_indexed x e
+    other e apart true same = absurd (apart (ap Some (sym (one_deletion e d same))))
+    other e apart false is = put e ∙ ap (λ b. if b then true else is_indexed x e) is
+
+-- and where it was not added
+pub adds_still : (o : Option Deletion) (x y : Deletions) → ((e : Deletion) → is_indexed y e ≡ is_indexed x e) → AddsOnly o x y
+adds_still o x y same = (λ d has. same d ∙ has, λ d apart. same d)
 
 -- what is known of a stamp, if there is one
 pub known_at : (x : Deletions) (n : List ℕ) (v w : What) (o : Option Stamp) (t : Stamp) → o ≡ Some t → v ≡ w

@@ -2,7 +2,7 @@
 use Rattle.std.proofs.Common.{◌≡◌, ℕ, Bool, true, false, cond, List, [], ◌∷◌, Option, Some, None, refl, sym, ap, subst, ◌∙◌, ⊎_elim}
 use Rattle.std.proofs.Common.{Result, Ok, Err, IfOk, OnOk, OnErr, is_ok}
 use Rattle.std.specs.Prelude.{if◌then◌else◌, IfSome}
-use Rattle.std.specs.Option.{IsSomeAnd, option_map_or}
+use Rattle.std.specs.Option.{IsSomeAnd}
 use Rattle.std.specs.FinMap.{get, empty, insert, get-empty, get-insert}
 use Rattle.std.specs.List.{fold, AllByRecursion}
 use Rattle.std.specs.Cmp.Lexicographic.{nat_list_cmp_total}
@@ -24,7 +24,7 @@ use Rattle.directory.specs.EntryLawProofs.{table_join}
 use Rattle.directory.specs.Histories.{entry_of}
 use Rattle.directory.specs.IndexWords.{is_indexed, Keeps, AddsAt, KnowsAll, BeginsWell, BeginsWellElsewhere, IsIndexed}
 use Rattle.directory.specs.Shown.{Shown, marks_of}
-use Rattle.directory.specs.Updates.{Change, Create, MakeLink, MakeChild, Delete, Add, Remove, Put, Clear, Repoint, changed_name}
+use Rattle.directory.specs.Updates.{Change, changed_name}
 use Rattle.directory.proofs.DeletionLaws.{others_stay, raised_deletion, raised_valid, joined_deletion, update_lost, without_has, without_valid, purged_without}
 use Rattle.directory.proofs.DeletionOrder.{neither_before}
 use Rattle.directory.proofs.DeletionSets.{one_deletion}
@@ -75,8 +75,6 @@ module _ (x y : Deletions) (m n : Entries) (keeps : Keeps x y) (i : IsIndexed x 
           known_raised (changed_name u) e (λ r w h. subst (λ d. IfSome d (λ d. is_indexed y d ≡ true)) (lost r w h) adds) valid
           (raises (i.valid (changed_name u)))
 
-  -- what comes first in the entry of another name than was changed
-
   -- another table that is joined in
   pub known_joined : (others : Deletions) (other : Entries) → Keeps others y → IsIndexed others other → n ≡ join_tables m other → IsKnown y n
   known_joined others other adds j joined = record {
@@ -89,22 +87,6 @@ module _ (x y : Deletions) (m n : Entries) (keeps : Keeps x y) (i : IsIndexed x 
 pub begins_elsewhere : (x y : Deletions) (m n : Entries) (k : List ℕ) → AddsAt k x y → LeavesOthers m n k → IsIndexed x m → BeginsWellElsewhere k y n
 begins_elsewhere x y m n k adds leaves i d apart h least =
     others_stay m n k leaves d apart ∙ i.first d (sym (adds.1 d apart) ∙ h) (λ e has. least e (adds.0 e has))
-
--- the name of a deletion that is there
-name_in : {x : Deletion} (d : Deletion) (n : List ℕ) → Some x ≡ Some d → d.name ≡ x.name
-name_in d n is = ap (λ o. option_map_or (λ x. x.name) o n) (sym is)
-
--- what an update deletes stands in the entry that it is about
-pub deleted_name : (u : Change) (s : Stamp) (d : Deletion) → deleted_by u s ≡ Some d → d.name ≡ changed_name u
-deleted_name (Create n) s d is = cc
-deleted_name (MakeLink n target) s d is = cc
-deleted_name (MakeChild n pointer) s d is = cc
-deleted_name (Delete n) s d is = name_in d n is
-deleted_name (Add n a v) s d is = cc
-deleted_name (Remove n a v) s d is = name_in d n is
-deleted_name (Put n a v) s d is = name_in d n is
-deleted_name (Clear n a) s d is = name_in d n is
-deleted_name (Repoint n master others) s d is = name_in d n is
 
 -- a deletion that is taken out of the index, and dropped from the entries if they have it
 pub known_dropped : (x y : Deletions) (m n : Entries) (d : Deletion)

@@ -26,4 +26,5 @@ pub mod Dropping
 pub mod LaterLaws
 pub mod DeletionLaws
 pub mod IndexLaws
+pub mod TouchedLaws
 pub mod HeldLaws

@@ -1,17 +1,19 @@
 -- Words of private contracts: the index of a table's deletions (own). It may also know of deletions that the table has no more, but
 -- its first one is none of these.
-use Rattle.std.specs.Prelude.{Bool, true, false, ◌≡◌, ◌≢◌, ℕ, List, Option, Some, IfSome}
+use Rattle.std.specs.Prelude.{Bool, true, false, ◌&&◌, ◌≡◌, ◌≢◌, ℕ, List, Option, Some, IfSome}
 use Rattle.std.specs.BTreeSet.{contains}
 use Rattle.std.specs.FinMap.{get}
 use Rattle.cds_stamps.specs.declared.stamp.Stamp.{Stamp}
+use Rattle.cds_stamps.specs.Octets.{is_octets}
 use Rattle.attr_sets.specs.declared.mark.ValueMark.{ValueMark}
 use Rattle.attr_sets.specs.declared.cell.AttrCell.{AttrCell}
 use Rattle.directory.specs.declared.deletions.What.{What}
-use Rattle.directory.specs.declared.deletions.What.TheVariants.{Clear, Absent}
+use Rattle.directory.specs.declared.deletions.What.TheVariants.{Death, Clear, Absent}
 use Rattle.directory.specs.declared.deletions.Deletion.{Deletion}
 use Rattle.directory.specs.declared.deletions.Deletions.{Deletions}
 use Rattle.directory.specs.Entries.{Entries, IsValidTable}
 use Rattle.directory.specs.Deletions.{deletion_cmp, has_deletion, is_before, is_at, is_absent}
+use Rattle.directory.specs.Updates.{Change, Add, Remove, changed_name}
 
 -- the index knows of d (own)
 abbrev pub is_indexed : Deletions → Deletion → Bool
@@ -24,6 +26,10 @@ Keeps x y = (d : Deletion) → is_indexed x d ≡ true → is_indexed y d ≡ tr
 -- the other index knows of the same and of some deletions more, all of them in the entry of the name n (own)
 abbrev pub AddsAt : List ℕ → Deletions → Deletions → Type 0
 AddsAt n x y = Keeps x y × ((d : Deletion) → d.name ≢ n → is_indexed y d ≡ is_indexed x d)
+
+-- the other index knows of the same, and of the one deletion more, if there is one (own)
+abbrev pub AddsOnly : Option Deletion → Deletions → Deletions → Type 0
+AddsOnly o x y = Keeps x y × ((d : Deletion) → o ≢ Some d → is_indexed y d ≡ is_indexed x d)
 
 -- the index knows that w was deleted at a stamp, if there is one, in the entry of the name n (own)
 abbrev pub KnowsAt : Deletions → List ℕ → What → Option Stamp → Type 0
@@ -49,6 +55,28 @@ BeginsWell x m = (d : Deletion) → is_indexed x d ≡ true → ((e : Deletion) 
 abbrev pub BeginsWellElsewhere : List ℕ → Deletions → Entries → Type 0
 BeginsWellElsewhere n x m =
     (d : Deletion) → d.name ≢ n → is_indexed x d ≡ true → ((e : Deletion) → is_indexed x e ≡ true → is_before e d ≡ false) → has_deletion m d ≡ true
+
+-- what was deleted is the value v of the attribute a (own)
+abbrev pub is_absence : List ℕ → List ℕ → What → Bool
+is_absence a v Death = false
+is_absence a v (Clear b) = false
+is_absence a v (Absent b w) = is_octets b a && is_octets w v
+
+-- what an update may undo of the deletions of its entry: one of a value the absence of that value alone, any other each (own)
+abbrev pub may_undo : Change → What → Bool
+may_undo (Add n a v) w = is_absence a v w
+may_undo (Remove n a v) w = is_absence a v w
+may_undo u w = true
+
+-- an update may undo the deletion d (own)
+abbrev pub touches : Change → Deletion → Bool
+touches u d = is_octets d.name (changed_name u) && may_undo u d.what
+
+-- what the index knows of and has none before it is a deletion of the table, if the update cannot have undone it (own)
+abbrev pub BeginsWellBeside : Change → Deletions → Entries → Type 0
+BeginsWellBeside u x m =
+    (d : Deletion) → touches u d ≡ false → is_indexed x d ≡ true → ((e : Deletion) → is_indexed x e ≡ true → is_before e d ≡ false)
+    → has_deletion m d ≡ true
 
 -- the index is that of the table, whose entries are valid (own)
 pub record IsIndexed (x : Deletions) (m : Entries) : Type 0 where

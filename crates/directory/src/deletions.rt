@@ -6,7 +6,8 @@ ghost use Rattle.directory.specs.declared.deletions.What.{What};
 ghost use Rattle.cds_stamps.specs.declared.stamp.Stamp.{Stamp};
 ghost use Rattle.cds_stamps.specs.Stamps.{is_up_to};
 ghost use Rattle.directory.specs.Deletions.{has_lost, has_deletion, is_before, is_deletion, deleted_by};
-ghost use Rattle.directory.specs.IndexWords.{is_indexed, Keeps, AddsAt, KnowsMark, KnowsCell, KnowsAll, BeginsWell, BeginsWellElsewhere};
+ghost use Rattle.directory.specs.IndexWords.{is_indexed, Keeps, AddsAt, AddsOnly, KnowsMark, KnowsCell, KnowsAll};
+ghost use Rattle.directory.specs.IndexWords.{BeginsWell, BeginsWellElsewhere, is_absence, may_undo, touches, BeginsWellBeside};
 ghost use Rattle.directory.specs.Updates.{change_of, changed_name};
 
 use crate::entry::{EntryCell, REPLICAS};
@@ -59,6 +60,28 @@ fn deletion_of(alloc: Global, update: &Update, stamp: Stamp) -> Result<Option<De
         name: update.name().copy(alloc)?,
         what,
     }))
+}
+
+/// Whether an update may undo what was deleted of its entry: one of a value undoes the absence of that value alone.
+fn reaches(update: &Update, what: &What) -> bool
+    ensures { result ≡ may_undo (change_of update.now) what.now }
+{
+    match update {
+        Update::Add(_, attr, value) | Update::Remove(_, attr, value) => {
+            is_absence(what, attr, value)
+        }
+        _ => true,
+    }
+}
+
+/// Whether this value of this attribute was deleted.
+fn is_absence(what: &What, attr: &AttrName, value: &Value) -> bool
+    ensures { result ≡ is_absence attr.now value.now what.now }
+{
+    match what {
+        What::Absent(of, gone) => *of == *attr && *gone == *value,
+        _ => false,
+    }
 }
 
 /// Under so many deletions that the index knows of none is thrown away but the first.
@@ -131,7 +154,7 @@ impl Deletions {
         update: &Update,
         stamp: Stamp,
     ) -> Result<(), AllocError>
-        ensures adds { AddsAt (changed_name (change_of update.now)) self.old self.new }
+        ensures adds { AddsOnly (deleted_by (change_of update.now) stamp) self.old self.new }
         ensures ok { OnOk result (IfSome (deleted_by (change_of update.now) stamp) (λ d. is_indexed self.new d ≡ true)) }
         ensures err { OnErr result ((e : Deletion) → is_indexed self.new e ≡ is_indexed self.old e) }
     {
@@ -255,6 +278,27 @@ impl Deletions {
     {
         match self.first() {
             Some(first) => first.name == *name,
+            None => false,
+        }
+    }
+
+    /// Settles after an update: where what comes first is a deletion that it cannot undo, that is no less one than before.
+    pub(crate) fn settle_after(&mut self, entries: &EntryMap, update: &Update)
+        ensures all { KnowsAll self.old entries.now → KnowsAll self.new entries.now }
+        ensures first { BeginsWellBeside (change_of update.now) self.old entries.now → BeginsWell self.new entries.now }
+    {
+        if self.known.len() > self.most || self.begins_touched(update) {
+            self.settle(entries);
+        }
+    }
+
+    /// Whether what comes first is a deletion that the update may undo.
+    fn begins_touched(&self, update: &Update) -> bool
+        ensures { IsFalse result → (d : Deletion) → is_indexed self.now d ≡ true →
+            ((e : Deletion) → is_indexed self.now e ≡ true → is_before e d ≡ false) → touches (change_of update.now) d ≡ false }
+    {
+        match self.first() {
+            Some(first) => first.name == *update.name() && reaches(update, &first.what),
             None => false,
         }
     }

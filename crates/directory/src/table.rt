@@ -319,7 +319,7 @@ fn apply_update(
     let stamp = &stamp;
     deletions.add_update(alloc, update, *stamp)?;
     let applied = entries.apply(alloc, update, *stamp);
-    deletions.settle_at(entries, update.name());
+    deletions.settle_after(entries, update);
     applied
 }
 
@@ -343,7 +343,7 @@ fn accept_update(
     let stamp = &stamp;
     deletions.add_update(alloc, update, *stamp)?;
     let answer = entries.accept(alloc, update, *stamp);
-    deletions.settle_at(entries, update.name());
+    deletions.settle_after(entries, update);
     answer
 }
 
