@@ -71,12 +71,11 @@ pub(crate) fn reply_to_question(
             reply_to_profdel(alloc, cell, name, interface.as_ref(), member)
         }
         Question::Import(house, high, name, interface, object, tcp, udp) => {
-            let (interface, object, tcp, udp) = (*interface, *object, *tcp, *udp);
             let wanted = Wanted {
-                interface,
-                object,
-                tcp,
-                udp,
+                interface: *interface,
+                object: *object,
+                tcp: *tcp,
+                udp: *udp,
             };
             told(import_bindings(alloc, cell, *house, *high, name, wanted))
         }

@@ -58,7 +58,8 @@ impl Place {
         requires serial { self.serial + losses ≤ most_serial self.entries self.round }
         requires skulk { self.skulk_is_due ≡ true → self.serial + losses + 10 ≤ most_serial self.entries self.round }
         ensures work { result.work ≡ work }
-        ensures fates { fates_of result.fates ≡ map command.Deliver (stepped self.serial step deliveries) ++ map command.Lose (range_with_len self.serial losses) }
+        ensures fates { fates_of result.fates ≡
+            map command.Deliver (stepped self.serial step deliveries) ++ map command.Lose (range_with_len self.serial losses) }
         ensures behind { behind result ≡ laid_out (self.serial + losses) (parts_left self) }
     {
         let mut begun = self;
