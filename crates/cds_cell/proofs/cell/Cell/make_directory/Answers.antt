@@ -1,12 +1,13 @@
-use Rattle.std.proofs.Common.{◌≡◌, ◌∙◌, ◌∷◌, [], true, false, ap, subst}
+use Rattle.std.proofs.Common.{◌≡◌, ◌∙◌, ◌∷◌, [], true, false, ap, subst, sym}
 use Rattle.std.specs.Prelude.{MatchOption}
+use Rattle.std.proofs.lemmas.Bool.{false≢true}
 use Rattle.cds_stamps.specs.Members.{master_of, members_of}
 use Rattle.directory.specs.Updates as updates
 use Rattle.directory.specs.Updates.{change_of}
 use Rattle.cell_model.specs.Steps.{Outcome, ascending, is_bad_list, listing}
 use Rattle.cell_model.proofs.Terms.{master_new}
 use Rattle.clearinghouse.specs.Posting.{numbers_of}
-use Rattle.cds_cell.proofs.Children.{child_apart, child_can, child_next, mkdir_is, mkdir_placed, mkdir_up}
+use Rattle.cds_cell.proofs.Children.{child_apart, child_can, child_next, mkdir_is, mkdir_listed, mkdir_placed, mkdir_up}
 use Rattle.cds_cell.proofs.Houses.{place_within}
 use Rattle.cds_cell.specs.PrivateSteps.{ComesTo}
 use Rattle.cds_cell.proofs.cell.Cell.make_directory.Goals as goal
@@ -15,6 +16,14 @@ pub returns-in_default-clause-step : goal.returns-in_default-clause-step
 returns-in_default-clause-step c g s none =
     let rs = numbers_of c.args.others.now in
     absurd (mkdir_placed c.args.self.now g c.args.house.0 c.args.dir.0 c.args.master.0 c.args.name rs s none c.in_default.ensures)
+
+pub returns-in_default-2-clause-step : goal.returns-in_default-2-clause-step
+returns-in_default-2-clause-step c g s none =
+    let m = c.args.master.0 in
+    let rs = numbers_of c.args.others.now in
+    let bad : is_bad_list (m ∷ rs) ≡ true = subst (λ o. MatchOption o (is_bad_list (m ∷ rs) ≡ true) (λ ms. (is_bad_list (m ∷ rs) ≡ false)
+    × (members_of ms ≡ listing [] 1 m rs))) c.in_default-2.is c.in_ok-members.ensures in
+    absurd (false≢true (sym (mkdir_listed c.args.self.now g c.args.house.0 c.args.dir.0 m c.args.name rs s none) ∙ bad))
 
 pub make_child-requires-clause-house : goal.make_child-requires-clause-house
 make_child-requires-clause-house c = place_within c.args.self.now.houses.items c.args.house.0 c.in-Some.at c.in-Some.ensures
