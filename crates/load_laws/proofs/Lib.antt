@@ -1,0 +1,11 @@
+pub mod Goings
+pub mod Trios
+pub mod SkulkRuns
+pub mod Losses
+pub mod Shows
+pub mod Stamps
+pub mod Entries
+pub mod LiveCounts
+pub mod Parts
+pub mod Rounds
+pub mod Scripts
