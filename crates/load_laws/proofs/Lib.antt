@@ -9,3 +9,4 @@ pub mod LiveCounts
 pub mod Parts
 pub mod Rounds
 pub mod Scripts
+pub mod Summaries

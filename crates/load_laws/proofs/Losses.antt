@@ -55,5 +55,5 @@ lose_run (suc n) f log p g s =
     let e : outcome g (Lose (p + 1)) ≡ record { cell = without g (p + 1); answer = Done; accepted = [] } = ap (lose g (p + 1)) at.1 in
     let sum : (p + 1) + n ≡ p + suc n = omega arith in
     let rest = lose_run n f log (p + 1) (without g (p + 1)) (record { steady = lost_steady f log p g e s.steady; count = s.count ∙ sym sum }) in
-    goes_first g (Lose (p + 1)) (map Lose (range_with_len ((p + 1) + 1) n)) 0 (Filled f log (p + suc n) (p + suc n)) _ e tt
+    goes_first g (Lose (p + 1)) (map Lose (range_with_len ((p + 1) + 1) n)) 0 (Filled f log (p + suc n) (p + suc n)) _ e tt refl
     (goes_map _ _ 0 (Filled f log ((p + 1) + n) ((p + 1) + n)) _ rest (λ z h. subst (λ (k : ℕ). Filled f log k k z) sum h))

@@ -1,12 +1,12 @@
 -- The whole script: its opening by computing, and then part by part.
 use Rattle.std.proofs.Common.{◌≡◌, ℕ, ◌+◌, ◌*◌, ◌<◌, ◌≤◌, zero, suc, true, false, ◌||◌, eqb, List, [], ◌∷◌, ◌++◌, length, map, inl, inr, None}
 use Rattle.std.proofs.Common.{refl, sym, ap, ◌∙◌, subst, arith, ⊎_elim}
-use Rattle.std.specs.Prelude.{IsSome, is_some}
+use Rattle.std.specs.Prelude.{IsSome, is_some, count_by}
 use Rattle.std.specs.List.{range_with_len, enumerate_from, AllByRecursion}
 use Rattle.std.proofs.lemmas.List.FromFn.{length-enumerate_from}
 use Rattle.std.proofs.lemmas.Bool.{false≢true}
 use Rattle.cds_stamps.specs.Members.{is_listed}
-use Rattle.directory.specs.Shown.{shown}
+use Rattle.directory.specs.Shown.{shown, live_count}
 use Rattle.directory.specs.Purges.{purged}
 use Rattle.directory.proofs.PurgeLaws.{shown_in-purged}
 use Rattle.cell_model.specs.Cells.{Idle, Cell, empty_cell}
@@ -19,8 +19,9 @@ use Rattle.cell_model.proofs.Lists.{In-append_cases, or_cases, eq_from}
 use Rattle.cell_model.proofs.Runs.{replay-append}
 use Rattle.cell_script.specs.Generated.{Part, laid_out, opening, entry, entry_name, draws, next_draw, rounds_behind, script}
 use Rattle.cds_cell.specs.Scripted.{step_of}
-use Rattle.load_laws.specs.Unrefused.{IsNeverRefused, IsInFull, AllWork, is_completion, AllComplete, IsLoaded, Loads}
-use Rattle.load_laws.proofs.Goings.{Goes, completions, count_append, answers-append}
+use Rattle.load_laws.specs.Unrefused.{IsNeverRefused, IsInFull, AllWork, is_skulk, AllComplete, IsLoaded, Loads}
+use Rattle.cell_replay.specs.Loading.{is_completion}
+use Rattle.load_laws.proofs.Goings.{Goes, completions, deliveries, count_append, answers-append, deliveries_append}
 use Rattle.load_laws.proofs.Trios.{trio, replica, Seated}
 use Rattle.load_laws.proofs.Shows.{same_shown}
 use Rattle.load_laws.proofs.Entries.{And, Making}
@@ -97,6 +98,35 @@ length-draws : (count x : ℕ) → length (draws x count) ≡ count
 length-draws zero x = refl
 length-draws (suc count) x = ap suc (length-draws count (next_draw x))
 
+-- ---- the entries
+
+-- house 1 shows each of the sixteen entries
+each_shown : (g : Cell) (s : LiveSomewhere g) (k : ℕ) → k < 16 → IsSome (shown (s.2.filled.steady.seat 1 refl).history (entry_name k))
+each_shown g s k lt =
+    let b = s.2 in
+    let y = b.filled.steady.seat 1 refl in
+    let l = b.entries.0 k lt in
+    ap is_some (same_shown s.0 b.log s.1 g y.history y.up_to y.phase b.filled.steady y.held (entry_name k) ∙ l.shows_it)
+
+-- and its table has sixteen entries that live
+pub sixteen_somewhere : (g : Cell) (s : LiveSomewhere g)
+    → live_count (purged (s.2.filled.steady.seat 1 refl).history (s.2.filled.steady.seat 1 refl).up_to) ≡ 16
+sixteen_somewhere g s =
+    let b = s.2 in
+    let y = b.filled.steady.seat 1 refl in
+    let same = same_shown s.0 b.log s.1 g y.history y.up_to y.phase b.filled.steady y.held in
+    sixteen_live (purged y.history y.up_to)
+    (λ k lt. ap is_some (shown_in-purged y.history y.up_to (entry_name k)) ∙ each_shown g s k lt)
+    (λ q some. b.entries.1 q (ap is_some (sym (shown_in-purged y.history y.up_to q ∙ same q)) ∙ some))
+
+-- so house 1 has them
+loaded : (g : Cell) → LiveSomewhere g → IsLoaded g
+loaded g s =
+    let y = s.2.filled.steady.seat 1 refl in
+    record { replica = replica y.history y.up_to y.phase; held = y.held; shows = each_shown g s; live = sixteen_somewhere g s }
+
+-- ---- the script
+
 -- the script from its opening on
 module _ (n : ℕ) (low : n ≤ 20000) where
   abbrev rounds : List Part
@@ -140,25 +170,22 @@ module _ (n : ℕ) (low : n ≤ 20000) where
       let opens : skulks_of opening ≡ 0 = refl in
       omega (arith, told, parted, none, begun, opens, goes.complete)
 
-  -- where the sixteen entries live, and no other, house 1 has them
-  loaded : (g : Cell) → LiveSomewhere g → IsLoaded g
-  loaded g s =
-      let b = s.2 in
-      let y = b.filled.steady.seat 1 refl in
-      let same = same_shown s.0 b.log s.1 g y.history y.up_to y.phase b.filled.steady y.held in
-      let each : (k : ℕ) → k < 16 → IsSome (shown y.history (entry_name k)) =
-      λ k lt. let l = b.entries.0 k lt in ap is_some (same (entry_name k) ∙ l.shows_it) in
-      record {
-        replica = replica y.history y.up_to y.phase;
-        held = y.held;
-        shows = each;
-        live = sixteen_live (purged y.history y.up_to)
-            (λ k lt. ap is_some (shown_in-purged y.history y.up_to (entry_name k)) ∙ each k lt)
-            (λ q some. b.entries.1 q (ap is_some (sym (shown_in-purged y.history y.up_to q ∙ same q)) ∙ some));
-      }
+  -- each by a delivery
+  pub script_delivers : deliveries empty_cell (map step_of (script n)) ≡ count_by is_skulk (map step_of (script n))
+  script_delivers =
+      let told = ap (deliveries empty_cell) all_steps in
+      let parted = deliveries_append (steps_of opening 1) steps empty_cell in
+      let none : deliveries empty_cell (steps_of opening 1) ≡ 0 = refl in
+      let begun = skulks_laid 1 (opening ∷ parts) in
+      let opens : skulks_of opening ≡ 0 = refl in
+      omega (arith, told, parted, none, begun, opens, goes.delivered)
 
-  -- so it has behind the script
-  pub script_loads : Loads (script n)
-  script_loads =
+  -- behind it the sixteen entries live
+  pub script_lives : LiveSomewhere (replay (map step_of (script n)))
+  script_lives =
       let at : replay (map step_of (script n)) ≡ replay_from opened steps = ap replay all_steps ∙ replay-append (steps_of opening 1) steps empty_cell in
-      subst IsLoaded (sym at) (loaded (replay_from opened steps) goes.run.state)
+      subst LiveSomewhere (sym at) goes.run.state
+
+  -- at house 1
+  pub script_loads : Loads (script n)
+  script_loads = loaded (replay (map step_of (script n))) script_lives

@@ -74,7 +74,7 @@ accept_run f p q log g ms u cs n S s left w free rest =
     let s' : Steady (f + 1) (log ++ new) p g' =
     turned_steady f (f + 1) log new p g (Accept 1 1 u) 1 t.time (h ++ marks) y.up_to y.phase posts (Stamped t (serials_of g posts)) e refl times.1 higher
     (λ b i. own b i) s in
-    goes_first g (Accept 1 1 u) cs n S _ e tt
+    goes_first g (Accept 1 1 u) cs n S _ e tt refl
     (rest t marks (log ++ new) g' s' times.1 (waiting_more g g' q ms posts w refl refl) (record {
       history = h;
       stamp = t;
@@ -106,7 +106,7 @@ skulk_run f p log g s left w =
     ∙ ap (λ (o : Option Stamp). at_house g 1 (skulk_at 1 (g.house 1) 1 (replica y.history y.up_to y.phase) o)) (stamp_left f (g.house 1) y left) in
     let times = next_time f (g.house 1) y in
     let higher : f ≤ f + 1 = omega arith in
-    goes_first g (Skulk 1 1) (delivering p 10) 1 (Filled (f + 1) log p (p + 10)) _ e tt
+    goes_first g (Skulk 1 1) (delivering p 10) 1 (Filled (f + 1) log p (p + 10)) _ e tt refl
     (first_gather (f + 1) p (p + 10) log t g' p t.time y.history y.up_to
     (quiet_steady f (f + 1) log p g (Skulk 1 1) 1 t.time y.history y.up_to r posts (Stamped t (serials_of g posts)) e refl times.1 higher s)
     (held_here g 1 1 t.time (replica y.history y.up_to r) posts) refl times.1 (waiting_more g g' p [] posts w refl refl))

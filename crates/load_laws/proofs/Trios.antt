@@ -141,6 +141,6 @@ deliver_run f p q log g m ms floor h a ph posts answer cs n S s w listed low t w
     let e = delivered g q m ms (turned (holding (g.house m.receiver) 1 floor (Held (replica h a ph))) posts answer) w (s.seat m.receiver listed).up t in
     let g' : Cell = changed g m.receiver 1 floor (replica h a ph) posts in
     let le : f ≤ f = omega arith in
-    goes_first g (Deliver (q + 1)) cs n S _ e works
+    goes_first g (Deliver (q + 1)) cs n S _ e works refl
     (rest (quiet_steady f f log p g (Deliver (q + 1)) m.receiver floor h a ph posts (answer (serials_of g posts)) e listed low le s)
     (waiting_next g g' q m ms posts w refl refl))

@@ -11,6 +11,7 @@ use Rattle.cell_model.specs.Steps.{answers, replay}
 use Rattle.cell_script.specs.declared.command.Command.{Command}
 use Rattle.cell_script.specs.Generated.{entry_name}
 use Rattle.cds_cell.specs.Scripted.{step_of}
+use Rattle.cell_replay.specs.Loading.{is_completion}
 
 -- no answer to these commands, from the empty cell on, is a refusal (own)
 abbrev pub IsNeverRefused : List Command → Type 0
@@ -29,11 +30,6 @@ AllWork cs = (a : Answer) → In a (answers (map step_of cs)) → IsInFull a
 abbrev pub is_skulk : model.Command → Bool
 is_skulk (model.Skulk h d) = true
 is_skulk _ = false
-
--- the answer tells that one is complete (own)
-abbrev pub is_completion : Answer → Bool
-is_completion (Complete t ns) = true
-is_completion _ = false
 
 -- as many skulks become complete as are begun (own)
 abbrev pub AllComplete : List Command → Type 0

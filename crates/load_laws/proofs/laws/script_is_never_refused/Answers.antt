@@ -1,5 +1,6 @@
 -- By the theorem over all parts of the script.
 use Rattle.load_laws.proofs.Scripts.{script_works, script_unrefused, script_completes, script_loads}
+use Rattle.load_laws.proofs.Summaries.{script_counts}
 use Rattle.load_laws.proofs.laws.script_is_never_refused.Goals as goal
 
 pub returns-clause-refused : goal.returns-clause-refused
@@ -13,3 +14,6 @@ returns-clause-complete c = script_completes
 
 pub returns-clause-entries : goal.returns-clause-entries
 returns-clause-entries c = script_loads
+
+pub returns-clause-summary : goal.returns-clause-summary
+returns-clause-summary c = script_counts
