@@ -2,5 +2,4 @@ pub mod Orders
 pub mod DepthFirst
 pub mod Imports
 pub mod Coming
-pub mod PairReaders
 pub mod Waitings

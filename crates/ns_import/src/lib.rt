@@ -7,8 +7,6 @@ mod fault;
 mod importer;
 pub mod laws;
 mod progress;
-#[cfg(test)]
-mod tests;
 mod waiting;
 
 pub use fault::ImportFault;

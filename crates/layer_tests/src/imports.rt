@@ -2,20 +2,18 @@
 ghost use Rattle.std.specs.Prelude.{◌≡◌, true, IfOk};
 ghost use Rattle.resolver.specs.ListedReaders.{objects_in};
 ghost use Rattle.resolver.specs.ListedReaderProofs.{listed_shows_only};
-ghost use Rattle.ns_import.specs.PairReaders.{entries, pair, value_of};
+ghost use Rattle.layer_tests.specs.PairReaders.{entries, pair, value_of};
 
-use crate::Importer;
 use attr_sets::Value;
 use cds_stamps::{AttrName, DirId, HouseNo, SimpleName};
 use cell_names::{ChildPointer, FullName, HouseList};
-use directory::Update;
 use ns_groups::GROUP;
+use ns_import::Importer;
 use resolver::{EntryReader, Found, Seen};
-use server_entries::{TOWERS, Wanted, export};
+use server_entries::{TOWERS, Wanted, tower_of_value};
 use std::alloc::{AllocError, Global};
 use std::test::Fail;
-use tower_codec::{Interface, Protseq, StringBinding};
-use uuid::Uuid;
+use tower_codec::read_uuid;
 
 // The house that has the root directory.
 const HOUSE: HouseNo = HouseNo(1);
@@ -80,44 +78,32 @@ impl Pair {
     }
 }
 
-// The interface that is sought.
-fn interface() -> Interface {
-    Interface {
-        uuid: Uuid::from_bytes([b'A'; 16]),
-        major: 1,
-        minor: 0,
-    }
-}
+// The tower of a server of the interface e1af8308-5d1f-11c9-91a4-08002b14a0fa 3.0 at TCP port 135.
+const TOWER: &[u8] = b"\x05\0\
+    \x13\0\x0d\x08\x83\xaf\xe1\x1f\x5d\xc9\x11\x91\xa4\x08\0\x2b\x14\xa0\xfa\x03\0\x02\0\0\0\
+    \x13\0\x0d\x04\x5d\x88\x8a\xeb\x1c\xc9\x11\x9f\xe8\x08\0\x2b\x10\x48\x60\x02\0\x02\0\0\0\
+    \x01\0\x0b\x02\0\0\0\x01\0\x07\x02\0\0\x87\x01\0\x09\x04\0\0\0\0\0";
 
-// The tower of a server of the interface.
-fn tower(alloc: Global) -> Result<Value, Fail> {
-    let binding = StringBinding {
-        object: Uuid::nil(),
-        protseq: Protseq::Tcp,
-        address: [0; 4],
-        port: 7,
-    };
-    let name = SimpleName::parse(alloc, b"a")?;
-    let mut updates = export(alloc, &name, false, &interface(), &[binding], &[])?;
-    match updates.pop() {
-        Some(Update::Add(_name, _attr, tower)) => Ok(tower),
-        _update => Err("no tower".into()),
-    }
+// What a client wants of it that wants no object.
+fn wanted(tower: &Value) -> Result<Wanted, Fail> {
+    let tower = tower_of_value(tower).ok().ok_or("a tower")?;
+    let nil = b"00000000-0000-0000-0000-000000000000";
+    Ok(Wanted {
+        interface: tower.interface,
+        object: read_uuid(nil).ok_or("a UUID")?,
+        tcp: true,
+        udp: false,
+    })
 }
 
 // How many bindings an import of `a` gives, up to its end or to want of memory, and whether it is spent then.
 fn given(alloc: Global, wanting: bool) -> Result<(usize, bool), Fail> {
     let reader = Pair {
-        tower: tower(alloc)?,
+        tower: Value::new(alloc, TOWER)?,
         member: Value::new(alloc, b"/.:/b")?,
         wanting,
     };
-    let wanted = Wanted {
-        interface: interface(),
-        object: Uuid::nil(),
-        tcp: true,
-        udp: false,
-    };
+    let wanted = wanted(&reader.tower)?;
     let name = FullName::parse(alloc, b"/.:/a")?;
     let mut import = Importer::begin(alloc, &reader, &name, wanted)?;
     let mut ports = Vec::new(alloc);

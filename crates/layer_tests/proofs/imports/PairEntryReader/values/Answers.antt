@@ -6,8 +6,8 @@ use Rattle.std.proofs.lemmas.Result.{IfOk-weaker}
 use Rattle.cds_stamps.specs.Octets.{octets_cmp}
 use Rattle.server_entries.specs.Exports.{tower_attribute}
 use Rattle.ns_groups.specs.Groups.{group}
-use Rattle.ns_import.specs.PairReaders.{value_of}
-use Rattle.ns_import.proofs.tests.PairEntryReader.values.Goals as goal
+use Rattle.layer_tests.specs.PairReaders.{value_of}
+use Rattle.layer_tests.proofs.imports.PairEntryReader.values.Goals as goal
 
 one_ascends : (b c : Bool) (v w : List ℕ) → IsStrictlySortedBy octets_cmp (if b then v ∷ [] else (if c then w ∷ [] else []))
 unfolding IsStrictlySortedBy

@@ -1,0 +1,290 @@
+// Two houses and a directory of both, by the calls that post messages whole (the program makes those that post octets); and messages
+// that no house sends.
+use cds_records::decode;
+use cds_stamps::{DirId, EpochNo, HouseNo, Member, MemberKind, Members, Node, SimpleName};
+use clearinghouse::{Accepted, Clearinghouse, DirState, EpochSet, PostedList, Skulked, Taken};
+use directory::Update;
+use std::alloc::{AllocError, Global};
+use std::test::Fail;
+
+const ROOT: DirId = DirId(1);
+
+// The houses 1 and 2 with the root, of which 1 is the master, and what was posted last.
+#[derive(Drop)]
+struct Pair {
+    first: Clearinghouse,
+    second: Clearinghouse,
+    mail: PostedList,
+}
+
+// The answer to a message, with times in the place of stamps.
+#[derive(Clone, Copy, Debug, PartialEq, Eq)]
+enum Answer {
+    Taken,
+    Late(u64, u64),
+    Early(u64, u64),
+    Stale(u64, Option<u64>),
+    NoReplica,
+    Foreign,
+    Complete(u64),
+}
+
+fn in_times(taken: Taken) -> Answer {
+    match taken {
+        Taken::Taken => Answer::Taken,
+        Taken::Late(sent, held) => Answer::Late(sent.0, held.0),
+        Taken::Early(sent, held) => Answer::Early(sent.0, held.0),
+        Taken::Stale(t, None) => Answer::Stale(t.time, None),
+        Taken::Stale(t, Some(runs)) => Answer::Stale(t.time, Some(runs.time)),
+        Taken::NoReplica => Answer::NoReplica,
+        Taken::Foreign => Answer::Foreign,
+        Taken::Complete(t) => Answer::Complete(t.time),
+    }
+}
+
+const FIRST: Member = Member {
+    house: HouseNo(1),
+    since: EpochNo(1),
+    kind: MemberKind::Master,
+};
+
+const SECOND: Member = Member {
+    house: HouseNo(2),
+    since: EpochNo(1),
+    kind: MemberKind::ReadOnly,
+};
+
+// A house at the node of ten times its number, which has nothing.
+fn empty_house(alloc: Global, number: u8) -> Result<Clearinghouse, Fail> {
+    let node = Node::new(10 * u64::from(number)).ok_or("a node")?;
+    Ok(Clearinghouse::new(alloc, HouseNo(number), node))
+}
+
+// What a house posts of the root, which it makes with these members.
+fn create_root(
+    alloc: Global,
+    house: &mut Clearinghouse,
+    list: &[Member],
+) -> Result<PostedList, Fail> {
+    let members = Members::new(alloc, list)?;
+    if members.master() != house.number() || house.state(ROOT).is_some() {
+        return Err("another master, or a directory".into());
+    }
+    Ok(house.create_directory(alloc, ROOT, &members)?)
+}
+
+// The tag of the only message of the mail, and the answer of a house to it. What the house posts is the mail then.
+fn takes(
+    alloc: Global,
+    house: &mut Clearinghouse,
+    mail: &mut PostedList,
+) -> Result<(u8, Answer), Fail> {
+    let [one] = mail.list() else {
+        return Err("not one message".into());
+    };
+    let tag = one.message.body.tag();
+    let took = house.take(alloc, &one.message)?;
+    *mail = took.posted;
+    Ok((tag, in_times(took.taken)))
+}
+
+// The house that the only message of the mail is posted to.
+fn receiver(mail: &PostedList) -> u8 {
+    match mail.list() {
+        [one] => one.to.0,
+        _ => 0,
+    }
+}
+
+// The receiver of the only message of the mail, its tag, and the answer to it. What is posted then is the mail.
+fn delivered(alloc: Global, pair: &mut Pair) -> Result<(u8, u8, Answer), Fail> {
+    let to = receiver(&pair.mail);
+    let (tag, answer) = match to {
+        1 => takes(alloc, &mut pair.first, &mut pair.mail)?,
+        _ => takes(alloc, &mut pair.second, &mut pair.mail)?,
+    };
+    Ok((to, tag, answer))
+}
+
+// The houses 1 and 2, of which 1 has made the root: house 2 has taken its Join.
+fn both(alloc: Global) -> Result<Pair, Fail> {
+    let mut first = empty_house(alloc, 1)?;
+    let mail = create_root(alloc, &mut first, &[FIRST, SECOND])?;
+    let second = empty_house(alloc, 2)?;
+    let mut pair = Pair {
+        first,
+        second,
+        mail,
+    };
+    match delivered(alloc, &mut pair)? {
+        (2, 7, Answer::Taken) => Ok(pair),
+        _ => Err("no Join, or not taken".into()),
+    }
+}
+
+// The creation of an object. (These are small functions, since the drop of an update is long to prove.)
+fn creation(alloc: Global, name: &[u8]) -> Result<Update, Fail> {
+    Ok(Update::Create(SimpleName::parse(alloc, name)?))
+}
+
+fn again(alloc: Global, update: &Update) -> Result<Update, AllocError> {
+    update.copy(alloc)
+}
+
+// The time of the stamp of an update of the root that a house accepts. What it posts is the mail then.
+fn accepts(
+    alloc: Global,
+    house: &mut Clearinghouse,
+    mail: &mut PostedList,
+    update: &Update,
+) -> Result<u64, Fail> {
+    match house.accept(alloc, 0, ROOT, update)? {
+        Accepted::Done { stamp, posted } => {
+            *mail = posted;
+            Ok(stamp.time)
+        }
+        Accepted::Refused(_) => Err("refused".into()),
+    }
+}
+
+// Has house 1 create an object in the root. What it posts is the mail then.
+fn creates(alloc: Global, pair: &mut Pair, name: &[u8]) -> Result<u64, Fail> {
+    let update = creation(alloc, name)?;
+    accepts(
+        alloc,
+        &mut pair.first,
+        &mut pair.mail,
+        &again(alloc, &update)?,
+    )
+}
+
+// The time of the skulk that a house begins. What it posts is the mail then.
+fn begins(alloc: Global, house: &mut Clearinghouse, mail: &mut PostedList) -> Result<u64, Fail> {
+    match house.start_skulk(alloc, 0, ROOT)? {
+        Skulked::Started { t, posted } => {
+            *mail = posted;
+            Ok(t.time)
+        }
+        _ => Err("not begun".into()),
+    }
+}
+
+// Has house 1 go on alone, in epoch 2. What it posts is the mail then.
+fn goes_alone(alloc: Global, house: &mut Clearinghouse, mail: &mut PostedList) -> Result<(), Fail> {
+    let members = Members::new(alloc, &[FIRST])?;
+    if members.master() != house.number() {
+        return Err("another master".into());
+    }
+    match house.new_epoch(alloc, ROOT, EpochNo(2), &members, &[HouseNo(2)])? {
+        EpochSet::Done(posted) => {
+            *mail = posted;
+            Ok(())
+        }
+        EpochSet::Refused(_) => Err("refused".into()),
+    }
+}
+
+// How many entries a house has of the root; none where it does not hold it.
+fn entries_at(house: &Clearinghouse) -> Option<usize> {
+    match house.state(ROOT) {
+        Some(DirState::Held(held)) => Some(held.replica.table.len()),
+        _ => None,
+    }
+}
+
+// The receiver of the only message, its tag, and the answer to it.
+#[rattlefmt::skip]
+static ROUNDS: [(u8, u8, Answer); 5] = [
+    (2, 2, Answer::Taken),
+    (1, 3, Answer::Taken),
+    (2, 4, Answer::Taken),
+    (1, 5, Answer::Complete(2)),
+    (2, 6, Answer::Taken),
+];
+
+#[test]
+fn a_skulk_brings_two_houses_together(rt: HostRuntime) -> Result<(), Fail> {
+    let alloc = rt.alloc();
+    let mut pair = both(alloc)?;
+    assert_eq!(rt; creates(alloc, &mut pair, b"lost")?, 1);
+    assert_eq!(rt; begins(alloc, &mut pair.first, &mut pair.mail)?, 2);
+    for wanted in ROUNDS {
+        assert_eq!(rt; delivered(alloc, &mut pair)?, wanted);
+    }
+    assert_eq!(rt; entries_at(&pair.second.copy(alloc)?), Some(1));
+    Ok(())
+}
+
+#[test]
+fn a_house_that_is_listed_no_more_leaves(rt: HostRuntime) -> Result<(), Fail> {
+    let alloc = rt.alloc();
+    let mut pair = both(alloc)?;
+    goes_alone(alloc, &mut pair.first, &mut pair.mail)?;
+    assert_eq!(rt; delivered(alloc, &mut pair)?, (2, 8, Answer::Taken));
+    assert_eq!(rt; entries_at(&pair.second), None);
+    Ok(())
+}
+
+// Messages about the root with stamps of node 10, the answer of house 2, and its floor then.
+#[rattlefmt::skip]
+static FORGED: [(&[u8], Answer, u64); 13] = [
+    // Gathered of house 2 in epoch 1, at 3
+    (b"\x01\x03\0\0\0\x01\x02\0\0\0\0\0\0\0\x01\0\0\0\0\0\0\0\0\
+    \0\0\0\0\0\0\0\x03\0\0\0\0\0\x0a\0\0\0\0\0\0\0\0\0", Answer::Stale(3, None), 0),
+    // SpreadAck of house 2 in epoch 1, at 3
+    (b"\x01\x05\0\0\0\x01\x02\0\0\0\0\0\0\0\x01\0\0\0\0\0\0\0\0\
+    \0\0\0\0\0\0\0\x03\0\0\0\0\0\x0a", Answer::Stale(3, None), 0),
+    // Leave of house 1 in epoch 1
+    (b"\x01\x08\0\0\0\x01\x01\0\0\0\0\0\0\0\x01\0\0\0\0\0\0\0\0", Answer::Late(1, 1), 0),
+    // Gather of house 3 in epoch 1, at 5
+    (b"\x01\x02\0\0\0\x01\x03\0\0\0\0\0\0\0\x01\0\0\0\0\0\0\0\0\
+    \0\0\0\0\0\0\0\x05\0\0\0\0\0\x0a", Answer::Foreign, 0),
+    // Join of house 3 in epoch 2
+    (b"\x01\x07\0\0\0\x01\x03\0\0\0\0\0\0\0\x02\0\0\0\0\0\0\0\0\
+    \x02\x01\0\0\0\0\0\0\0\x01\x01\x02\0\0\0\0\0\0\0\x01\x02\0\0\0\0\0\0\0\0\0", Answer::Foreign, 0),
+    // Gather of house 1 in epoch 0, at 5
+    (b"\x01\x02\0\0\0\x01\x01\0\0\0\0\0\0\0\0\0\0\0\0\0\0\0\0\
+    \0\0\0\0\0\0\0\x05\0\0\0\0\0\x0a", Answer::Late(0, 1), 0),
+    // Spread of house 1 in epoch 9, at 5
+    (b"\x01\x04\0\0\0\x01\x01\0\0\0\0\0\0\0\x09\0\0\0\0\0\0\0\0\
+    \0\0\0\0\0\0\0\x05\0\0\0\0\0\x0a\0\0\0\0\0\0\0\0\0", Answer::Early(9, 1), 0),
+    // Join of house 1 in epoch 0
+    (b"\x01\x07\0\0\0\x01\x01\0\0\0\0\0\0\0\0\0\0\0\0\0\0\0\0\
+    \x02\x01\0\0\0\0\0\0\0\x01\x01\x02\0\0\0\0\0\0\0\x01\x02\0\0\0\0\0\0\0\0\0", Answer::Late(0, 1), 0),
+    // Gather of house 1 in epoch 1, at 7
+    (b"\x01\x02\0\0\0\x01\x01\0\0\0\0\0\0\0\x01\0\0\0\0\0\0\0\0\
+    \0\0\0\0\0\0\0\x07\0\0\0\0\0\x0a", Answer::Taken, 7),
+    // Spread of house 1 in epoch 1, at 6
+    (b"\x01\x04\0\0\0\x01\x01\0\0\0\0\0\0\0\x01\0\0\0\0\0\0\0\0\
+    \0\0\0\0\0\0\0\x06\0\0\0\0\0\x0a\0\0\0\0\0\0\0\0\0", Answer::Taken, 7),
+    // Advance of house 1 in epoch 1, at 8
+    (b"\x01\x06\0\0\0\x01\x01\0\0\0\0\0\0\0\x01\0\0\0\0\0\0\0\0\
+    \0\0\0\0\0\0\0\x08\0\0\0\0\0\x0a", Answer::Taken, 8),
+    // Gather of house 2 in epoch 1, at the last time
+    (b"\x01\x02\0\0\0\x01\x02\0\0\0\0\0\0\0\x01\0\0\0\0\0\0\0\0\
+    \xff\xff\xff\xff\xff\xff\xff\xff\0\0\0\0\0\x0a", Answer::Taken, u64::MAX),
+    // Join of house 1 in epoch 7
+    (b"\x01\x07\0\0\0\x01\x01\0\0\0\0\0\0\0\x07\0\0\0\0\0\0\0\0\
+    \x02\x01\0\0\0\0\0\0\0\x01\x01\x02\0\0\0\0\0\0\0\x01\x02\0\0\0\0\0\0\0\0\0", Answer::Taken, u64::MAX),
+];
+
+// The answer of a house to a message, and its floor then.
+fn answered(
+    alloc: Global,
+    house: &mut Clearinghouse,
+    octets: &[u8],
+) -> Result<(Answer, u64), Fail> {
+    let (message, _used) = decode(alloc, octets)?;
+    let took = house.take(alloc, &message)?;
+    Ok((in_times(took.taken), house.floor()))
+}
+
+#[test]
+fn forged_messages_have_the_answers_of_the_table(rt: HostRuntime) -> Result<(), Fail> {
+    let alloc = rt.alloc();
+    let mut pair = both(alloc)?;
+    for (octets, answer, floor) in FORGED {
+        assert_eq!(rt; answered(alloc, &mut pair.second, octets)?, (answer, floor));
+    }
+    Ok(())
+}

@@ -1,0 +1,101 @@
+// Messages and images that are copied and written again whole, as the program does in parts; and octets that are no image.
+use cds_records::{Image, RecordFault, decode, decode_image, encode, encode_image};
+use cds_stamps::AllocOr;
+use clearinghouse::{Clearinghouse, StartFault};
+use std::alloc::Global;
+use std::test::Fail;
+
+// A message of each tag about the directory 1, from house 1 in epoch 1 at floor 2, with the time 3 at node 10.
+#[rattlefmt::skip]
+static MESSAGES: [&[u8]; 9] = [
+    // the name e of an object with the value 01 of A
+    b"\x01\x01\0\0\0\x01\x01\0\0\0\0\0\0\0\x01\0\0\0\0\0\0\0\x02\
+    \x01e\x01\0\0\0\0\0\0\0\x03\0\0\0\0\0\x0a\0\0\0\0\0\0\0\0\x01\x01A\
+    \0\0\0\0\0\0\0\0\x01\0\x01\x01\x01\0\0\0\0\0\0\0\x02\0\0\0\0\0\x0a",
+    b"\x01\x02\0\0\0\x01\x01\0\0\0\0\0\0\0\x01\0\0\0\0\0\0\0\x02\0\0\0\0\0\0\0\x03\0\0\0\0\0\x0a",
+    b"\x01\x03\0\0\0\x01\x01\0\0\0\0\0\0\0\x01\0\0\0\0\0\0\0\x02\0\0\0\0\0\0\0\x03\0\0\0\0\0\x0a\0\0\0\0\0\0\0\0\0",
+    // an AllUpTo, and the name e with a clear of A
+    b"\x01\x04\0\0\0\x01\x01\0\0\0\0\0\0\0\x01\0\0\0\0\0\0\0\x02\0\0\0\0\0\0\0\x03\0\0\0\0\0\x0a\
+    \x01\0\0\0\0\0\0\0\x03\0\0\0\0\0\x0a\0\0\0\0\0\0\0\x01\
+    \x01e\x01\0\0\0\0\0\0\0\x03\0\0\0\0\0\x0a\0\0\0\0\0\0\0\0\x01\x01A\x01\0\0\0\0\0\0\0\x05\0\0\0\0\0\x0a\0\0\0\0\0\0\0\0",
+    // a child that has died, with two values of which one is absent, and a clear; and a link
+    b"\x01\x04\0\0\0\x01\x01\0\0\0\0\0\0\0\x01\0\0\0\0\0\0\0\x02\0\0\0\0\0\0\0\x03\0\0\0\0\0\x0a\
+    \0\0\0\0\0\0\0\0\x02\
+    \x01a\x03\0\0\0\0\0\0\0\x03\0\0\0\0\0\x0a\x01\0\0\0\0\0\0\0\x03\0\0\0\0\0\x0a\
+    \0\0\0\0\0\0\0\x02\
+    \x01A\0\0\0\0\0\0\0\0\x02\
+    \0\x01\x01\x01\0\0\0\0\0\0\0\x03\0\0\0\0\0\x0a\0\x02\x01\x02\0\0\0\0\0\0\0\0\x03\0\0\0\0\0\x0a\
+    \x01B\x01\0\0\0\0\0\0\0\x03\0\0\0\0\0\x0a\0\0\0\0\0\0\0\0\
+    \x01b\x02\0\0\0\0\0\0\0\x03\0\0\0\0\0\x0a\0\0\0\0\0\0\0\0\0",
+    b"\x01\x05\0\0\0\x01\x01\0\0\0\0\0\0\0\x01\0\0\0\0\0\0\0\x02\0\0\0\0\0\0\0\x03\0\0\0\0\0\x0a",
+    b"\x01\x06\0\0\0\x01\x01\0\0\0\0\0\0\0\x01\0\0\0\0\0\0\0\x02\0\0\0\0\0\0\0\x03\0\0\0\0\0\x0a",
+    b"\x01\x07\0\0\0\x01\x01\0\0\0\0\0\0\0\x01\0\0\0\0\0\0\0\x02\
+    \x02\x01\0\0\0\0\0\0\0\x01\x02\x07\0\0\0\0\0\0\0\x02\x01\0\0\0\0\0\0\0\0\0",
+    b"\x01\x08\0\0\0\x01\x01\0\0\0\0\0\0\0\x01\0\0\0\0\0\0\0\x02",
+];
+
+// What is written of the copy of the message at the front of the octets.
+fn message_again(alloc: Global, octets: &[u8]) -> Result<Vec<u8>, Fail> {
+    let (read, _used) = decode(alloc, octets)?;
+    Ok(encode(alloc, &read.copy(alloc)?)?)
+}
+
+#[test]
+fn messages_are_copied_and_written_again(rt: HostRuntime) -> Result<(), Fail> {
+    for octets in MESSAGES {
+        assert!(rt; message_again(rt.alloc(), octets)?.as_slice() == octets);
+    }
+    Ok(())
+}
+
+// The image of house 1 at node 10 with floor 0, which holds the directory 1 in epoch 1 alone, with an empty table, and left the
+// directory 2 in epoch 3.
+const IMAGE: &[u8] = b"\x01\x09\x01\0\0\0\0\0\x0a\0\0\0\0\0\0\0\0\0\0\0\0\0\0\0\x02\
+    \0\0\0\x01\x01\0\0\0\0\0\0\0\x01\x01\x01\0\0\0\0\0\0\0\x01\x01\0\0\0\0\0\0\0\0\0\
+    \0\0\0\x02\x02\0\0\0\0\0\0\0\x03";
+
+// What is written of the image at the front of the octets, with a copy of its directories.
+fn image_again(alloc: Global, octets: &[u8]) -> Result<Vec<u8>, Fail> {
+    let (image, _used) = decode_image(alloc, octets)?;
+    let copied = Image {
+        house: image.house,
+        node: image.node,
+        floor: image.floor,
+        dirs: image.dirs.copy(alloc)?,
+    };
+    Ok(encode_image(alloc, &copied)?)
+}
+
+#[test]
+fn an_image_is_copied_and_written_again(rt: HostRuntime) -> Result<(), Fail> {
+    assert!(rt; image_again(rt.alloc(), IMAGE)?.as_slice() == IMAGE);
+    Ok(())
+}
+
+// Octets, and why they are no image of a house.
+#[rattlefmt::skip]
+static FAULTY: [(&[u8], RecordFault); 6] = [
+    (b"", RecordFault::Short(1)),
+    (b"\x01\x08", RecordFault::BadTag(2)),
+    // one directory of two; the second one before the first; and neither held nor gone
+    (b"\x01\x09\x01\0\0\0\0\0\x0a\0\0\0\0\0\0\0\0\0\0\0\0\0\0\0\x02\
+    \0\0\0\x02\x02\0\0\0\0\0\0\0\x03", RecordFault::Short(39)),
+    (b"\x01\x09\x01\0\0\0\0\0\x0a\0\0\0\0\0\0\0\0\0\0\0\0\0\0\0\x02\
+    \0\0\0\x02\x02\0\0\0\0\0\0\0\x03\0\0\0\x01\x02\0\0\0\0\0\0\0\x03", RecordFault::OutOfOrder(39)),
+    (b"\x01\x09\x01\0\0\0\0\0\x0a\0\0\0\0\0\0\0\0\0\0\0\0\0\0\0\x01\
+    \0\0\0\x03\x03", RecordFault::BadFlag(30)),
+    (b"\x01\x09\x01\0\0\0\0\0\x0a\0\0\0\0\0\0\0\0\0\0\0\0\0\0\0\0\0", RecordFault::Trailing(26)),
+];
+
+// Why no house starts of the octets.
+fn fault_of(alloc: Global, octets: &[u8]) -> Option<AllocOr<StartFault>> {
+    Clearinghouse::start(alloc, octets).err()
+}
+
+#[test]
+fn no_house_starts_of_a_faulty_image(rt: HostRuntime) {
+    for (octets, fault) in FAULTY {
+        let wanted = AllocOr::Fault(StartFault::BadImage(fault));
+        assert_eq!(rt; fault_of(rt.alloc(), octets), Some(wanted));
+    }
+}
