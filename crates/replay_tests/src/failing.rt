@@ -1,12 +1,20 @@
 // Runs over sources and sinks that fail, and how much is read ahead and held back.
-use crate::runs::{ROOM, outcome_of, words_of};
+ghost use Rattle.std.specs.Prelude.{◌<◌};
+
 use crate::scripts::{
     OLD_MASTER, OLD_MASTER_ANSWERS, PLAIN, PLAIN_ANSWERS, USUAL_CELL, USUAL_CELL_ANSWERS,
 };
 use cds_base::{MemSink, MemSource};
 use cell_replay::{Status, run};
-use std::alloc::Global;
+use std::alloc::{AllocError, Global};
 use std::test::Fail;
+
+// More octets than the runs write whose sinks have so much room.
+const ROOM: usize = 4096;
+
+fn words_of(alloc: Global, form: &str) -> Result<Vec<String>, AllocError> {
+    Ok(vec![in alloc; String::from_str(alloc, form)?]?)
+}
 
 // The most octets of a read, the number of the read that fails, the most octets of a write, and the number of the write that
 // fails (at 0 none does). What is written then, how many octets are left, and how the run ends.
@@ -53,6 +61,22 @@ static SCRIPTS: [(&[u8], &[u8]); 3] = [
 // The most octets of a read or a write where each of them fails in turn.
 const PIECE: usize = 64;
 
+// What a script writes that is read and written in pieces, and how it ends, where the read and the write of these numbers fail.
+fn outcome_of(
+    alloc: Global,
+    script: &[u8],
+    most: usize,
+    failing: (u64, u64),
+) -> Result<(Vec<u8>, Status), AllocError>
+    requires { 0 < most }
+{
+    let words = words_of(alloc, "run")?;
+    let mut source = MemSource::new(script.to_vec(alloc)?, vec![in alloc; failing.0]?, most);
+    let mut sink = MemSink::new(alloc, ROOM, vec![in alloc; failing.1]?, most)?;
+    let status = run(alloc, &words, &mut source, &mut sink);
+    Ok((sink.written().to_vec(alloc)?, status))
+}
+
 // How many runs of a script meet a failed call, where the first call fails, then the second and so on. Each ends with this status,
 // a front of the answers being written, and the run behind them ends well with all answers.
 fn runs_that_fail(
@@ -66,7 +90,7 @@ fn runs_that_fail(
             Status::ReadFault => (call as u64, 0),
             _ => (0, call as u64),
         };
-        let (written, end) = outcome_of(alloc, "run", script, PIECE, failing)?;
+        let (written, end) = outcome_of(alloc, script, PIECE, failing)?;
         if end == Status::Ok && written.as_slice() == answers {
             return Ok(call - 1);
         }

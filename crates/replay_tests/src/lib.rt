@@ -1,12 +1,8 @@
-//! Tests of whole runs over ends in memory, each command and each form once, and over ends that fail. Whole scripts and
-//! towers stand in the cases of the program.
+//! Tests of whole runs over ends in memory that fail, and of how much is read ahead and held back. Whole scripts and towers stand
+//! in the cases of the program.
 #![tactic(auto)]
 
 #[cfg(test)]
 mod failing;
-#[cfg(test)]
-mod places;
-#[cfg(test)]
-mod runs;
 #[cfg(test)]
 mod scripts;
