@@ -1,7 +1,8 @@
-// The steps of a million purges of a large replica that drop nothing, and of one that does.
+// The steps of a purge: of a few deletions, and of a million purges of a large replica that drop nothing.
 ghost use Rattle.std.specs.Prelude.{◌≡◌, ◌<◌};
 
-use cds_stamps::{Node, SimpleName, Stamp};
+use attr_sets::{AttrCell, Value};
+use cds_stamps::{AttrName, Node, SimpleName, Stamp};
 use directory::{AttrMap, EntryCell, Fragment, Kind, Table};
 use purge_rule::{Replica, Steps};
 use std::alloc::Global;
@@ -27,6 +28,35 @@ fn object(alloc: Global, name: &[u8], birth: u64, death: Option<Stamp>) -> Resul
     })
 }
 
+// A value that was removed from A at 4, and a clear of B at 9.
+fn deletions(alloc: Global) -> Result<AttrMap, Fail> {
+    let mut removed = AttrCell::new(alloc);
+    removed.remove(alloc, &Value::new(alloc, &[1])?, stamp(4)?)?;
+    let mut cleared = AttrCell::new(alloc);
+    cleared.clear(stamp(9)?);
+    let mut attrs = AttrMap::new(alloc);
+    attrs.insert(AttrName::parse(alloc, b"A")?, removed)?;
+    attrs.insert(AttrName::parse(alloc, b"B")?, cleared)?;
+    Ok(attrs)
+}
+
+fn empty(alloc: Global) -> Replica {
+    Replica {
+        table: Table::new(alloc),
+        all_up_to: None,
+    }
+}
+
+// A replica with an entry that died, and one with a value that was removed and an attribute that was cleared.
+fn small(alloc: Global) -> Result<Replica, Fail> {
+    let mut own = empty(alloc);
+    own.take_marks(alloc, &object(alloc, b"e", 1, Some(stamp(2)?))?)?;
+    let mut marks = object(alloc, b"f", 3, None)?;
+    marks.entry.attrs = deletions(alloc)?;
+    own.take_marks(alloc, &marks)?;
+    Ok(own)
+}
+
 // How many steps it takes to advance to these times, one after the other.
 fn steps_to<L: Ledger>(
     replica: &mut Replica,
@@ -49,16 +79,22 @@ fn steps_to<L: Ledger>(
 fn large(alloc: Global, count: u64, death: u64) -> Result<Replica, Fail>
     requires { count < 1000000 }
 {
-    let mut own = Replica {
-        table: Table::new(alloc),
-        all_up_to: None,
-    };
+    let mut own = empty(alloc);
     for number in 0..count {
         let name = format!(in alloc; "e{number}")?;
         own.take_marks(alloc, &object(alloc, name.as_bytes(), number + 1, None)?)?;
     }
     own.take_marks(alloc, &object(alloc, b"e0", 1, Some(stamp(death)?))?)?;
     Ok(own)
+}
+
+#[test]
+fn steps_are_deletions_and_what_goes_with_them(rt: HostRuntime) -> Result<(), Fail> {
+    let mut own = small(rt.alloc())?;
+    assert_eq!(rt; own.held(), 5);
+    let steps = steps_to::<Brand>(&mut own, 5, 5, Blank::new(1))?;
+    assert_eq!(rt; (steps, own.held()), (4, 2));
+    Ok(())
 }
 
 #[test]

@@ -99,3 +99,11 @@ fn no_house_starts_of_a_faulty_image(rt: HostRuntime) {
         assert_eq!(rt; fault_of(rt.alloc(), octets), Some(wanted));
     }
 }
+
+#[test]
+fn an_image_is_cut_at_each_octet(rt: HostRuntime) {
+    for length in 0..IMAGE.len() {
+        let wanted = AllocOr::Fault(StartFault::BadImage(RecordFault::Short(length + 1)));
+        assert_eq!(rt; fault_of(rt.alloc(), &IMAGE[..length]), Some(wanted));
+    }
+}
