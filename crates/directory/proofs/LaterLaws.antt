@@ -2,7 +2,7 @@
 -- loops that make a table of what is taken, and an index of its deletions.
 use Rattle.std.proofs.Common.{◌≡◌, Bool, true, false, cond, List, [], ◌∷◌, Option, Some, None, refl, sym, ap, subst, ◌∙◌, ◌⊎◌, inl, inr, ⊎_elim}
 use Rattle.std.proofs.Common.{is_eq, Result, Ok, Err, OnOk, OnErr}
-use Rattle.std.specs.Prelude.{ℕ, ◌&&◌, ◌≢◌, T, IfSome, is_ok, if◌then◌else◌}
+use Rattle.std.specs.Prelude.{ℕ, ◌++◌, ◌&&◌, ◌≢◌, T, IfSome, is_ok, if◌then◌else◌}
 use Rattle.std.specs.FinMap.{FinMap, IsAntisymmetric, get, empty, insert, entries, entries_sorted, from_entries}
 use Rattle.std.specs.FinMap.{get-entries, get-empty, get-insert, get-from_entries, same_map}
 use Rattle.std.specs.FinMap.Entries.{is_sorted, below_all}
@@ -16,6 +16,7 @@ use Rattle.std.specs.Map.{lookup, keys_of}
 use Rattle.std.specs.BTreeMap.{is_at}
 use Rattle.std.specs.Cmp.{IsTotalOrder, tied_itself, eq_by_cmp_equiv}
 use Rattle.std.specs.Cmp.Lexicographic.{nat_list_cmp_total}
+use Rattle.std.proofs.lemmas.List.Sums.{fold-append}
 use Rattle.std.proofs.lemmas.Map.{lookup-none}
 use Rattle.std.proofs.lemmas.Map.Keys.{sorted_tail, IsDistinct-from_sorted}
 use Rattle.std.proofs.lemmas.Map.Entries.{none_past_head}
@@ -40,7 +41,7 @@ use Rattle.directory.specs.declared.deletions.What.{What}
 use Rattle.directory.specs.Deletions.{has_lost, is_lost, has_deletion}
 use Rattle.directory.specs.Entries.{Entries, join_entries, join_tables, IsHeldCell, IsValidEntry, IsValidTable}
 use Rattle.directory.specs.EntryLawProofs.{kinds, entry_join, table_join}
-use Rattle.directory.specs.IndexWords.{is_indexed, IsIndexed, Keeps, KnowsAll}
+use Rattle.directory.specs.IndexWords.{is_indexed, IsIndexed, Keeps, KnowsAll, inserted}
 use Rattle.directory.specs.Purges.{after_entry, is_passed, taken_entry, take_entry, take_table}
 use Rattle.directory.proofs.DeletionLaws.{joined_deletion}
 use Rattle.directory.proofs.TakeLaws.{joined_equal, none_right}
@@ -130,6 +131,11 @@ put_elsewhere old new k l y put name q other =
     at : (b : Bool) → eq_by_cmp octets_cmp q l ≡ b → cond b (Some y) (get old q) ≡ get old q
     at true same = absurd (other (tied octets_exact q l same ∙ name))
     at false same = refl
+
+-- a pair behind others is inserted into their table
+pub inserted_last : (old new : List (List ℕ × EntryCell)) (k : List ℕ) (x : EntryCell) → new ≡ old ++ (k, x) ∷ []
+    → inserted new ≡ insert (inserted old) k x
+inserted_last old new k x is = ap inserted is ∙ fold-append (λ m p. insert m p.0 p.1) empty old ((k, x) ∷ [])
 
 -- ---- the entries of a map are in order
 

@@ -2,11 +2,13 @@
 -- its first one is none of these.
 use Rattle.std.specs.Prelude.{Bool, true, false, ◌&&◌, ◌≡◌, ◌≢◌, ℕ, List, Option, Some, IfSome}
 use Rattle.std.specs.BTreeSet.{contains}
-use Rattle.std.specs.FinMap.{get}
+use Rattle.std.specs.FinMap.{get, empty, insert}
+use Rattle.std.specs.List.{fold}
 use Rattle.cds_stamps.specs.declared.stamp.Stamp.{Stamp}
 use Rattle.cds_stamps.specs.Octets.{is_octets}
 use Rattle.attr_sets.specs.declared.mark.ValueMark.{ValueMark}
 use Rattle.attr_sets.specs.declared.cell.AttrCell.{AttrCell}
+use Rattle.directory.specs.declared.entry.EntryCell.{EntryCell}
 use Rattle.directory.specs.declared.deletions.What.{What}
 use Rattle.directory.specs.declared.deletions.What.TheVariants.{Death, Clear, Absent}
 use Rattle.directory.specs.declared.deletions.Deletion.{Deletion}
@@ -83,3 +85,7 @@ pub record IsIndexed (x : Deletions) (m : Entries) : Type 0 where
   pub valid : IsValidTable m
   pub all : KnowsAll x m
   pub first : BeginsWell x m
+
+-- the table of these entries, inserted in turn (own)
+abbrev pub inserted : List (List ℕ × EntryCell) → Entries
+inserted = fold (λ m p. insert m p.0 p.1) empty

@@ -4,7 +4,7 @@ ghost use Rattle.std.specs.FinMap as map;
 ghost use Rattle.cds_stamps.specs.Semilattice.{maybe};
 ghost use Rattle.directory.specs.Applied.{LeavesOthers};
 ghost use Rattle.directory.specs.Entries.{join_entries, join_tables, IsValidEntry, IsValidTable};
-ghost use Rattle.directory.specs.IndexWords.{IsIndexed, Keeps, KnowsAll};
+ghost use Rattle.directory.specs.IndexWords.{IsIndexed, Keeps, KnowsAll, inserted};
 ghost use Rattle.directory.specs.Purges.{holds, is_passed, take_entry, take_table};
 
 use crate::deletions::Deletions;
@@ -62,30 +62,32 @@ fn later_part(
     ensures joined { IfOk result (λ later. IsValidTable own.now → IsValidTable other.now → join_tables own.now later ≡ take_table t own.now other.now) }
 {
     let t = &t;
-    let mut later = EntryMap::new(alloc);
+    let mut later = Vec::new(alloc);
     for (name, entry) in other.iter() {
         put_later(&mut later, alloc, own, name, entry, *t)?;
     }
-    Ok(later)
+    EntryMap::from_pairs(alloc, later)
 }
 
-/// Gives a name that has nothing yet what is later than t of an entry, unless that is known.
+/// Puts what is later than t of the entry of a name behind that of other names, unless it is known.
 fn put_later(
-    later: &mut EntryMap,
+    later: &mut Vec<(SimpleName, EntryCell)>,
     alloc: Global,
     own: &EntryMap,
     name: &SimpleName,
     entry: &EntryCell,
     t: Stamp,
 ) -> Result<(), AllocError>
-    ensures valid { OnOk result (map.get later.old name.now ≡ None → IsValidEntry entry.now → IfSome (map.get later.new name.now) IsValidEntry) }
-    ensures joined { OnOk result (map.get later.old name.now ≡ None → IfSome (map.get own.now name.now) IsValidEntry → IsValidEntry entry.now →
-        maybe join_entries (map.get own.now name.now) (map.get later.new name.now) ≡ take_entry t (map.get own.now name.now) (Some entry.now)) }
-    ensures others { LeavesOthers later.old later.new name.now }
+    ensures valid { OnOk result (map.get (inserted later.old.items) name.now ≡ None → IsValidEntry entry.now →
+        IfSome (map.get (inserted later.new.items) name.now) IsValidEntry) }
+    ensures joined { let own = map.get own.now name.now in
+        OnOk result (map.get (inserted later.old.items) name.now ≡ None → IfSome own IsValidEntry → IsValidEntry entry.now →
+        maybe join_entries own (map.get (inserted later.new.items) name.now) ≡ take_entry t own (Some entry.now)) }
+    ensures others { LeavesOthers (inserted later.old.items) (inserted later.new.items) name.now }
 {
     let t = &t;
     if !is_known(own.get(name), entry, *t) {
-        later.insert(name.copy(alloc)?, entry.after(alloc, *t)?)?;
+        later.push((name.copy(alloc)?, entry.after(alloc, *t)?))?;
     }
     Ok(())
 }
