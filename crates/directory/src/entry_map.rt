@@ -554,46 +554,6 @@ impl EntryMap {
         }
     }
 
-    /// Joins one entry in, with at most one insertion. What takes it back.
-    fn raise(
-        &mut self,
-        alloc: Global,
-        name: &SimpleName,
-        entry: &EntryCell,
-    ) -> Result<Option<EntryUndo>, AllocError>
-        ensures ok { OnOk result (JoinsEntry self.old self.new name.now entry.now) }
-        ensures back { IfOk result (λ undo. TakesBack undo_entry self.old self.new ((name.now, undo) ∷ [])) }
-        ensures err { OnErr result (self.new ≡ self.old) }
-    {
-        let here = self.raise_here(alloc, name, entry)?;
-        if let Some(undo) = here {
-            return Ok(Some(undo));
-        }
-        let key = name.copy(alloc)?;
-        self.insert(key, entry.copy(alloc)?)?;
-        Ok(None)
-    }
-
-    /// Joins an entry in where the name has one. What takes it back.
-    fn raise_here(
-        &mut self,
-        alloc: Global,
-        name: &SimpleName,
-        entry: &EntryCell,
-    ) -> Result<Option<EntryUndo>, AllocError>
-        ensures ok { IfOk result (λ undo. MatchOption undo ((map.get self.old name.now ≡ None) × (self.new ≡ self.old)) (λ undo.
-            JoinsEntry self.old self.new name.now entry.now × TakesBack undo_entry self.old self.new ((name.now, Some undo) ∷ []))) }
-        ensures err { OnErr result (self.new ≡ self.old) }
-    {
-        match self.entries.get_mut(name) {
-            Some(own) => {
-                let undo = own.join_logged(alloc, entry)?;
-                Ok(Some(undo))
-            }
-            None => Ok(None),
-        }
-    }
-
     /// Joins the entries of another table in, each logged before the next one.
     fn raise_all(
         &mut self,
@@ -610,17 +570,8 @@ impl EntryMap {
         Ok(())
     }
 
-    /// Whether joining one entry in changes nothing.
-    fn outdates(&self, name: &SimpleName, entry: &EntryCell) -> bool
-        ensures { IsTrue result → JoinsEntry self.now self.now name.now entry.now }
-    {
-        match self.get(name) {
-            Some(own) => own.outdates(entry),
-            None => false,
-        }
-    }
-
-    /// Joins one entry in, and logs the change, if it is one. Room in the log comes first.
+    /// Joins one entry in, and logs the change, if it is one: one look-up of a name that is there, and two of a new one. Room in
+    /// the log comes first.
     fn raise_logged(
         &mut self,
         alloc: Global,
@@ -631,13 +582,56 @@ impl EntryMap {
         ensures ok { OnOk result (JoinsEntry self.old self.new name.now entry.now) }
         ensures back { LogsChange undo_entry self.old self.new log.old.items log.new.items }
     {
-        if self.outdates(name, entry) {
+        let here = self.raise_here(alloc, name, entry, log)?;
+        if here {
             return Ok(());
+        }
+        self.raise_new(alloc, name, entry, log)
+    }
+
+    /// Joins an entry in where the name has one, and logs the change, if it is one. Whether it has.
+    fn raise_here(
+        &mut self,
+        alloc: Global,
+        name: &SimpleName,
+        entry: &EntryCell,
+        log: &mut Vec<(SimpleName, Option<EntryUndo>)>,
+    ) -> Result<bool, AllocError>
+        ensures ok { IfOk result (λ here. MatchBool here (JoinsEntry self.old self.new name.now entry.now)
+            ((map.get self.old name.now ≡ None) × (self.new ≡ self.old) × (log.new.items ≡ log.old.items))) }
+        ensures back { LogsChange undo_entry self.old self.new log.old.items log.new.items }
+    {
+        let Some(own) = self.entries.get_mut(name) else {
+            return Ok(false);
+        };
+        if own.outdates(entry) {
+            return Ok(true);
         }
         log.reserve(1)?;
         let key = name.copy(alloc)?;
-        let undo = self.raise(alloc, name, entry)?;
-        log.push((key, undo)).unwrap();
+        let undo = own.join_logged(alloc, entry)?;
+        log.push((key, Some(undo))).unwrap();
+        Ok(true)
+    }
+
+    /// Gives a name that has no entry this one, and logs that.
+    fn raise_new(
+        &mut self,
+        alloc: Global,
+        name: &SimpleName,
+        entry: &EntryCell,
+        log: &mut Vec<(SimpleName, Option<EntryUndo>)>,
+    ) -> Result<(), AllocError>
+        requires { map.get self.old name.now ≡ None }
+        ensures ok { OnOk result (JoinsEntry self.old self.new name.now entry.now) }
+        ensures back { LogsChange undo_entry self.old self.new log.old.items log.new.items }
+    {
+        log.reserve(1)?;
+        let key = name.copy(alloc)?;
+        let logged = name.copy(alloc)?;
+        let value = entry.copy(alloc)?;
+        self.insert(key, value)?;
+        log.push((logged, None)).unwrap();
         Ok(())
     }
 
