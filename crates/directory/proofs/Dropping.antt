@@ -1,15 +1,20 @@
 -- What is changed in place or removed at one key of a tree, as a change of the map of its entries.
 use Rattle.std.proofs.Common.{◌≡◌, ℕ, Bool, true, false, cond, List, Option, Some, None, refl, sym, ap, ◌∙◌}
 use Rattle.std.specs.BTreeMap.{is_at}
-use Rattle.std.specs.Map.{lookup}
+use Rattle.std.specs.Prelude.{if◌then◌else◌}
+use Rattle.std.specs.Map.{lookup, set_value}
 use Rattle.std.specs.Option.{option_and_then}
 use Rattle.std.specs.Cmp.Lexicographic.{nat_list_cmp_total}
 use Rattle.std.specs.FinMap.{FinMap, get, insert, remove, from_entries, get-remove, same_map}
+use Rattle.std.proofs.lemmas.Map.Steps.{set_value_same}
+use Rattle.cds_stamps.specs.declared.stamp.Stamp.{Stamp}
 use Rattle.cds_stamps.specs.Keyed.{tied}
 use Rattle.cds_stamps.specs.Octets.{octets_cmp, octets_exact, is_octets}
 use Rattle.cds_stamps.proofs.TreeViews.{get-view, view-insert}
 use Rattle.cds_stamps.proofs.TreeViews.{view-remove}
-use Rattle.directory.specs.Deletions.{set_at, change_at}
+use Rattle.directory.specs.declared.deletions.What.{What}
+use Rattle.directory.specs.Deletions.{set_at, change_at, is_lost, entry_without}
+use Rattle.directory.specs.Entries.{Entries}
 
 -- a key that has nothing
 pub remove-none : {X : Type 0} (m : FinMap octets_cmp X) (k : List ℕ) → get m k ≡ None → remove m k ≡ m
@@ -55,3 +60,23 @@ module _ {X : Type 0} (m : FinMap octets_cmp X) (es : List (List ℕ × X)) (k :
   pub none_here : (fs : List (List ℕ × X)) → None ≡ lookup (is_at (octets_cmp k)) es → fs ≡ es → from_entries fs ≡ change_at m k f
   none_here fs is same =
       ap from_entries same ∙ view ∙ sym (ap (λ x. set_at m k (option_and_then f x)) (had None is) ∙ remove-none m k (had None is))
+
+-- a value that is looked at in place, and stays as it is
+pub stays : {X : Type 0} (m : FinMap octets_cmp X) (es fs : List (List ℕ × X)) (k : List ℕ) (own : X) → from_entries {R = octets_cmp} es ≡ m
+    → Some own ≡ lookup (is_at (octets_cmp k)) es → fs ≡ set_value (is_at (octets_cmp k)) es own → from_entries fs ≡ m
+stays m es fs k own view had puts = ap from_entries (puts ∙ set_value_same (is_at (octets_cmp k)) es own (sym had)) ∙ view
+
+-- what a key has, by the tree's look-up
+pub found : {X : Type 0} (m : FinMap octets_cmp X) (es : List (List ℕ × X)) (k : List ℕ) (x : Option X) → from_entries {R = octets_cmp} es ≡ m
+    → x ≡ lookup (is_at (octets_cmp k)) es → get m k ≡ x
+found m es k x view is = ap (λ m. get m k) (sym view) ∙ get-view nat_list_cmp_total es k ∙ sym is
+
+-- a deletion that is not there leaves the table as it is
+pub kept_if : (m n : Entries) (k : List ℕ) (s : Stamp) (w : What) → is_lost (get m k) s w ≡ false → n ≡ m
+    → n ≡ (if is_lost (get m k) s w then change_at m k (entry_without w) else m)
+kept_if m n k s w none same = same ∙ ap (λ b. if b then change_at m k (entry_without w) else m) (sym none)
+
+-- one that is there is dropped
+pub dropped_if : (m n : Entries) (k : List ℕ) (s : Stamp) (w : What) → is_lost (get m k) s w ≡ true → n ≡ change_at m k (entry_without w)
+    → n ≡ (if is_lost (get m k) s w then change_at m k (entry_without w) else m)
+dropped_if m n k s w has drops = drops ∙ ap (λ b. if b then change_at m k (entry_without w) else m) (sym has)

@@ -1,16 +1,16 @@
 // A map of entries by name: what updates and other tables do to it.
 ghost use Rattle.std.specs.Prelude.{◌≡◌, IsTrue, List, ℕ, [], ◌∷◌, Option, Some, None, true, if◌then◌else◌, option_copied};
-ghost use Rattle.std.specs.Prelude.{◌-◌, min, MatchOption, MatchBool, IsSome, IfOk, IfSome, OnOk, OnErr};
+ghost use Rattle.std.specs.Prelude.{◌-◌, min, MatchBool, IsSome, IfOk, IfSome, OnOk, OnErr};
 ghost use Rattle.std.specs.FinMap as map;
 ghost use Rattle.std.specs.BTreeMap as tree;
 ghost use Rattle.std.specs.List.{fold};
 ghost use Rattle.std.specs.Option.{option_map};
 ghost use Rattle.cds_stamps.specs.Octets.{octets_cmp};
 ghost use Rattle.cds_stamps.specs.Outcomes.{ok_unless};
-ghost use Rattle.cds_stamps.specs.Undos.{TakesBack, LogsChange, MendsAt, back_at};
+ghost use Rattle.cds_stamps.specs.Undos.{LogsChange, MendsAt, back_at};
 ghost use Rattle.cell_names.specs.ChildPointers.{pointer_octets};
 ghost use Rattle.attr_sets.specs.Cells.{Cleared, Marked, cell_of};
-ghost use Rattle.directory.specs.Deletions.{has_deletion, without, change_at, entry_without};
+ghost use Rattle.directory.specs.Deletions.{has_deletion, is_lost, without, change_at, entry_without};
 ghost use Rattle.directory.specs.Held.{held_in, most_held};
 ghost use Rattle.directory.specs.declared.deletions.What.TheVariants as what;
 ghost use Rattle.directory.specs.Kinds.{replicas};
@@ -689,38 +689,57 @@ impl EntryMap {
         ensures dropped { self.new ≡ (if has_deletion self.old deletion.now then without self.old deletion.now else self.old) }
         ensures count { result ≡ min (held_in self.old - held_in self.new) most_held }
     {
+        match &deletion.what {
+            What::Death => self.drop_death(deletion),
+            What::Clear(attr) => self.drop_clear(&deletion.name, attr, deletion.stamp),
+            What::Absent(attr, value) => {
+                self.drop_value(&deletion.name, attr, value, deletion.stamp)
+            }
+        }
+    }
+
+    /// Drops the entry of a name, if it has this deletion. How many records that were.
+    fn drop_death(&mut self, deletion: &Deletion) -> u64
+        requires { deletion.now.what ≡ what.Death }
+        ensures dropped { self.new ≡ (if has_deletion self.old deletion.now then without self.old deletion.now else self.old) }
+        ensures count { result ≡ min (held_in self.old - held_in self.new) most_held }
+    {
         if !self.has(deletion) {
             return 0;
         }
-        match &deletion.what {
-            What::Death => self.drop_entry(&deletion.name),
-            What::Clear(attr) => {
-                self.drop_clear(&deletion.name, attr);
-                1
-            }
-            What::Absent(attr, value) => {
-                self.drop_value(&deletion.name, attr, value);
-                1
-            }
-        }
+        self.drop_entry(&deletion.name)
     }
 
-    /// Drops the clear of an attribute of an entry.
-    fn drop_clear(&mut self, name: &SimpleName, attr: &AttrName)
-        ensures { self.new ≡ change_at self.old name.now (entry_without (what.Clear attr.now)) }
+    /// Drops the clear of an attribute of an entry, if it has this stamp. How many records that were.
+    fn drop_clear(&mut self, name: &SimpleName, attr: &AttrName, stamp: Stamp) -> u64
+        ensures dropped { let w = what.Clear attr.now in
+            self.new ≡ (if is_lost (map.get self.old name.now) stamp w then change_at self.old name.now (entry_without w) else self.old) }
+        ensures count { result ≡ min (held_in self.old - held_in self.new) most_held }
     {
-        if let Some(entry) = self.entries.get_mut(name) {
-            entry.attrs.drop_clear(attr);
+        let Some(entry) = self.entries.get_mut(name) else {
+            return 0;
+        };
+        if !entry.attrs.is_cleared_at(attr, stamp) {
+            return 0;
         }
+        entry.attrs.drop_clear(attr);
+        1
     }
 
-    /// Drops the mark of a value of an attribute of an entry.
-    fn drop_value(&mut self, name: &SimpleName, attr: &AttrName, value: &Value)
-        ensures { self.new ≡ change_at self.old name.now (entry_without (what.Absent attr.now value.now)) }
+    /// Drops the mark of a value of an attribute of an entry, if it is absent since this stamp. How many records that were.
+    fn drop_value(&mut self, name: &SimpleName, attr: &AttrName, value: &Value, stamp: Stamp) -> u64
+        ensures dropped { let w = what.Absent attr.now value.now in
+            self.new ≡ (if is_lost (map.get self.old name.now) stamp w then change_at self.old name.now (entry_without w) else self.old) }
+        ensures count { result ≡ min (held_in self.old - held_in self.new) most_held }
     {
-        if let Some(entry) = self.entries.get_mut(name) {
-            entry.attrs.drop_value(attr, value);
+        let Some(entry) = self.entries.get_mut(name) else {
+            return 0;
+        };
+        if !entry.attrs.is_absent_at(attr, value, stamp) {
+            return 0;
         }
+        entry.attrs.drop_value(attr, value);
+        1
     }
 
     /// Drops the entry of a name. How many records that were.

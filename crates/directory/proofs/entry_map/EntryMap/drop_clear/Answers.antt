@@ -1,20 +1,67 @@
-use Rattle.std.proofs.Common.{ap, sym, refl, Some}
+use Rattle.std.proofs.Common.{◌≡◌, ◌∙◌, ◌+◌, ◌-◌, Some, None, true, false, refl, sym, ap, subst, arith, rules}
+use Rattle.std.specs.Prelude.{min}
+use Rattle.std.specs.FinMap as map
+use Rattle.cds_stamps.specs.Octets.{octets_cmp}
 use Rattle.directory.specs.declared.entry.EntryCell.{EntryCell}
 use Rattle.directory.specs.declared.deletions.What.TheVariants.{Clear}
-use Rattle.directory.specs.Deletions.{entry_without}
-use Rattle.directory.proofs.Dropping.{set_here, none_here}
-use Rattle.directory.proofs.entry_map.EntryMap.drop_clear.Goals.{in-Some, in_default}
+use Rattle.directory.specs.Deletions.{change_at, entry_without, is_lost}
+use Rattle.directory.specs.Held.{held_in, most_held}
+use Rattle.directory.proofs.Dropping.{set_here, stays, found, kept_if, dropped_if}
+use Rattle.directory.proofs.HeldLaws.{held_clear}
+use Rattle.directory.proofs.entry_map.EntryMap.drop_clear.Goals.{In_default, In-Some, After-drop_clear}
 use Rattle.directory.proofs.entry_map.EntryMap.drop_clear.Goals as goal
 
-pub returns : goal.returns
-returns c = elim c.match-get_mut.branch [
-  | in-Some w ↦ rw w.self-inside-is
-      (let next : EntryCell = record w.in-Some.entry.now { attrs = w.drop_clear.new.self } in
-      set_here c.args.self.now c.self.inside.entries.entries c.args.name.now (entry_without (Clear c.args.attr.now)) c.self.view_is
-      (c.get_mut.follows.lender next).entries w.in-Some.entry.now next w.in-Some.ensures.value
-      ((c.get_mut.follows.holds next).3 (rw (← w.in-Some.ensures.value) refl)).0
-      (ap (λ attrs. Some (record w.in-Some.entry.now { attrs = attrs })) (sym w.drop_clear.ensures)))
-  | in_default w ↦ rw w.self-inside-is
-      (none_here c.args.self.now c.self.inside.entries.entries c.args.name.now (entry_without (Clear c.args.attr.now)) c.self.view_is
-      c.get_mut.follows.lender-at-none.entries w.in_default.ensures.value (ap (λ m. m.entries) c.get_mut.follows.holds-at-none))
-]
+nothing : (c : In_default) → map.from_entries {R = octets_cmp} c.get_mut.follows.lender-at-none.entries ≡ c.args.self.now
+nothing c = ap (λ m. map.from_entries m.entries) c.get_mut.follows.holds-at-none ∙ c.self.view_is
+
+pub returns-in_default-clause-dropped : goal.returns-in_default-clause-dropped
+returns-in_default-clause-dropped c =
+    let w = Clear c.args.attr.now in
+    kept_if c.args.self.now _ c.args.name.now c.args.stamp w (ap (λ e. is_lost e c.args.stamp w)
+    (found c.args.self.now c.self.inside.entries.entries c.args.name.now None c.self.view_is c.in_default.ensures.value)) (nothing (goal.at.returns-in_default-clause-dropped c).In_default)
+
+pub returns-in_default-clause-count : goal.returns-in_default-clause-count
+returns-in_default-clause-count c =
+    subst (λ n. 0 ≡ min (held_in c.args.self.now - held_in n) most_held) (sym (nothing (goal.at.returns-in_default-clause-count c).In_default)) (omega arith)
+
+same : (c : In-Some) → map.from_entries {R = octets_cmp} (c.get_mut.follows.lender c.in-Some.entry.now).entries ≡ c.args.self.now
+same c = stays c.args.self.now c.self.inside.entries.entries (c.get_mut.follows.lender c.in-Some.entry.now).entries c.args.name.now c.in-Some.entry.now
+    c.self.view_is c.in-Some.ensures.value (c.get_mut.follows.holds c.in-Some.entry.now).0
+
+pub returns-then-not-is_cleared_at-clause-dropped : goal.returns-then-not-is_cleared_at-clause-dropped
+returns-then-not-is_cleared_at-clause-dropped c =
+    let w = Clear c.args.attr.now in
+    let unlost : c.is_cleared_at.result ≡ false = search rules in
+    kept_if c.args.self.now _ c.args.name.now c.args.stamp w (ap (λ e. is_lost e c.args.stamp w) (found c.args.self.now
+    c.self.inside.entries.entries c.args.name.now (Some c.in-Some.entry.now) c.self.view_is c.in-Some.ensures.value)
+    ∙ sym c.is_cleared_at.ensures ∙ unlost) (same (goal.at.returns-then-not-is_cleared_at-clause-dropped c).In-Some)
+
+pub returns-then-not-is_cleared_at-clause-count : goal.returns-then-not-is_cleared_at-clause-count
+returns-then-not-is_cleared_at-clause-count c =
+    subst (λ n. 0 ≡ min (held_in c.args.self.now - held_in n) most_held) (sym (same (goal.at.returns-then-not-is_cleared_at-clause-count c).In-Some)) (omega arith)
+
+lost : (c : After-drop_clear) → is_lost (map.get c.args.self.now c.args.name.now) c.args.stamp (Clear c.args.attr.now) ≡ true
+lost c =
+    let w = Clear c.args.attr.now in
+    let has : c.is_cleared_at.result ≡ true = search rules in
+    ap (λ e. is_lost e c.args.stamp w) (found c.args.self.now c.self.inside.entries.entries c.args.name.now (Some c.in-Some.entry.now) c.self.view_is
+    c.in-Some.ensures.value) ∙ sym c.is_cleared_at.ensures ∙ has
+
+drops : (c : After-drop_clear) → map.from_entries {R = octets_cmp} (c.get_mut.follows.lender (record c.in-Some.entry.now { attrs = c.drop_clear.new.self })).entries
+    ≡ change_at c.args.self.now c.args.name.now (entry_without (Clear c.args.attr.now))
+drops c =
+    let next : EntryCell = record c.in-Some.entry.now { attrs = c.drop_clear.new.self } in
+    set_here c.args.self.now c.self.inside.entries.entries c.args.name.now (entry_without (Clear c.args.attr.now)) c.self.view_is
+    (c.get_mut.follows.lender next).entries c.in-Some.entry.now next c.in-Some.ensures.value
+    ((c.get_mut.follows.holds next).3 (rw (← c.in-Some.ensures.value) refl)).0
+    (ap (λ attrs. Some (record c.in-Some.entry.now { attrs = attrs })) (sym c.drop_clear.ensures))
+
+pub returns-clause-dropped : goal.returns-clause-dropped
+returns-clause-dropped c = dropped_if c.args.self.now _ c.args.name.now c.args.stamp (Clear c.args.attr.now) (lost (goal.at.returns-clause-dropped c).After-drop_clear) (drops (goal.at.returns-clause-dropped c).After-drop_clear)
+
+pub returns-clause-count : goal.returns-clause-count
+returns-clause-count c =
+    let m = c.args.self.now in
+    let fewer : held_in (change_at m c.args.name.now (entry_without (Clear c.args.attr.now))) + 1 ≡ held_in m =
+    held_clear m c.args.stamp c.args.name.now c.args.attr.now (lost (goal.at.returns-clause-count c).After-drop_clear) in
+    subst (λ n. 1 ≡ min (held_in m - held_in n) most_held) (sym (drops (goal.at.returns-clause-count c).After-drop_clear)) (omega (arith, fewer))

@@ -1,27 +1,19 @@
 use Rattle.std.proofs.Common.{◌≡◌, ◌∙◌, ℕ, List, [], ◌∷◌, Option, Some, refl, sym, ap, subst, rules}
 use Rattle.std.specs.Prelude.{IsTrue}
 use Rattle.std.specs.FinMap as map
-use Rattle.std.specs.Map.{lookup, set_value}
-use Rattle.std.specs.BTreeMap.{is_at}
 use Rattle.std.specs.Cmp.Lexicographic.{nat_list_cmp_total}
-use Rattle.std.proofs.lemmas.Map.Steps.{set_value_same}
 use Rattle.cds_stamps.specs.Octets.{octets_cmp, octets_exact}
 use Rattle.cds_stamps.specs.Undos.{TakesBack, LogsChange, back_at}
 use Rattle.cds_stamps.proofs.TreeViews.{get-view}
 use Rattle.cds_stamps.proofs.Undoing.{logged, not_here}
 use Rattle.cds_stamps.proofs.ValidJoins.{raised_valid}
 use Rattle.attr_sets.proofs.Unchanged.{unchanged_valid}
-use Rattle.directory.specs.declared.entry.EntryCell.{EntryCell}
 use Rattle.directory.specs.declared.undo.EntryUndo.{EntryUndo}
 use Rattle.directory.specs.Applied.{JoinsEntry}
 use Rattle.directory.specs.Entries.{Entries, join_entries, IsValidEntry}
 use Rattle.directory.specs.EntryUndoWords.{undo_entry}
+use Rattle.directory.proofs.Dropping.{stays}
 use Rattle.directory.proofs.entry_map.EntryMap.raise_here.Goals as goal
-
--- an entry that stays as it is
-stays : (m : Entries) (es fs : List (List ℕ × EntryCell)) (k : List ℕ) (own : EntryCell) → map.from_entries es ≡ m
-    → Some own ≡ lookup (is_at (octets_cmp k)) es → fs ≡ set_value (is_at (octets_cmp k)) es own → map.from_entries fs ≡ m
-stays m es fs k own view had puts = ap map.from_entries (puts ∙ set_value_same (is_at (octets_cmp k)) es own (sym had)) ∙ view
 
 -- neither the table nor its log is changed
 unlogged : (m n : Entries) (log next : List (List ℕ × Option EntryUndo)) → n ≡ m → next ≡ log → LogsChange undo_entry m n log next
