@@ -698,6 +698,21 @@ impl EntryMap {
         }
     }
 
+    /// Drops a deletion that it has, as drop_deletion does, and looks for nothing beforehand.
+    pub(crate) fn drop_known(&mut self, deletion: &Deletion) -> u64
+        requires { has_deletion self.old deletion.now ≡ true }
+        ensures dropped { self.new ≡ without self.old deletion.now }
+        ensures count { result ≡ min (held_in self.old - held_in self.new) most_held }
+    {
+        match &deletion.what {
+            What::Death => self.drop_entry(&deletion.name),
+            What::Clear(attr) => self.drop_clear(&deletion.name, attr, deletion.stamp),
+            What::Absent(attr, value) => {
+                self.drop_value(&deletion.name, attr, value, deletion.stamp)
+            }
+        }
+    }
+
     /// Drops the entry of a name, if it has this deletion. How many records that were.
     fn drop_death(&mut self, deletion: &Deletion) -> u64
         requires { deletion.now.what ≡ what.Death }

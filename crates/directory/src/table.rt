@@ -400,7 +400,7 @@ fn drop_first_deletion(entries: &mut EntryMap, deletions: &mut Deletions) -> u64
 {
     let mut dropped = 0;
     if let Some(first) = deletions.pop_first() {
-        dropped = entries.drop_deletion(&first);
+        dropped = entries.drop_known(&first);
     }
     deletions.settle(entries);
     dropped

@@ -2,7 +2,7 @@ use Rattle.std.proofs.Common.{ap, sym, ◌∙◌}
 use Rattle.std.proofs.lemmas.Bool.{false≢true}
 use Rattle.directory.specs.Deletions.{without}
 use Rattle.directory.proofs.HeldLaws.{held_less}
-use Rattle.directory.proofs.IndexLaws.{settled, one_first, IsDropped, first_dropped}
+use Rattle.directory.proofs.IndexLaws.{settled, one_first, first_of, IsDropped, first_dropped}
 use Rattle.directory.proofs.table.drop_first_deletion.Goals.{After-settle, in-Some+in-Clear-1, in-Some+in-Absent-1, in-Some+in-Death-1, in_default}
 use Rattle.directory.proofs.table.drop_first_deletion.Goals as goal
 
@@ -11,17 +11,21 @@ drops c =
     let drop = first_dropped c.args.deletions.now c.pop_first.new.self c.args.entries.now in
     elim c.match-pop_first.branch [
       | in-Some+in-Clear-1 w ↦ rw w.entries-is
-          (drop w.drop_deletion-dropped.new.self w.in-Some.first c.requires.indexed w.in-Some.ensures.first w.in-Some.ensures.rest
-          w.drop_deletion-dropped.ensures.dropped)
+          (drop w.drop_known-dropped.new.self w.in-Some.first c.requires.indexed w.in-Some.ensures.first w.in-Some.ensures.rest
+          w.drop_known-dropped.ensures.dropped)
       | in-Some+in-Absent-1 w ↦ rw w.entries-is
-          (drop w.drop_deletion-dropped.new.self w.in-Some.first c.requires.indexed w.in-Some.ensures.first w.in-Some.ensures.rest
-          w.drop_deletion-dropped.ensures.dropped)
+          (drop w.drop_known-dropped.new.self w.in-Some.first c.requires.indexed w.in-Some.ensures.first w.in-Some.ensures.rest
+          w.drop_known-dropped.ensures.dropped)
       | in-Some+in-Death-1 w ↦ rw w.entries-is
-          (drop w.drop_deletion-dropped.new.self w.in-Some.first c.requires.indexed w.in-Some.ensures.first w.in-Some.ensures.rest
-          w.drop_deletion-dropped.ensures.dropped)
+          (drop w.drop_known-dropped.new.self w.in-Some.first c.requires.indexed w.in-Some.ensures.first w.in-Some.ensures.rest
+          w.drop_known-dropped.ensures.dropped)
       | in_default w ↦
           absurd (false≢true (sym (w.in_default.ensures.none.1 c.requires.some.0) ∙ c.requires.indexed.all c.requires.some.0 c.requires.some.1))
     ]
+
+pub drop_known-dropped-requires : goal.drop_known-dropped-requires
+drop_known-dropped-requires c =
+    (first_of c.args.deletions.now c.args.entries.now c.in-Some.first c.requires.indexed c.in-Some.ensures.first.0 c.in-Some.ensures.first.1).0
 
 pub returns-clause-dropped : goal.returns-clause-dropped
 returns-clause-dropped c = λ d first.
