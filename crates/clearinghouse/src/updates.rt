@@ -110,27 +110,10 @@ impl Held {
                 Err(refusal) => Ok(Err(refusal)),
             };
         }
-        match self.replica.table.check(update) {
-            Ok(()) => Ok(Ok(Some(self.add_marks(alloc, stamp, update)?))),
+        let told = self.replica.table.accept_told(alloc, update, *stamp)?;
+        match told {
+            Ok(fragment) => Ok(Ok(Some(Outgoing::Update(fragment)))),
             Err(refusal) => Ok(Err(refusal)),
         }
-    }
-
-    /// Takes the marks of an update with this stamp, in place. They are to be posted.
-    fn add_marks(
-        &mut self,
-        alloc: Global,
-        stamp: &Stamp,
-        update: &Update,
-    ) -> Result<Outgoing, AllocError>
-        requires { refusal_of (shown_in self.old.replica.table (changed_name (change_of update.now))) (change_of update.now) ≡ None }
-        ensures adds { (me : ℕ) (r : model.Replica) (floor : ℕ) → StandsHeld me floor self.old r → floor < stamp.now.time
-            → IfOk result (λ o. AddsMarks me r (change_of update.now) stamp.now self.new (Some o)) }
-        ensures kept { OnOk result ((me floor : ℕ) → IsLawfulHeld me floor self.old → floor < stamp.now.time → IsLawfulHeld me stamp.now.time self.new) }
-        ensures err { OnErr result (self.new ≡ self.old) }
-    {
-        let fragment = self.replica.table.fragment(alloc, update, *stamp)?;
-        self.replica.table.apply(alloc, update, *stamp)?;
-        Ok(Outgoing::Update(fragment))
     }
 }

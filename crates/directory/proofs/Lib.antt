@@ -17,6 +17,7 @@ pub mod Applying
 pub mod KnownLaws
 pub mod PurgeLaws
 pub mod TakeLaws
+pub mod Telling
 pub mod DropLaws
 pub mod AppliedPurges
 pub mod Collected

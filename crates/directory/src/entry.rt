@@ -2,6 +2,7 @@
 ghost use Rattle.std.specs.Prelude.{◌≡◌, ◌↔◌, IsTrue, ℕ, min, List, true, Some, None, if◌then◌else◌, filter, is_some, option_copied};
 ghost use Rattle.std.specs.Prelude.{MatchBool, IsSome, IfOk, OnOk, OnErr};
 ghost use Rattle.std.specs.Option.{option_and_then};
+ghost use Rattle.std.specs.Result.{result_err};
 ghost use Rattle.cds_stamps.specs.Semilattice.{maybe, greater};
 ghost use Rattle.cds_stamps.specs.Stamps.{earlier_stamp};
 ghost use Rattle.directory.specs.Kinds.{kind_cmp, is_child};
@@ -16,7 +17,7 @@ ghost use Rattle.directory.specs.Deletions.{has_lost};
 ghost use Rattle.directory.specs.Held.{held_in_entry, held_in_cell, most_held};
 ghost use Rattle.directory.specs.Applied.{changed_entry, deleted_entry};
 ghost use Rattle.cds_stamps.specs.Outcomes.{ok_unless};
-ghost use Rattle.directory.specs.Updates.{Clear};
+ghost use Rattle.directory.specs.Updates.{Clear, Delete};
 ghost use Rattle.directory.specs.Shown.{is_readable, is_reserved, leads, only_one, lead_of, entry_values, face_of, refusal_of, shown_entry, shown_dir};
 
 use crate::attr_map::{AttrMap, CellLog};
@@ -202,6 +203,39 @@ impl EntryCell {
         ensures { self.new ≡ join_entries self.old (deleted_entry self.old stamp) }
     {
         self.death = earlier_of(self.death, Some(stamp));
+    }
+
+    /// Adds a death, and gives the fragment of it, for the name; or refuses it.
+    pub(crate) fn delete_told(
+        &mut self,
+        alloc: Global,
+        name: &SimpleName,
+        stamp: Stamp,
+    ) -> Result<Result<Fragment, UpdateRefusal>, AllocError>
+        ensures answer { IfOk result (λ answer. result_err answer ≡ refusal_of (shown_entry self.old) (Delete name.now)) }
+        ensures ok { IfOk result (λ answer. OnOk answer (self.new ≡ join_entries self.old (deleted_entry self.old stamp))) }
+        ensures name { IfOk result (λ answer. IfOk answer (λ f. f.name ≡ name.now)) }
+        ensures entry { IfOk result (λ answer. IfOk answer (λ f. f.entry ≡ deleted_entry self.old stamp)) }
+        ensures refused { IfOk result (λ answer. OnErr answer (self.new ≡ self.old)) }
+        ensures err { OnErr result (self.new ≡ self.old) }
+    {
+        if !self.is_live() {
+            return Ok(Err(UpdateRefusal::NoSuchEntry));
+        }
+        if self.kind.is_child() {
+            return Ok(Err(UpdateRefusal::WrongKind));
+        }
+        let fragment = Fragment {
+            name: name.copy(alloc)?,
+            entry: EntryCell {
+                birth: self.birth,
+                kind: self.kind,
+                death: Some(stamp),
+                attrs: AttrMap::new(alloc),
+            },
+        };
+        self.delete(stamp);
+        Ok(Ok(fragment))
     }
 
     /// Whether joining another entry in changes nothing. It takes no memory.

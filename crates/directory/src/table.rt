@@ -3,6 +3,7 @@ ghost use Rattle.std.specs.Prelude.{◌≡◌, ◌-◌, ◌<◌, min, ℕ, List,
 ghost use Rattle.std.specs.FinMap as map;
 ghost use Rattle.std.specs.List.{fold, AllByRecursion};
 ghost use Rattle.std.specs.Option.{option_map};
+ghost use Rattle.std.specs.Result.{result_err};
 ghost use Rattle.cds_stamps.specs.declared.stamp.Stamp.{Stamp};
 ghost use Rattle.cds_stamps.specs.Outcomes.{ok_unless};
 ghost use Rattle.cds_stamps.specs.Semilattice.{maybe};
@@ -210,6 +211,29 @@ impl Table {
         accept_update(&mut self.entries, &mut self.deletions, alloc, update, stamp)
     }
 
+    /// Adds the marks of an update with this stamp in place, and gives its fragment; or refuses it: what check answers, what fragment
+    /// gives of the table as it was, and what apply leaves, by one call. The name of a deletion is looked up once, and that of a
+    /// new entry twice.
+    pub fn accept_told(
+        &mut self,
+        alloc: Global,
+        update: &Update,
+        stamp: Stamp,
+    ) -> Result<Result<Fragment, UpdateRefusal>, AllocError>
+        ensures answer { IfOk result (λ answer.
+            result_err answer ≡ refusal_of (shown_in self.old (changed_name (change_of update.now))) (change_of update.now)) }
+        ensures ok { let n = changed_name (change_of update.now) in
+            IfOk result (λ answer. OnOk answer (TakesIn self.old self.new n (marks_of (shown_in self.old n) (change_of update.now) stamp))) }
+        ensures name { IfOk result (λ answer. IfOk answer (λ f. f.name ≡ changed_name (change_of update.now))) }
+        ensures entry { IfOk result (λ answer. IfOk answer (λ f. let u = change_of update.now in
+            entry_of (marks_of (shown_in self.old (changed_name u)) u stamp) f.name ≡ Some f.entry)) }
+        ensures others { LeavesOthers self.old self.new (changed_name (change_of update.now)) }
+        ensures refused { IfOk result (λ answer. OnErr answer (self.new ≡ self.old)) }
+        ensures err { OnErr result (self.new ≡ self.old) }
+    {
+        tell_update(&mut self.entries, &mut self.deletions, alloc, update, stamp)
+    }
+
     /// Joins what an update adds in, in place, with at most one insertion at each level of the entry: of one mark the cost
     /// grows with the logarithm of the number of entries, attributes and values. An entry that is not valid is left out.
     pub fn join_entry(&mut self, alloc: Global, fragment: &Fragment) -> Result<(), AllocError>
@@ -343,6 +367,33 @@ fn accept_update(
     let stamp = &stamp;
     deletions.add_update(alloc, update, *stamp)?;
     let answer = entries.accept(alloc, update, *stamp);
+    deletions.settle_after(entries, update);
+    answer
+}
+
+/// Adds the marks of an update to entries and their index, and gives its fragment; or refuses it.
+fn tell_update(
+    entries: &mut EntryMap,
+    deletions: &mut Deletions,
+    alloc: Global,
+    update: &Update,
+    stamp: Stamp,
+) -> Result<Result<Fragment, UpdateRefusal>, AllocError>
+    ensures answer { IfOk result (λ answer.
+        result_err answer ≡ refusal_of (shown_in entries.old (changed_name (change_of update.now))) (change_of update.now)) }
+    ensures ok { let n = changed_name (change_of update.now) in
+        IfOk result (λ answer. OnOk answer (TakesIn entries.old entries.new n (marks_of (shown_in entries.old n) (change_of update.now) stamp))) }
+    ensures name { IfOk result (λ answer. IfOk answer (λ f. f.name ≡ changed_name (change_of update.now))) }
+    ensures entry { IfOk result (λ answer. IfOk answer (λ f. let u = change_of update.now in
+        entry_of (marks_of (shown_in entries.old (changed_name u)) u stamp) f.name ≡ Some f.entry)) }
+    ensures others { LeavesOthers entries.old entries.new (changed_name (change_of update.now)) }
+    ensures refused { IfOk result (λ answer. OnErr answer (entries.new ≡ entries.old)) }
+    ensures err { OnErr result (entries.new ≡ entries.old) }
+    ensures index { IsIndexed deletions.old entries.old → IsIndexed deletions.new entries.new }
+{
+    let stamp = &stamp;
+    deletions.add_update(alloc, update, *stamp)?;
+    let answer = entries.accept_told(alloc, update, *stamp);
     deletions.settle_after(entries, update);
     answer
 }

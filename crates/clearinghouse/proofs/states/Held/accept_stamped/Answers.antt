@@ -1,7 +1,7 @@
 use Rattle.std.proofs.Common.{sym, ◌∙◌}
 use Rattle.cds_stamps.proofs.OutcomeLaws.{ok_unless-Ok, ok_unless-Err}
 use Rattle.directory.specs.Updates.{change_of}
-use Rattle.clearinghouse.proofs.Accepting.{adds_alone}
+use Rattle.clearinghouse.proofs.Accepting.{adds_alone, adds_posted}
 use Rattle.clearinghouse.proofs.Lawfulness.{adds_lawful}
 use Rattle.clearinghouse.proofs.MemberLists.{alone_none}
 use Rattle.clearinghouse.proofs.states.Held.accept_stamped.Goals as goal
@@ -20,8 +20,14 @@ returns-in-Ok-clause-kept c =
 pub returns-in-Err-clause-refusal : goal.returns-in-Err-clause-refusal
 returns-in-Err-clause-refusal c = sym (ok_unless-Err _ _ _ (sym c.in_ok-accept.ensures.answer ∙ c.in-Err.is))
 
-pub returns-in_ok-add_marks-in-Ok-check-clause-adds : goal.returns-in_ok-add_marks-in-Ok-check-clause-adds
-returns-in_ok-add_marks-in-Ok-check-clause-adds c = c.in_ok-add_marks-in-Ok-check.ensures.adds c.args.house.0
+pub returns-in-Ok-told-clause-adds : goal.returns-in-Ok-told-clause-adds
+returns-in-Ok-told-clause-adds c = λ r floor stands above.
+    adds_posted c.args.self.now c.accept_told.new.self (change_of c.args.update.now) c.args.stamp.now
+    (sym (rw c.in-Ok-told.is at c.in_ok-told.ensures.answer)) (rw c.in-Ok-told.is at c.in_ok-told.ensures.ok)
+    c.args.house.0 r floor stands above c.in-Ok-told.fragment (rw c.in-Ok-told.is at c.in_ok-told.ensures.name)
+    (rw c.in-Ok-told.is at c.in_ok-told.ensures.entry)
 
-pub returns-in-Err-check-clause-refusal : goal.returns-in-Err-check-clause-refusal
-returns-in-Err-check-clause-refusal c = sym (ok_unless-Err _ _ _ (sym c.in-Err-check.ensures))
+pub returns-in-Ok-told-clause-kept : goal.returns-in-Ok-told-clause-kept
+returns-in-Ok-told-clause-kept c =
+    adds_lawful c.args.self.now c.accept_told.new.self (change_of c.args.update.now) c.args.stamp.now
+    (sym (rw c.in-Ok-told.is at c.in_ok-told.ensures.answer)) (rw c.in-Ok-told.is at c.in_ok-told.ensures.ok)
