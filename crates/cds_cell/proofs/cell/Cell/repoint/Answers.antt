@@ -12,7 +12,7 @@ returns-in_default-clause-step c g s none =
     let m = c.args.master.0 in
     let rs = numbers_of c.args.others.now in
     let listed = passed (refusals_of g (command.Repoint c.args.house.0 c.args.dir.0 c.args.name m rs)) (is_bad_list (m ∷ rs)) command.BadMembers
-        (inr (inr (inl refl))) none in
+    (inr (inr (inl refl))) none in
     let bad : is_bad_list (m ∷ rs) ≡ true = subst (λ o. MatchOption o (is_bad_list (m ∷ rs) ≡ true) (λ h. (is_bad_list (m ∷ rs) ≡ false)
     × (h ≡ record { master = m; others = ascending rs }))) c.in_default.is c.in_ok-houses.ensures in
     absurd (false≢true (sym listed ∙ bad))
