@@ -1,5 +1,6 @@
 -- Updates that are applied in place do what the join of their fragment would do.
 use Rattle.std.proofs.Common.{◌≡◌, ℕ, Bool, true, false, cond, List, ◌∷◌, Option, Some, None, Result, Ok, Err, IfOk, OnOk, IsSome, refl, sym, ap, subst, ◌∙◌}
+use Rattle.std.proofs.Common.{Bor, is_some, option_copied}
 use Rattle.std.specs.Prelude.{◌&&◌, is_none, IfSome, if◌then◌else◌}
 use Rattle.std.specs.declared.cmp.Ordering.{Ordering}
 use Rattle.std.specs.declared.cmp.Ordering.TheVariants.{Less, Equal, Greater}
@@ -17,7 +18,7 @@ use Rattle.cds_stamps.specs.Joins.{join_maps, get-join_maps}
 use Rattle.cds_stamps.specs.Outcomes.{ok_unless}
 use Rattle.cds_stamps.specs.Undos.{RaisesAt}
 use Rattle.cds_stamps.proofs.TreeViews.{get-view}
-use Rattle.cds_stamps.proofs.Undoing.{joined_here}
+use Rattle.cds_stamps.proofs.Undoing.{joined_here, joined_new}
 use Rattle.attr_sets.specs.declared.cell.AttrCell.{AttrCell}
 use Rattle.attr_sets.specs.Cells.{AttrMark, cell_of, join_cells}
 use Rattle.directory.specs.declared.entry.EntryCell.{EntryCell}
@@ -128,6 +129,18 @@ takes_fragment old new n marks g named made joins =
     let valid : IsValidEntry g.entry = subst (λ x. IfSome x IsValidEntry) made (entry_of-valid marks g.name) in
     subst (λ n. TakesIn old new n marks) named (subst (λ x. IsSomeAnd x (λ e. IfSome
     (get old g.name) IsValidEntry → RaisesAt join_entries old new g.name e)) (sym made) (λ own. joins own valid))
+
+-- the fragment of an update, where its name has nothing
+pub takes_new : (old new : Entries) (n : List ℕ) (marks : List Mark) (g : Fragment) → g.name ≡ n → entry_of marks g.name ≡ Some g.entry
+    → get old g.name ≡ None → new ≡ insert old g.name g.entry → TakesIn old new n marks
+takes_new old new n marks g named made absent put =
+    takes_fragment old new n marks g named made (λ _ _.
+    joined_new nat_list_cmp_total octets_exact join_entries old new g.name g.entry absent put)
+
+-- what is not found is not there
+pub found_none : (found : Option (Bor EntryCell)) (x : Option EntryCell) → is_some found ≡ false → option_copied found ≡ x → x ≡ None
+found_none None x e is = sym is
+found_none (Some own) x e is = cc e
 
 -- what follows of an answer that a refusal decides, where nothing was said against
 pub where_accepted : {E F P Q : Type 0} (r : Result (Result (Unit {0}) E) F) (refusal : Option E) → IfOk r (λ a. a ≡ ok_unless refusal tt)

@@ -175,14 +175,15 @@ pub record IsDropped (y : Deletions) (m n : Entries) : Type 0 where
 
 pub first_dropped : (x y : Deletions) (m n : Entries) (d : Deletion) → IsIndexed x m
     → (is_indexed x d ≡ true) × ((e : Deletion) → is_indexed x e ≡ true → is_before e d ≡ false)
-    → ((e : Deletion) → is_indexed y e ≡ (if is_deletion e d then false else is_indexed x e)) → n ≡ without m d → IsDropped y m n
+    → ((e : Deletion) → is_indexed y e ≡ (if is_deletion e d then false else is_indexed x e))
+    → n ≡ (if has_deletion m d then without m d else m) → IsDropped y m n
 first_dropped x y m n d i least rest dropped =
     let first = first_of x m d i least.0 least.1 in
     record {
       d = d;
       first = first;
-      left = dropped;
-      known = known_dropped x y m n d rest (dropped ∙ sym (ap (λ b. if b then without m d else m) first.0)) (record { valid = i.valid; all = i.all });
+      left = dropped ∙ ap (λ b. if b then without m d else m) first.0;
+      known = known_dropped x y m n d rest dropped (record { valid = i.valid; all = i.all });
     }
 
 -- ---- results

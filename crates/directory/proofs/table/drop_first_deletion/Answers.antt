@@ -24,7 +24,7 @@ drops c =
     ]
 
 pub drop_known-dropped-requires : goal.drop_known-dropped-requires
-drop_known-dropped-requires c =
+drop_known-dropped-requires c = λ _.
     (first_of c.args.deletions.now c.args.entries.now c.in-Some.first c.requires.indexed c.in-Some.ensures.first.0 c.in-Some.ensures.first.1).0
 
 pub returns-clause-dropped : goal.returns-clause-dropped

@@ -1,31 +1,22 @@
-use Rattle.std.proofs.Common.{◌≡◌, ◌∙◌, Option, Some, None, Bor, false, is_some, option_copied, ap, sym}
+use Rattle.std.proofs.Common.{◌∙◌, ap, sym}
 use Rattle.std.specs.FinMap as map
 use Rattle.std.specs.Cmp.Lexicographic.{nat_list_cmp_total}
 use Rattle.cds_stamps.specs.Octets.{octets_exact}
-use Rattle.cds_stamps.proofs.Undoing.{joined_new}
-use Rattle.directory.specs.declared.entry.EntryCell.{EntryCell}
-use Rattle.directory.specs.Entries.{join_entries}
 use Rattle.directory.specs.Updates.{changed_name, change_of}
 use Rattle.directory.specs.Shown.{shown_in, marks_of}
 use Rattle.directory.proofs.Untouched.{inserted_apart}
-use Rattle.directory.proofs.Applying.{takes_fragment}
+use Rattle.directory.proofs.Applying.{takes_new, found_none}
 use Rattle.directory.proofs.entry_map.EntryMap.create_told.Goals as goal
-
-found_none : (found : Option (Bor EntryCell)) (x : Option EntryCell) → is_some found ≡ false → option_copied found ≡ x → x ≡ None
-found_none None x e is = sym is
-found_none (Some own) x e is = cc e
 
 pub returns-clause-ok : goal.returns-clause-ok
 returns-clause-ok c =
     let u = change_of c.args.update.now in
-    let made = c.in_ok-fragment.fragment in
     let named = c.in_ok-fragment.ensures.name in
-    let absent = ap (map.get c.args.self.now) (named ∙ sym c.name.ensures)
-    ∙ found_none c.get.result _ (sym c.is_some.ensures ∙ c.if-is_some.false) c.get.ensures in
-    takes_fragment c.args.self.now c.insert.new.self (changed_name u) (marks_of (shown_in c.args.self.now (changed_name u)) u c.args.stamp) made
-    named c.in_ok-fragment.ensures.entry (λ _ _.
-    joined_new nat_list_cmp_total octets_exact join_entries c.args.self.now c.insert.new.self made.name made.entry absent
-    (c.in_ok-insert.ensures.ok ∙ (λ i. map.insert c.args.self.now (c.in_ok-key.ensures i) (c.in_ok-entry.ensures i))))
+    takes_new c.args.self.now c.insert.new.self (changed_name u) (marks_of (shown_in c.args.self.now (changed_name u)) u c.args.stamp)
+    c.in_ok-fragment.fragment named c.in_ok-fragment.ensures.entry
+    (ap (map.get c.args.self.now) (named ∙ sym c.name.ensures)
+    ∙ found_none c.get.result _ (sym c.is_some.ensures ∙ c.if-is_some.false) c.get.ensures)
+    (c.in_ok-insert.ensures.ok ∙ (λ i. map.insert c.args.self.now (c.in_ok-key.ensures i) (c.in_ok-entry.ensures i)))
 
 pub returns-clause-others : goal.returns-clause-others
 returns-clause-others c =

@@ -18,7 +18,8 @@ pub returns-in_default-clause-dropped : goal.returns-in_default-clause-dropped
 returns-in_default-clause-dropped c =
     let w = Absent c.args.attr.now c.args.value.now in
     kept_if c.args.self.now _ c.args.name.now c.args.stamp w (ap (λ e. is_lost e c.args.stamp w)
-    (found c.args.self.now c.self.inside.entries.entries c.args.name.now None c.self.view_is c.in_default.ensures.value)) (nothing (goal.at.returns-in_default-clause-dropped c).In_default)
+    (found c.args.self.now c.self.inside.entries.entries c.args.name.now None c.self.view_is c.in_default.ensures.value))
+    (nothing (goal.at.returns-in_default-clause-dropped c).In_default)
 
 pub returns-in_default-clause-count : goal.returns-in_default-clause-count
 returns-in_default-clause-count c =
@@ -38,7 +39,8 @@ returns-then-not-is_absent_at-clause-dropped c =
 
 pub returns-then-not-is_absent_at-clause-count : goal.returns-then-not-is_absent_at-clause-count
 returns-then-not-is_absent_at-clause-count c =
-    subst (λ n. 0 ≡ min (held_in c.args.self.now - held_in n) most_held) (sym (same (goal.at.returns-then-not-is_absent_at-clause-count c).In-Some)) (omega arith)
+    subst (λ n. 0 ≡ min (held_in c.args.self.now - held_in n) most_held)
+    (sym (same (goal.at.returns-then-not-is_absent_at-clause-count c).In-Some)) (omega arith)
 
 lost : (c : After-drop_value) → is_lost (map.get c.args.self.now c.args.name.now) c.args.stamp (Absent c.args.attr.now c.args.value.now) ≡ true
 lost c =
@@ -47,7 +49,8 @@ lost c =
     ap (λ e. is_lost e c.args.stamp w) (found c.args.self.now c.self.inside.entries.entries c.args.name.now (Some c.in-Some.entry.now) c.self.view_is
     c.in-Some.ensures.value) ∙ sym c.is_absent_at.ensures ∙ has
 
-drops : (c : After-drop_value) → map.from_entries {R = octets_cmp} (c.get_mut.follows.lender (record c.in-Some.entry.now { attrs = c.drop_value.new.self })).entries
+drops : (c : After-drop_value)
+    → map.from_entries {R = octets_cmp} (c.get_mut.follows.lender (record c.in-Some.entry.now { attrs = c.drop_value.new.self })).entries
     ≡ change_at c.args.self.now c.args.name.now (entry_without (Absent c.args.attr.now c.args.value.now))
 drops c =
     let next : EntryCell = record c.in-Some.entry.now { attrs = c.drop_value.new.self } in
@@ -57,7 +60,9 @@ drops c =
     (ap (λ attrs. Some (record c.in-Some.entry.now { attrs = attrs })) (sym c.drop_value.ensures))
 
 pub returns-clause-dropped : goal.returns-clause-dropped
-returns-clause-dropped c = dropped_if c.args.self.now _ c.args.name.now c.args.stamp (Absent c.args.attr.now c.args.value.now) (lost (goal.at.returns-clause-dropped c).After-drop_value) (drops (goal.at.returns-clause-dropped c).After-drop_value)
+returns-clause-dropped c =
+    let after = (goal.at.returns-clause-dropped c).After-drop_value in
+    dropped_if c.args.self.now _ c.args.name.now c.args.stamp (Absent c.args.attr.now c.args.value.now) (lost after) (drops after)
 
 pub returns-clause-count : goal.returns-clause-count
 returns-clause-count c =

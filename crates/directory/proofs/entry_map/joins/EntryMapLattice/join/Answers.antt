@@ -4,7 +4,7 @@ use Rattle.std.specs.Cmp.Lexicographic.{nat_list_cmp_total}
 use Rattle.cds_stamps.specs.Octets.{octets_cmp, octets_exact}
 use Rattle.cds_stamps.specs.Undos.{back_at}
 use Rattle.directory.specs.EntryUndoWords.{undo_entry}
-use Rattle.directory.proofs.entry_map.EntryMapLattice.join.Goals as goal
+use Rattle.directory.proofs.entry_map.joins.EntryMapLattice.join.Goals as goal
 
 pub returns-in-Err-clause-err : goal.returns-in-Err-clause-err
 returns-in-Err-clause-err c = map.same_map nat_list_cmp_total octets_exact c.take_back.new.self c.args.self.now (λ q.

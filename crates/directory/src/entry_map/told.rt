@@ -1,0 +1,151 @@
+// Updates that are applied in place, and whose fragments are told.
+ghost use Rattle.std.specs.Prelude.{◌≡◌, Option, Some, IfOk, IfSome, OnOk, OnErr};
+ghost use Rattle.std.specs.FinMap as map;
+ghost use Rattle.std.specs.Result.{result_err};
+ghost use Rattle.directory.specs.Applied.{deleted_entry, TakesOwn, TakesIn, LeavesOthers};
+ghost use Rattle.directory.specs.Updates.{Delete, changed_name, change_of};
+ghost use Rattle.directory.specs.Histories.{entry_of};
+ghost use Rattle.directory.specs.Shown.{Shown, shown_in, new_refusal, refusal_of, marks_of};
+
+use super::EntryMap;
+use crate::entry::Fragment;
+use crate::update::{Update, UpdateRefusal};
+use cds_stamps::{SimpleName, Stamp};
+use std::alloc::{AllocError, Global};
+
+impl EntryMap {
+    /// Adds the marks of an update with this stamp in place, and gives its fragment; or refuses it. The name of a deletion is looked
+    /// up once, and that of a new entry twice.
+    pub(crate) fn accept_told(
+        &mut self,
+        alloc: Global,
+        update: &Update,
+        stamp: Stamp,
+    ) -> Result<Result<Fragment, UpdateRefusal>, AllocError>
+        ensures answer { IfOk result (λ answer.
+            result_err answer ≡ refusal_of (shown_in self.old (changed_name (change_of update.now))) (change_of update.now)) }
+        ensures ok { let n = changed_name (change_of update.now) in
+            IfOk result (λ answer. OnOk answer (TakesIn self.old self.new n (marks_of (shown_in self.old n) (change_of update.now) stamp))) }
+        ensures name { IfOk result (λ answer. IfOk answer (λ f. f.name ≡ changed_name (change_of update.now))) }
+        ensures entry { IfOk result (λ answer. IfOk answer (λ f. let u = change_of update.now in
+            entry_of (marks_of (shown_in self.old (changed_name u)) u stamp) f.name ≡ Some f.entry)) }
+        ensures others { LeavesOthers self.old self.new (changed_name (change_of update.now)) }
+        ensures refused { IfOk result (λ answer. OnErr answer (self.new ≡ self.old)) }
+        ensures err { OnErr result (self.new ≡ self.old) }
+    {
+        match update {
+            Update::Delete(name) => self.delete_told(alloc, name, stamp),
+            Update::Create(_) | Update::MakeLink(_, _) | Update::MakeChild(_, _) => {
+                self.create_told(alloc, update, stamp)
+            }
+            Update::Add(_, _, _)
+            | Update::Remove(_, _, _)
+            | Update::Put(_, _, _)
+            | Update::Clear(_, _)
+            | Update::Repoint(_, _) => self.change_told(alloc, update, stamp),
+        }
+    }
+
+    /// The same for an update that makes an entry. A name that has none, live or not, gets a copy of its fragment.
+    fn create_told(
+        &mut self,
+        alloc: Global,
+        update: &Update,
+        stamp: Stamp,
+    ) -> Result<Result<Fragment, UpdateRefusal>, AllocError>
+        requires { (e : Option Shown) → refusal_of e (change_of update.now) ≡ new_refusal e }
+        ensures answer { IfOk result (λ answer.
+            result_err answer ≡ refusal_of (shown_in self.old (changed_name (change_of update.now))) (change_of update.now)) }
+        ensures ok { let n = changed_name (change_of update.now) in
+            IfOk result (λ answer. OnOk answer (TakesIn self.old self.new n (marks_of (shown_in self.old n) (change_of update.now) stamp))) }
+        ensures name { IfOk result (λ answer. IfOk answer (λ f. f.name ≡ changed_name (change_of update.now))) }
+        ensures entry { IfOk result (λ answer. IfOk answer (λ f. let u = change_of update.now in
+            entry_of (marks_of (shown_in self.old (changed_name u)) u stamp) f.name ≡ Some f.entry)) }
+        ensures others { LeavesOthers self.old self.new (changed_name (change_of update.now)) }
+        ensures refused { IfOk result (λ answer. OnErr answer (self.new ≡ self.old)) }
+        ensures err { OnErr result (self.new ≡ self.old) }
+    {
+        if self.get(update.name()).is_some() {
+            return self.remake_told(alloc, update, stamp);
+        }
+        let fragment = self.fragment(alloc, update, stamp)?;
+        let key = fragment.name.copy(alloc)?;
+        let entry = fragment.entry.copy(alloc)?;
+        self.insert(key, entry)?;
+        Ok(Ok(fragment))
+    }
+
+    /// The same where the name has an entry, live or not.
+    fn remake_told(
+        &mut self,
+        alloc: Global,
+        update: &Update,
+        stamp: Stamp,
+    ) -> Result<Result<Fragment, UpdateRefusal>, AllocError>
+        ensures answer { IfOk result (λ answer.
+            result_err answer ≡ refusal_of (shown_in self.old (changed_name (change_of update.now))) (change_of update.now)) }
+        ensures ok { let n = changed_name (change_of update.now) in
+            IfOk result (λ answer. OnOk answer (TakesIn self.old self.new n (marks_of (shown_in self.old n) (change_of update.now) stamp))) }
+        ensures name { IfOk result (λ answer. IfOk answer (λ f. f.name ≡ changed_name (change_of update.now))) }
+        ensures entry { IfOk result (λ answer. IfOk answer (λ f. let u = change_of update.now in
+            entry_of (marks_of (shown_in self.old (changed_name u)) u stamp) f.name ≡ Some f.entry)) }
+        ensures others { LeavesOthers self.old self.new (changed_name (change_of update.now)) }
+        ensures refused { IfOk result (λ answer. OnErr answer (self.new ≡ self.old)) }
+        ensures err { OnErr result (self.new ≡ self.old) }
+    {
+        if let Err(refusal) = self.check(update) {
+            return Ok(Err(refusal));
+        }
+        let fragment = self.fragment(alloc, update, stamp)?;
+        self.join_entry(alloc, &fragment)?;
+        Ok(Ok(fragment))
+    }
+
+    /// The same for any update, with look-ups for each of its parts.
+    fn change_told(
+        &mut self,
+        alloc: Global,
+        update: &Update,
+        stamp: Stamp,
+    ) -> Result<Result<Fragment, UpdateRefusal>, AllocError>
+        ensures answer { IfOk result (λ answer.
+            result_err answer ≡ refusal_of (shown_in self.old (changed_name (change_of update.now))) (change_of update.now)) }
+        ensures ok { let n = changed_name (change_of update.now) in
+            IfOk result (λ answer. OnOk answer (TakesIn self.old self.new n (marks_of (shown_in self.old n) (change_of update.now) stamp))) }
+        ensures name { IfOk result (λ answer. IfOk answer (λ f. f.name ≡ changed_name (change_of update.now))) }
+        ensures entry { IfOk result (λ answer. IfOk answer (λ f. let u = change_of update.now in
+            entry_of (marks_of (shown_in self.old (changed_name u)) u stamp) f.name ≡ Some f.entry)) }
+        ensures others { LeavesOthers self.old self.new (changed_name (change_of update.now)) }
+        ensures refused { IfOk result (λ answer. OnErr answer (self.new ≡ self.old)) }
+        ensures err { OnErr result (self.new ≡ self.old) }
+    {
+        if let Err(refusal) = self.check(update) {
+            return Ok(Err(refusal));
+        }
+        let stamp = &stamp;
+        let fragment = self.fragment(alloc, update, *stamp)?;
+        self.apply(alloc, update, *stamp)?;
+        Ok(Ok(fragment))
+    }
+
+    /// Adds a death to the entry of a name, and gives its fragment; or refuses it.
+    fn delete_told(
+        &mut self,
+        alloc: Global,
+        name: &SimpleName,
+        stamp: Stamp,
+    ) -> Result<Result<Fragment, UpdateRefusal>, AllocError>
+        ensures answer { IfOk result (λ answer. result_err answer ≡ refusal_of (shown_in self.old name.now) (Delete name.now)) }
+        ensures ok { IfOk result (λ answer. OnOk answer (TakesOwn self.old self.new name.now (λ e. deleted_entry e stamp))) }
+        ensures name { IfOk result (λ answer. IfOk answer (λ f. f.name ≡ name.now)) }
+        ensures entry { IfOk result (λ answer. IfOk answer (λ f. IfSome (map.get self.old name.now) (λ e. f.entry ≡ deleted_entry e stamp))) }
+        ensures others { LeavesOthers self.old self.new name.now }
+        ensures refused { IfOk result (λ answer. OnErr answer (self.new ≡ self.old)) }
+        ensures err { OnErr result (self.new ≡ self.old) }
+    {
+        match self.entries.get_mut(name) {
+            Some(own) => own.delete_told(alloc, name, stamp),
+            None => Ok(Err(UpdateRefusal::NoSuchEntry)),
+        }
+    }
+}
