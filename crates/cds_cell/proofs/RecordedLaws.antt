@@ -67,9 +67,6 @@ stands_declared ns ms is = ap declared_members is ∙ members_declared ms
 
 -- ---- messages
 
-copy_recorded : (r : Replica) (c : model.Copy) → StandsCopy r c → replica_of c.history c.all_up_to ≡ r
-copy_recorded r c is = sym is
-
 update_recorded : (marks : List Mark) (f : Fragment) → IsFragmentOf marks f → update_body marks ≡ Some (body.Update f)
 update_recorded [] f is = absurd (cc (is.entry))
 update_recorded (m ∷ ms) f is =

@@ -1,16 +1,13 @@
--- Reading items one after another into a list, as a loop does, and the map that is made of the list.
+-- Reading items one after another into a list, as a loop does.
 use Rattle.std.proofs.Common.{◌≡◌, ℕ, suc, ◌-◌, ◌+◌, ◌≤◌, ◌<◌, List, [], ◌∷◌, ◌++◌, Option, Some, None, Result, Ok, Err, refl, sym, ap, ◌∙◌}
 use Rattle.std.proofs.Common.{append_assoc, append-nil, arith}
-use Rattle.std.specs.List.{fold}
-use Rattle.std.specs.FinMap.{FinMap, empty, insert}
-use Rattle.std.specs.declared.cmp.Ordering.{Ordering}
 use Rattle.cds_stamps.specs.declared.alloc_or.AllocOr.{AllocOr}
 use Rattle.cds_stamps.specs.declared.alloc_or.AllocOr.TheVariants.{Fault, OutOfMemory}
 use Rattle.cds_records.specs.declared.fault.Broken.{Broken}
 use Rattle.cds_records.specs.Layouts.{Layout}
 use Rattle.cds_records.specs.Reading.{◌>>=◌, read}
 use Rattle.cds_records.specs.PrivateReading.{Reads, Puts}
-use Rattle.cds_records.specs.Records.{item, ascending, add_all, map_of}
+use Rattle.cds_records.specs.Records.{item, ascending}
 
 -- the items before, and those that are still to be read
 abbrev pub behind : {X : Type 0} → List X → Result (List X × List ℕ) Broken → Result (List X × List ℕ) Broken
@@ -24,11 +21,6 @@ one_listed : {X : Type 0} (front : List X) (e : X) (r : Result (List X × List �
     → behind front (r >>= λ y. Ok (e ∷ y.0, y.1)) ≡ behind (front ++ e ∷ []) r
 one_listed {X} front e (Ok y) = ap (λ (es : List X). Ok (es, y.1)) (sym (append_assoc front (e ∷ []) y.0))
 one_listed front e (Err b) = refl
-
--- items that are inserted in turn are added one after another
-inserted_in_turn : {K X : Type 0} {R : K → K → Ordering} (m : FinMap R X) (es : List (K × X)) → fold (λ m e. insert m e.0 e.1) m es ≡ add_all m es
-inserted_in_turn m [] = refl
-inserted_in_turn m (e ∷ es) = inserted_in_turn (insert m e.0 e.1) es
 
 module _ {K X : Type 0} (key : Option K → Layout K) (content : Layout X) where
   -- before the first item all of the list is to come
@@ -69,12 +61,3 @@ module _ {K X : Type 0} (key : Option K → Layout K) (content : Layout X) where
       let one : behind front (read (ascending key content (count - i) before) x) ≡ Ok (front, x) =
       rw k (ap (λ (es : List (K × X)). Ok (es, x)) (append-nil front)) in
       sym so_far ∙ one
-
-  -- the map of a list that was read
-  pub map_is_read : {R : K → K → Ordering} (count : ℕ) (x z : List ℕ) (items : List (K × X)) (m : FinMap R X)
-      → read (ascending key content count None) x ≡ Ok (items, z) → m ≡ fold (λ m e. insert m e.0 e.1) empty items
-      → read (map_of {R = R} key content count) x ≡ Ok (m, z)
-  unfolding map_of
-  map_is_read {R} count x z items m listed made =
-      let is : add_all (empty {R = R}) items ≡ m = sym (made ∙ inserted_in_turn empty items) in
-      rw listed (ap (λ (m : FinMap R X). Ok (m, z)) is)

@@ -22,6 +22,9 @@ use directory::Fragment;
 use purge_rule::Replica;
 use std::alloc::{AllocError, Global};
 
+/// Octets for which there is room at once: most messages of one mark have no more.
+const USUAL_MESSAGE: usize = 128;
+
 /// The octets of a message. They are the whole of it if its entries and tables are valid.
 pub fn encode(alloc: Global, message: &Message) -> Result<Vec<u8>, AllocError>
     ensures octets { IfOk result (λ v. v.items ≡ message_octets message.now) }
@@ -91,12 +94,12 @@ pub fn encode_join(
     Ok(out)
 }
 
-/// What stands before what a message of this tag carries.
+/// What stands before what a message of this tag carries. There is room for the message of an update with short names.
 fn begin(alloc: Global, head: &Head, tag: u8) -> Result<Vec<u8>, AllocError>
     ensures octets { IfOk result (λ v. v.items ≡ message_head 1 head.now tag) }
     ensures fits { IfOk result (λ v. FitsHead head.now) }
 {
-    let mut out = Vec::new(alloc);
+    let mut out = Vec::with_capacity(alloc, USUAL_MESSAGE)?;
     put_octet(&mut out, FORMAT)?;
     put_octet(&mut out, tag)?;
     put_u32(&mut out, head.dir.0)?;

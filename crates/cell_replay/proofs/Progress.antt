@@ -25,9 +25,6 @@ front_over xs ys zs first second = (first.0 ++ second.0, second.1 ∙ ap (λ (l 
 front_self : (xs : List ℕ) → IsFront xs xs
 front_self xs = ([], sym (append-nil xs))
 
-front_of : (xs ys : List ℕ) → IsFront xs (xs ++ ys)
-front_of xs ys = (ys, refl)
-
 taken_front : (out waits : List ℕ) (k : ℕ) → IsFront (out ++ take k waits) (out ++ waits)
 taken_front out waits k = (drop k waits, ap (λ (l : List ℕ). out ++ l) (sym (take-append-drop k waits)) ∙ sym (append_assoc out (take k waits) (drop k waits)))
 

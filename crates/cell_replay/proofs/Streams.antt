@@ -58,9 +58,6 @@ short_not_empty octets fault place short is other = subst IsShort (one_fault oct
 pub sight_whole : (octets : List ℕ) → length octets ≤ 1025 → in_sight octets ≡ octets
 sight_whole octets few = take_all 1025 octets few
 
-sight_long : (octets : List ℕ) → 1024 < length (in_sight octets) → 1024 < length octets
-sight_long octets long = omega (arith, long, length-take 1025 octets)
-
 -- a part of a tower that has 1,025 octets already
 pub too_long_part : (number : ℕ) (octets : List ℕ) (fault : TowerFault) → number ≤ 16777216 → 1024 < length octets → IsShort fault
     → IsFault (in_sight octets) fault → ShowsFault number octets stream.TooLong

@@ -52,9 +52,6 @@ pub record IsBetween (state : LineState) (first left old new : Option (List ℕ)
   pub calm : reads' ≡ reads
   pub quiet : writes' ≡ writes
 
-none_read : (left : Option (List ℕ)) (octets : List ℕ) → GrowsByReading left left octets octets
-none_read left octets = record { read = []; taken = consumes_self left; grown = sym (append-nil octets) }
-
 module _ (state : LineState) (first left old new : Option (List ℕ)) (reads reads' writes writes' : ℕ) (lines : Lines) (form : LineForm)
     (waits : List ℕ) (b : IsBetween state first left old new reads reads' writes writes' lines form waits) where
   -- a write failed

@@ -1,20 +1,18 @@
 -- Updates that are applied in place, and whose fragments are told.
-use Rattle.std.proofs.Common.{◌≡◌, ℕ, Bool, true, false, List, [], ◌∷◌, Option, Some, None, Result, Ok, Err, IfOk, OnOk, IsSome, refl, sym, ap, ◌∙◌}
+use Rattle.std.proofs.Common.{◌≡◌, ℕ, Bool, true, false, List, ◌∷◌, Option, Some, None, Result, Ok, Err, IfOk, OnOk, IsSome, sym, ap, ◌∙◌}
 use Rattle.std.specs.Prelude.{◌&&◌, is_none, IfSome, if◌then◌else◌}
 use Rattle.std.specs.Option.{option_and_then}
 use Rattle.std.specs.Result.{result_err}
 use Rattle.std.specs.FinMap.{get}
-use Rattle.cds_stamps.specs.declared.stamp.Stamp.{Stamp}
 use Rattle.cds_stamps.specs.Outcomes.{ok_unless}
 use Rattle.directory.specs.declared.entry.EntryCell.{EntryCell}
 use Rattle.directory.specs.declared.entry.Fragment.{Fragment}
 use Rattle.directory.specs.declared.update.UpdateRefusal.{UpdateRefusal}
+use Rattle.directory.specs.declared.update.UpdateRefusal.TheVariants.{NoSuchEntry}
 use Rattle.directory.specs.Entries.{Entries}
-use Rattle.directory.specs.Histories.{Death, entry_of}
-use Rattle.directory.specs.Shown.{shown_in, shown_entry, face_of, leads, with_birth, refusal_of, marks_of}
-use Rattle.directory.specs.Updates.{Delete}
-use Rattle.directory.specs.Applied.{deleted_entry}
-use Rattle.directory.proofs.FragmentLaws.{shows, entry_of-deleted}
+use Rattle.directory.specs.Histories.{Mark, Birth, entry_of}
+use Rattle.directory.specs.Shown.{Shown, shown_in, shown_entry, face_of, leads, with_birth}
+use Rattle.directory.proofs.FragmentLaws.{shows}
 
 -- a check answers what its refusal decides
 pub refusal_told : {E : Type 0} (r : Result (Unit {0}) E) (refusal : Option E) → r ≡ ok_unless refusal tt → result_err r ≡ refusal
@@ -28,24 +26,30 @@ where_told (Err e) refusal is p f = tt
 where_told (Ok (Err e)) refusal is p f = tt
 where_told (Ok (Ok x)) refusal is p f = f (sym is) p
 
-death_live : (n : List ℕ) (s : Stamp) (g own : EntryCell) (b : Bool) → IsSome (if b then Some (face_of own) else None) → g ≡ deleted_entry own s
-    → entry_of (with_birth n (if b then Some (face_of own) else None) (λ x. Death n x.birth s ∷ [])) n ≡ Some g
-death_live n s g own true live made = entry_of-deleted n own.kind own.birth s ∙ ap Some (sym made)
-death_live n s g own false live made = cc (live)
+-- the marks of an entry that shows, and what is made of it
+own_live : (n : List ℕ) (marks : Shown → List Mark) (g own : EntryCell) (b : Bool) → IsSome (if b then Some (face_of own) else None)
+    → entry_of (Birth n own.kind own.birth ∷ marks (face_of own)) n ≡ Some g → entry_of (with_birth n (if b then Some (face_of own) else None) marks) n ≡ Some g
+own_live n marks g own true live made = made
+own_live n marks g own false live made = cc (live)
 
-death_told : (n : List ℕ) (s : Stamp) (g : EntryCell) (x : Option EntryCell) → IsSome (option_and_then shown_entry x)
-    → IfSome x (λ e. g ≡ deleted_entry e s)
-    → entry_of (with_birth n (option_and_then shown_entry x) (λ x. Death n x.birth s ∷ [])) n ≡ Some g
-death_told n s g None live made = cc (live)
-death_told n s g (Some own) live made = death_live n s g own (is_none own.death && leads own.kind (face_of own).values) live made
+own_made : (n : List ℕ) (marks : Shown → List Mark) (made : EntryCell → EntryCell)
+    → ((own : EntryCell) → entry_of (Birth n own.kind own.birth ∷ marks (face_of own)) n ≡ Some (made own))
+    → (g : EntryCell) (x : Option EntryCell) → IsSome (option_and_then shown_entry x) → IfSome x (λ e. g ≡ made e)
+    → entry_of (with_birth n (option_and_then shown_entry x) marks) n ≡ Some g
+own_made n marks made is g None live e = cc (live)
+own_made n marks made is g (Some own) live e =
+    own_live n marks g own (is_none own.death && leads own.kind (face_of own).values) live (is own ∙ ap Some (sym e))
 
--- the fragment that a deletion tells is the entry of its marks
-pub deletion_told : {F : Type 0} (m : Entries) (n : List ℕ) (s : Stamp) (r : Result (Result Fragment UpdateRefusal) F)
-    → IfOk r (λ a. result_err a ≡ refusal_of (shown_in m n) (Delete n)) → IfOk r (λ a. IfOk a (λ f. f.name ≡ n))
-    → IfOk r (λ a. IfOk a (λ f. IfSome (get m n) (λ e. f.entry ≡ deleted_entry e s)))
-    → IfOk r (λ a. IfOk a (λ f. entry_of (marks_of (shown_in m n) (Delete n) s) f.name ≡ Some f.entry))
-deletion_told m n s (Err e) answer named made = tt
-deletion_told m n s (Ok (Err e)) answer named made = tt
-deletion_told m n s (Ok (Ok f)) answer named made =
-    ap (entry_of (marks_of (shown_in m n) (Delete n) s)) named
-    ∙ death_told n s f.entry (get m n) (shows (shown_in m n) (λ e. refusal_of e (Delete n)) refl (sym answer)) made
+-- the fragment that is told of an entry is the entry of its marks
+pub own_told : {F : Type 0} (m : Entries) (n : List ℕ) (refused : Option Shown → Option UpdateRefusal) → refused None ≡ Some NoSuchEntry
+    → (marks : Shown → List Mark) (made : EntryCell → EntryCell)
+    → ((own : EntryCell) → entry_of (Birth n own.kind own.birth ∷ marks (face_of own)) n ≡ Some (made own))
+    → (r : Result (Result Fragment UpdateRefusal) F)
+    → IfOk r (λ a. result_err a ≡ refused (shown_in m n)) → IfOk r (λ a. IfOk a (λ f. f.name ≡ n))
+    → IfOk r (λ a. IfOk a (λ f. IfSome (get m n) (λ e. f.entry ≡ made e)))
+    → IfOk r (λ a. IfOk a (λ f. entry_of (with_birth n (shown_in m n) marks) f.name ≡ Some f.entry))
+own_told m n refused none marks made is (Err e) answer named entry = tt
+own_told m n refused none marks made is (Ok (Err e)) answer named entry = tt
+own_told m n refused none marks made is (Ok (Ok f)) answer named entry =
+    ap (entry_of (with_birth n (shown_in m n) marks)) named
+    ∙ own_made n marks made is f.entry (get m n) (shows (shown_in m n) refused none (sym answer)) entry

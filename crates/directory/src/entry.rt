@@ -22,6 +22,7 @@ ghost use Rattle.directory.specs.Shown.{is_readable, is_reserved, leads, only_on
 
 use crate::attr_map::{AttrMap, CellLog};
 use crate::deletions::What;
+use crate::fragments::one_attr;
 use crate::undo::EntryUndo;
 use crate::update::UpdateRefusal;
 use attr_sets::{AttrCell, CellChange, Value};
@@ -196,6 +197,61 @@ impl EntryCell {
         }
         self.change(alloc, attr, change, stamp)?;
         Ok(Ok(()))
+    }
+
+    /// Adds the marks of a change of an attribute, in place, and gives the fragment of them, for the name; or refuses it.
+    pub(crate) fn change_told(
+        &mut self,
+        alloc: Global,
+        name: &SimpleName,
+        attr: &AttrName,
+        change: &CellChange,
+        stamp: Stamp,
+    ) -> Result<Result<Fragment, UpdateRefusal>, AllocError>
+        ensures answer { IfOk result (λ answer. result_err answer ≡ refusal_of (shown_entry self.old) (Clear name.now attr.now)) }
+        ensures ok { IfOk result (λ answer. OnOk answer
+            (IsValidEntry self.old → self.new ≡ join_entries self.old (changed_entry self.old attr.now (change_marks change.now stamp)))) }
+        ensures name { IfOk result (λ answer. IfOk answer (λ f. f.name ≡ name.now)) }
+        ensures entry { IfOk result (λ answer. IfOk answer (λ f.
+            f.entry ≡ changed_entry self.old attr.now (change_marks change.now stamp))) }
+        ensures refused { IfOk result (λ answer. OnErr answer (self.new ≡ self.old)) }
+        ensures err { OnErr result (self.new ≡ self.old) }
+    {
+        if !self.is_live() {
+            return Ok(Err(UpdateRefusal::NoSuchEntry));
+        }
+        if is_reserved(attr) {
+            return Ok(Err(UpdateRefusal::WrongKind));
+        }
+        let stamp = &stamp;
+        let fragment = self.changed(alloc, name, attr, change, *stamp)?;
+        self.change(alloc, attr, change, *stamp)?;
+        Ok(Ok(fragment))
+    }
+
+    /// The fragment of a change of an attribute, for the name.
+    fn changed(
+        &self,
+        alloc: Global,
+        name: &SimpleName,
+        attr: &AttrName,
+        change: &CellChange,
+        stamp: Stamp,
+    ) -> Result<Fragment, AllocError>
+        ensures name { IfOk result (λ f. f.name ≡ name.now) }
+        ensures entry { IfOk result (λ f. f.entry ≡ changed_entry self.now attr.now (change_marks change.now stamp)) }
+    {
+        let cell = AttrCell::changed(alloc, change, stamp)?;
+        let attrs = one_attr(alloc, attr.copy(alloc)?, cell)?;
+        Ok(Fragment {
+            name: name.copy(alloc)?,
+            entry: EntryCell {
+                birth: self.birth,
+                kind: self.kind,
+                death: None,
+                attrs,
+            },
+        })
     }
 
     /// Adds a death.

@@ -212,8 +212,8 @@ impl Table {
     }
 
     /// Adds the marks of an update with this stamp in place, and gives its fragment; or refuses it: what check answers, what fragment
-    /// gives of the table as it was, and what apply leaves, by one call. The name of a deletion is looked up once, and that of a
-    /// new entry twice.
+    /// gives of the table as it was, and what apply leaves, by one call. The name of a deletion or of a change of an attribute is
+    /// looked up once, and that of a new entry twice.
     pub fn accept_told(
         &mut self,
         alloc: Global,

@@ -14,3 +14,5 @@ mod purges;
 mod records;
 #[cfg(test)]
 mod services;
+#[cfg(test)]
+mod tables;

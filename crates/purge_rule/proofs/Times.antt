@@ -153,14 +153,6 @@ module _ (n : ℕ) where
       by_case true = q
       by_case false = tt
 
-  -- and so it is for replicas that are merged
-  pub merged-up_to : (old other new : Replica) → new.table ≡ join_tables old.table other.table → new.all_up_to ≡ together old.all_up_to other.all_up_to
-      → ReplicaUpTo n old → ReplicaUpTo n other → ReplicaUpTo n new
-  merged-up_to old other new joins later p q = record {
-    table = subst (TableUpTo n) (sym joins) (join_tables-up_to old.table other.table p.table q.table);
-    all_up_to = subst (StampUpTo n) (sym later) (together-up_to old.all_up_to other.all_up_to p.all_up_to q.all_up_to);
-  }
-
   -- no time stands in the empty table
   pub empty-up_to : TableUpTo n empty
   empty-up_to k = subst (λ x. IfSome x (EntryUpTo n)) (sym (get-empty octets_cmp k)) tt

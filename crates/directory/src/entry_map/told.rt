@@ -2,20 +2,22 @@
 ghost use Rattle.std.specs.Prelude.{◌≡◌, Option, Some, IfOk, IfSome, OnOk, OnErr};
 ghost use Rattle.std.specs.FinMap as map;
 ghost use Rattle.std.specs.Result.{result_err};
-ghost use Rattle.directory.specs.Applied.{deleted_entry, TakesOwn, TakesIn, LeavesOthers};
-ghost use Rattle.directory.specs.Updates.{Delete, changed_name, change_of};
+ghost use Rattle.attr_sets.specs.CellChanges.{change_marks};
+ghost use Rattle.directory.specs.Applied.{changed_entry, deleted_entry, TakesOwn, TakesIn, LeavesOthers};
+ghost use Rattle.directory.specs.Updates.{Clear, Delete, changed_name, change_of};
 ghost use Rattle.directory.specs.Histories.{entry_of};
 ghost use Rattle.directory.specs.Shown.{Shown, shown_in, new_refusal, refusal_of, marks_of};
 
 use super::EntryMap;
 use crate::entry::Fragment;
 use crate::update::{Update, UpdateRefusal};
-use cds_stamps::{SimpleName, Stamp};
+use attr_sets::CellChange;
+use cds_stamps::{AttrName, SimpleName, Stamp};
 use std::alloc::{AllocError, Global};
 
 impl EntryMap {
-    /// Adds the marks of an update with this stamp in place, and gives its fragment; or refuses it. The name of a deletion is looked
-    /// up once, and that of a new entry twice.
+    /// Adds the marks of an update with this stamp in place, and gives its fragment; or refuses it. The name of a deletion or of a
+    /// change of an attribute is looked up once, and that of a new entry twice.
     pub(crate) fn accept_told(
         &mut self,
         alloc: Global,
@@ -38,11 +40,19 @@ impl EntryMap {
             Update::Create(_) | Update::MakeLink(_, _) | Update::MakeChild(_, _) => {
                 self.create_told(alloc, update, stamp)
             }
-            Update::Add(_, _, _)
-            | Update::Remove(_, _, _)
-            | Update::Put(_, _, _)
-            | Update::Clear(_, _)
-            | Update::Repoint(_, _) => self.change_told(alloc, update, stamp),
+            Update::Add(name, attr, value) => {
+                self.change_told(alloc, name, attr, &CellChange::Add(value), stamp)
+            }
+            Update::Remove(name, attr, value) => {
+                self.change_told(alloc, name, attr, &CellChange::Remove(value), stamp)
+            }
+            Update::Put(name, attr, value) => {
+                self.change_told(alloc, name, attr, &CellChange::Put(value), stamp)
+            }
+            Update::Clear(name, attr) => {
+                self.change_told(alloc, name, attr, &CellChange::Clear, stamp)
+            }
+            Update::Repoint(_, _) => self.remake_told(alloc, update, stamp),
         }
     }
 
@@ -75,7 +85,7 @@ impl EntryMap {
         Ok(Ok(fragment))
     }
 
-    /// The same where the name has an entry, live or not.
+    /// The same for any update, with look-ups for each of its parts.
     fn remake_told(
         &mut self,
         alloc: Global,
@@ -101,31 +111,29 @@ impl EntryMap {
         Ok(Ok(fragment))
     }
 
-    /// The same for any update, with look-ups for each of its parts.
+    /// Adds the marks of a change of an attribute to the entry of a name, and gives its fragment; or refuses it.
     fn change_told(
         &mut self,
         alloc: Global,
-        update: &Update,
+        name: &SimpleName,
+        attr: &AttrName,
+        change: &CellChange,
         stamp: Stamp,
     ) -> Result<Result<Fragment, UpdateRefusal>, AllocError>
-        ensures answer { IfOk result (λ answer.
-            result_err answer ≡ refusal_of (shown_in self.old (changed_name (change_of update.now))) (change_of update.now)) }
-        ensures ok { let n = changed_name (change_of update.now) in
-            IfOk result (λ answer. OnOk answer (TakesIn self.old self.new n (marks_of (shown_in self.old n) (change_of update.now) stamp))) }
-        ensures name { IfOk result (λ answer. IfOk answer (λ f. f.name ≡ changed_name (change_of update.now))) }
-        ensures entry { IfOk result (λ answer. IfOk answer (λ f. let u = change_of update.now in
-            entry_of (marks_of (shown_in self.old (changed_name u)) u stamp) f.name ≡ Some f.entry)) }
-        ensures others { LeavesOthers self.old self.new (changed_name (change_of update.now)) }
+        ensures answer { IfOk result (λ answer. result_err answer ≡ refusal_of (shown_in self.old name.now) (Clear name.now attr.now)) }
+        ensures ok { IfOk result (λ answer. OnOk answer
+            (TakesOwn self.old self.new name.now (λ e. changed_entry e attr.now (change_marks change.now stamp)))) }
+        ensures name { IfOk result (λ answer. IfOk answer (λ f. f.name ≡ name.now)) }
+        ensures entry { IfOk result (λ answer. IfOk answer (λ f. IfSome (map.get self.old name.now) (λ e.
+            f.entry ≡ changed_entry e attr.now (change_marks change.now stamp)))) }
+        ensures others { LeavesOthers self.old self.new name.now }
         ensures refused { IfOk result (λ answer. OnErr answer (self.new ≡ self.old)) }
         ensures err { OnErr result (self.new ≡ self.old) }
     {
-        if let Err(refusal) = self.check(update) {
-            return Ok(Err(refusal));
+        match self.entries.get_mut(name) {
+            Some(own) => own.change_told(alloc, name, attr, change, stamp),
+            None => Ok(Err(UpdateRefusal::NoSuchEntry)),
         }
-        let stamp = &stamp;
-        let fragment = self.fragment(alloc, update, *stamp)?;
-        self.apply(alloc, update, *stamp)?;
-        Ok(Ok(fragment))
     }
 
     /// Adds a death to the entry of a name, and gives its fragment; or refuses it.
