@@ -17,7 +17,7 @@ use Rattle.cds_stamps.specs.declared.numbers.DirId.{DirId}
 use Rattle.cds_stamps.specs.declared.numbers.HouseNo.{HouseNo}
 use Rattle.directory.specs.Histories.{Mark, entry_of}
 use Rattle.directory.specs.declared.entry.Fragment.{Fragment}
-use Rattle.purge_rule.specs.Replicas.{IsFragmentOf, replica_of}
+use Rattle.purge_rule.specs.Replicas.{IsFragmentOf}
 use Rattle.purge_rule.specs.declared.replica.Replica.{Replica}
 use Rattle.cds_records.specs.Decoding.{Decodes, IsWhole, decoding, with_memory}
 use Rattle.cds_records.specs.Dirs.{dir_cmp, dir_exact, dir_total}
@@ -36,7 +36,7 @@ use Rattle.cell_model.specs.Steps.{message_at}
 use Rattle.cell_model.proofs.Numbers.{numbers_lem}
 use Rattle.cell_model.proofs.Standing.{on_reached}
 use Rattle.clearinghouse.specs.Imaging.{image_of, kept_of, started}
-use Rattle.clearinghouse.specs.Posting.{StandsBody, StandsCopy, StandsMessage}
+use Rattle.clearinghouse.specs.Posting.{StandsBody, StandsMessage}
 use Rattle.clearinghouse.specs.Standing.{StandsHeld, StandsSlot}
 use Rattle.clearinghouse.specs.declared.house.Clearinghouse.{Clearinghouse}
 use Rattle.clearinghouse.specs.declared.states.DirState.{DirState}

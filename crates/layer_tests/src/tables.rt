@@ -25,6 +25,6 @@ fn a_fragment_joins_as_its_update_applies(rt: HostRuntime) -> Result<(), Fail> {
 #[test]
 fn what_is_seen_is_copied(rt: HostRuntime) -> Result<(), Fail> {
     let seen = Seen::Object(HouseNo(1));
-    assert!(rt; seen.copy(rt.alloc())? == seen);
+    assert!(rt; matches!(seen.copy(rt.alloc())?, Seen::Object(HouseNo(1))));
     Ok(())
 }
