@@ -1,9 +1,10 @@
 -- Updates that are applied in place, and whose fragments are told.
-use Rattle.std.proofs.Common.{◌≡◌, ℕ, Bool, true, false, List, ◌∷◌, Option, Some, None, Result, Ok, Err, IfOk, OnOk, IsSome, sym, ap, ◌∙◌}
+use Rattle.std.proofs.Common.{◌≡◌, ℕ, Bool, true, false, List, ◌∷◌, Option, Some, None, Result, Ok, Err, IfOk, OnOk, OnErr, IsSome, sym, ap, subst, ◌∙◌}
 use Rattle.std.specs.Prelude.{◌&&◌, is_none, IfSome, if◌then◌else◌}
 use Rattle.std.specs.Option.{option_and_then}
 use Rattle.std.specs.Result.{result_err}
 use Rattle.std.specs.FinMap.{get}
+use Rattle.cds_stamps.specs.declared.stamp.Stamp.{Stamp}
 use Rattle.cds_stamps.specs.Outcomes.{ok_unless}
 use Rattle.directory.specs.declared.entry.EntryCell.{EntryCell}
 use Rattle.directory.specs.declared.entry.Fragment.{Fragment}
@@ -11,8 +12,12 @@ use Rattle.directory.specs.declared.update.UpdateRefusal.{UpdateRefusal}
 use Rattle.directory.specs.declared.update.UpdateRefusal.TheVariants.{NoSuchEntry}
 use Rattle.directory.specs.Entries.{Entries}
 use Rattle.directory.specs.Histories.{Mark, Birth, entry_of}
-use Rattle.directory.specs.Shown.{Shown, shown_in, shown_entry, face_of, leads, with_birth}
+use Rattle.directory.specs.Shown.{Shown, shown_in, shown_entry, face_of, leads, refusal_of, with_birth, marks_of}
+use Rattle.directory.specs.Updates.{Change, changed_name}
+use Rattle.directory.specs.Applied.{TakesOwn, TakesIn, LeavesOthers}
+use Rattle.directory.specs.Told.{TellsUpdate}
 use Rattle.directory.proofs.FragmentLaws.{shows}
+use Rattle.directory.proofs.Applying.{takes_shown}
 
 -- a check answers what its refusal decides
 pub refusal_told : {E : Type 0} (r : Result (Unit {0}) E) (refusal : Option E) → r ≡ ok_unless refusal tt → result_err r ≡ refusal
@@ -41,7 +46,7 @@ own_made n marks made is g (Some own) live e =
     own_live n marks g own (is_none own.death && leads own.kind (face_of own).values) live (is own ∙ ap Some (sym e))
 
 -- the fragment that is told of an entry is the entry of its marks
-pub own_told : {F : Type 0} (m : Entries) (n : List ℕ) (refused : Option Shown → Option UpdateRefusal) → refused None ≡ Some NoSuchEntry
+own_told : {F : Type 0} (m : Entries) (n : List ℕ) (refused : Option Shown → Option UpdateRefusal) → refused None ≡ Some NoSuchEntry
     → (marks : Shown → List Mark) (made : EntryCell → EntryCell)
     → ((own : EntryCell) → entry_of (Birth n own.kind own.birth ∷ marks (face_of own)) n ≡ Some (made own))
     → (r : Result (Result Fragment UpdateRefusal) F)
@@ -53,3 +58,27 @@ own_told m n refused none marks made is (Ok (Err e)) answer named entry = tt
 own_told m n refused none marks made is (Ok (Ok f)) answer named entry =
     ap (entry_of (with_birth n (shown_in m n) marks)) named
     ∙ own_made n marks made is f.entry (get m n) (shows (shown_in m n) refused none (sym answer)) entry
+
+-- what is told of an update of an entry that shows, by what the update makes of that entry
+pub tells_own : {F : Type 0} (old new : Entries) (u : Change) (s : Stamp) (r : Result (Result Fragment UpdateRefusal) F)
+    → (marks : Shown → List Mark) (made : EntryCell → EntryCell) → refusal_of None u ≡ Some NoSuchEntry
+    → ((e : Option Shown) → marks_of e u s ≡ with_birth (changed_name u) e marks)
+    → ((own : EntryCell) → entry_of (Birth (changed_name u) own.kind own.birth ∷ marks (face_of own)) (changed_name u) ≡ Some (made own))
+    → IfOk r (λ a. result_err a ≡ refusal_of (shown_in old (changed_name u)) u) → IfOk r (λ a. OnOk a (TakesOwn old new (changed_name u) made))
+    → IfOk r (λ a. IfOk a (λ f. f.name ≡ changed_name u)) → IfOk r (λ a. IfOk a (λ f. IfSome (get old (changed_name u)) (λ e. f.entry ≡ made e)))
+    → LeavesOthers old new (changed_name u) → IfOk r (λ a. OnErr a (new ≡ old)) → OnErr r (new ≡ old) → TellsUpdate old new u s r
+tells_own old new u s r marks made none adds is answer ok name entry others refused err =
+    let n = changed_name u in
+    let added = sym (adds (shown_in old n)) in
+    record {
+      answer = answer;
+      ok = where_told r _ answer ok (λ accepted takes.
+          subst (TakesIn old new n) added
+          (takes_shown old new n made marks is (shows (shown_in old n) (λ e. refusal_of e u) none accepted) takes));
+      name = name;
+      entry = subst (λ ms. IfOk r (λ a. IfOk a (λ f. entry_of ms f.name ≡ Some f.entry))) added
+          (own_told old n (λ e. refusal_of e u) none marks made is r answer name entry);
+      others = others;
+      refused = refused;
+      err = err;
+    }

@@ -12,3 +12,4 @@ pub mod Deletions
 pub mod IndexWords
 pub mod Held
 pub mod Applied
+pub mod Told

@@ -18,6 +18,7 @@ ghost use Rattle.directory.specs.Histories.{Mark, entry_of};
 ghost use Rattle.directory.specs.IndexWords.{IsIndexed};
 ghost use Rattle.directory.specs.Purges.{purged_table, purged, take_table};
 ghost use Rattle.directory.specs.Shown.{face_of, shown_in, live_count, refusal_of, marks_of};
+ghost use Rattle.directory.specs.Told.{TellsUpdate};
 ghost use Rattle.directory.specs.Updates.{change_of, changed_name};
 
 use crate::deletions::Deletions;
@@ -379,16 +380,7 @@ fn tell_update(
     update: &Update,
     stamp: Stamp,
 ) -> Result<Result<Fragment, UpdateRefusal>, AllocError>
-    ensures answer { IfOk result (λ answer.
-        result_err answer ≡ refusal_of (shown_in entries.old (changed_name (change_of update.now))) (change_of update.now)) }
-    ensures ok { let n = changed_name (change_of update.now) in
-        IfOk result (λ answer. OnOk answer (TakesIn entries.old entries.new n (marks_of (shown_in entries.old n) (change_of update.now) stamp))) }
-    ensures name { IfOk result (λ answer. IfOk answer (λ f. f.name ≡ changed_name (change_of update.now))) }
-    ensures entry { IfOk result (λ answer. IfOk answer (λ f. let u = change_of update.now in
-        entry_of (marks_of (shown_in entries.old (changed_name u)) u stamp) f.name ≡ Some f.entry)) }
-    ensures others { LeavesOthers entries.old entries.new (changed_name (change_of update.now)) }
-    ensures refused { IfOk result (λ answer. OnErr answer (entries.new ≡ entries.old)) }
-    ensures err { OnErr result (entries.new ≡ entries.old) }
+    ensures told { TellsUpdate entries.old entries.new (change_of update.now) stamp result }
     ensures index { IsIndexed deletions.old entries.old → IsIndexed deletions.new entries.new }
 {
     let stamp = &stamp;

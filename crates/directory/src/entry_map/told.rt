@@ -1,12 +1,12 @@
 // Updates that are applied in place, and whose fragments are told.
-ghost use Rattle.std.specs.Prelude.{◌≡◌, Option, Some, IfOk, IfSome, OnOk, OnErr};
+ghost use Rattle.std.specs.Prelude.{◌≡◌, Option, IfOk, IfSome, OnOk, OnErr};
 ghost use Rattle.std.specs.FinMap as map;
 ghost use Rattle.std.specs.Result.{result_err};
 ghost use Rattle.attr_sets.specs.CellChanges.{change_marks};
-ghost use Rattle.directory.specs.Applied.{changed_entry, deleted_entry, TakesOwn, TakesIn, LeavesOthers};
-ghost use Rattle.directory.specs.Updates.{Clear, Delete, changed_name, change_of};
-ghost use Rattle.directory.specs.Histories.{entry_of};
-ghost use Rattle.directory.specs.Shown.{Shown, shown_in, new_refusal, refusal_of, marks_of};
+ghost use Rattle.directory.specs.Applied.{changed_entry, deleted_entry, TakesOwn, LeavesOthers};
+ghost use Rattle.directory.specs.Updates.{Clear, Delete, change_of};
+ghost use Rattle.directory.specs.Shown.{Shown, shown_in, new_refusal, refusal_of};
+ghost use Rattle.directory.specs.Told.{TellsUpdate};
 
 use super::EntryMap;
 use crate::entry::Fragment;
@@ -24,16 +24,7 @@ impl EntryMap {
         update: &Update,
         stamp: Stamp,
     ) -> Result<Result<Fragment, UpdateRefusal>, AllocError>
-        ensures answer { IfOk result (λ answer.
-            result_err answer ≡ refusal_of (shown_in self.old (changed_name (change_of update.now))) (change_of update.now)) }
-        ensures ok { let n = changed_name (change_of update.now) in
-            IfOk result (λ answer. OnOk answer (TakesIn self.old self.new n (marks_of (shown_in self.old n) (change_of update.now) stamp))) }
-        ensures name { IfOk result (λ answer. IfOk answer (λ f. f.name ≡ changed_name (change_of update.now))) }
-        ensures entry { IfOk result (λ answer. IfOk answer (λ f. let u = change_of update.now in
-            entry_of (marks_of (shown_in self.old (changed_name u)) u stamp) f.name ≡ Some f.entry)) }
-        ensures others { LeavesOthers self.old self.new (changed_name (change_of update.now)) }
-        ensures refused { IfOk result (λ answer. OnErr answer (self.new ≡ self.old)) }
-        ensures err { OnErr result (self.new ≡ self.old) }
+        ensures { TellsUpdate self.old self.new (change_of update.now) stamp result }
     {
         match update {
             Update::Delete(name) => self.delete_told(alloc, name, stamp),
@@ -64,16 +55,7 @@ impl EntryMap {
         stamp: Stamp,
     ) -> Result<Result<Fragment, UpdateRefusal>, AllocError>
         requires { (e : Option Shown) → refusal_of e (change_of update.now) ≡ new_refusal e }
-        ensures answer { IfOk result (λ answer.
-            result_err answer ≡ refusal_of (shown_in self.old (changed_name (change_of update.now))) (change_of update.now)) }
-        ensures ok { let n = changed_name (change_of update.now) in
-            IfOk result (λ answer. OnOk answer (TakesIn self.old self.new n (marks_of (shown_in self.old n) (change_of update.now) stamp))) }
-        ensures name { IfOk result (λ answer. IfOk answer (λ f. f.name ≡ changed_name (change_of update.now))) }
-        ensures entry { IfOk result (λ answer. IfOk answer (λ f. let u = change_of update.now in
-            entry_of (marks_of (shown_in self.old (changed_name u)) u stamp) f.name ≡ Some f.entry)) }
-        ensures others { LeavesOthers self.old self.new (changed_name (change_of update.now)) }
-        ensures refused { IfOk result (λ answer. OnErr answer (self.new ≡ self.old)) }
-        ensures err { OnErr result (self.new ≡ self.old) }
+        ensures { TellsUpdate self.old self.new (change_of update.now) stamp result }
     {
         if self.get(update.name()).is_some() {
             return self.remake_told(alloc, update, stamp);
@@ -92,16 +74,7 @@ impl EntryMap {
         update: &Update,
         stamp: Stamp,
     ) -> Result<Result<Fragment, UpdateRefusal>, AllocError>
-        ensures answer { IfOk result (λ answer.
-            result_err answer ≡ refusal_of (shown_in self.old (changed_name (change_of update.now))) (change_of update.now)) }
-        ensures ok { let n = changed_name (change_of update.now) in
-            IfOk result (λ answer. OnOk answer (TakesIn self.old self.new n (marks_of (shown_in self.old n) (change_of update.now) stamp))) }
-        ensures name { IfOk result (λ answer. IfOk answer (λ f. f.name ≡ changed_name (change_of update.now))) }
-        ensures entry { IfOk result (λ answer. IfOk answer (λ f. let u = change_of update.now in
-            entry_of (marks_of (shown_in self.old (changed_name u)) u stamp) f.name ≡ Some f.entry)) }
-        ensures others { LeavesOthers self.old self.new (changed_name (change_of update.now)) }
-        ensures refused { IfOk result (λ answer. OnErr answer (self.new ≡ self.old)) }
-        ensures err { OnErr result (self.new ≡ self.old) }
+        ensures { TellsUpdate self.old self.new (change_of update.now) stamp result }
     {
         if let Err(refusal) = self.check(update) {
             return Ok(Err(refusal));

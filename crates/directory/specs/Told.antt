@@ -1,0 +1,21 @@
+-- What is told of an update that is applied in place (own, after C705, updates to replicas).
+use Rattle.std.specs.Prelude.{◌≡◌, Some, Result, IfOk, OnOk, OnErr}
+use Rattle.std.specs.Result.{result_err}
+use Rattle.cds_stamps.specs.declared.stamp.Stamp.{Stamp}
+use Rattle.directory.specs.declared.entry.Fragment.{Fragment}
+use Rattle.directory.specs.declared.update.UpdateRefusal.{UpdateRefusal}
+use Rattle.directory.specs.Entries.{Entries}
+use Rattle.directory.specs.Histories.{entry_of}
+use Rattle.directory.specs.Shown.{shown_in, refusal_of, marks_of}
+use Rattle.directory.specs.Updates.{Change, changed_name}
+use Rattle.directory.specs.Applied.{TakesIn, LeavesOthers}
+
+-- an update with a stamp is applied, and its fragment is told; or it is told why it is refused (own)
+pub record TellsUpdate {E : Type 0} (old new : Entries) (u : Change) (s : Stamp) (r : Result (Result Fragment UpdateRefusal) E) : Type 0 where
+  pub answer : IfOk r (λ a. result_err a ≡ refusal_of (shown_in old (changed_name u)) u)
+  pub ok : IfOk r (λ a. OnOk a (TakesIn old new (changed_name u) (marks_of (shown_in old (changed_name u)) u s)))
+  pub name : IfOk r (λ a. IfOk a (λ f. f.name ≡ changed_name u))
+  pub entry : IfOk r (λ a. IfOk a (λ f. entry_of (marks_of (shown_in old (changed_name u)) u s) f.name ≡ Some f.entry))
+  pub others : LeavesOthers old new (changed_name u)
+  pub refused : IfOk r (λ a. OnErr a (new ≡ old))
+  pub err : OnErr r (new ≡ old)
