@@ -59,26 +59,26 @@ own_told m n refused none marks made is (Ok (Ok f)) answer named entry =
     ap (entry_of (with_birth n (shown_in m n) marks)) named
     ∙ own_made n marks made is f.entry (get m n) (shows (shown_in m n) refused none (sym answer)) entry
 
--- what is told of an update of an entry that shows, by what the update makes of that entry
+-- what is told of an update of an entry that shows, by why it is refused and what it makes of that entry
 pub tells_own : {F : Type 0} (old new : Entries) (u : Change) (s : Stamp) (r : Result (Result Fragment UpdateRefusal) F)
-    → (marks : Shown → List Mark) (made : EntryCell → EntryCell) → refusal_of None u ≡ Some NoSuchEntry
+    → (refused : Option Shown → Option UpdateRefusal) (marks : Shown → List Mark) (made : EntryCell → EntryCell)
+    → refused None ≡ Some NoSuchEntry → ((e : Option Shown) → refusal_of e u ≡ refused e)
     → ((e : Option Shown) → marks_of e u s ≡ with_birth (changed_name u) e marks)
     → ((own : EntryCell) → entry_of (Birth (changed_name u) own.kind own.birth ∷ marks (face_of own)) (changed_name u) ≡ Some (made own))
-    → IfOk r (λ a. result_err a ≡ refusal_of (shown_in old (changed_name u)) u) → IfOk r (λ a. OnOk a (TakesOwn old new (changed_name u) made))
+    → IfOk r (λ a. result_err a ≡ refused (shown_in old (changed_name u))) → IfOk r (λ a. OnOk a (TakesOwn old new (changed_name u) made))
     → IfOk r (λ a. IfOk a (λ f. f.name ≡ changed_name u)) → IfOk r (λ a. IfOk a (λ f. IfSome (get old (changed_name u)) (λ e. f.entry ≡ made e)))
     → LeavesOthers old new (changed_name u) → IfOk r (λ a. OnErr a (new ≡ old)) → OnErr r (new ≡ old) → TellsUpdate old new u s r
-tells_own old new u s r marks made none adds is answer ok name entry others refused err =
+tells_own old new u s r refused marks made none decides adds is answer ok name entry others stays err =
     let n = changed_name u in
-    let added = sym (adds (shown_in old n)) in
+    let shown = shown_in old n in
     record {
-      answer = answer;
-      ok = where_told r _ answer ok (λ accepted takes.
-          subst (TakesIn old new n) added
-          (takes_shown old new n made marks is (shows (shown_in old n) (λ e. refusal_of e u) none accepted) takes));
+      answer = subst (λ x. IfOk r (λ a. result_err a ≡ x)) (sym (decides shown)) answer;
+      ok = where_told r (refused shown) answer ok (λ accepted takes.
+          subst (TakesIn old new n) (sym (adds shown)) (takes_shown old new n made marks is (shows shown refused none accepted) takes));
       name = name;
-      entry = subst (λ ms. IfOk r (λ a. IfOk a (λ f. entry_of ms f.name ≡ Some f.entry))) added
-          (own_told old n (λ e. refusal_of e u) none marks made is r answer name entry);
+      entry = subst (λ ms. IfOk r (λ a. IfOk a (λ f. entry_of ms f.name ≡ Some f.entry))) (sym (adds shown))
+          (own_told old n refused none marks made is r answer name entry);
       others = others;
-      refused = refused;
+      refused = stays;
       err = err;
     }

@@ -1,8 +1,9 @@
-use Rattle.std.proofs.Common.{[], ◌∷◌, refl}
+use Rattle.std.proofs.Common.{[], ◌∷◌, Some, None, refl}
 use Rattle.attr_sets.specs.Marks.{present_at, absent_at}
 use Rattle.attr_sets.specs.Cells.{Cleared, Marked}
 use Rattle.directory.specs.Updates.{Delete, Add, Remove, Put, Clear}
 use Rattle.directory.specs.Histories.{Death}
+use Rattle.directory.specs.Shown.{refusal_of}
 use Rattle.directory.specs.Applied.{changed_entry, deleted_entry}
 use Rattle.directory.proofs.FragmentLaws.{changes, entry_of-changed, entry_of-deleted}
 use Rattle.directory.proofs.Telling.{tells_own}
@@ -14,8 +15,9 @@ returns-in-Delete c =
     let told = c.delete_told.ensures in
     rw arm.is
     (tells_own c.args.self.now c.delete_told.new.self (Delete arm.name) c.args.stamp c.delete_told.result
+    (λ e. refusal_of e (Delete arm.name))
     (λ x. Death arm.name x.birth c.args.stamp ∷ [])
-    (λ e. deleted_entry e c.args.stamp) refl (λ e. refl)
+    (λ e. deleted_entry e c.args.stamp) refl (λ e. refl) (λ e. refl)
     (λ e. entry_of-deleted arm.name e.kind e.birth c.args.stamp)
     told.answer told.ok told.name told.entry told.others told.refused told.err)
 
@@ -25,8 +27,9 @@ returns-in-Add c =
     let told = c.change_told.ensures in
     rw arm.is
     (tells_own c.args.self.now c.change_told.new.self (Add arm.name arm.attr arm.value) c.args.stamp c.change_told.result
+    (λ e. refusal_of e (Clear arm.name arm.attr))
     (λ x. changes arm.name x.birth arm.attr (Marked arm.value (present_at c.args.stamp) ∷ []))
-    (λ e. changed_entry e arm.attr (Marked arm.value (present_at c.args.stamp) ∷ [])) refl (λ e. refl)
+    (λ e. changed_entry e arm.attr (Marked arm.value (present_at c.args.stamp) ∷ [])) refl (elim [ None ↦ refl | Some e ↦ refl ]) (λ e. refl)
     (λ e. entry_of-changed arm.name e.kind e.birth arm.attr (Marked arm.value (present_at c.args.stamp)) [])
     told.answer told.ok told.name told.entry told.others told.refused told.err)
 
@@ -36,8 +39,9 @@ returns-in-Remove c =
     let told = c.change_told-in-Remove.ensures in
     rw arm.is
     (tells_own c.args.self.now c.change_told-in-Remove.new.self (Remove arm.name arm.attr arm.value) c.args.stamp c.change_told-in-Remove.result
+    (λ e. refusal_of e (Clear arm.name arm.attr))
     (λ x. changes arm.name x.birth arm.attr (Marked arm.value (absent_at c.args.stamp) ∷ []))
-    (λ e. changed_entry e arm.attr (Marked arm.value (absent_at c.args.stamp) ∷ [])) refl (λ e. refl)
+    (λ e. changed_entry e arm.attr (Marked arm.value (absent_at c.args.stamp) ∷ [])) refl (elim [ None ↦ refl | Some e ↦ refl ]) (λ e. refl)
     (λ e. entry_of-changed arm.name e.kind e.birth arm.attr (Marked arm.value (absent_at c.args.stamp)) [])
     told.answer told.ok told.name told.entry told.others told.refused told.err)
 
@@ -47,8 +51,9 @@ returns-in-Put c =
     let told = c.change_told-in-Put.ensures in
     rw arm.is
     (tells_own c.args.self.now c.change_told-in-Put.new.self (Put arm.name arm.attr arm.value) c.args.stamp c.change_told-in-Put.result
+    (λ e. refusal_of e (Clear arm.name arm.attr))
     (λ x. changes arm.name x.birth arm.attr (Cleared c.args.stamp ∷ Marked arm.value (present_at c.args.stamp) ∷ []))
-    (λ e. changed_entry e arm.attr (Cleared c.args.stamp ∷ Marked arm.value (present_at c.args.stamp) ∷ [])) refl (λ e. refl)
+    (λ e. changed_entry e arm.attr (Cleared c.args.stamp ∷ Marked arm.value (present_at c.args.stamp) ∷ [])) refl (elim [ None ↦ refl | Some e ↦ refl ]) (λ e. refl)
     (λ e. entry_of-changed arm.name e.kind e.birth arm.attr (Cleared c.args.stamp) (Marked arm.value (present_at c.args.stamp) ∷ []))
     told.answer told.ok told.name told.entry told.others told.refused told.err)
 
@@ -58,7 +63,8 @@ returns-in-Clear c =
     let told = c.change_told-in-Clear.ensures in
     rw arm.is
     (tells_own c.args.self.now c.change_told-in-Clear.new.self (Clear arm.name arm.attr) c.args.stamp c.change_told-in-Clear.result
+    (λ e. refusal_of e (Clear arm.name arm.attr))
     (λ x. changes arm.name x.birth arm.attr (Cleared c.args.stamp ∷ []))
-    (λ e. changed_entry e arm.attr (Cleared c.args.stamp ∷ [])) refl (λ e. refl)
+    (λ e. changed_entry e arm.attr (Cleared c.args.stamp ∷ [])) refl (λ e. refl) (λ e. refl)
     (λ e. entry_of-changed arm.name e.kind e.birth arm.attr (Cleared c.args.stamp) [])
     told.answer told.ok told.name told.entry told.others told.refused told.err)
