@@ -1,0 +1,6 @@
+pub mod Entries
+pub mod Lefts
+pub mod Tables
+pub mod VecLent
+pub mod TableLent
+pub mod Lent
