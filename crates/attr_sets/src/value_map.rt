@@ -2,7 +2,7 @@
 ghost use Rattle.std.specs.Prelude.{◌≡◌, ◌↔◌, IsTrue, List, ℕ, [], ◌∷◌, Some, None, MatchOption, MatchBool, IfOk, IfSome, OnOk, OnErr};
 ghost use Rattle.std.specs.Prelude.{if◌then◌else◌, option_copied};
 ghost use Rattle.std.specs.FinMap as map;
-ghost use Rattle.std.specs.BTreeMap as tree;
+ghost use Rattle.compact_map.specs.Entries as entries;
 ghost use Rattle.std.specs.Option.{option_and_then};
 ghost use Rattle.std.specs.Ordering.{eq_by_cmp};
 ghost use Rattle.cds_stamps.specs.Keyed.{map_some};
@@ -16,16 +16,15 @@ ghost use Rattle.attr_sets.specs.Marks.{kept, later, RaisesKept, JoinsKept};
 use crate::mark::ValueMark;
 use crate::value::Value;
 use cds_stamps::Stamp;
+use compact_map::{CompactMap, Iter};
 use std::alloc::{AllocError, Global};
-use std::collections::BTreeMap;
-use std::collections::btree_map::Iter;
 use std::marker::Model;
 use std::mem::replace;
 
 /// A mark for each value, in ascending order of the values.
 #[derive(Drop)]
 pub struct ValueMap {
-    marks: BTreeMap<Value, ValueMark>,
+    marks: CompactMap<Value, ValueMark>,
 }
 
 impl Model for ValueMap {
@@ -38,7 +37,7 @@ impl Model for ValueMap {
 
     ghost coded = { map.code octets_code mark_code };
 
-    ghost view = { λ m. map.from_entries m.marks.entries };
+    ghost view = { λ m. map.from_entries m.marks };
 }
 
 /// What takes changes of a map of marks back: each value that was changed, and the mark that it had, if any.
@@ -71,7 +70,7 @@ impl ValueMap {
         ensures { result ≡ map.empty }
     {
         ValueMap {
-            marks: BTreeMap::new(alloc),
+            marks: CompactMap::new(alloc),
         }
     }
 
@@ -415,14 +414,14 @@ impl ValueMap {
     }
 }
 
-fn keep_marks_from(marks: &mut BTreeMap<Value, ValueMark>, clear: Stamp)
-    ensures { (q : List ℕ) → tree.get octets_cmp marks.new q ≡ kept (Some clear) (tree.get octets_cmp marks.old q) }
+fn keep_marks_from(marks: &mut CompactMap<Value, ValueMark>, clear: Stamp)
+    ensures { (q : List ℕ) → entries.get octets_cmp marks.new q ≡ kept (Some clear) (entries.get octets_cmp marks.old q) }
 {
     marks.retain(|_, mark| !(mark.stamp < clear));
 }
 
-fn drop_marks_up_to(marks: &mut BTreeMap<Value, ValueMark>, t: Stamp)
-    ensures { (q : List ℕ) → tree.get octets_cmp marks.new q ≡ option_and_then (mark_left t) (tree.get octets_cmp marks.old q) }
+fn drop_marks_up_to(marks: &mut CompactMap<Value, ValueMark>, t: Stamp)
+    ensures { (q : List ℕ) → entries.get octets_cmp marks.new q ≡ option_and_then (mark_left t) (entries.get octets_cmp marks.old q) }
 {
     marks.retain(|_, mark| mark.present || t < mark.stamp);
 }

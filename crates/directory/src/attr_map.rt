@@ -19,15 +19,14 @@ ghost use Rattle.directory.specs.Applied.{JoinsCell, TakesMarks};
 
 use attr_sets::{AttrCell, CellChange, CellUndo, Value};
 use cds_stamps::{AttrName, Lattice, Stamp};
+use compact_map::{CompactMap, Iter};
 use std::alloc::{AllocError, Global};
-use std::collections::BTreeMap;
-use std::collections::btree_map::Iter;
 use std::marker::Model;
 
 /// A cell for each attribute, in ascending order of their names.
 #[derive(Drop)]
 pub struct AttrMap {
-    cells: BTreeMap<AttrName, AttrCell>,
+    cells: CompactMap<AttrName, AttrCell>,
 }
 
 impl Model for AttrMap {
@@ -40,7 +39,7 @@ impl Model for AttrMap {
 
     ghost coded = { map.code octets_code cell_code };
 
-    ghost view = { λ m. map.from_entries m.cells.entries };
+    ghost view = { λ m. map.from_entries m.cells };
 }
 
 /// What takes changes of a map of cells back: each attribute that was changed, and what mends its cell; none, where the
@@ -90,7 +89,7 @@ impl AttrMap {
         ensures { result ≡ map.empty }
     {
         AttrMap {
-            cells: BTreeMap::new(alloc),
+            cells: CompactMap::new(alloc),
         }
     }
 

@@ -10,5 +10,5 @@ use Rattle.attr_sets.proofs.value_map.drop_marks_up_to.Goals as goal
 pub returns : goal.returns
 returns c =
     let stays : ValueMark → Bool = λ m. m.present || not (is_up_to c.args.t m.stamp) in
-    retain_left _ nat_list_cmp_total (mark_left c.args.t) stays (λ m. m) _ (λ m. refl) (λ k v b w f' t. search rules) c.args.marks.now.entries
-    c.retain.new.self.entries c.retain.ensures.was_ordered c.retain.ensures.filtered
+    retain_left _ nat_list_cmp_total (mark_left c.args.t) stays (λ m. m) _ (λ m. refl) (λ k v b w f' t. search rules) c.args.marks.now
+    c.retain.new.self c.retain.ensures.was_ordered c.retain.ensures.filtered

@@ -16,8 +16,8 @@ use Rattle.attr_sets.proofs.value_map.keep_marks_from.Goals as goal
 pub returns : goal.returns
 returns c = λ q.
     let p : ValueMark → Bool = λ m. not (is_earlier m.stamp c.args.clear) in
-    let e : c.retain.new.self.entries ≡ filter (λ e. p e.1) c.args.marks.now.entries =
+    let e : c.retain.new.self ≡ filter (λ e. p e.1) c.args.marks.now =
     filter_same_pairs _ (λ (e : List ℕ × ValueMark). p e.1) _ (λ k v b w f' t. search rules) _ _ c.retain.ensures.filtered in
     ap (lookup (is_at (octets_cmp q))) e
-    ∙ lookup-filter-values (eq_by_cmp_equiv nat_list_cmp_total) p q c.args.marks.now.entries (IsDistinct-from_sorted octets_cmp _ c.retain.ensures.was_ordered)
+    ∙ lookup-filter-values (eq_by_cmp_equiv nat_list_cmp_total) p q c.args.marks.now (IsDistinct-from_sorted octets_cmp _ c.retain.ensures.was_ordered)
     ∙ option_filter-kept c.args.clear _

@@ -9,7 +9,7 @@ use Rattle.attr_sets.proofs.value_map.ValueMap.after.Goals as goal
 
 pub loop-value-init : goal.loop-value-init
 loop-value-init c =
-    part_starts nat_list_cmp_total octets_exact (λ _. mark_after c.args.t) c.args.self.now c.new-later.result c.self.inside.marks.entries _ c.self.view_is
+    part_starts nat_list_cmp_total octets_exact (λ _. mark_after c.args.t) c.args.self.now c.new-later.result c.self.inside.marks _ c.self.view_is
     c.iter-value-items.ensures.ordered (c.into_iter-value-iterator.ensures.into_iter_gives ∙ c.iter-value-items.ensures.rest) c.new-later.ensures
 
 pub loop-value-preserved-in_ok-insert : goal.loop-value-preserved-in_ok-insert

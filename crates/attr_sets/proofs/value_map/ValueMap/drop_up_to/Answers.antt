@@ -10,6 +10,6 @@ use Rattle.attr_sets.proofs.value_map.ValueMap.drop_up_to.Goals as goal
 
 pub returns : goal.returns
 returns c = map.same_map nat_list_cmp_total octets_exact _ (map_some (mark_left c.args.t) c.args.self.now) (λ q.
-    get-view nat_list_cmp_total c.drop_marks_up_to.new.marks.entries q ∙ c.drop_marks_up_to.ensures q
-    ∙ ap (option_and_then (mark_left c.args.t)) (sym (get-view nat_list_cmp_total c.self.inside.marks.entries q) ∙ ap (λ m. map.get m q) c.self.view_is)
+    get-view nat_list_cmp_total c.drop_marks_up_to.new.marks q ∙ c.drop_marks_up_to.ensures q
+    ∙ ap (option_and_then (mark_left c.args.t)) (sym (get-view nat_list_cmp_total c.self.inside.marks q) ∙ ap (λ m. map.get m q) c.self.view_is)
     ∙ sym (get-map_some nat_list_cmp_total octets_exact (mark_left c.args.t) c.args.self.now q))

@@ -6,5 +6,5 @@ use Rattle.cds_stamps.proofs.TreeViews.{entries-view}
 use Rattle.attr_sets.proofs.value_map.ValueMap.iter.Goals as goal
 
 pub returns : goal.returns
-returns c = c.iter.ensures.rest ∙ sym (entries-view nat_list_cmp_total octets_exact c.self.inside.marks.entries c.iter.ensures.ordered)
+returns c = c.iter.ensures.rest ∙ sym (entries-view nat_list_cmp_total octets_exact c.self.inside.marks c.iter.ensures.ordered)
     ∙ ap map.entries c.self.view_is

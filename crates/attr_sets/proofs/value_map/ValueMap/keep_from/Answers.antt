@@ -7,5 +7,5 @@ use Rattle.attr_sets.proofs.value_map.ValueMap.keep_from.Goals as goal
 
 pub returns : goal.returns
 returns c = λ q.
-    get-view nat_list_cmp_total c.keep_marks_from.new.marks.entries q ∙ c.keep_marks_from.ensures q
-    ∙ ap (kept (Some c.args.clear)) (sym (get-view nat_list_cmp_total c.self.inside.marks.entries q) ∙ ap (λ m. map.get m q) c.self.view_is)
+    get-view nat_list_cmp_total c.keep_marks_from.new.marks q ∙ c.keep_marks_from.ensures q
+    ∙ ap (kept (Some c.args.clear)) (sym (get-view nat_list_cmp_total c.self.inside.marks q) ∙ ap (λ m. map.get m q) c.self.view_is)

@@ -5,4 +5,4 @@ use Rattle.cds_stamps.proofs.TreeViews.{len-view}
 use Rattle.attr_sets.proofs.value_map.ValueMap.len.Goals as goal
 
 pub returns : goal.returns
-returns c = c.len.ensures.len ∙ sym (len-view nat_list_cmp_total c.self.inside.marks.entries c.len.ensures.ordered) ∙ ap map.len c.self.view_is
+returns c = c.len.ensures.len ∙ sym (len-view nat_list_cmp_total c.self.inside.marks c.len.ensures.ordered) ∙ ap map.len c.self.view_is

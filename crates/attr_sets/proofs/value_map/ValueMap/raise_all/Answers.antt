@@ -11,7 +11,7 @@ use Rattle.attr_sets.proofs.value_map.ValueMap.raise_all.Goals as goal
 pub loop-value-init : goal.loop-value-init
 loop-value-init c = λ q.
     ap (maybe later (map.get c.args.self.now q))
-    (all_kept c.args.clear.now c.args.other.now c.other.inside.marks.entries _ c.other.view_is c.iter-value-items.ensures.ordered
+    (all_kept c.args.clear.now c.args.other.now c.other.inside.marks _ c.other.view_is c.iter-value-items.ensures.ordered
     c.iter-value-items.ensures.rest c.into_iter-value-iterator.ensures.into_iter_gives q)
 
 pub loop-value-preserved : goal.loop-value-preserved

@@ -12,7 +12,7 @@ pub loop-value-init : goal.loop-value-init
 loop-value-init c = (
   (λ q.
       ap (maybe later (map.get c.args.self.now q))
-      (all_kept c.args.clear.now c.args.other.now c.other.inside.marks.entries _ c.other.view_is c.iter-value-items.ensures.ordered
+      (all_kept c.args.clear.now c.args.other.now c.other.inside.marks _ c.other.view_is c.iter-value-items.ensures.ordered
       c.iter-value-items.ensures.rest c.into_iter-value-iterator.ensures.into_iter_gives q)),
   λ q. refl,
 )

@@ -12,13 +12,13 @@ use Rattle.attr_sets.proofs.value_map.ValueMap.raise_here.Goals as goal
 pub returns : goal.returns
 returns c = elim c.match-get_mut.branch [
   | in-Some w ↦ rw (w.result-is, w.self-inside-is)
-      (raised_here nat_list_cmp_total octets_exact later put_back c.args.self.now c.self.inside.marks.entries
-      (c.get_mut.follows.lender w.replace.new.dest).entries c.args.value.now w.in-Some.own.now c.args.mark w.replace.new.dest w.replace.result
+      (raised_here nat_list_cmp_total octets_exact later put_back c.args.self.now c.self.inside.marks
+      (c.get_mut.follows.lender w.replace.new.dest) c.args.value.now w.in-Some.own.now c.args.mark w.replace.new.dest w.replace.result
       c.self.view_is w.in-Some.ensures.value (sym w.later-next.ensures ∙ sym w.replace.ensures.after) w.replace.ensures.value
       ((c.get_mut.follows.holds w.replace.new.dest).3 (rw (← w.in-Some.ensures.value) refl)).0)
   | in-None w ↦ rw (w.result-is, w.self-inside-is) (
-    ap (λ m. map.get m c.args.value.now) (sym c.self.view_is) ∙ get-view nat_list_cmp_total c.self.inside.marks.entries c.args.value.now
+    ap (λ m. map.get m c.args.value.now) (sym c.self.view_is) ∙ get-view nat_list_cmp_total c.self.inside.marks c.args.value.now
         ∙ sym w.in-None.ensures.value,
-    ap (λ m. map.from_entries m.entries) c.get_mut.follows.holds-at-none ∙ c.self.view_is,
+    ap (λ m. map.from_entries m) c.get_mut.follows.holds-at-none ∙ c.self.view_is,
   )
 ]

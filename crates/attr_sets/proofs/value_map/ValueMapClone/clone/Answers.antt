@@ -9,5 +9,5 @@ returns c =
     record {
       cases = ap (from_entries {R = octets_cmp}) (entries_from_clone _ _
           (λ x y h. search rules)
-          (λ v w h. search rules) c.self.inside.marks.entries c.in_ok-clone.field-0.entries c.in_ok-clone.ensures.cases) ∙ c.self.view_is;
+          (λ v w h. search rules) c.self.inside.marks c.in_ok-clone.field-0 c.in_ok-clone.ensures.cases) ∙ c.self.view_is;
     }

@@ -10,7 +10,7 @@ use Rattle.directory.proofs.attr_map.AttrMap.after.Goals as goal
 
 pub loop-name-init : goal.loop-name-init
 loop-name-init c =
-    part_starts nat_list_cmp_total octets_exact (λ _. cell_after c.args.t) c.args.self.now c.new-later.result c.self.inside.cells.entries _ c.self.view_is
+    part_starts nat_list_cmp_total octets_exact (λ _. cell_after c.args.t) c.args.self.now c.new-later.result c.self.inside.cells _ c.self.view_is
     c.iter-name-items.ensures.ordered (c.into_iter-name-iterator.ensures.into_iter_gives ∙ c.iter-name-items.ensures.rest) c.new-later.ensures
 
 pub loop-name-preserved : goal.loop-name-preserved

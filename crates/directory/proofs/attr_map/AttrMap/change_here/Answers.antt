@@ -16,20 +16,20 @@ pub returns-in_err-change-in-Some-clause-err : goal.returns-in_err-change-in-Som
 returns-in_err-change-in-Some-clause-err c =
     on_err c.from_residual.result
     (ap map.from_entries ((c.get_mut.follows.holds c.change.new.self).0 ∙ set_value_same (is_at
-    (octets_cmp c.args.name.now)) c.self.inside.cells.entries c.change.new.self (sym c.in-Some.ensures.value
+    (octets_cmp c.args.name.now)) c.self.inside.cells c.change.new.self (sym c.in-Some.ensures.value
     ∙ ap Some (sym c.in_err-change-in-Some.ensures.err)))
     ∙ c.self.view_is)
 
 pub returns-clause-ok : goal.returns-clause-ok
 returns-clause-ok c = elim c.match-get_mut.branch [
   | in-Some+in_ok-change-in-Some w ↦ rw (w.result-is, w.self-inside-is)
-      (changed_here nat_list_cmp_total octets_exact IsHeldCell join_cells c.args.self.now c.self.inside.cells.entries
-      (c.get_mut.follows.lender w.change.new.self).entries c.args.name.now w.in-Some.own.now
+      (changed_here nat_list_cmp_total octets_exact IsHeldCell join_cells c.args.self.now c.self.inside.cells
+      (c.get_mut.follows.lender w.change.new.self) c.args.name.now w.in-Some.own.now
       (cell_of (change_marks c.args.change.now c.args.stamp)) w.change.new.self c.self.view_is w.in-Some.ensures.value
       (λ own. w.in_ok-change-in-Some.ensures.ok own.0)
       ((c.get_mut.follows.holds w.change.new.self).3 (rw (← w.in-Some.ensures.value) refl)).0)
   | in-None w ↦ rw (w.result-is, w.self-inside-is)
-      (not_here nat_list_cmp_total octets_exact c.args.self.now c.self.inside.cells.entries c.get_mut.follows.lender-at-none.entries c.args.name.now
+      (not_here nat_list_cmp_total octets_exact c.args.self.now c.self.inside.cells c.get_mut.follows.lender-at-none c.args.name.now
       c.self.view_is w.in-None.ensures.value
-      (ap (λ m. m.entries) c.get_mut.follows.holds-at-none))
+      c.get_mut.follows.holds-at-none)
 ]

@@ -10,8 +10,8 @@ use Rattle.directory.proofs.attr_map.AttrMap.drop_clear.Goals as goal
 pub returns-then-is_empty : goal.returns-then-is_empty
 returns-then-is_empty c =
     let next : AttrCell = record { cleared = None; values = c.in-Some.cell.now.values } in
-    let gone = gone_here c.args.self.now c.self.inside.cells.entries c.args.name.now (cell_without (Clear c.args.name.now)) c.self.view_is
-    (c.get_mut.follows.lender next).entries c.remove.new.self.entries c.in-Some.cell.now next c.in-Some.ensures.value
+    let gone = gone_here c.args.self.now c.self.inside.cells c.args.name.now (cell_without (Clear c.args.name.now)) c.self.view_is
+    (c.get_mut.follows.lender next) c.remove.new.self c.in-Some.cell.now next c.in-Some.ensures.value
     ((c.get_mut.follows.holds next).3 (rw (← c.in-Some.ensures.value) refl)).0 c.remove.ensures.updates.0
     (ap (λ b. if b then None else Some next) (sym c.is_empty.ensures ∙ c.if-is_empty.true)) in
     elim c.match-remove.branch [ in-Some-1 w ↦ w.self-is ∙ gone | in-None-1 w ↦ w.self-is ∙ gone ]
@@ -19,12 +19,12 @@ returns-then-is_empty c =
 pub returns-else-is_empty : goal.returns-else-is_empty
 returns-else-is_empty c =
     let next : AttrCell = record { cleared = None; values = c.in-Some.cell.now.values } in
-    set_here c.args.self.now c.self.inside.cells.entries c.args.name.now (cell_without (Clear c.args.name.now)) c.self.view_is
-    (c.get_mut.follows.lender next).entries c.in-Some.cell.now next c.in-Some.ensures.value
+    set_here c.args.self.now c.self.inside.cells c.args.name.now (cell_without (Clear c.args.name.now)) c.self.view_is
+    (c.get_mut.follows.lender next) c.in-Some.cell.now next c.in-Some.ensures.value
     ((c.get_mut.follows.holds next).3 (rw (← c.in-Some.ensures.value) refl)).0
     (ap (λ b. if b then None else Some next) (sym c.is_empty.ensures ∙ c.if-is_empty.false))
 
 pub returns-in_default : goal.returns-in_default
 returns-in_default c =
-    none_here c.args.self.now c.self.inside.cells.entries c.args.name.now (cell_without (Clear c.args.name.now)) c.self.view_is
-    c.get_mut.follows.lender-at-none.entries c.in_default.ensures.value (ap (λ m. m.entries) c.get_mut.follows.holds-at-none)
+    none_here c.args.self.now c.self.inside.cells c.args.name.now (cell_without (Clear c.args.name.now)) c.self.view_is
+    c.get_mut.follows.lender-at-none c.in_default.ensures.value c.get_mut.follows.holds-at-none

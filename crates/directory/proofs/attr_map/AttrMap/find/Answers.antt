@@ -11,7 +11,7 @@ use Rattle.directory.proofs.attr_map.AttrMap.find.Goals as goal
 pub loop-name-init : goal.loop-name-init
 loop-name-init c =
     ap (lookup (is_at (octets_cmp c.args.octets.now))) (c.into_iter-name-iterator.ensures.into_iter_gives ∙ c.iter-name-items.ensures.rest)
-    ∙ sym (get-view nat_list_cmp_total c.self.inside.cells.entries c.args.octets.now) ∙ ap (λ m. map.get m c.args.octets.now) c.self.view_is
+    ∙ sym (get-view nat_list_cmp_total c.self.inside.cells c.args.octets.now) ∙ ap (λ m. map.get m c.args.octets.now) c.self.view_is
 
 pub loop-name-preserved : goal.loop-name-preserved
 loop-name-preserved c =

@@ -5,5 +5,5 @@ use Rattle.cds_stamps.proofs.TreeViews.{get-view}
 use Rattle.directory.proofs.attr_map.AttrMap.get.Goals as goal
 
 pub returns : goal.returns
-returns c = c.get.ensures.value ∙ sym (get-view nat_list_cmp_total c.self.inside.cells.entries c.args.name.now)
+returns c = c.get.ensures.value ∙ sym (get-view nat_list_cmp_total c.self.inside.cells c.args.name.now)
     ∙ ap (λ m. map.get m c.args.name.now) c.self.view_is

@@ -6,5 +6,5 @@ use Rattle.directory.proofs.attr_map.AttrMap.is_valid.Goals as goal
 
 pub loop-cell-init : goal.loop-cell-init
 loop-cell-init c =
-    each_starts nat_list_cmp_total IsHeldCell c.args.self.now c.self.inside.cells.entries _ c.self.view_is
+    each_starts nat_list_cmp_total IsHeldCell c.args.self.now c.self.inside.cells _ c.self.view_is
     c.iter-cell-items.ensures.ordered (c.into_iter-cell-iterator.ensures.into_iter_gives ∙ c.iter-cell-items.ensures.rest)

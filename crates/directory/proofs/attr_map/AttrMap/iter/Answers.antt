@@ -6,5 +6,5 @@ use Rattle.cds_stamps.proofs.TreeViews.{entries-view}
 use Rattle.directory.proofs.attr_map.AttrMap.iter.Goals as goal
 
 pub returns : goal.returns
-returns c = c.iter.ensures.rest ∙ sym (entries-view nat_list_cmp_total octets_exact c.self.inside.cells.entries c.iter.ensures.ordered)
+returns c = c.iter.ensures.rest ∙ sym (entries-view nat_list_cmp_total octets_exact c.self.inside.cells c.iter.ensures.ordered)
     ∙ ap map.entries c.self.view_is

@@ -7,5 +7,5 @@ use Rattle.directory.proofs.attr_map.AttrMap.only.Goals as goal
 
 pub returns-then-len-eq1 : goal.returns-then-len-eq1
 returns-then-len-eq1 c = IfSome_then c.first_key_value.result c.first_key_value.ensures.first (λ p first.
-    has_only nat_list_cmp_total octets_exact c.args.self.now c.self.inside.cells.entries p.0.now p.1.now c.self.view_is
-    (only_one c.self.inside.cells.entries (p.0.now, p.1.now) (sym c.len.ensures.len ∙ c.if-len-eq1.true) first))
+    has_only nat_list_cmp_total octets_exact c.args.self.now c.self.inside.cells p.0.now p.1.now c.self.view_is
+    (only_one c.self.inside.cells (p.0.now, p.1.now) (sym c.len.ensures.len ∙ c.if-len-eq1.true) first))

@@ -16,12 +16,12 @@ loop-name-init c = λ old other.
     let items = c.into_iter-name-iterator.ensures.into_iter_gives ∙ c.iter-name-items.ensures.rest in (
       old,
       subst (AllByRecursion
-          (λ e. IsHeldCell e.1)) (sym items) (each_of_map nat_list_cmp_total IsHeldCell c.args.other.now c.other.inside.cells.entries
+          (λ e. IsHeldCell e.1)) (sym items) (each_of_map nat_list_cmp_total IsHeldCell c.args.other.now c.other.inside.cells
           c.other.view_is c.iter-name-items.ensures.ordered other),
       λ q. ap (maybe join_cells (map.get c.args.self.now q))
           (ap (join_of join_cells (entry_at octets_cmp q)) items
-          ∙ join_of-entries nat_list_cmp_total join_cells q c.other.inside.cells.entries c.iter-name-items.ensures.ordered
-          ∙ sym (get-view nat_list_cmp_total c.other.inside.cells.entries q) ∙ ap (λ m. map.get m q) c.other.view_is),
+          ∙ join_of-entries nat_list_cmp_total join_cells q c.other.inside.cells c.iter-name-items.ensures.ordered
+          ∙ sym (get-view nat_list_cmp_total c.other.inside.cells q) ∙ ap (λ m. map.get m q) c.other.view_is),
     )
 
 pub loop-name-preserved : goal.loop-name-preserved

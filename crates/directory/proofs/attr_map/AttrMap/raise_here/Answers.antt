@@ -18,21 +18,21 @@ pub returns-in_err-undo-in-Some-clause-err : goal.returns-in_err-undo-in-Some-cl
 returns-in_err-undo-in-Some-clause-err c =
     on_err c.from_residual.result
     (ap map.from_entries ((c.get_mut.follows.holds c.join_logged.new.self).0 ∙ set_value_same (is_at
-    (octets_cmp c.args.name.now)) c.self.inside.cells.entries c.join_logged.new.self (sym c.in-Some.ensures.value
+    (octets_cmp c.args.name.now)) c.self.inside.cells c.join_logged.new.self (sym c.in-Some.ensures.value
     ∙ ap Some (sym c.in_err-undo-in-Some.ensures.err)))
     ∙ c.self.view_is)
 
 pub returns-clause-ok : goal.returns-clause-ok
 returns-clause-ok c = elim c.match-get_mut.branch [
   | in-Some+in_ok-undo-in-Some w ↦ rw (w.result-is, w.self-inside-is)
-      (raised_valid nat_list_cmp_total IsHeldCell octets_exact join_cells undo_cell c.args.self.now c.self.inside.cells.entries
-      (c.get_mut.follows.lender w.join_logged.new.self).entries c.args.name.now w.in-Some.own.now c.args.cell.now w.join_logged.new.self
+      (raised_valid nat_list_cmp_total IsHeldCell octets_exact join_cells undo_cell c.args.self.now c.self.inside.cells
+      (c.get_mut.follows.lender w.join_logged.new.self) c.args.name.now w.in-Some.own.now c.args.cell.now w.join_logged.new.self
       w.in_ok-undo-in-Some.undo
       c.self.view_is w.in-Some.ensures.value (λ held _. sym (w.in_ok-undo-in-Some.ensures.ok held.0)) w.in_ok-undo-in-Some.ensures.back
       ((c.get_mut.follows.holds w.join_logged.new.self).3 (rw (← w.in-Some.ensures.value) refl)).0)
   | in-None w ↦ rw (w.result-is, w.self-inside-is) (
-    ap (λ m. map.get m c.args.name.now) (sym c.self.view_is) ∙ get-view nat_list_cmp_total c.self.inside.cells.entries c.args.name.now
+    ap (λ m. map.get m c.args.name.now) (sym c.self.view_is) ∙ get-view nat_list_cmp_total c.self.inside.cells c.args.name.now
         ∙ sym w.in-None.ensures.value,
-    ap (λ m. map.from_entries m.entries) c.get_mut.follows.holds-at-none ∙ c.self.view_is,
+    ap (λ m. map.from_entries m) c.get_mut.follows.holds-at-none ∙ c.self.view_is,
   )
 ]

@@ -7,5 +7,5 @@ use Rattle.directory.proofs.attr_map.AttrMap.remove.Goals as goal
 
 pub returns : goal.returns
 returns c =
-    mended_new nat_list_cmp_total octets_exact join_cells undo_cell c.args.self.now c.self.inside.cells.entries c.remove.new.self.entries
+    mended_new nat_list_cmp_total octets_exact join_cells undo_cell c.args.self.now c.self.inside.cells c.remove.new.self
     c.args.name.now c.self.view_is c.remove.ensures.updates.0
