@@ -47,9 +47,6 @@ empty_or_not a = by_case (is_empty_cell a) refl
     by_case true e = inl (is_empty_cell-is a e)
     by_case false e = inr (λ is. no (is_empty_cell a) (empty_cell-is_empty a is) e)
 
-empty-valid : IsValidCell empty_cell
-empty-valid = subst IsValidCell (sym (new_cell empty refl)) (cell_of-valid [])
-
 -- a valid cell is held, if it has something
 pub some_cell-held : (a : AttrCell) → IsValidCell a → IfSome (some_cell a) (λ c. IsValidCell c × (c ≢ empty_cell))
 some_cell-held a valid =

@@ -42,7 +42,8 @@ impl Lines {
     ghost use Rattle.std.specs.Prelude.{[], None, IfSome, IsTrue, Err};
     ghost use Rattle.std.specs.Borrow.{sem};
     ghost use Rattle.cds_base.specs.LineFaults.{AreClean, Sees, ShowsAnswer};
-    ghost use Rattle.cds_base.specs.Lines.{IsFresh, IsReady, held, given, kept, EndsInput, FindsLine, HasLineCause, IsNext, found_line, LeavesNext, seen_line};
+    ghost use Rattle.cds_base.specs.Lines.{IsFresh, IsReady, IsNext, EndsInput, FindsLine, HasLineCause, LeavesNext};
+    ghost use Rattle.cds_base.specs.Lines.{held, given, kept, found_line, seen_line};
 
     /// No line was read yet. All the memory is taken here.
     pub fn new(alloc: Global) -> Result<Lines, AllocError>

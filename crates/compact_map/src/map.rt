@@ -1,5 +1,6 @@
 // The map.
-ghost use Rattle.std.specs.Prelude.{◌≡◌, ◌<◌, false, [], length, IsTrue, IsSome, IfSome, IfOk, IfErr, OnOk, OnErr, Some, None, slice_get, ◌↔◌, option_copied};
+ghost use Rattle.std.specs.Prelude.{◌≡◌, ◌<◌, ◌↔◌, false, Some, None, IsTrue, IsSome, IfSome, IfOk, IfErr, OnOk, OnErr};
+ghost use Rattle.std.specs.Prelude.{[], length, slice_get, option_copied};
 ghost use Rattle.std.specs.Option.{option_copied_mut};
 ghost use Rattle.std.specs.Borrow.{sem};
 ghost use Rattle.std.specs.Map.{remove_entry};
