@@ -17,10 +17,11 @@ use Rattle.cds_stamps.specs.Stamps.{later_stamp}
 use Rattle.cds_stamps.proofs.TreeViews.{entry_at, join_of-entries, get-view}
 use Rattle.attr_sets.specs.declared.mark.ValueMark.{ValueMark}
 use Rattle.attr_sets.specs.declared.cell.AttrCell.{AttrCell}
-use Rattle.attr_sets.specs.Marks.{later, kept, ValueMarks, JoinsKept, AgreesOnKept}
-use Rattle.attr_sets.specs.Cells.{AttrMark, cell_of, empty_cell, join_cells, IsValidCell}
+use Rattle.attr_sets.specs.Marks.{later, kept, ValueMarks, RaisesKept, JoinsKept, AgreesOnKept}
+use Rattle.attr_sets.specs.Cells.{AttrMark, Marked, cell_of, empty_cell, join_cells, IsValidCell}
 use Rattle.attr_sets.specs.CellPurges.{is_empty_cell}
-use Rattle.attr_sets.specs.CellLawProofs.{same_cell, get-cell_of, get-join_cells, kept-later, kept-kept, clears, join_cells-cell_of, cell_of-valid}
+use Rattle.attr_sets.specs.CellLawProofs.{same_cell, get-cell_of, get-one, get-join_cells, kept-later, kept-kept, clears, join_cells-cell_of}
+use Rattle.attr_sets.specs.CellLawProofs.{cell_of-valid}
 
 -- two cells, where the clear of the first is not the earlier
 pub kept_joined : (a b c : AttrCell) → c.cleared ≡ a.cleared → maybe later_stamp a.cleared b.cleared ≡ a.cleared
@@ -45,6 +46,14 @@ joined_agrees a b c is q =
     let both : Option ValueMark = maybe later (get a.values q) (get b.values q) in
     ap (λ (x : AttrCell). kept x.cleared (get x.values q)) is ∙ ap (kept e) (get-join_cells a b q) ∙ kept-kept e e both ∙ ap (λ d. kept d both) (clears.idem e)
     ∙ sym (ap (λ (x : AttrCell). kept x.cleared both) is)
+
+-- one more mark of a value, if the clear keeps it, is the join with it, where the clear keeps it
+pub raised_agrees : (a b : AttrCell) (v : List ℕ) (m : ValueMark) → b.cleared ≡ a.cleared → RaisesKept a.cleared a.values b.values v m
+    → AgreesOnKept b.cleared a.values (cell_of (Marked v m ∷ [])).values b.values
+raised_agrees a b v m same raises =
+    let one : ValueMarks = (cell_of (Marked v m ∷ [])).values in
+    subst (λ c. AgreesOnKept c a.values one b.values) (sym same) (kept_agrees a.cleared a.values b.values one (λ q.
+        raises q ∙ ap (λ x. maybe later (get a.values q) (kept a.cleared x)) (sym (get-one v m q))))
 
 -- a clear takes away from each mark of a list what it takes from the latest
 pub join_of-kept : {T : Type 0} (c : Option Stamp) (g : T → Option ValueMark) (es : List T) → join_of later (λ e. kept c (g e)) es ≡ kept c (join_of later g es)

@@ -99,9 +99,9 @@ module _ {K X : Type 0} {R : K → K → Ordering} (o : IsTotalOrder R) (same : 
   abbrev pub IsWhole : List (K × X) → Type 0
   IsWhole = AllByRecursion (λ e. g e.1 ≡ Some e.1)
 
-  -- the map is whole, if the entries still to come are
+  -- the map is whole exactly if the entries still to come are
   abbrev pub WholeIf : List (K × X) → FinMap R X → Type 0
-  WholeIf es m = IsWhole es → map_some g m ≡ m
+  WholeIf es m = IsWhole es ↔ (map_some g m ≡ m)
 
   whole_at : (es : List (K × X)) (q : K) → IsWhole es → option_and_then g (lookup (is_at (R q)) es) ≡ lookup (is_at (R q)) es
   whole_at [] q whole = refl
@@ -112,11 +112,19 @@ module _ {K X : Type 0} {R : K → K → Ordering} (o : IsTotalOrder R) (same : 
       by_case true rest = whole.0
       by_case false rest = rest
 
+  given_whole : (x : Option X) → option_and_then g x ≡ x → IfSome x (λ y. g y ≡ Some y)
+  given_whole None is = tt
+  given_whole (Some x) is = is
+
   -- all entries are to come
-  pub whole_starts : (m : FinMap R X) (es items : List (K × X)) → from_entries es ≡ m → items ≡ es → WholeIf items m
-  whole_starts m es items view all whole = same_map o same (map_some g m) m (λ q.
-      let at : get m q ≡ lookup (is_at (R q)) es = ap (λ m. get m q) (sym view) ∙ get-view o es q in
-      get-map_some o same g m q ∙ ap (option_and_then g) at ∙ whole_at es q (subst IsWhole all whole) ∙ sym at)
+  pub whole_starts : (m : FinMap R X) (es items : List (K × X)) → from_entries es ≡ m → IsStrictlySortedBy R (keys_of es) → items ≡ es → WholeIf items m
+  whole_starts m es items view sorted all = (
+    λ whole. same_map o same (map_some g m) m (λ q.
+        let at : get m q ≡ lookup (is_at (R q)) es = ap (λ m. get m q) (sym view) ∙ get-view o es q in
+        get-map_some o same g m q ∙ ap (option_and_then g) at ∙ whole_at es q (subst IsWhole all whole) ∙ sym at),
+    λ is. subst IsWhole (sym all) (each_of_map o (λ x. g x ≡ Some x) m es view sorted (λ q.
+        given_whole (get m q) (sym (get-map_some o same g m q) ∙ ap (λ n. get n q) is))),
+  )
 
 module _ {K X : Type 0} {R : K → K → Ordering} (o : IsTotalOrder R) (V : X → Type 0) where
   -- each value of the map is valid exactly if those still to come are

@@ -212,7 +212,7 @@ option_filter-kept c (Some m) = turned_if (is_earlier m.stamp c)
 -- ---- what the methods of cells do
 
 -- the cell of one mark
-get-one : (v : List ℕ) (m : ValueMark) (q : List ℕ) → get (cell_of (Marked v m ∷ [])).values q ≡ (if eq_by_cmp octets_cmp q v then Some m else None)
+pub get-one : (v : List ℕ) (m : ValueMark) (q : List ℕ) → get (cell_of (Marked v m ∷ [])).values q ≡ (if eq_by_cmp octets_cmp q v then Some m else None)
 get-one v m q = get-cell_of (Marked v m ∷ []) q ∙ alone (eq_by_cmp octets_cmp q v)
   where
     alone : (b : Bool) → kept None (maybe later (if b then Some m else None) None) ≡ (if b then Some m else None)

@@ -8,13 +8,15 @@ use Rattle.cds_stamps.specs.Stamps.{is_up_to}
 use Rattle.attr_sets.specs.declared.mark.ValueMark.{ValueMark}
 use Rattle.attr_sets.specs.declared.cell.AttrCell.{AttrCell}
 
--- an absent mark up to t is dropped, and so is a clear (own)
+-- an absent mark up to t is dropped (own)
 abbrev pub mark_left : Stamp → ValueMark → Option ValueMark
 mark_left t m = if m.present || not (is_up_to t m.stamp) then Some m else None
 
+-- a clear up to t is dropped (own)
 abbrev pub clear_left : Stamp → Stamp → Option Stamp
 clear_left t s = if is_up_to t s then None else Some s
 
+-- a cell without its clear, if that is up to t, and without its absent marks up to t (own)
 abbrev pub purged_cell : Stamp → AttrCell → AttrCell
 purged_cell t a = record { cleared = option_and_then (clear_left t) a.cleared; values = map_some (mark_left t) a.values }
 

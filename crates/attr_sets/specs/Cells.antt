@@ -17,7 +17,7 @@ pub data AttrMark : Type 0 where
   Cleared : Stamp → AttrMark
   Marked : (value : List ℕ) → ValueMark → AttrMark
 
--- what a mark says of the clears, of the value v, and which value it is about (own)
+-- what a mark says of the clears (own)
 abbrev pub clear_in : AttrMark → Option Stamp
 clear_in (Cleared s) = Some s
 clear_in (Marked v m) = None
@@ -37,7 +37,7 @@ abbrev pub attr_stamp : AttrMark → Stamp
 attr_stamp (Cleared s) = s
 attr_stamp (Marked v m) = m.stamp
 
--- the greatest clear of a history, and the greatest mark of a value (own)
+-- the greatest clear of a history (own)
 abbrev pub greatest_clear : List AttrMark → Option Stamp
 greatest_clear = join_of later_stamp clear_in
 

@@ -14,7 +14,7 @@ use Rattle.cds_stamps.specs.Semilattice.{IsSemilattice, greater, greater_semilat
 use Rattle.cds_stamps.specs.Stamps.{stamp_cmp, stamp_total, stamp_exact, stamp_code, is_earlier}
 use Rattle.attr_sets.specs.declared.mark.ValueMark.{ValueMark}
 
--- the mark of a value that is present, or absent, by an update with this stamp (own)
+-- the mark of a value that is present by an update with this stamp (own)
 abbrev pub present_at : Stamp → ValueMark
 present_at s = record { present = true; stamp = s }
 

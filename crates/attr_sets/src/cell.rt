@@ -129,6 +129,10 @@ impl AttrCell {
         stamp: Stamp,
     ) -> Result<(), AllocError>
         ensures ok { OnOk result (IsValidCell self.old → self.new ≡ join_cells self.old (cell_of (change_marks change.now stamp))) }
+        ensures cleared { let made = cell_of (change_marks change.now stamp) in
+            OnOk result (self.new.cleared ≡ maybe later_stamp self.old.cleared made.cleared) }
+        ensures values { let made = cell_of (change_marks change.now stamp) in
+            OnOk result (AgreesOnKept self.new.cleared self.old.values made.values self.new.values) }
         ensures err { OnErr result (self.new ≡ self.old) }
     {
         match change {
@@ -215,7 +219,7 @@ impl AttrCell {
 
     /// Whether its clear and its marks are all later than t.
     pub fn is_after(&self, t: Stamp) -> bool
-        ensures { MatchBool result (after_cell t self.now ≡ self.now) (Unit {0}) }
+        ensures { IsTrue result ↔ (after_cell t self.now ≡ self.now) }
     {
         let t = &t;
         clear_after(self.cleared, *t) == self.cleared && self.values.is_after(*t)

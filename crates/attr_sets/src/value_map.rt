@@ -403,7 +403,7 @@ impl ValueMap {
 
     /// Whether each mark is later than t.
     pub(crate) fn is_after(&self, t: Stamp) -> bool
-        ensures { MatchBool result (map_some (mark_after t) self.now ≡ self.now) (Unit {0}) }
+        ensures { IsTrue result ↔ (map_some (mark_after t) self.now ≡ self.now) }
     {
         for (_, mark) in self.marks.iter() {
             if mark.stamp <= t {

@@ -73,6 +73,7 @@ given_after number (Ok (Some line)) = number + 1
 given_after number (Ok None) = number
 given_after number (Err fault) = number
 
+-- the fault that is kept behind a call (own)
 abbrev pub kept_after : Result (Option (ℕ × List ℕ)) LineFault → Option LineFault
 kept_after (Ok value) = None
 kept_after (Err fault) = Some fault

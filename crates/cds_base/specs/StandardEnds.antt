@@ -3,7 +3,7 @@ use Rattle.std.specs.Prelude.{ℕ}
 use Rattle.cds_base.specs.declared.standard.StdSource.{StdSource}
 use Rattle.cds_base.specs.declared.standard.StdSink.{StdSink}
 
--- the reader, and how often it has failed
+-- the reader of a source
 abbrev pub reader_of : {R : Type 0} → StdSource R → R
 reader_of source = source.reader
 
@@ -11,7 +11,7 @@ reader_of source = source.reader
 abbrev pub failed_reads : {R : Type 0} → StdSource R → ℕ
 failed_reads source = source.faults
 
--- the writer, and how often it has failed
+-- the writer of a sink
 abbrev pub writer_of : {W : Type 0} → StdSink W → W
 writer_of sink = sink.writer
 

@@ -45,6 +45,7 @@ abbrev pub of_parts : (ℕ × (List Member × Replica)) ⊎ ℕ → ImageDir
 of_parts (inl p) = Held (record { 0 = p.0 }) p.1.0 p.1.1
 of_parts (inr n) = Gone (record { 0 = n })
 
+-- its parts make it again
 pub parts_back : (d : ImageDir) → of_parts (parts d) ≡ d
 parts_back (Held e ms r) = refl
 parts_back (Gone e) = refl

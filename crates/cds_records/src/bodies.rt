@@ -5,7 +5,7 @@ ghost use Rattle.cds_records.specs.Records.{fragment, copied, joined, body, mess
 
 use crate::fault::{ReadError, Rule};
 use crate::fields::Reader;
-use crate::format::FORMAT;
+use crate::format::{ADVANCE, FORMAT, GATHER, GATHERED, JOIN, LEAVE, SPREAD, SPREAD_ACK, UPDATE};
 use crate::message::{Body, Message};
 use cds_stamps::{DirId, EpochNo, HouseNo, Members, SimpleName, Stamp};
 use directory::Fragment;
@@ -51,31 +51,31 @@ impl<'a> Reader<'a> {
         ensures { Reads (λ x. x) (body tag) self.old self.new result }
     {
         match tag {
-            1 => {
+            UPDATE => {
                 let fragment = self.fragment(alloc)?;
                 Ok(Body::Update(fragment))
             }
-            2 => {
+            GATHER => {
                 let stamp = self.stamp()?;
                 Ok(Body::Gather(stamp))
             }
-            3 => {
+            GATHERED => {
                 let (stamp, replica) = self.copied(alloc)?;
                 Ok(Body::Gathered(stamp, replica))
             }
-            4 => {
+            SPREAD => {
                 let (stamp, replica) = self.copied(alloc)?;
                 Ok(Body::Spread(stamp, replica))
             }
-            5 => {
+            SPREAD_ACK => {
                 let stamp = self.stamp()?;
                 Ok(Body::SpreadAck(stamp))
             }
-            6 => {
+            ADVANCE => {
                 let stamp = self.stamp()?;
                 Ok(Body::Advance(stamp))
             }
-            7 => {
+            JOIN => {
                 let (members, replica) = self.joined(alloc)?;
                 Ok(Body::Join(members, replica))
             }
@@ -89,7 +89,7 @@ impl<'a> Reader<'a> {
         ensures { Reads (λ x. x) message self.old self.new result }
     {
         let _format = self.octet_within(Rule::BadTag, FORMAT, FORMAT)?;
-        let tag = self.octet_within(Rule::BadTag, 1, 8)?;
+        let tag = self.octet_within(Rule::BadTag, UPDATE, LEAVE)?;
         let dir = self.u32()?;
         let from = self.octet()?;
         let epoch = self.u64()?;

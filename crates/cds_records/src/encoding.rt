@@ -159,7 +159,7 @@ fn put_joined(out: &mut Vec<u8>, members: &Members, replica: &Replica) -> Result
 }
 
 /// The number of a kind: a master is 1, a read-only house 2.
-fn kind_number(kind: MemberKind) -> u8
+fn member_kind_number(kind: MemberKind) -> u8
     ensures { result ≡ kinds.kind_number kind }
 {
     match kind {
@@ -175,7 +175,7 @@ fn put_member(out: &mut Vec<u8>, member: &Member) -> Result<(), AllocError>
 {
     put_octet(out, member.house.0)?;
     put_u64(out, member.since.0)?;
-    put_octet(out, kind_number(member.kind))?;
+    put_octet(out, member_kind_number(member.kind))?;
     Ok(())
 }
 

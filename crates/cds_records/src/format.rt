@@ -22,3 +22,8 @@ pub(crate) const ADVANCE: u8 = 6;
 pub(crate) const JOIN: u8 = 7;
 
 pub(crate) const LEAVE: u8 = 8;
+
+// The states of a directory of an image, by what its house keeps of it.
+pub(crate) const HELD: u8 = 1;
+
+pub(crate) const GONE: u8 = 2;

@@ -10,7 +10,7 @@ ghost use Rattle.cds_records.specs.Validity.{IsValidImage};
 ghost use Rattle.cds_records.specs.declared.image.ImageDir.TheVariants as states;
 
 use crate::encoding::put_members;
-use crate::format::{FORMAT, IMAGE};
+use crate::format::{FORMAT, GONE, HELD, IMAGE};
 use crate::image::{Image, ImageDir, ImageDirs};
 use crate::writing::{put_node, put_octet, put_replica, put_u32, put_u64};
 use cds_stamps::{DirId, EpochNo, HouseNo, Members, Node};
@@ -64,7 +64,7 @@ fn put_held(
     ensures fits { OnOk result ((dir.0 < 2 ^ 32) × FitsDir (states.Held epoch members.now replica.now)) }
 {
     put_u32(out, dir.0)?;
-    put_octet(out, 1)?;
+    put_octet(out, HELD)?;
     put_u64(out, epoch.0)?;
     put_members(out, members.list())?;
     put_replica(out, replica)?;
@@ -77,7 +77,7 @@ fn put_gone(out: &mut Vec<u8>, dir: DirId, epoch: EpochNo) -> Result<(), AllocEr
     ensures fits { OnOk result ((dir.0 < 2 ^ 32) × FitsDir (states.Gone epoch)) }
 {
     put_u32(out, dir.0)?;
-    put_octet(out, 2)?;
+    put_octet(out, GONE)?;
     put_u64(out, epoch.0)?;
     Ok(())
 }

@@ -12,7 +12,7 @@ ghost use Rattle.cds_records.specs.declared.fault.Rule.TheVariants.{OutOfOrder};
 
 use crate::fault::{ReadError, Rule};
 use crate::fields::{Reader, broken};
-use crate::format::{FORMAT, IMAGE};
+use crate::format::{FORMAT, GONE, HELD, IMAGE};
 use crate::image::{Image, ImageDir, ImageDirs};
 use cds_stamps::{DirId, EpochNo, HouseNo};
 use std::alloc::{AllocError, Global};
@@ -46,9 +46,9 @@ impl<'a> Reader<'a> {
     fn dir_state(&mut self, alloc: Global) -> Result<ImageDir, ReadError>
         ensures { Reads (λ x. x) dir_state self.old self.new result }
     {
-        let state = self.octet_within(Rule::BadFlag, 1, 2)?;
+        let state = self.octet_within(Rule::BadFlag, HELD, GONE)?;
         let epoch = self.u64()?;
-        if state != 1 {
+        if state == GONE {
             return Ok(ImageDir::Gone(EpochNo(epoch)));
         }
         let dir = self.held_dir(alloc, epoch)?;

@@ -92,6 +92,7 @@ module _ {K X : Type 0} {R : K → K → Ordering} (o : IsTotalOrder R) (same : 
       beyond : (q : K) → list_any (eq_by_cmp R q) (keys m ++ keys n) ≡ false → f (get m q) (get n q) ≡ None
       beyond q e = rw (missing m q (any_front (eq_by_cmp R q) (keys m) (keys n) e), missing n q (any_back (eq_by_cmp R q) (keys m) (keys n) e)) none
 
+-- what such a map has at a key
 pub get-map_some : {K X Y : Type 0} {R : K → K → Ordering} → IsTotalOrder R → IsAntisymmetric R → (f : X → Option Y) (m : FinMap R X) (q : K)
     → get (map_some f m) q ≡ option_and_then f (get m q)
 unfolding map_some

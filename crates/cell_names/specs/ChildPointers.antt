@@ -33,9 +33,11 @@ pointer_octets p = to_be_bytes w32 p.dir ++ (1 + length p.others) ∷ p.master �
 abbrev pub count_place : ℕ
 count_place = 5
 
+-- the place of the master's house (own)
 abbrev pub master_place : ℕ
 master_place = 6
 
+-- the place of the first of the other houses (own)
 abbrev pub others_place : ℕ
 others_place = 7
 

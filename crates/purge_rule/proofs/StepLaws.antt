@@ -1,5 +1,5 @@
 -- A table that is purged a deletion at a time.
-use Rattle.std.proofs.Common.{◌≡◌, ℕ, ◌+◌, ◌≤◌, Bool, true, false, not, cond, List, Option, Some, None, refl, sym, ap, subst, ◌∙◌, arith}
+use Rattle.std.proofs.Common.{◌≡◌, ℕ, ◌+◌, ◌≤◌, Bool, true, false, not, List, Option, Some, None, refl, sym, ap, subst, ◌∙◌, arith}
 use Rattle.std.specs.Prelude.{IfSome, min, ◌-◌, ◌<◌}
 use Rattle.std.specs.FinMap.{get, remove}
 use Rattle.std.specs.Option.{option_and_then}
@@ -7,9 +7,7 @@ use Rattle.std.specs.declared.cmp.Ordering.{Ordering}
 use Rattle.std.specs.declared.cmp.Ordering.TheVariants.{Less, Equal, Greater}
 use Rattle.std.specs.Ordering.{is_lt, ordering_then}
 use Rattle.std.specs.Cmp.{IsTotalOrder}
-use Rattle.std.specs.Cmp.Lexicographic.{nat_list_cmp_total}
 use Rattle.cds_stamps.specs.declared.stamp.Stamp.{Stamp}
-use Rattle.cds_stamps.specs.Octets.{octets_cmp, is_octets}
 use Rattle.cds_stamps.specs.Stamps.{stamp_cmp, stamp_total, is_up_to, is_earlier}
 use Rattle.attr_sets.specs.declared.mark.ValueMark.{ValueMark}
 use Rattle.attr_sets.specs.declared.cell.AttrCell.{AttrCell}
@@ -17,12 +15,12 @@ use Rattle.directory.specs.declared.deletions.Deletion.{Deletion}
 use Rattle.directory.specs.declared.deletions.What.{What}
 use Rattle.directory.specs.declared.deletions.What.TheVariants.{Death, Clear, Absent}
 use Rattle.directory.specs.declared.entry.EntryCell.{EntryCell}
-use Rattle.directory.specs.Deletions.{has_deletion, is_before, change_at, IsFirst, without, entry_without, cell_without}
+use Rattle.directory.specs.Deletions.{has_deletion, change_at, IsFirst, without, entry_without, cell_without}
 use Rattle.directory.specs.Entries.{Entries, IsValidTable}
-use Rattle.directory.specs.Held.{held_in, most_held}
+use Rattle.directory.specs.Held.{most_held}
 use Rattle.directory.specs.Purges.{purged_table}
 use Rattle.directory.proofs.DeletionLaws.{each_set, purged_without, without_valid, purged_none}
-use Rattle.purge_rule.specs.Latest.{StampUpTo, CellUpTo, EntryUpTo, TableUpTo}
+use Rattle.purge_rule.specs.Latest.{CellUpTo, EntryUpTo, TableUpTo}
 use Rattle.purge_rule.proofs.MergeLaws.{some_cell-up_to}
 
 -- ---- times

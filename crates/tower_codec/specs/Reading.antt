@@ -1,4 +1,4 @@
--- Reading a tower field by field, as the private readers do, and the floors that a view shows.
+-- Reading a tower field by field, as the private readers do, and the floors that a view shows (own, after C706, protocol towers).
 use Rattle.std.specs.Prelude.{ℕ, zero, suc, ◌+◌, ◌-◌, ◌*◌, List, [], ◌∷◌, length, take, drop, slice_index, Result, Ok, Err, nat_lt, ◌==◌, if◌then◌else◌}
 use Rattle.tower_codec.specs.declared.fault.TowerFault.{TowerFault}
 use Rattle.tower_codec.specs.declared.fault.TowerFault.TheVariants.{ShortCount, ShortLength, ShortPart, EmptyLeft}
@@ -39,7 +39,7 @@ body_at (low ∷ high ∷ octets) = do
 
 -- ---- The same where the parts are known to stand there.
 
--- The length at the front, the part behind it, and what follows the part.
+-- The length at the front (own).
 abbrev pub known_length : List ℕ → ℕ
 known_length octets = slice_index octets 0 + 256 * slice_index octets 1
 
@@ -51,7 +51,7 @@ known_part octets = take (known_length octets) (drop 2 octets)
 abbrev pub after_known_part : List ℕ → List ℕ
 after_known_part octets = drop (known_length octets) (drop 2 octets)
 
--- The floor at the front, and what follows it.
+-- The floor that is known to stand at the front (own).
 abbrev pub known_floor : List ℕ → Floor
 known_floor octets = record { left = known_part octets; right = known_part (after_known_part octets) }
 

@@ -44,22 +44,22 @@ rpc_floors tower any =
 abbrev pub rpc_octets : RpcTower → List ℕ
 rpc_octets tower = tower_octets (rpc_floors tower (0 ∷ 0 ∷ []))
 
--- A UUID of 16 octets, and versions of two.
+-- A UUID of 16 octets, and versions of two (C706, interface identifiers).
 pub record IsInterface (interface : Interface) : Type 0 where
   pub uuid : length interface.uuid ≡ 16
   pub major : interface.major < 2 ^ 16
   pub minor : interface.minor < 2 ^ 16
 
--- The parts are the floor of this interface.
+-- The parts are the floor of this interface (C706, protocol towers).
 abbrev pub IsInterfaceFloor : List ℕ → List ℕ → Interface → Type 0
 IsInterfaceFloor left right interface =
     IsInterface interface × (left ≡ (interface_floor interface).left) × (right ≡ (interface_floor interface).right)
 
--- The parts are the floor of this port, below a protocol sequence.
+-- The parts are the floor of this port, below a protocol sequence (C706, protocol towers).
 abbrev pub IsPortFloor : Protseq → List ℕ → List ℕ → ℕ → Type 0
 IsPortFloor protseq left right port = (port < 2 ^ 16) × (left ≡ port_protocol protseq ∷ []) × (right ≡ port_octets port)
 
--- The values fit their fields: 16 octets of a UUID, two of a version or a port, four of an address.
+-- The values fit their fields: 16 octets of a UUID, two of a version or a port, four of an address (C706, protocol towers).
 pub record FitsRpc (tower : RpcTower) : Type 0 where
   pub interface : IsInterface tower.interface
   pub transfer : IsInterface tower.transfer

@@ -1,4 +1,4 @@
--- Reading an RPC tower floor by floor, as the private readers do.
+-- Reading an RPC tower floor by floor, as the private readers do (own, after C706, protocol towers).
 use Rattle.std.specs.Prelude.{ℕ, ◌+◌, ◌*◌, List, [], ◌∷◌, length, take, drop, slice_index, slice_get, Bool, Option, Some, None, option_and_then, ◌==◌}
 use Rattle.std.specs.Prelude.{◌&&◌, if◌then◌else◌}
 use Rattle.uuid.specs.Parts.{swap_fields}

@@ -1,5 +1,6 @@
-use Rattle.std.proofs.Common.{Some, ap, subst, sym, ◌∙◌}
-use Rattle.directory.specs.Purges.{purged}
+use Rattle.std.proofs.Common.{◌≡◌, Some, ap, subst, sym, ◌∙◌}
+use Rattle.std.specs.Prelude.{IfSome}
+use Rattle.directory.specs.Purges.{purged, purged_table}
 use Rattle.purge_rule.specs.declared.replica.Replica.{Replica}
 use Rattle.purge_rule.specs.Latest.{StampUpTo, TableUpTo}
 use Rattle.purge_rule.proofs.MergeLaws.{above_left, purged_table-up_to}
@@ -13,6 +14,11 @@ returns-clause-merged c = λ h is.
     same_replica _ _ _ _ (c.drop_up_to.ensures.histories h c.args.self.now.all_up_to (above_left c.args.self.now.all_up_to (Some c.args.t)
     (Some c.raise-up_to.result) later) (c.raise-up_to.ensures.table ∙ ap (λ (r : Replica). r.table) is) ∙ ap (purged h) (sym later))
     (c.raise-up_to.ensures.all_up_to ∙ sym later)
+
+pub returns-clause-dropped : goal.returns-clause-dropped
+returns-clause-dropped c =
+    subst (λ a. IfSome a (λ u. c.drop_up_to.new.self ≡ purged_table u c.args.self.now.table)) (sym c.raise-up_to.ensures.all_up_to)
+    (c.drop_up_to.ensures.dropped ∙ ap (purged_table c.raise-up_to.result) c.raise-up_to.ensures.table)
 
 pub returns-clause-times : goal.returns-clause-times
 returns-clause-times c = λ n p q. record {

@@ -1,4 +1,5 @@
 use Rattle.std.proofs.Common.{◌≡◌, Some, ap, subst, sym, ◌∙◌}
+use Rattle.std.specs.Prelude.{IfSome}
 use Rattle.directory.specs.Entries.{IsValidTable}
 use Rattle.directory.specs.Purges.{purged, purged_table}
 use Rattle.directory.proofs.PurgeLaws.{purged-again, purged-valid, purged_table-valid}
@@ -18,6 +19,12 @@ returns-clause-merged g c = λ h is.
     ∙ ap (purged_table up_to) stands
     ∙ purged-again h c.args.self.now.all_up_to up_to (above_left c.args.self.now.all_up_to (Some c.args.t) (Some up_to) later)
     ∙ ap (purged h) (sym later)) (c.raise-up_to.ensures.all_up_to ∙ sym later)
+
+pub returns-clause-dropped : goal.returns-clause-dropped
+returns-clause-dropped g c = λ valid.
+    let stands = c.raise-up_to.ensures.table in
+    subst (λ a. IfSome a (λ u. c.forget.new.table ≡ purged_table u c.args.self.now.table)) (sym c.raise-up_to.ensures.all_up_to)
+    (c.forget.ensures.dropped (subst IsValidTable (sym stands) valid) ∙ ap (purged_table c.raise-up_to.result) stands)
 
 pub returns-clause-valid : goal.returns-clause-valid
 returns-clause-valid g c = λ valid.
