@@ -202,6 +202,13 @@ impl StringBindings {
         }
     }
 
+    /// The bindings of a vector, in its order.
+    pub(crate) fn of(items: Vec<StringBinding>) -> StringBindings
+        ensures { result ≡ items.items }
+    {
+        StringBindings { items }
+    }
+
     pub fn push(&mut self, binding: StringBinding) -> Result<(), AllocError>
         ensures ok { OnOk result (self.new ≡ self.old ++ binding ∷ []) }
         ensures err { OnErr result (self.new ≡ self.old) }
@@ -238,6 +245,13 @@ impl Uuids {
         Uuids {
             items: Vec::new(alloc),
         }
+    }
+
+    /// The UUIDs of a vector, in its order.
+    pub(crate) fn of(items: Vec<Uuid>) -> Uuids
+        ensures { result ≡ items.items }
+    {
+        Uuids { items }
     }
 
     pub fn push(&mut self, uuid: Uuid) -> Result<(), AllocError>

@@ -1,8 +1,9 @@
 // What a single word of the commands of the name service says.
-ghost use Rattle.std.specs.Prelude.{◌≡◌, ◌≤◌, ◌<◌, IfOk};
+ghost use Rattle.std.specs.Prelude.{◌≡◌, ◌≤◌, ◌<◌, ℕ, List, [], ◌∷◌, Option, IfOk};
+ghost use Rattle.std.specs.Option.{option_map, option_map_or};
 ghost use Rattle.cell_script.specs.NameService.{number_within, most_version, interface_of, interface_unless, element_interface_of, interface_or_none_of};
-ghost use Rattle.cell_script.specs.NameService.{all_said, texts_of, binding_said, object_said, bindings_of, objects_of, object_of, protocols_of};
-ghost use Rattle.cell_script.specs.NameService.{priority_of, note_of};
+ghost use Rattle.cell_script.specs.NameService.{all_said, texts_of, list_of, binding_said, object_said, bindings_of, objects_of};
+ghost use Rattle.cell_script.specs.NameService.{object_of, protocols_of, priority_of, note_of};
 
 use crate::lists::{Note, StringBindings, Uuids};
 use crate::word::number;
@@ -81,30 +82,78 @@ fn interface_unless(none: &[u8], word: &[u8]) -> Option<Option<Interface>>
     Some(Some(interface(word)?))
 }
 
-// A string binding without an object part.
-#[tactic(auto, unfolding(crate::specs::NameService::binding_said))]
-fn binding(text: &[u8]) -> Option<StringBinding>
-    ensures { result ≡ binding_said text.now }
-{
-    if text.contains(&b'@') {
-        return None;
-    }
-    StringBinding::parse(text).ok()
+// What a text in a list can say.
+trait Said: Sized + Drop {
+    // What each text says.
+    ghost says: { List ℕ → Option Self };
+
+    fn read(text: &[u8]) -> Option<Self>
+        ensures { result ≡ says text.now };
 }
 
-// String bindings with commas between.
-#[inline(never)]
-fn some_bindings(alloc: Global, word: &[u8]) -> Result<Option<StringBindings>, AllocError>
-    ensures { IfOk result (λ list. list ≡ all_said binding_said (texts_of word.now)) }
-{
-    let mut list = StringBindings::new(alloc);
-    for text in word.split(|b| *b == b',') {
-        match binding(text) {
-            Some(binding) => list.push(binding)?,
-            None => return Ok(None),
+// A string binding without an object part.
+impl Said for StringBinding {
+    ghost says = { binding_said };
+
+    #[tactic(auto, unfolding(crate::specs::NameService::binding_said))]
+    fn read(text: &[u8]) -> Option<StringBinding> {
+        if text.contains(&b'@') {
+            return None;
+        }
+        StringBinding::parse(text).ok()
+    }
+}
+
+// An object: a UUID other than nil.
+impl Said for Uuid {
+    ghost says = { object_said };
+
+    #[tactic(auto, unfolding(crate::specs::NameService::object_said))]
+    fn read(text: &[u8]) -> Option<Uuid> {
+        match read_uuid(text) {
+            Some(uuid) if !uuid.is_nil() => Some(uuid),
+            _ => None,
         }
     }
+}
+
+// The first text of a list, and the list behind its comma, if there is one.
+#[tactic(auto, using(crate::proofs::Listed::texts_at_cut, crate::proofs::Listed::texts_uncut))]
+fn split_first_text(list: &[u8]) -> (&[u8], Option<&[u8]>)
+    ensures { texts_of list.now ≡ result.0.now ∷ option_map_or (λ rest. texts_of rest.now) result.1 [] }
+{
+    match split_at_mark(list, b',') {
+        Some((text, rest)) => (text, Some(rest)),
+        None => (list, None),
+    }
+}
+
+// What the texts of a word say, with commas between.
+#[inline(never)]
+fn all_said<T: Said>(alloc: Global, word: &[u8]) -> Result<Option<Vec<T>>, AllocError>
+    ensures { IfOk result (λ list. option_map (λ l. l.items) list ≡ all_said T.says (texts_of word.now)) }
+{
+    let mut list = Vec::new(alloc);
+    let mut rest = Some(word);
+    while let Some(texts) = rest {
+        let (text, behind) = split_first_text(texts);
+        match T::read(text) {
+            Some(item) => list.push(item)?,
+            None => return Ok(None),
+        }
+        rest = behind;
+    }
     Ok(Some(list))
+}
+
+// What the texts of a word say, with commas between, or none for `-`.
+fn list_of<T: Said>(alloc: Global, word: &[u8]) -> Result<Option<Vec<T>>, AllocError>
+    ensures { IfOk result (λ list. option_map (λ l. l.items) list ≡ list_of T.says word.now) }
+{
+    if word == NONE {
+        return Ok(Some(Vec::new(alloc)));
+    }
+    all_said(alloc, word)
 }
 
 /// String bindings with commas between, or none for `-`.
@@ -112,36 +161,7 @@ fn some_bindings(alloc: Global, word: &[u8]) -> Result<Option<StringBindings>, A
 pub(crate) fn bindings(alloc: Global, word: &[u8]) -> Result<Option<StringBindings>, AllocError>
     ensures { IfOk result (λ list. list ≡ bindings_of word.now) }
 {
-    if word == NONE {
-        return Ok(Some(StringBindings::new(alloc)));
-    }
-    some_bindings(alloc, word)
-}
-
-// An object: a UUID other than nil.
-#[tactic(auto, unfolding(crate::specs::NameService::object_said))]
-fn object_in_list(text: &[u8]) -> Option<Uuid>
-    ensures { result ≡ object_said text.now }
-{
-    match read_uuid(text) {
-        Some(uuid) if !uuid.is_nil() => Some(uuid),
-        _ => None,
-    }
-}
-
-// Objects with commas between.
-#[inline(never)]
-fn some_objects(alloc: Global, word: &[u8]) -> Result<Option<Uuids>, AllocError>
-    ensures { IfOk result (λ list. list ≡ all_said object_said (texts_of word.now)) }
-{
-    let mut list = Uuids::new(alloc);
-    for text in word.split(|b| *b == b',') {
-        match object_in_list(text) {
-            Some(object) => list.push(object)?,
-            None => return Ok(None),
-        }
-    }
-    Ok(Some(list))
+    Ok(list_of(alloc, word)?.map(StringBindings::of))
 }
 
 /// Objects with commas between, or none for `-`.
@@ -149,10 +169,7 @@ fn some_objects(alloc: Global, word: &[u8]) -> Result<Option<Uuids>, AllocError>
 pub(crate) fn objects(alloc: Global, word: &[u8]) -> Result<Option<Uuids>, AllocError>
     ensures { IfOk result (λ list. list ≡ objects_of word.now) }
 {
-    if word == NONE {
-        return Ok(Some(Uuids::new(alloc)));
-    }
-    some_objects(alloc, word)
+    Ok(list_of(alloc, word)?.map(Uuids::of))
 }
 
 /// The object that is looked for: nil for `-`.
