@@ -62,6 +62,7 @@ impl Value {
         })
     }
 
+    /// The octets of the value, 1 to 1,024 of them.
     pub fn octets(&self) -> &[u8]
         ensures { result.now ≡ self.now }
     {

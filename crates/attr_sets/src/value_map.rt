@@ -66,6 +66,7 @@ impl Clone for ValueMap {
 }
 
 impl ValueMap {
+    /// No value has a mark. Takes no memory.
     pub fn new(alloc: Global) -> Self
         ensures { result ≡ map.empty }
     {
@@ -81,6 +82,7 @@ impl ValueMap {
         self.marks.len()
     }
 
+    /// Whether no value has a mark.
     pub fn is_empty(&self) -> bool
         ensures { IsTrue result ↔ (map.len self.now ≡ 0) }
     {
@@ -94,6 +96,7 @@ impl ValueMap {
         self.marks.iter()
     }
 
+    /// The mark of a value, if it has one.
     pub fn get(&self, value: &Value) -> Option<&ValueMark>
         ensures { option_copied result ≡ map.get self.now value.now }
     {

@@ -25,7 +25,7 @@ impl Model for Window {
 }
 
 impl Window {
-    /// An empty window with room for this many octets. All its memory is taken here.
+    /// An empty window with room for this many octets, from 1 to 2^24 + 1. All its memory is taken here.
     pub fn new(alloc: Global, room: usize) -> Result<Window, AllocError>
         requires some { 1 ≤ room }
         requires few { room ≤ 16777217 }

@@ -3,7 +3,8 @@ use cds_stamps::AllocOr;
 use thiserror::Error;
 
 /// Why octets begin with no message or no image, and where: the place of the first octet of the field that breaks its
-/// rule, counted from 1; of Short the number of octets and one more.
+/// rule, counted from 1; of Short the number of octets and one more. Trailing is told by callers that want an image and nothing behind
+/// it: the readers here leave what follows.
 #[derive(Clone, Copy, Debug, PartialEq, Eq, Drop, Error)]
 pub enum RecordFault {
     #[error("the octets end in a field, at {0}")]

@@ -47,6 +47,7 @@ impl Model for ImageDirs {
 }
 
 impl ImageDirs {
+    /// No directory. Takes no memory.
     pub fn new(alloc: Global) -> Self
         ensures { result ≡ map.empty }
     {

@@ -134,6 +134,7 @@ impl SimpleName {
         })
     }
 
+    /// The octets of the name, 1 to 254 of them.
     pub fn octets(&self) -> &[u8]
         ensures value { result.now ≡ self.now }
         ensures lawful { simple_name_fault result.now ≡ None }
@@ -191,6 +192,7 @@ impl AttrName {
         })
     }
 
+    /// The octets of the name, 1 to 31 of them.
     pub fn octets(&self) -> &[u8]
         ensures value { result.now ≡ self.now }
         ensures lawful { attr_fault result.now ≡ None }

@@ -111,6 +111,7 @@ impl Octets {
         Octets::of(alloc, self.items.as_slice())
     }
 
+    /// The octets, in their order.
     pub fn list(&self) -> &[u8]
         ensures { result.now ≡ self.now }
     {

@@ -40,6 +40,7 @@ impl Node {
         }
     }
 
+    /// The number of the node, below 2^48.
     pub fn number(&self) -> u64
         ensures same { result ≡ self.now }
         ensures below { result < 2 ^ node_bits }
@@ -48,7 +49,8 @@ impl Node {
     }
 }
 
-/// A time and the node that issued it, ordered by time and then by node.
+/// A time and the node that issued it, ordered by time and then by node. A time counts, and has no unit: the clock of a house says
+/// which one is next, if the floor of the house is below it.
 #[derive(Clone, Copy, Debug, PartialEq, Eq, PartialOrd, Ord)]
 pub struct Stamp {
     pub time: u64,

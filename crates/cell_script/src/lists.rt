@@ -1,5 +1,5 @@
 // Lists inside commands and answers.
-ghost use Rattle.std.specs.Prelude.{◌≡◌, [], ◌∷◌, ◌++◌, IsTrue, IfOk, OnOk, OnErr};
+ghost use Rattle.std.specs.Prelude.{◌≡◌, [], ◌∷◌, ◌++◌, None, Ok, IsTrue, IfOk, OnOk, OnErr};
 ghost use Rattle.std.specs.List.{list_all};
 ghost use Rattle.cell_script.specs.Notes.{is_note_octet, note_in};
 
@@ -35,6 +35,7 @@ impl HouseNos {
         }
     }
 
+    /// Puts a number behind the others.
     pub fn push(&mut self, house: HouseNo) -> Result<(), AllocError>
         ensures ok { OnOk result (self.new ≡ self.old ++ house ∷ []) }
         ensures err { OnErr result (self.new ≡ self.old) }
@@ -42,6 +43,7 @@ impl HouseNos {
         Ok(self.items.push(house)?)
     }
 
+    /// The numbers, in their order.
     pub fn list(&self) -> &[HouseNo]
         ensures { result.now ≡ self.now }
     {
@@ -73,6 +75,7 @@ impl Serials {
         }
     }
 
+    /// Puts a number behind the others.
     pub fn push(&mut self, serial: u64) -> Result<(), AllocError>
         ensures ok { OnOk result (self.new ≡ self.old ++ serial ∷ []) }
         ensures err { OnErr result (self.new ≡ self.old) }
@@ -80,6 +83,7 @@ impl Serials {
         Ok(self.items.push(serial)?)
     }
 
+    /// The numbers, in their order.
     pub fn list(&self) -> &[u64]
         ensures { result.now ≡ self.now }
     {
@@ -118,6 +122,7 @@ impl Values {
         Values { items }
     }
 
+    /// Puts a value behind the others.
     pub fn push(&mut self, value: Value) -> Result<(), AllocError>
         ensures ok { OnOk result (self.new ≡ self.old ++ value ∷ []) }
         ensures err { OnErr result (self.new ≡ self.old) }
@@ -125,6 +130,7 @@ impl Values {
         Ok(self.items.push(value)?)
     }
 
+    /// The values, in their order.
     pub fn list(&self) -> &[Value]
         ensures { result.now ≡ self.now }
     {
@@ -156,6 +162,7 @@ impl Octets {
         }
     }
 
+    /// Puts an octet behind the others.
     pub fn push(&mut self, octet: u8) -> Result<(), AllocError>
         ensures ok { OnOk result (self.new ≡ self.old ++ octet ∷ []) }
         ensures err { OnErr result (self.new ≡ self.old) }
@@ -170,6 +177,7 @@ impl Octets {
         Octets { items }
     }
 
+    /// The octets, in their order.
     pub fn list(&self) -> &[u8]
         ensures { result.now ≡ self.now }
     {
@@ -209,6 +217,7 @@ impl StringBindings {
         StringBindings { items }
     }
 
+    /// Puts a binding behind the others.
     pub fn push(&mut self, binding: StringBinding) -> Result<(), AllocError>
         ensures ok { OnOk result (self.new ≡ self.old ++ binding ∷ []) }
         ensures err { OnErr result (self.new ≡ self.old) }
@@ -216,6 +225,7 @@ impl StringBindings {
         Ok(self.items.push(binding)?)
     }
 
+    /// The bindings, in their order.
     pub fn list(&self) -> &[StringBinding]
         ensures { result.now ≡ self.now }
     {
@@ -238,15 +248,6 @@ impl Model for Uuids {
 }
 
 impl Uuids {
-    /// No UUID. Takes no memory.
-    pub fn new(alloc: Global) -> Uuids
-        ensures { result ≡ [] }
-    {
-        Uuids {
-            items: Vec::new(alloc),
-        }
-    }
-
     /// The UUIDs of a vector, in its order.
     pub(crate) fn of(items: Vec<Uuid>) -> Uuids
         ensures { result ≡ items.items }
@@ -254,13 +255,7 @@ impl Uuids {
         Uuids { items }
     }
 
-    pub fn push(&mut self, uuid: Uuid) -> Result<(), AllocError>
-        ensures ok { OnOk result (self.new ≡ self.old ++ uuid ∷ []) }
-        ensures err { OnErr result (self.new ≡ self.old) }
-    {
-        Ok(self.items.push(uuid)?)
-    }
-
+    /// The UUIDs, in their order.
     pub fn list(&self) -> &[Uuid]
         ensures { result.now ≡ self.now }
     {
@@ -290,7 +285,8 @@ impl Note {
     /// The annotation of these octets, where each of them can stand in one. No memory is asked for where one can't.
     #[tactic(auto, unfolding(crate::specs::Notes::note_in))]
     pub fn new(alloc: Global, octets: &[u8]) -> Result<Option<Note>, AllocError>
-        ensures { IfOk result (λ note. note ≡ note_in octets.now) }
+        ensures note { IfOk result (λ note. note ≡ note_in octets.now) }
+        ensures none { note_in octets.now ≡ None → result ≡ Ok None }
     {
         if !is_note(octets) {
             return Ok(None);
@@ -300,6 +296,7 @@ impl Note {
         Ok(Some(Note { octets: kept }))
     }
 
+    /// The octets of the annotation.
     pub fn octets(&self) -> &[u8]
         ensures octets { result.now ≡ self.now }
         ensures lawful { IsTrue (list_all is_note_octet self.now) }

@@ -59,6 +59,7 @@ impl<K: Ord + Clone, V: Clone> Clone for CompactMap<K, V> {
 impl<K: Ord, V> CompactMap<K, V> {
     ghost use Rattle.compact_map.specs.Lent.{lends_get};
 
+    /// No key has a value. Takes no memory.
     pub fn new(alloc: Global) -> Self
         ensures { result ≡ [] }
     {
@@ -91,6 +92,7 @@ impl<K: Ord, V> CompactMap<K, V> {
         }
     }
 
+    /// The value of a key, if it has one.
     #[inline]
     pub fn get(&self, key: &K) -> Option<&V>
         ensures value { option_copied result ≡ get K.cmp self.now key.now }

@@ -50,6 +50,7 @@ impl Model for Annotation {
 }
 
 impl Annotation {
+    /// The octets of the annotation, 0x20 to 0x7E each.
     pub fn octets(&self) -> &[u8]
         ensures { result.now ≡ self.now }
     {

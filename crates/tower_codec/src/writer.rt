@@ -84,7 +84,8 @@ impl TowerWriter {
         Ok(TowerWriter { count: 0, octets })
     }
 
-    /// Puts a floor behind the others.
+    /// Puts a floor behind the others: at most 65,535 floors, of which the left part has 1 to 65,535 octets, and the right part at most
+    /// as many. Without memory all stays as it was.
     pub fn push(&mut self, left: &[u8], right: &[u8]) -> Result<(), AllocError>
         requires room { length self.old < 65535 }
         requires some { 0 < length left.now }
