@@ -15,7 +15,6 @@ use Rattle.cds_stamps.specs.Semilattice.{maybe}
 use Rattle.cds_stamps.specs.Stamps.{stamp_cmp, stamp_total, earlier_stamp}
 use Rattle.cds_stamps.specs.Octets.{octets_cmp, octets_exact, is_octets}
 use Rattle.cds_stamps.specs.Joins.{join_maps, get-join_maps}
-use Rattle.cds_stamps.specs.Outcomes.{ok_unless}
 use Rattle.cds_stamps.specs.Undos.{RaisesAt}
 use Rattle.cds_stamps.proofs.TreeViews.{get-view}
 use Rattle.cds_stamps.proofs.Undoing.{joined_here, joined_new}
@@ -103,22 +102,19 @@ takes_own old new n f own at joins valid = subst (λ x. IfSome x (λ e. RaisesAt
 pub takes_none : (old new : Entries) (n : List ℕ) (f : EntryCell → EntryCell) → get old n ≡ None → TakesOwn old new n f
 takes_none old new n f at valid = subst (λ x. IfSome x (λ e. RaisesAt join_entries old new n (f e))) (sym at) tt
 
--- a change of an entry that shows adds the entry of its marks
-pub takes_shown : (old new : Entries) (n : List ℕ) (f : EntryCell → EntryCell) (marks : Shown → List Mark)
-    → ((e : EntryCell) → entry_of (Birth n e.kind e.birth ∷ marks (face_of e)) n ≡ Some (f e))
-    → IsSome (shown_in old n) → TakesOwn old new n f → TakesIn old new n (with_birth n (shown_in old n) marks)
+-- an update of an entry that shows adds the entry of its marks
+pub takes_shown : (old new : Entries) (n : List ℕ) (f : EntryCell → EntryCell) (marks : Option Shown → List Mark)
+    → ((e : EntryCell) → entry_of (marks (Some (face_of e))) n ≡ Some (f e))
+    → IsSome (shown_in old n) → TakesOwn old new n f → TakesIn old new n (marks (shown_in old n))
 takes_shown old new n f marks is live takes = by_entry (get old n) live takes
   where
-    Joins : Option EntryCell → EntryCell → Type 0
-    Joins x e = IfSome x IsValidEntry → RaisesAt join_entries old new n e
-
     by_live : (own : EntryCell) (b : Bool) → IsSome (if b then Some (face_of own) else None) → (IsValidEntry own → RaisesAt join_entries old new n (f own))
-        → IsSomeAnd (entry_of (with_birth n (if b then Some (face_of own) else None) marks) n) (λ e. IsValidEntry own → RaisesAt join_entries old new n e)
+        → IsSomeAnd (entry_of (marks (if b then Some (face_of own) else None)) n) (λ e. IsValidEntry own → RaisesAt join_entries old new n e)
     by_live own true live takes = subst (λ x. IsSomeAnd x (λ e. IsValidEntry own → RaisesAt join_entries old new n e)) (sym (is own)) takes
     by_live own false live takes = cc (live)
 
     by_entry : (x : Option EntryCell) → IsSome (option_and_then shown_entry x) → (IfSome x IsValidEntry → IfSome x (λ e. RaisesAt join_entries old new n (f e)))
-        → IsSomeAnd (entry_of (with_birth n (option_and_then shown_entry x) marks) n) (λ e. IfSome x IsValidEntry → RaisesAt join_entries old new n e)
+        → IsSomeAnd (entry_of (marks (option_and_then shown_entry x)) n) (λ e. IfSome x IsValidEntry → RaisesAt join_entries old new n e)
     by_entry None live takes = cc (live)
     by_entry (Some own) live takes = by_live own (is_none own.death && leads own.kind (face_of own).values) live takes
 
@@ -141,11 +137,3 @@ takes_new old new n marks g named made absent put =
 pub found_none : (found : Option (Bor EntryCell)) (x : Option EntryCell) → is_some found ≡ false → option_copied found ≡ x → x ≡ None
 found_none None x e is = sym is
 found_none (Some own) x e is = cc e
-
--- what follows of an answer that a refusal decides, where nothing was said against
-pub where_accepted : {E F P Q : Type 0} (r : Result (Result (Unit {0}) E) F) (refusal : Option E) → IfOk r (λ a. a ≡ ok_unless refusal tt)
-    → IfOk r (λ a. OnOk a P) → (refusal ≡ None → P → Q) → IfOk r (λ a. OnOk a Q)
-where_accepted (Err e) refusal is p f = tt
-where_accepted (Ok (Err e)) refusal is p f = tt
-where_accepted (Ok (Ok x)) None is p f = f refl p
-where_accepted (Ok (Ok x)) (Some y) is p f = cc is

@@ -159,29 +159,9 @@ purged-ordered t h a after n = subst (λ x. IfSome x (IsOrdered t)) (sym (get-pu
     by_birth None = tt
     by_birth (Some b) = left a (entry_at h n b) (dead_after_birth t h after n b.at)
 
--- a table joined with what is taken of another
-pub joined-taken : (t : Stamp) (m x n : Entries) → ((q : List ℕ) → get x q ≡ option_and_then (taken_entry t (get m q)) (get n q))
-    → join_tables m x ≡ take_table t m n
-joined-taken t m x n takes = same_map nat_list_cmp_total octets_exact (join_tables m x) (take_table t m n) (λ q.
-    get-join_maps nat_list_cmp_total octets_exact join_entries m x q ∙ ap (maybe join_entries (get m q)) (takes q)
-    ∙ sym (get-merge nat_list_cmp_total octets_exact (take_entry t) refl m n q))
-
 -- the purged table of a history, with what is taken of another that can be merged, is after the drop the purged table of both
 pub dropped-taken : (h g : List Mark) (a s : Option Stamp) (t : Stamp) → maybe later_stamp a (Some t) ≡ Some t → maybe later_stamp s (Some t) ≡ Some t
     → CanMerge h g (Some t) → purged_table t (take_table t (purged h a) (purged g s)) ≡ purged (h ++ g) (Some t)
 dropped-taken h g a s t mine theirs can =
     dropped_table t (purged h a) (purged g s) (purged-valid h a) (purged-valid g s) (purged-ordered t h a can.mine.ordered)
     ∙ ap (λ m. take_table t m (purged g s)) (purged-again h a t mine) ∙ taken_table h g s t theirs can
-
--- what is taken of a valid table is valid
-pub taken-valid : (t : Stamp) (m x n : Entries) → ((q : List ℕ) → get x q ≡ option_and_then (taken_entry t (get m q)) (get n q)) → IsValidTable n
-    → IsValidTable x
-taken-valid t m x n takes valid q = subst (λ e. IfSome e IsValidEntry) (sym (takes q)) (at (get n q) (valid q))
-  where
-    taken : (passed : Bool) (e : EntryCell) → IsValidEntry e → IfSome (if passed then None else Some (after_entry t e)) IsValidEntry
-    taken true e v = tt
-    taken false e v = after_entry-valid t e v
-
-    at : (e : Option EntryCell) → IfSome e IsValidEntry → IfSome (option_and_then (taken_entry t (get m q)) e) IsValidEntry
-    at None v = tt
-    at (Some e) v = taken (is_passed t (get m q) e) e v

@@ -1,6 +1,6 @@
 -- The entry that the marks of one update make.
 use Rattle.std.proofs.Common.{◌≡◌, ℕ, Bool, true, false, cond, List, [], ◌∷◌, map, Option, Some, None, Result, Ok, Err, IfOk, IsSome, refl, sym, ap, ◌∙◌, is_eq}
-use Rattle.std.specs.Prelude.{◌&&◌, if◌then◌else◌, IfSome}
+use Rattle.std.specs.Prelude.{◌&&◌, if◌then◌else◌}
 use Rattle.std.specs.declared.alloc.AllocError.{AllocError}
 use Rattle.std.specs.FinMap.{FinMap, same_map, empty, insert, get-empty, get-insert}
 use Rattle.std.specs.List.{cons_option}
@@ -19,7 +19,7 @@ use Rattle.directory.specs.declared.entry.EntryCell.{EntryCell}
 use Rattle.directory.specs.declared.update.UpdateRefusal.{UpdateRefusal}
 use Rattle.directory.specs.declared.update.UpdateRefusal.TheVariants.{NoSuchEntry}
 use Rattle.directory.specs.Histories.{Mark, Birth, Death, Attr, Born, birth_cmp, birth_of, death_of, attr_history, cell_of_some, attrs_of, entry_at, entry_of}
-use Rattle.directory.specs.Shown.{Shown, put_marks, with_birth}
+use Rattle.directory.specs.Shown.{Shown}
 use Rattle.directory.proofs.HistoryLaws.{get-attrs_of}
 
 -- octets are themselves
@@ -114,21 +114,19 @@ module _ (n : List ℕ) (k : Kind) (c : Stamp) (a : List ℕ) (x : AttrMark) (xs
 
 -- ---- what the makers of fragments promise is the entry of the marks
 
-module _ (r : Result Fragment AllocError) (n : List ℕ) (k : Kind) (s : Stamp) (named : IfOk r (λ f. f.name ≡ n)) where
-  new_fragment : (made : EntryCell) (marks : List Mark) → entry_of marks n ≡ Some made → IfOk r (λ f. f.entry ≡ made)
-      → IfOk r (λ f. entry_of marks f.name ≡ Some f.entry)
-  new_fragment made marks is = at r named
-    where
-      at : (r : Result Fragment AllocError) → IfOk r (λ f. f.name ≡ n) → IfOk r (λ f. f.entry ≡ made) → IfOk r (λ f. entry_of marks f.name ≡ Some f.entry)
-      at (Ok f) named entry = ap (entry_of marks) named ∙ is ∙ ap Some (sym entry)
-      at (Err e) named entry = tt
+-- a fragment of this name, with the entry that the marks make
+pub made_fragment : (r : Result Fragment AllocError) (n : List ℕ) → IfOk r (λ f. f.name ≡ n) → (made : EntryCell) (marks : List Mark)
+    → entry_of marks n ≡ Some made → IfOk r (λ f. f.entry ≡ made) → IfOk r (λ f. entry_of marks f.name ≡ Some f.entry)
+made_fragment (Ok f) n named made marks is entry = ap (entry_of marks) named ∙ is ∙ ap Some (sym entry)
+made_fragment (Err e) n named made marks is entry = tt
 
+module _ (r : Result Fragment AllocError) (n : List ℕ) (k : Kind) (s : Stamp) (named : IfOk r (λ f. f.name ≡ n)) where
   -- the fragment of a new entry is the entry of its birth
   pub born_fragment : (none : FinMap octets_cmp AttrCell) → none ≡ empty
       → IfOk r (λ f. f.entry ≡ record { birth = s; kind = k; death = None; attrs = none })
       → IfOk r (λ f. entry_of (Birth n k s ∷ []) f.name ≡ Some f.entry)
   born_fragment none is =
-      new_fragment (record { birth = s; kind = k; death = None; attrs = none }) (Birth n k s ∷ []) (entry_of-born n k s ∙ (λ i. Some
+      made_fragment r n named (record { birth = s; kind = k; death = None; attrs = none }) (Birth n k s ∷ []) (entry_of-born n k s ∙ (λ i. Some
       (record { birth = s; kind = k; death = None; attrs = sym is i })))
 
   -- so is that of one with a value
@@ -136,7 +134,7 @@ module _ (r : Result Fragment AllocError) (n : List ℕ) (k : Kind) (s : Stamp) 
       → IfOk r (λ f. f.entry ≡ record { birth = s; kind = k; death = None; attrs = insert empty a (cell_of (x ∷ [])) })
       → IfOk r (λ f. entry_of (Birth n k s ∷ Attr n s a x ∷ []) f.name ≡ Some f.entry)
   led_fragment a x =
-      new_fragment
+      made_fragment r n named
       (record { birth = s; kind = k; death = None; attrs = insert empty a (cell_of (x ∷ [])) })
       (Birth n k s ∷ Attr n s a x ∷ []) (entry_of-changed n k s a x [])
 
@@ -144,54 +142,3 @@ module _ (r : Result Fragment AllocError) (n : List ℕ) (k : Kind) (s : Stamp) 
 pub shows : (e : Option Shown) (refused : Option Shown → Option UpdateRefusal) → refused None ≡ Some NoSuchEntry → refused e ≡ None → IsSome e
 shows None refused none accepted = cc (none, accepted)
 shows (Some e) refused none accepted = refl
-
--- the fragment of an entry that shows, and the marks that make it
-module _ (r : Result Fragment AllocError) (e : Option Shown) (n : List ℕ) (live : IsSome e) (named : IfOk r (λ f. f.name ≡ n)) where
-  live_fragment : (made : Shown → EntryCell) (marks : Shown → List Mark) → ((x : Shown) → entry_of (Birth n x.kind x.birth ∷ marks x) n ≡ Some (made x))
-      → IfOk r (λ f. IfSome e (λ x. f.entry ≡ made x)) → IfOk r (λ f. entry_of (with_birth n e marks) f.name ≡ Some f.entry)
-  live_fragment made marks is = at r e live named
-    where
-      at : (r : Result Fragment AllocError) (e : Option Shown) → IsSome e → IfOk r (λ f. f.name ≡ n) → IfOk r (λ f. IfSome e (λ x. f.entry ≡ made x))
-          → IfOk r (λ f. entry_of (with_birth n e marks) f.name ≡ Some f.entry)
-      at (Ok f) None live named entry = cc (live)
-      at (Ok f) (Some x) live named entry = ap (entry_of (Birth n x.kind x.birth ∷ marks x)) named ∙ is x ∙ ap Some (sym entry)
-      at (Err y) e live named entry = tt
-
-  -- that of a deletion
-  pub deleted_fragment : (s : Stamp) (none : FinMap octets_cmp AttrCell) → none ≡ empty
-      → IfOk r (λ f. IfSome e (λ e. f.entry ≡ record { birth = e.birth; kind = e.kind; death = Some s; attrs = none }))
-      → IfOk r (λ f. entry_of (with_birth n e (λ x. Death n x.birth s ∷ [])) f.name ≡ Some f.entry)
-  deleted_fragment s none is =
-      live_fragment (λ x. record { birth = x.birth; kind = x.kind; death = Some s; attrs = none }) (λ x. Death n x.birth s ∷ [])
-      (λ x. entry_of-deleted n x.kind x.birth s ∙ (λ i. Some (record { birth = x.birth; kind = x.kind; death = Some s; attrs = sym is i })))
-
-  -- and that of a change of an attribute
-  pub changed_fragment : (a : List ℕ) (x : AttrMark) (xs : List AttrMark) (cell : AttrCell) → cell ≡ cell_of (x ∷ xs)
-      → IfOk r (λ f. IfSome e (λ e. f.entry ≡ record { birth = e.birth; kind = e.kind; death = None; attrs = insert empty a cell }))
-      → IfOk r (λ f. entry_of (with_birth n e (λ y. changes n y.birth a (x ∷ xs))) f.name ≡ Some f.entry)
-  changed_fragment a x xs cell is =
-      live_fragment (λ y. record { birth = y.birth; kind = y.kind; death = None; attrs = insert empty a cell }) (λ y. changes n y.birth a (x ∷ xs))
-      (λ y. entry_of-changed n y.kind y.birth a x xs ∙ (λ i. Some (record { birth = y.birth; kind = y.kind; death = None; attrs = insert empty a (sym is i) })))
-
-  -- where the value is one of what shows
-  pub replaced_fragment : (a : List ℕ) (v : Shown → List ℕ) (s : Stamp)
-      → IfOk r (λ f. IfSome e
-      (λ e. f.entry
-      ≡ record {
-        birth = e.birth;
-        kind = e.kind;
-        death = None;
-        attrs = insert empty a (cell_of (Cleared s ∷ Marked
-            (v e) (record { present = true; stamp = s }) ∷ []));
-      }))
-      → IfOk r (λ f. entry_of (with_birth n e (λ x. put_marks n x.birth a (v x) s)) f.name ≡ Some f.entry)
-  replaced_fragment a v s =
-      live_fragment
-      (λ y. record {
-        birth = y.birth;
-        kind = y.kind;
-        death = None;
-        attrs = insert empty a
-            (cell_of (Cleared s ∷ Marked (v y) (record { present = true; stamp = s }) ∷ []));
-      })
-      (λ y. put_marks n y.birth a (v y) s) (λ y. entry_of-changed n y.kind y.birth a (Cleared s) (Marked (v y) (record { present = true; stamp = s }) ∷ []))

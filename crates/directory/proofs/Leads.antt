@@ -58,19 +58,6 @@ child_is Object e = cc (e)
 child_is Link e = cc (e)
 child_is Child e = refl
 
--- a child that shows leads somewhere
-pub child_leads : (e : EntryCell) → is_child e.kind ≡ true → IsSome (shown_entry e) → IsSome (lead_of (face_of e))
-child_leads e child shows =
-    leads_somewhere (face_of e) (at e.death (leads e.kind (face_of e).values) shows) (λ is. not_object (sym (child_is e.kind child) ∙ is))
-  where
-    at : (d : Option Stamp) (t : Bool) → IsSome (if is_none d && t then Some (face_of e) else None) → t ≡ true
-    at (Some s) t shows = cc (shows)
-    at None true shows = refl
-    at None false shows = cc (shows)
-
-    not_object : Child ≡ Object → ⊥
-    not_object e = cc (e)
-
 -- and where it leads reads as a child pointer
 pub child_reads : (e : EntryCell) (v : List ℕ) → is_child e.kind ≡ true → lead_of (face_of e) ≡ Some v → pointer_fault v ≡ None
 child_reads e v child leading = none_if (pointer_fault v) (ap (λ k. is_readable k v) (sym (child_is e.kind child)) ∙ lead_reads (face_of e) v leading)

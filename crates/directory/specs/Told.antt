@@ -1,7 +1,8 @@
--- What is told of an update that is applied in place (own, after C705, updates to replicas).
+-- What is answered to an update that is applied in place (own, after C705, updates to replicas).
 use Rattle.std.specs.Prelude.{◌≡◌, Some, Result, IfOk, OnOk, OnErr}
 use Rattle.std.specs.Result.{result_err}
 use Rattle.cds_stamps.specs.declared.stamp.Stamp.{Stamp}
+use Rattle.cds_stamps.specs.Outcomes.{ok_unless}
 use Rattle.directory.specs.declared.entry.Fragment.{Fragment}
 use Rattle.directory.specs.declared.update.UpdateRefusal.{UpdateRefusal}
 use Rattle.directory.specs.Entries.{Entries}
@@ -9,6 +10,14 @@ use Rattle.directory.specs.Histories.{entry_of}
 use Rattle.directory.specs.Shown.{shown_in, refusal_of, marks_of}
 use Rattle.directory.specs.Updates.{Change, changed_name}
 use Rattle.directory.specs.Applied.{TakesIn, LeavesOthers}
+
+-- an update with a stamp is applied, or it is told why it is refused (own)
+pub record AcceptsUpdate {E : Type 0} (old new : Entries) (u : Change) (s : Stamp) (r : Result (Result (Unit {0}) UpdateRefusal) E) : Type 0 where
+  pub answer : IfOk r (λ a. a ≡ ok_unless (refusal_of (shown_in old (changed_name u)) u) tt)
+  pub ok : IfOk r (λ a. OnOk a (TakesIn old new (changed_name u) (marks_of (shown_in old (changed_name u)) u s)))
+  pub others : LeavesOthers old new (changed_name u)
+  pub refused : IfOk r (λ a. OnErr a (new ≡ old))
+  pub err : OnErr r (new ≡ old)
 
 -- an update with a stamp is applied, and its fragment is told; or it is told why it is refused (own)
 pub record TellsUpdate {E : Type 0} (old new : Entries) (u : Change) (s : Stamp) (r : Result (Result Fragment UpdateRefusal) E) : Type 0 where

@@ -1,8 +1,7 @@
 // Entries.
-ghost use Rattle.std.specs.Prelude.{◌≡◌, ◌↔◌, IsTrue, ℕ, min, List, true, Some, None, if◌then◌else◌, filter, is_some, option_copied};
+ghost use Rattle.std.specs.Prelude.{◌≡◌, ◌↔◌, IsTrue, min, true, Some, None, if◌then◌else◌, filter, is_some, option_copied};
 ghost use Rattle.std.specs.Prelude.{MatchBool, IsSome, IfOk, OnOk, OnErr};
 ghost use Rattle.std.specs.Option.{option_and_then};
-ghost use Rattle.std.specs.Result.{result_err};
 ghost use Rattle.cds_stamps.specs.Semilattice.{maybe, greater};
 ghost use Rattle.cds_stamps.specs.Stamps.{earlier_stamp};
 ghost use Rattle.directory.specs.Kinds.{kind_cmp, is_child};
@@ -17,14 +16,14 @@ ghost use Rattle.directory.specs.Deletions.{has_lost};
 ghost use Rattle.directory.specs.Held.{held_in_entry, held_in_cell, most_held};
 ghost use Rattle.directory.specs.Applied.{changed_entry, deleted_entry};
 ghost use Rattle.cds_stamps.specs.Outcomes.{ok_unless};
-ghost use Rattle.directory.specs.Updates.{Clear, Delete};
-ghost use Rattle.directory.specs.Shown.{is_readable, is_reserved, leads, only_one, lead_of, entry_values, face_of, refusal_of, shown_entry, shown_dir};
+ghost use Rattle.directory.specs.OwnUpdates.{own_made, own_refusal, AcceptsEntry};
+ghost use Rattle.directory.specs.Shown.{is_readable, is_reserved, leads, only_one, lead_of, entry_values, face_of, shown_entry, shown_dir};
 
 use crate::attr_map::{AttrMap, CellLog};
 use crate::deletions::What;
 use crate::fragments::one_attr;
 use crate::undo::EntryUndo;
-use crate::update::UpdateRefusal;
+use crate::update::{OwnUpdate, UpdateRefusal, refuse_if};
 use attr_sets::{AttrCell, CellChange, Value};
 use cds_stamps::{AttrName, DirId, Lattice, SimpleName, Stamp};
 use cell_names::{ChildPointer, FullName};
@@ -161,7 +160,7 @@ impl EntryCell {
     }
 
     /// Adds the marks of a change of an attribute, in place.
-    pub(crate) fn change(
+    fn change(
         &mut self,
         alloc: Global,
         attr: &AttrName,
@@ -175,62 +174,100 @@ impl EntryCell {
         Ok(())
     }
 
-    /// Adds the marks of a change of an attribute, in place, or refuses it.
-    pub(crate) fn accept_change(
+    /// Adds a death.
+    fn delete(&mut self, stamp: Stamp)
+        ensures { self.new ≡ join_entries self.old (deleted_entry self.old stamp) }
+    {
+        self.death = earlier_of(self.death, Some(stamp));
+    }
+
+    /// Adds the marks of an update, in place.
+    pub(crate) fn apply(
         &mut self,
         alloc: Global,
-        attr: &AttrName,
-        change: &CellChange,
+        update: &OwnUpdate,
         stamp: Stamp,
-    ) -> Result<Result<(), UpdateRefusal>, AllocError>
-        ensures answer { (n : List ℕ) → IfOk result (λ answer. answer ≡ ok_unless (refusal_of (shown_entry self.old) (Clear n attr.now)) tt) }
-        ensures ok { IfOk result (λ answer. OnOk answer
-            (IsValidEntry self.old → self.new ≡ join_entries self.old (changed_entry self.old attr.now (change_marks change.now stamp)))) }
-        ensures refused { IfOk result (λ answer. OnErr answer (self.new ≡ self.old)) }
+    ) -> Result<(), AllocError>
+        ensures ok { OnOk result (IsValidEntry self.old → self.new ≡ join_entries self.old (own_made update.now self.old stamp)) }
         ensures err { OnErr result (self.new ≡ self.old) }
     {
-        if !self.is_live() {
-            return Ok(Err(UpdateRefusal::NoSuchEntry));
+        match update {
+            OwnUpdate::Delete => self.delete(stamp),
+            OwnUpdate::Change(attr, change) => self.change(alloc, attr, change, stamp)?,
         }
-        if is_reserved(attr) {
-            return Ok(Err(UpdateRefusal::WrongKind));
+        Ok(())
+    }
+
+    /// Adds the marks of an update, in place, or refuses it.
+    pub(crate) fn accept(
+        &mut self,
+        alloc: Global,
+        update: &OwnUpdate,
+        stamp: Stamp,
+    ) -> Result<Result<(), UpdateRefusal>, AllocError>
+        ensures { AcceptsEntry self.old self.new update.now stamp result }
+    {
+        if let Err(refusal) = self.check(update) {
+            return Ok(Err(refusal));
         }
-        self.change(alloc, attr, change, stamp)?;
+        self.apply(alloc, update, stamp)?;
         Ok(Ok(()))
     }
 
-    /// Adds the marks of a change of an attribute, in place, and gives the fragment of them, for the name; or refuses it.
-    pub(crate) fn change_told(
+    /// Adds the marks of an update, in place, and gives the fragment of them, for the name; or refuses it.
+    pub(crate) fn accept_told(
         &mut self,
         alloc: Global,
         name: &SimpleName,
-        attr: &AttrName,
-        change: &CellChange,
+        update: &OwnUpdate,
         stamp: Stamp,
     ) -> Result<Result<Fragment, UpdateRefusal>, AllocError>
-        ensures answer { IfOk result (λ answer. result_err answer ≡ refusal_of (shown_entry self.old) (Clear name.now attr.now)) }
-        ensures ok { IfOk result (λ answer. OnOk answer
-            (IsValidEntry self.old → self.new ≡ join_entries self.old (changed_entry self.old attr.now (change_marks change.now stamp)))) }
+        ensures accepts { AcceptsEntry self.old self.new update.now stamp result }
         ensures name { IfOk result (λ answer. IfOk answer (λ f. f.name ≡ name.now)) }
-        ensures entry { IfOk result (λ answer. IfOk answer (λ f.
-            f.entry ≡ changed_entry self.old attr.now (change_marks change.now stamp))) }
-        ensures refused { IfOk result (λ answer. OnErr answer (self.new ≡ self.old)) }
-        ensures err { OnErr result (self.new ≡ self.old) }
+        ensures entry { IfOk result (λ answer. IfOk answer (λ f. f.entry ≡ own_made update.now self.old stamp)) }
     {
-        if !self.is_live() {
-            return Ok(Err(UpdateRefusal::NoSuchEntry));
-        }
-        if is_reserved(attr) {
-            return Ok(Err(UpdateRefusal::WrongKind));
+        if let Err(refusal) = self.check(update) {
+            return Ok(Err(refusal));
         }
         let stamp = &stamp;
-        let fragment = self.changed(alloc, name, attr, change, *stamp)?;
-        self.change(alloc, attr, change, *stamp)?;
+        let fragment = self.fragment(alloc, name, update, *stamp)?;
+        self.apply(alloc, update, *stamp)?;
         Ok(Ok(fragment))
     }
 
-    /// The fragment of a change of an attribute, for the name.
-    fn changed(
+    /// Whether an update of it is accepted, or why not. It takes no memory.
+    fn check(&self, update: &OwnUpdate) -> Result<(), UpdateRefusal>
+        ensures { result ≡ ok_unless (own_refusal (shown_entry self.now) update.now) tt }
+    {
+        if !self.is_live() {
+            return Err(UpdateRefusal::NoSuchEntry);
+        }
+        let wrong = match update {
+            OwnUpdate::Delete => self.kind.is_child(),
+            OwnUpdate::Change(attr, _) => is_reserved(attr),
+        };
+        refuse_if(wrong)
+    }
+
+    /// What an update of it adds, for the name.
+    pub(crate) fn fragment(
+        &self,
+        alloc: Global,
+        name: &SimpleName,
+        update: &OwnUpdate,
+        stamp: Stamp,
+    ) -> Result<Fragment, AllocError>
+        ensures name { IfOk result (λ f. f.name ≡ name.now) }
+        ensures entry { IfOk result (λ f. f.entry ≡ own_made update.now self.now stamp) }
+    {
+        match update {
+            OwnUpdate::Delete => self.marked(alloc, name, Some(stamp), AttrMap::new(alloc)),
+            OwnUpdate::Change(attr, change) => self.changed(alloc, name, attr, change, stamp),
+        }
+    }
+
+    /// What a change of an attribute adds, for the name.
+    pub(crate) fn changed(
         &self,
         alloc: Global,
         name: &SimpleName,
@@ -243,55 +280,29 @@ impl EntryCell {
     {
         let cell = AttrCell::changed(alloc, change, stamp)?;
         let attrs = one_attr(alloc, attr.copy(alloc)?, cell)?;
+        self.marked(alloc, name, None, attrs)
+    }
+
+    /// Its birth with this death and these cells, for the name.
+    fn marked(
+        &self,
+        alloc: Global,
+        name: &SimpleName,
+        death: Option<Stamp>,
+        attrs: AttrMap,
+    ) -> Result<Fragment, AllocError>
+        ensures name { IfOk result (λ f. f.name ≡ name.now) }
+        ensures entry { IfOk result (λ f. f.entry ≡ record { birth = self.now.birth; kind = self.now.kind; death = death; attrs = attrs }) }
+    {
         Ok(Fragment {
             name: name.copy(alloc)?,
             entry: EntryCell {
                 birth: self.birth,
                 kind: self.kind,
-                death: None,
+                death,
                 attrs,
             },
         })
-    }
-
-    /// Adds a death.
-    pub(crate) fn delete(&mut self, stamp: Stamp)
-        ensures { self.new ≡ join_entries self.old (deleted_entry self.old stamp) }
-    {
-        self.death = earlier_of(self.death, Some(stamp));
-    }
-
-    /// Adds a death, and gives the fragment of it, for the name; or refuses it.
-    pub(crate) fn delete_told(
-        &mut self,
-        alloc: Global,
-        name: &SimpleName,
-        stamp: Stamp,
-    ) -> Result<Result<Fragment, UpdateRefusal>, AllocError>
-        ensures answer { IfOk result (λ answer. result_err answer ≡ refusal_of (shown_entry self.old) (Delete name.now)) }
-        ensures ok { IfOk result (λ answer. OnOk answer (self.new ≡ join_entries self.old (deleted_entry self.old stamp))) }
-        ensures name { IfOk result (λ answer. IfOk answer (λ f. f.name ≡ name.now)) }
-        ensures entry { IfOk result (λ answer. IfOk answer (λ f. f.entry ≡ deleted_entry self.old stamp)) }
-        ensures refused { IfOk result (λ answer. OnErr answer (self.new ≡ self.old)) }
-        ensures err { OnErr result (self.new ≡ self.old) }
-    {
-        if !self.is_live() {
-            return Ok(Err(UpdateRefusal::NoSuchEntry));
-        }
-        if self.kind.is_child() {
-            return Ok(Err(UpdateRefusal::WrongKind));
-        }
-        let fragment = Fragment {
-            name: name.copy(alloc)?,
-            entry: EntryCell {
-                birth: self.birth,
-                kind: self.kind,
-                death: Some(stamp),
-                attrs: AttrMap::new(alloc),
-            },
-        };
-        self.delete(stamp);
-        Ok(Ok(fragment))
     }
 
     /// Whether joining another entry in changes nothing. It takes no memory.

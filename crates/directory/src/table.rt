@@ -18,7 +18,7 @@ ghost use Rattle.directory.specs.Histories.{Mark, entry_of};
 ghost use Rattle.directory.specs.IndexWords.{IsIndexed};
 ghost use Rattle.directory.specs.Purges.{purged_table, purged, take_table};
 ghost use Rattle.directory.specs.Shown.{face_of, shown_in, live_count, refusal_of, marks_of};
-ghost use Rattle.directory.specs.Told.{TellsUpdate};
+ghost use Rattle.directory.specs.Told.{AcceptsUpdate, TellsUpdate};
 ghost use Rattle.directory.specs.Updates.{change_of, changed_name};
 
 use crate::deletions::Deletions;
@@ -356,13 +356,7 @@ fn accept_update(
     update: &Update,
     stamp: Stamp,
 ) -> Result<Result<(), UpdateRefusal>, AllocError>
-    ensures answer { IfOk result (λ answer.
-        answer ≡ ok_unless (refusal_of (shown_in entries.old (changed_name (change_of update.now))) (change_of update.now)) tt) }
-    ensures ok { let n = changed_name (change_of update.now) in
-        IfOk result (λ answer. OnOk answer (TakesIn entries.old entries.new n (marks_of (shown_in entries.old n) (change_of update.now) stamp))) }
-    ensures others { LeavesOthers entries.old entries.new (changed_name (change_of update.now)) }
-    ensures refused { IfOk result (λ answer. OnErr answer (entries.new ≡ entries.old)) }
-    ensures err { OnErr result (entries.new ≡ entries.old) }
+    ensures accepts { AcceptsUpdate entries.old entries.new (change_of update.now) stamp result }
     ensures index { IsIndexed deletions.old entries.old → IsIndexed deletions.new entries.new }
 {
     let stamp = &stamp;

@@ -1,9 +1,12 @@
 // Updates, and why one is refused.
-ghost use Rattle.std.specs.Prelude.{◌≡◌, IfOk};
+ghost use Rattle.std.specs.Prelude.{◌≡◌, IfOk, IfSome, is_some};
+ghost use Rattle.cds_stamps.specs.Outcomes.{ok_unless};
+ghost use Rattle.directory.specs.Shown.{live_refusal};
 ghost use Rattle.directory.specs.Updates.{change_of, changed_name};
 ghost use Rattle.directory.specs.EntryChanges.{changes, creation};
+ghost use Rattle.directory.specs.OwnUpdates.{is_own, IsOwnUpdate};
 
-use attr_sets::Value;
+use attr_sets::{CellChange, Value};
 use cds_stamps::{AttrName, SimpleName};
 use cell_names::{ChildPointer, FullName, HouseList};
 use std::alloc::{AllocError, Global};
@@ -32,6 +35,15 @@ pub enum Update {
     Repoint(SimpleName, HouseList),
 }
 
+/// An update of an entry that the table has, whatever its name.
+#[derive(Drop)]
+pub(crate) enum OwnUpdate<'a> {
+    /// Deletes it.
+    Delete,
+    /// Changes an attribute of it.
+    Change(&'a AttrName, CellChange<'a>),
+}
+
 impl Update {
     /// The name of the entry that it is about.
     pub fn name(&self) -> &SimpleName
@@ -47,6 +59,26 @@ impl Update {
             Update::Put(name, _, _) => name,
             Update::Clear(name, _) => name,
             Update::Repoint(name, _) => name,
+        }
+    }
+
+    /// What it is of an entry that the table has: a deletion, or a change of an attribute. None for the others.
+    pub(crate) fn own(&self) -> Option<OwnUpdate<'_>>
+        ensures some { is_some result ≡ is_own (change_of self.now) }
+        ensures own { IfSome result (IsOwnUpdate (change_of self.now)) }
+    {
+        match self {
+            Update::Delete(_) => Some(OwnUpdate::Delete),
+            Update::Add(_, attr, value) => Some(OwnUpdate::Change(attr, CellChange::Add(value))),
+            Update::Remove(_, attr, value) => {
+                Some(OwnUpdate::Change(attr, CellChange::Remove(value)))
+            }
+            Update::Put(_, attr, value) => Some(OwnUpdate::Change(attr, CellChange::Put(value))),
+            Update::Clear(_, attr) => Some(OwnUpdate::Change(attr, CellChange::Clear)),
+            Update::Create(_)
+            | Update::MakeLink(_, _)
+            | Update::MakeChild(_, _)
+            | Update::Repoint(_, _) => None,
         }
     }
 
@@ -167,4 +199,15 @@ pub enum UpdateRefusal {
     WrongKind,
     #[error("the house has issued the last stamp")]
     StampsSpent,
+}
+
+/// Refuses an update of what shows where the kind of the entry or of the attribute is wrong.
+pub(crate) fn refuse_if(wrong: bool) -> Result<(), UpdateRefusal>
+    ensures { result ≡ ok_unless (live_refusal wrong) tt }
+{
+    if wrong {
+        Err(UpdateRefusal::WrongKind)
+    } else {
+        Ok(())
+    }
 }

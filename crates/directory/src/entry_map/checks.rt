@@ -2,11 +2,11 @@
 ghost use Rattle.std.specs.Prelude.{◌≡◌, List, ℕ};
 ghost use Rattle.cds_stamps.specs.Outcomes.{ok_unless};
 ghost use Rattle.directory.specs.Updates.{Delete, Clear, Repoint, changed_name, change_of};
-ghost use Rattle.directory.specs.Shown.{shown_in, new_refusal, live_refusal, refusal_of};
+ghost use Rattle.directory.specs.Shown.{shown_in, new_refusal, refusal_of};
 
 use super::EntryMap;
 use crate::entry::is_reserved;
-use crate::update::{Update, UpdateRefusal};
+use crate::update::{Update, UpdateRefusal, refuse_if};
 use cds_stamps::{AttrName, SimpleName};
 
 impl EntryMap {
@@ -65,16 +65,5 @@ impl EntryMap {
             None => Err(UpdateRefusal::NoSuchEntry),
             Some(entry) => refuse_if(!entry.kind.is_child()),
         }
-    }
-}
-
-/// Refuses an update of what shows where the kind of the entry or of the attribute is wrong.
-fn refuse_if(wrong: bool) -> Result<(), UpdateRefusal>
-    ensures { result ≡ ok_unless (live_refusal wrong) tt }
-{
-    if wrong {
-        Err(UpdateRefusal::WrongKind)
-    } else {
-        Ok(())
     }
 }

@@ -1,18 +1,15 @@
 // Updates that are applied in place, and whose fragments are told.
-ghost use Rattle.std.specs.Prelude.{◌≡◌, Option, IfOk, IfSome, OnOk, OnErr};
+ghost use Rattle.std.specs.Prelude.{◌≡◌, Option, IfOk, IfSome};
 ghost use Rattle.std.specs.FinMap as map;
-ghost use Rattle.std.specs.Result.{result_err};
-ghost use Rattle.attr_sets.specs.CellChanges.{change_marks};
-ghost use Rattle.directory.specs.Applied.{changed_entry, deleted_entry, TakesOwn, LeavesOthers};
-ghost use Rattle.directory.specs.Updates.{Clear, Delete, change_of};
-ghost use Rattle.directory.specs.Shown.{Shown, shown_in, new_refusal, refusal_of};
+ghost use Rattle.directory.specs.OwnUpdates.{own_made, AcceptsOwn};
+ghost use Rattle.directory.specs.Updates.{change_of};
+ghost use Rattle.directory.specs.Shown.{Shown, new_refusal, refusal_of};
 ghost use Rattle.directory.specs.Told.{TellsUpdate};
 
 use super::EntryMap;
 use crate::entry::Fragment;
-use crate::update::{Update, UpdateRefusal};
-use attr_sets::CellChange;
-use cds_stamps::{AttrName, SimpleName, Stamp};
+use crate::update::{OwnUpdate, Update, UpdateRefusal};
+use cds_stamps::{SimpleName, Stamp};
 use std::alloc::{AllocError, Global};
 
 impl EntryMap {
@@ -26,24 +23,14 @@ impl EntryMap {
     ) -> Result<Result<Fragment, UpdateRefusal>, AllocError>
         ensures { TellsUpdate self.old self.new (change_of update.now) stamp result }
     {
+        if let Some(own) = update.own() {
+            return self.tell_own(alloc, update.name(), &own, stamp);
+        }
         match update {
-            Update::Delete(name) => self.delete_told(alloc, name, stamp),
             Update::Create(_) | Update::MakeLink(_, _) | Update::MakeChild(_, _) => {
                 self.create_told(alloc, update, stamp)
             }
-            Update::Add(name, attr, value) => {
-                self.change_told(alloc, name, attr, &CellChange::Add(value), stamp)
-            }
-            Update::Remove(name, attr, value) => {
-                self.change_told(alloc, name, attr, &CellChange::Remove(value), stamp)
-            }
-            Update::Put(name, attr, value) => {
-                self.change_told(alloc, name, attr, &CellChange::Put(value), stamp)
-            }
-            Update::Clear(name, attr) => {
-                self.change_told(alloc, name, attr, &CellChange::Clear, stamp)
-            }
-            Update::Repoint(_, _) => self.remake_told(alloc, update, stamp),
+            _ => self.remake_told(alloc, update, stamp),
         }
     }
 
@@ -84,48 +71,20 @@ impl EntryMap {
         Ok(Ok(fragment))
     }
 
-    /// Adds the marks of a change of an attribute to the entry of a name, and gives its fragment; or refuses it.
-    fn change_told(
+    /// Adds the marks of an update of it to the entry of a name, and gives its fragment; or refuses it.
+    fn tell_own(
         &mut self,
         alloc: Global,
         name: &SimpleName,
-        attr: &AttrName,
-        change: &CellChange,
+        update: &OwnUpdate,
         stamp: Stamp,
     ) -> Result<Result<Fragment, UpdateRefusal>, AllocError>
-        ensures answer { IfOk result (λ answer. result_err answer ≡ refusal_of (shown_in self.old name.now) (Clear name.now attr.now)) }
-        ensures ok { IfOk result (λ answer. OnOk answer
-            (TakesOwn self.old self.new name.now (λ e. changed_entry e attr.now (change_marks change.now stamp)))) }
+        ensures accepts { AcceptsOwn self.old self.new name.now update.now stamp result }
         ensures name { IfOk result (λ answer. IfOk answer (λ f. f.name ≡ name.now)) }
-        ensures entry { IfOk result (λ answer. IfOk answer (λ f. IfSome (map.get self.old name.now) (λ e.
-            f.entry ≡ changed_entry e attr.now (change_marks change.now stamp)))) }
-        ensures others { LeavesOthers self.old self.new name.now }
-        ensures refused { IfOk result (λ answer. OnErr answer (self.new ≡ self.old)) }
-        ensures err { OnErr result (self.new ≡ self.old) }
+        ensures entry { IfOk result (λ answer. IfOk answer (λ f. IfSome (map.get self.old name.now) (λ e. f.entry ≡ own_made update.now e stamp))) }
     {
         match self.entries.get_mut(name) {
-            Some(own) => own.change_told(alloc, name, attr, change, stamp),
-            None => Ok(Err(UpdateRefusal::NoSuchEntry)),
-        }
-    }
-
-    /// Adds a death to the entry of a name, and gives its fragment; or refuses it.
-    fn delete_told(
-        &mut self,
-        alloc: Global,
-        name: &SimpleName,
-        stamp: Stamp,
-    ) -> Result<Result<Fragment, UpdateRefusal>, AllocError>
-        ensures answer { IfOk result (λ answer. result_err answer ≡ refusal_of (shown_in self.old name.now) (Delete name.now)) }
-        ensures ok { IfOk result (λ answer. OnOk answer (TakesOwn self.old self.new name.now (λ e. deleted_entry e stamp))) }
-        ensures name { IfOk result (λ answer. IfOk answer (λ f. f.name ≡ name.now)) }
-        ensures entry { IfOk result (λ answer. IfOk answer (λ f. IfSome (map.get self.old name.now) (λ e. f.entry ≡ deleted_entry e stamp))) }
-        ensures others { LeavesOthers self.old self.new name.now }
-        ensures refused { IfOk result (λ answer. OnErr answer (self.new ≡ self.old)) }
-        ensures err { OnErr result (self.new ≡ self.old) }
-    {
-        match self.entries.get_mut(name) {
-            Some(own) => own.delete_told(alloc, name, stamp),
+            Some(own) => own.accept_told(alloc, name, update, stamp),
             None => Ok(Err(UpdateRefusal::NoSuchEntry)),
         }
     }

@@ -1,16 +1,15 @@
 // Updates that are applied in place.
-ghost use Rattle.std.specs.Prelude.{◌≡◌, Option, None, IfOk, OnOk, OnErr};
-ghost use Rattle.cds_stamps.specs.Outcomes.{ok_unless};
-ghost use Rattle.attr_sets.specs.CellChanges.{change_marks};
-ghost use Rattle.directory.specs.Applied.{changed_entry, deleted_entry, TakesOwn, TakesIn, JoinsEntry, LeavesOthers};
-ghost use Rattle.directory.specs.Updates.{Clear, changed_name, change_of};
+ghost use Rattle.std.specs.Prelude.{◌≡◌, Option, None, OnOk, OnErr};
+ghost use Rattle.directory.specs.Applied.{TakesOwn, TakesIn, JoinsEntry, LeavesOthers};
+ghost use Rattle.directory.specs.OwnUpdates.{own_made, AcceptsOwn};
+ghost use Rattle.directory.specs.Updates.{changed_name, change_of};
 ghost use Rattle.directory.specs.Shown.{Shown, shown_in, new_refusal, refusal_of, marks_of};
+ghost use Rattle.directory.specs.Told.{AcceptsUpdate};
 
 use super::EntryMap;
 use crate::entry::Fragment;
-use crate::update::{Update, UpdateRefusal};
-use attr_sets::CellChange;
-use cds_stamps::{AttrName, SimpleName, Stamp};
+use crate::update::{OwnUpdate, Update, UpdateRefusal};
+use cds_stamps::{SimpleName, Stamp};
 use std::alloc::{AllocError, Global};
 
 impl EntryMap {
@@ -28,29 +27,11 @@ impl EntryMap {
         ensures others { LeavesOthers self.old self.new (changed_name (change_of update.now)) }
         ensures err { OnErr result (self.new ≡ self.old) }
     {
-        match update {
-            Update::Add(name, attr, value) => {
-                self.change(alloc, name, attr, &CellChange::Add(value), stamp)?
-            }
-            Update::Remove(name, attr, value) => {
-                self.change(alloc, name, attr, &CellChange::Remove(value), stamp)?
-            }
-            Update::Put(name, attr, value) => {
-                self.change(alloc, name, attr, &CellChange::Put(value), stamp)?
-            }
-            Update::Clear(name, attr) => {
-                self.change(alloc, name, attr, &CellChange::Clear, stamp)?
-            }
-            Update::Delete(name) => self.delete(name, stamp),
-            Update::Create(_)
-            | Update::MakeLink(_, _)
-            | Update::MakeChild(_, _)
-            | Update::Repoint(_, _) => {
-                let fragment = self.fragment(alloc, update, stamp)?;
-                self.take_in(alloc, fragment)?;
-            }
+        if let Some(own) = update.own() {
+            return self.apply_own(alloc, update.name(), &own, stamp);
         }
-        Ok(())
+        let fragment = self.fragment(alloc, update, stamp)?;
+        self.take_in(alloc, fragment)
     }
 
     /// Adds the marks of an update with this stamp in place, or refuses it: as check and apply do, but that the name of a change
@@ -61,31 +42,16 @@ impl EntryMap {
         update: &Update,
         stamp: Stamp,
     ) -> Result<Result<(), UpdateRefusal>, AllocError>
-        ensures answer { IfOk result (λ answer.
-            answer ≡ ok_unless (refusal_of (shown_in self.old (changed_name (change_of update.now))) (change_of update.now)) tt) }
-        ensures ok { let n = changed_name (change_of update.now) in
-            IfOk result (λ answer. OnOk answer (TakesIn self.old self.new n (marks_of (shown_in self.old n) (change_of update.now) stamp))) }
-        ensures others { LeavesOthers self.old self.new (changed_name (change_of update.now)) }
-        ensures refused { IfOk result (λ answer. OnErr answer (self.new ≡ self.old)) }
-        ensures err { OnErr result (self.new ≡ self.old) }
+        ensures { AcceptsUpdate self.old self.new (change_of update.now) stamp result }
     {
+        if let Some(own) = update.own() {
+            return self.accept_own(alloc, update.name(), &own, stamp);
+        }
         match update {
-            Update::Add(name, attr, value) => {
-                self.accept_change(alloc, name, attr, &CellChange::Add(value), stamp)
-            }
-            Update::Remove(name, attr, value) => {
-                self.accept_change(alloc, name, attr, &CellChange::Remove(value), stamp)
-            }
-            Update::Put(name, attr, value) => {
-                self.accept_change(alloc, name, attr, &CellChange::Put(value), stamp)
-            }
-            Update::Clear(name, attr) => {
-                self.accept_change(alloc, name, attr, &CellChange::Clear, stamp)
-            }
             Update::Create(_) | Update::MakeLink(_, _) | Update::MakeChild(_, _) => {
                 self.accept_new(alloc, update, stamp)
             }
-            Update::Delete(_) | Update::Repoint(_, _) => self.check_and_apply(alloc, update, stamp),
+            _ => self.check_and_apply(alloc, update, stamp),
         }
     }
 
@@ -98,13 +64,7 @@ impl EntryMap {
         stamp: Stamp,
     ) -> Result<Result<(), UpdateRefusal>, AllocError>
         requires { (e : Option Shown) → refusal_of e (change_of update.now) ≡ new_refusal e }
-        ensures answer { IfOk result (λ answer.
-            answer ≡ ok_unless (refusal_of (shown_in self.old (changed_name (change_of update.now))) (change_of update.now)) tt) }
-        ensures ok { let n = changed_name (change_of update.now) in
-            IfOk result (λ answer. OnOk answer (TakesIn self.old self.new n (marks_of (shown_in self.old n) (change_of update.now) stamp))) }
-        ensures others { LeavesOthers self.old self.new (changed_name (change_of update.now)) }
-        ensures refused { IfOk result (λ answer. OnErr answer (self.new ≡ self.old)) }
-        ensures err { OnErr result (self.new ≡ self.old) }
+        ensures { AcceptsUpdate self.old self.new (change_of update.now) stamp result }
     {
         if self.get(update.name()).is_some() {
             return self.check_and_apply(alloc, update, stamp);
@@ -121,13 +81,7 @@ impl EntryMap {
         update: &Update,
         stamp: Stamp,
     ) -> Result<Result<(), UpdateRefusal>, AllocError>
-        ensures answer { IfOk result (λ answer.
-            answer ≡ ok_unless (refusal_of (shown_in self.old (changed_name (change_of update.now))) (change_of update.now)) tt) }
-        ensures ok { let n = changed_name (change_of update.now) in
-            IfOk result (λ answer. OnOk answer (TakesIn self.old self.new n (marks_of (shown_in self.old n) (change_of update.now) stamp))) }
-        ensures others { LeavesOthers self.old self.new (changed_name (change_of update.now)) }
-        ensures refused { IfOk result (λ answer. OnErr answer (self.new ≡ self.old)) }
-        ensures err { OnErr result (self.new ≡ self.old) }
+        ensures { AcceptsUpdate self.old self.new (change_of update.now) stamp result }
     {
         match self.check(update) {
             Ok(()) => {
@@ -138,54 +92,37 @@ impl EntryMap {
         }
     }
 
-    /// Adds the marks of a change of an attribute to the entry of a name, or refuses it.
-    fn accept_change(
+    /// Adds the marks of an update of it to the entry of a name, or refuses it.
+    fn accept_own(
         &mut self,
         alloc: Global,
         name: &SimpleName,
-        attr: &AttrName,
-        change: &CellChange,
+        update: &OwnUpdate,
         stamp: Stamp,
     ) -> Result<Result<(), UpdateRefusal>, AllocError>
-        ensures answer { IfOk result (λ answer. answer ≡ ok_unless (refusal_of (shown_in self.old name.now) (Clear name.now attr.now)) tt) }
-        ensures ok { IfOk result (λ answer. OnOk answer
-            (TakesOwn self.old self.new name.now (λ e. changed_entry e attr.now (change_marks change.now stamp)))) }
-        ensures others { LeavesOthers self.old self.new name.now }
-        ensures refused { IfOk result (λ answer. OnErr answer (self.new ≡ self.old)) }
-        ensures err { OnErr result (self.new ≡ self.old) }
+        ensures { AcceptsOwn self.old self.new name.now update.now stamp result }
     {
         match self.entries.get_mut(name) {
-            Some(own) => own.accept_change(alloc, attr, change, stamp),
+            Some(own) => own.accept(alloc, update, stamp),
             None => Ok(Err(UpdateRefusal::NoSuchEntry)),
         }
     }
 
-    /// Adds the marks of a change of an attribute to the entry of a name, if it has one.
-    fn change(
+    /// Adds the marks of an update of it to the entry of a name, if it has one.
+    fn apply_own(
         &mut self,
         alloc: Global,
         name: &SimpleName,
-        attr: &AttrName,
-        change: &CellChange,
+        update: &OwnUpdate,
         stamp: Stamp,
     ) -> Result<(), AllocError>
-        ensures ok { OnOk result (TakesOwn self.old self.new name.now (λ e. changed_entry e attr.now (change_marks change.now stamp))) }
+        ensures ok { OnOk result (TakesOwn self.old self.new name.now (λ e. own_made update.now e stamp)) }
         ensures others { LeavesOthers self.old self.new name.now }
         ensures err { OnErr result (self.new ≡ self.old) }
     {
-        if let Some(own) = self.entries.get_mut(name) {
-            own.change(alloc, attr, change, stamp)?;
-        }
-        Ok(())
-    }
-
-    /// Adds a death to the entry of a name, if it has one.
-    fn delete(&mut self, name: &SimpleName, stamp: Stamp)
-        ensures ok { TakesOwn self.old self.new name.now (λ e. deleted_entry e stamp) }
-        ensures others { LeavesOthers self.old self.new name.now }
-    {
-        if let Some(own) = self.entries.get_mut(name) {
-            own.delete(stamp);
+        match self.entries.get_mut(name) {
+            Some(own) => own.apply(alloc, update, stamp),
+            None => Ok(()),
         }
     }
 
