@@ -1,5 +1,5 @@
 -- Updates that are applied in place do what the join of their fragment would do.
-use Rattle.std.proofs.Common.{◌≡◌, ℕ, Bool, true, false, cond, List, ◌∷◌, Option, Some, None, Result, Ok, Err, IfOk, OnOk, IsSome, refl, sym, ap, subst, ◌∙◌}
+use Rattle.std.proofs.Common.{◌≡◌, ℕ, Bool, true, false, cond, List, Option, Some, None, IsSome, refl, sym, ap, subst, ◌∙◌}
 use Rattle.std.proofs.Common.{Bor, is_some, option_copied}
 use Rattle.std.specs.Prelude.{◌&&◌, is_none, IfSome, if◌then◌else◌}
 use Rattle.std.specs.declared.cmp.Ordering.{Ordering}
@@ -24,8 +24,8 @@ use Rattle.directory.specs.declared.entry.EntryCell.{EntryCell}
 use Rattle.directory.specs.declared.entry.Fragment.{Fragment}
 use Rattle.directory.specs.Entries.{Entries, join_tied, join_entries, IsValidEntry}
 use Rattle.directory.specs.EntryLawProofs.{kinds}
-use Rattle.directory.specs.Histories.{Mark, Birth, entry_of}
-use Rattle.directory.specs.Shown.{Shown, shown_in, shown_entry, face_of, leads, with_birth}
+use Rattle.directory.specs.Histories.{Mark, entry_of}
+use Rattle.directory.specs.Shown.{Shown, shown_in, shown_entry, face_of, leads}
 use Rattle.directory.specs.Applied.{changed_entry, deleted_entry, TakesOwn, TakesIn}
 use Rattle.directory.proofs.TableLaws.{entry_of-valid}
 

@@ -1,5 +1,5 @@
 -- What is taken up to a stamp and then dropped up to it: the same as what is taken beside what was left.
-use Rattle.std.proofs.Common.{◌≡◌, ℕ, Bool, true, false, List, ◌++◌, Option, Some, None, refl, sym, ap, subst, ◌∙◌, arith}
+use Rattle.std.proofs.Common.{◌≡◌, Bool, true, false, List, ◌++◌, Option, Some, None, refl, sym, ap, subst, ◌∙◌, arith}
 use Rattle.std.specs.Prelude.{◌&&◌, ◌||◌, not, if◌then◌else◌, IfSome}
 use Rattle.std.specs.FinMap.{FinMap, get, same_map}
 use Rattle.std.specs.Option.{option_and_then, option_map}
@@ -19,12 +19,12 @@ use Rattle.attr_sets.specs.Cells.{join_cells, IsValidCell}
 use Rattle.attr_sets.specs.CellPurges.{cell_left, cell_after}
 use Rattle.attr_sets.proofs.SomeCellLaws.{cell_left-joined}
 use Rattle.directory.specs.declared.entry.EntryCell.{EntryCell}
-use Rattle.directory.specs.Entries.{Entries, join_tied, join_entries, join_tables, IsHeldCell, IsValidEntry, IsValidTable}
+use Rattle.directory.specs.Entries.{Entries, join_tied, join_entries, IsHeldCell, IsValidEntry, IsValidTable}
 use Rattle.directory.specs.Histories.{Mark, Born, birth_of, entry_at, CanMerge, IsAfterBirth}
-use Rattle.directory.specs.Purges.{purged_entry, is_dead_up_to, entry_left, purged_table, purged, after_entry, is_passed, taken_entry}
+use Rattle.directory.specs.Purges.{purged_entry, is_dead_up_to, entry_left, purged_table, purged, after_entry}
 use Rattle.directory.specs.Purges.{take_entry, take_table}
 use Rattle.directory.proofs.KnownLaws.{dead_after_birth}
-use Rattle.directory.proofs.PurgeLaws.{entry_left-after, not_dead, purged-again, purged-valid, after_entry-valid}
+use Rattle.directory.proofs.PurgeLaws.{entry_left-after, not_dead, purged-again, purged-valid}
 use Rattle.directory.proofs.TakeLaws.{dead_joined, joined_less, joined_equal, joined_greater, none_right, entry_left_by, get-purged, taken_table}
 
 -- ---- attributes

@@ -1,7 +1,7 @@
 -- What is changed in place or removed at one key of a tree, as a change of the map of its entries.
 use Rattle.std.proofs.Common.{◌≡◌, ℕ, Bool, true, false, cond, List, Option, Some, None, refl, sym, ap, ◌∙◌}
 use Rattle.std.specs.BTreeMap.{is_at}
-use Rattle.std.specs.Prelude.{if◌then◌else◌}
+use Rattle.std.specs.Prelude.{IfSome, if◌then◌else◌}
 use Rattle.std.specs.Map.{lookup, set_value}
 use Rattle.std.specs.Option.{option_and_then}
 use Rattle.std.specs.Cmp.Lexicographic.{nat_list_cmp_total}
@@ -13,7 +13,9 @@ use Rattle.cds_stamps.specs.Octets.{octets_cmp, octets_exact, is_octets}
 use Rattle.cds_stamps.proofs.TreeViews.{get-view, view-insert}
 use Rattle.cds_stamps.proofs.TreeViews.{view-remove}
 use Rattle.directory.specs.declared.deletions.What.{What}
-use Rattle.directory.specs.Deletions.{set_at, change_at, is_lost, entry_without}
+use Rattle.directory.specs.declared.deletions.What.TheVariants.{Death, Clear, Absent}
+use Rattle.directory.specs.declared.entry.EntryCell.{EntryCell}
+use Rattle.directory.specs.Deletions.{set_at, change_at, is_lost, is_of_attr, entry_without}
 use Rattle.directory.specs.Entries.{Entries}
 
 -- a key that has nothing
@@ -80,3 +82,9 @@ kept_if m n k s w none same = same ∙ ap (λ b. if b then change_at m k (entry_
 pub dropped_if : (m n : Entries) (k : List ℕ) (s : Stamp) (w : What) → is_lost (get m k) s w ≡ true → n ≡ change_at m k (entry_without w)
     → n ≡ (if is_lost (get m k) s w then change_at m k (entry_without w) else m)
 dropped_if m n k s w has drops = drops ∙ ap (λ b. if b then change_at m k (entry_without w) else m) (sym has)
+
+-- what is left of an entry that lost a clear or a value
+pub left_of : (w : What) (own next : EntryCell) → is_of_attr w ≡ true → IfSome (entry_without w own) (λ e. next ≡ e) → entry_without w own ≡ Some next
+left_of Death own next of is = cc (of)
+left_of (Clear a) own next of is = ap Some (sym is)
+left_of (Absent a v) own next of is = ap Some (sym is)

@@ -25,7 +25,7 @@ use Rattle.directory.specs.declared.deletions.What.TheVariants.{Death, Clear, Ab
 use Rattle.directory.specs.declared.deletions.Deletion.{Deletion}
 use Rattle.directory.specs.Entries.{Entries}
 use Rattle.directory.specs.Held.{one_if_some, held_in_cell, held_in_entry, held_in}
-use Rattle.directory.specs.Deletions.{is_at, is_absent, has_lost, is_lost, has_deletion, set_at, change_at, cell_without, entry_without, without}
+use Rattle.directory.specs.Deletions.{is_at, is_absent, has_lost, is_lost, is_of_attr, has_deletion, set_at, change_at, cell_without, entry_without, without}
 
 -- ---- lengths and sums where a value is removed, or changed
 
@@ -173,7 +173,7 @@ entry_held m k w e f is made less =
     omega (arith, entries, here, there, less)
 
 -- a table without a clear
-pub held_clear : (m : Entries) (s : Stamp) (n a : List ℕ) → has_deletion m (record { stamp = s; name = n; what = Clear a }) ≡ true
+held_clear : (m : Entries) (s : Stamp) (n a : List ℕ) → has_deletion m (record { stamp = s; name = n; what = Clear a }) ≡ true
     → held_in (without m (record { stamp = s; name = n; what = Clear a })) + 1 ≡ held_in m
 held_clear m s n a had = at (get m n) refl had
   where
@@ -182,7 +182,7 @@ held_clear m s n a had = at (get m n) refl had
     at (Some e) is had = entry_held m n (Clear a) e (record e { attrs = change_at e.attrs a (cell_without (Clear a)) }) is refl (entry_clear-held e a s had)
 
 -- a table without the mark of a value that is absent
-pub held_value : (m : Entries) (s : Stamp) (n a v : List ℕ) → has_deletion m (record { stamp = s; name = n; what = Absent a v }) ≡ true
+held_value : (m : Entries) (s : Stamp) (n a v : List ℕ) → has_deletion m (record { stamp = s; name = n; what = Absent a v }) ≡ true
     → held_in (without m (record { stamp = s; name = n; what = Absent a v })) + 1 ≡ held_in m
 held_value m s n a v had = at (get m n) refl had
   where
@@ -190,6 +190,13 @@ held_value m s n a v had = at (get m n) refl had
     at None is had = cc (had)
     at (Some e) is had =
         entry_held m n (Absent a v) e (record e { attrs = change_at e.attrs a (cell_without (Absent a v)) }) is refl (entry_mark-held e a v s had)
+
+-- a table without either
+pub held_lost : (m : Entries) (s : Stamp) (n : List ℕ) (w : What) → is_of_attr w ≡ true → is_lost (get m n) s w ≡ true
+    → held_in (change_at m n (entry_without w)) + 1 ≡ held_in m
+held_lost m s n Death of had = cc (of)
+held_lost m s n (Clear a) of had = held_clear m s n a had
+held_lost m s n (Absent a v) of had = held_value m s n a v had
 
 -- a table without a death is without the entry
 pub without_death : (m : Entries) (s : Stamp) (n : List ℕ) → without m (record { stamp = s; name = n; what = Death }) ≡ remove m n

@@ -1,6 +1,6 @@
 -- Where an entry leads.
-use Rattle.std.proofs.Common.{◌≡◌, ◌≢◌, filter, ap, ℕ, Bool, true, false, List, [], ◌∷◌, Option, Some, None, IsSome, refl, sym, subst, ◌∙◌, arith}
-use Rattle.std.specs.Prelude.{◌&&◌, ◌==◌, is_none, length, if◌then◌else◌}
+use Rattle.std.proofs.Common.{◌≡◌, ◌≢◌, filter, ap, ℕ, Bool, true, List, [], ◌∷◌, Option, Some, None, IsSome, refl, sym, subst, ◌∙◌, arith}
+use Rattle.std.specs.Prelude.{◌==◌, is_none, length, if◌then◌else◌}
 use Rattle.std.specs.List.{All}
 use Rattle.std.proofs.lemmas.List.Elements.{filter_passes, recursion_from_All}
 use Rattle.cds_stamps.specs.declared.stamp.Stamp.{Stamp}
@@ -10,7 +10,7 @@ use Rattle.directory.specs.declared.entry.Kind.{Kind}
 use Rattle.directory.specs.declared.entry.Kind.TheVariants.{Object, Link, Child}
 use Rattle.directory.specs.declared.entry.EntryCell.{EntryCell}
 use Rattle.directory.specs.Kinds.{is_child, link_target, replicas}
-use Rattle.directory.specs.Shown.{Shown, targets, pointers, is_readable, leads, only_one, lead_of, face_of, shown_entry}
+use Rattle.directory.specs.Shown.{Shown, targets, pointers, is_readable, leads, only_one, lead_of, face_of}
 
 one_there : {X : Type 0} (xs : List X) → (length xs == 1) ≡ true → IsSome (only_one xs)
 one_there [] e = cc (e)

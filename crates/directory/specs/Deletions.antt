@@ -50,6 +50,12 @@ rank Death = 0
 rank (Clear a) = 1
 rank (Absent a v) = 2
 
+-- an attribute was cleared, or a value of it removed (own)
+abbrev pub is_of_attr : What → Bool
+is_of_attr Death = false
+is_of_attr (Clear a) = true
+is_of_attr (Absent a v) = true
+
 -- the attribute that was cleared, or of which a value was removed (own)
 abbrev pub attr_of : What → List ℕ
 attr_of Death = []

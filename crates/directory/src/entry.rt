@@ -1,6 +1,6 @@
 // Entries.
 ghost use Rattle.std.specs.Prelude.{◌≡◌, ◌↔◌, IsTrue, min, true, Some, None, if◌then◌else◌, filter, is_some, option_copied};
-ghost use Rattle.std.specs.Prelude.{MatchBool, IsSome, IfOk, OnOk, OnErr};
+ghost use Rattle.std.specs.Prelude.{MatchBool, IsSome, IfSome, IfOk, OnOk, OnErr};
 ghost use Rattle.std.specs.Option.{option_and_then};
 ghost use Rattle.cds_stamps.specs.Semilattice.{maybe, greater};
 ghost use Rattle.cds_stamps.specs.Stamps.{earlier_stamp};
@@ -12,7 +12,7 @@ ghost use Rattle.attr_sets.specs.Cells.{cell_values};
 ghost use Rattle.attr_sets.specs.CellChanges.{change_marks};
 ghost use Rattle.attr_sets.specs.CellPurges.{clear_left};
 ghost use Rattle.directory.specs.Purges.{is_dead_up_to, after_entry};
-ghost use Rattle.directory.specs.Deletions.{has_lost};
+ghost use Rattle.directory.specs.Deletions.{has_lost, entry_without};
 ghost use Rattle.directory.specs.Held.{held_in_entry, held_in_cell, most_held};
 ghost use Rattle.directory.specs.Applied.{changed_entry, deleted_entry};
 ghost use Rattle.cds_stamps.specs.Outcomes.{ok_unless};
@@ -431,6 +431,17 @@ impl EntryCell {
             What::Death => self.death == Some(stamp),
             What::Clear(attr) => self.attrs.is_cleared_at(attr, stamp),
             What::Absent(attr, value) => self.attrs.is_absent_at(attr, value, stamp),
+        }
+    }
+
+    /// Drops a clear of an attribute or the mark of a value, and an attribute of which nothing is left. A death stays.
+    pub(crate) fn drop_lost(&mut self, what: &What)
+        ensures { IfSome (entry_without what.now self.old) (λ e. self.new ≡ e) }
+    {
+        match what {
+            What::Death => {}
+            What::Clear(attr) => self.attrs.drop_clear(attr),
+            What::Absent(attr, value) => self.attrs.drop_value(attr, value),
         }
     }
 

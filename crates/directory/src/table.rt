@@ -193,8 +193,8 @@ impl Table {
         apply_update(&mut self.entries, &mut self.deletions, alloc, update, stamp)
     }
 
-    /// Adds the marks of an update with this stamp in place, or refuses it: as check and apply do, but that the name of a change
-    /// of an attribute is looked up once.
+    /// Adds the marks of an update with this stamp in place, or refuses it: as check and apply do, but that the name of a deletion
+    /// or of a change of an attribute is looked up once.
     pub fn accept(
         &mut self,
         alloc: Global,

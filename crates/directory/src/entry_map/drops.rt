@@ -1,14 +1,13 @@
 // Deletions: which of them a map has, and how one is dropped.
 ghost use Rattle.std.specs.Prelude.{◌≡◌, ◌-◌, min, true, if◌then◌else◌};
 ghost use Rattle.std.specs.FinMap as map;
-ghost use Rattle.directory.specs.Deletions.{has_deletion, is_lost, without, change_at, entry_without};
+ghost use Rattle.directory.specs.Deletions.{has_deletion, is_lost, is_of_attr, without, change_at, entry_without};
 ghost use Rattle.directory.specs.Held.{held_in, most_held};
 ghost use Rattle.directory.specs.declared.deletions.What.TheVariants as what;
 
 use super::EntryMap;
 use crate::deletions::{Deletion, What};
-use attr_sets::Value;
-use cds_stamps::{AttrName, SimpleName, Stamp};
+use cds_stamps::{SimpleName, Stamp};
 
 impl EntryMap {
     /// Whether it has this deletion.
@@ -41,42 +40,26 @@ impl EntryMap {
     {
         match &deletion.what {
             What::Death => self.drop_entry(&deletion.name),
-            What::Clear(attr) => self.drop_clear(&deletion.name, attr, deletion.stamp),
-            What::Absent(attr, value) => {
-                self.drop_value(&deletion.name, attr, value, deletion.stamp)
+            What::Clear(_) | What::Absent(_, _) => {
+                self.drop_lost(&deletion.name, deletion.stamp, &deletion.what)
             }
         }
     }
 
-    /// Drops the clear of an attribute of an entry, if it has this stamp. How many records that were.
-    fn drop_clear(&mut self, name: &SimpleName, attr: &AttrName, stamp: Stamp) -> u64
-        ensures dropped { let w = what.Clear attr.now in
+    /// Drops a clear or the mark of a value of an entry, if it lost that at this stamp. How many records that were.
+    fn drop_lost(&mut self, name: &SimpleName, stamp: Stamp, what: &What) -> u64
+        requires { is_of_attr what.now ≡ true }
+        ensures dropped { let w = what.now in
             self.new ≡ (if is_lost (map.get self.old name.now) stamp w then change_at self.old name.now (entry_without w) else self.old) }
         ensures count { result ≡ min (held_in self.old - held_in self.new) most_held }
     {
         let Some(entry) = self.entries.get_mut(name) else {
             return 0;
         };
-        if !entry.attrs.is_cleared_at(attr, stamp) {
+        if !entry.has_lost(stamp, what) {
             return 0;
         }
-        entry.attrs.drop_clear(attr);
-        1
-    }
-
-    /// Drops the mark of a value of an attribute of an entry, if it is absent since this stamp. How many records that were.
-    fn drop_value(&mut self, name: &SimpleName, attr: &AttrName, value: &Value, stamp: Stamp) -> u64
-        ensures dropped { let w = what.Absent attr.now value.now in
-            self.new ≡ (if is_lost (map.get self.old name.now) stamp w then change_at self.old name.now (entry_without w) else self.old) }
-        ensures count { result ≡ min (held_in self.old - held_in self.new) most_held }
-    {
-        let Some(entry) = self.entries.get_mut(name) else {
-            return 0;
-        };
-        if !entry.attrs.is_absent_at(attr, value, stamp) {
-            return 0;
-        }
-        entry.attrs.drop_value(attr, value);
+        entry.drop_lost(what);
         1
     }
 

@@ -34,8 +34,8 @@ impl EntryMap {
         self.take_in(alloc, fragment)
     }
 
-    /// Adds the marks of an update with this stamp in place, or refuses it: as check and apply do, but that the name of a change
-    /// of an attribute is looked up once.
+    /// Adds the marks of an update with this stamp in place, or refuses it: as check and apply do, but that the name of a deletion
+    /// or of a change of an attribute is looked up once.
     pub(crate) fn accept(
         &mut self,
         alloc: Global,

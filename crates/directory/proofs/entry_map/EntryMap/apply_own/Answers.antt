@@ -28,7 +28,7 @@ returns c = elim c.match-get_mut.branch [
       })
   | in-None w ↦ rw (w.result-is, w.self-inside-is)
       (let gone = not_here nat_list_cmp_total octets_exact c.args.self.now c.self.inside.entries.entries c.get_mut.follows.lender-at-none.entries
-          c.args.name.now c.self.view_is w.in-None.ensures.value (ap (λ m. m.entries) c.get_mut.follows.holds-at-none) in
+      c.args.name.now c.self.view_is w.in-None.ensures.value (ap (λ m. m.entries) c.get_mut.follows.holds-at-none) in
       record {
         ok = takes_none c.args.self.now _ c.args.name.now (λ e. own_made c.args.update.now e c.args.stamp) gone.0;
         others = λ q _. ap (λ m. map.get m q) gone.1;
