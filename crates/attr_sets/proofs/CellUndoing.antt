@@ -53,7 +53,7 @@ pub raised_agrees : (a b : AttrCell) (v : List ℕ) (m : ValueMark) → b.cleare
 raised_agrees a b v m same raises =
     let one : ValueMarks = (cell_of (Marked v m ∷ [])).values in
     subst (λ c. AgreesOnKept c a.values one b.values) (sym same) (kept_agrees a.cleared a.values b.values one (λ q.
-        raises q ∙ ap (λ x. maybe later (get a.values q) (kept a.cleared x)) (sym (get-one v m q))))
+    raises q ∙ ap (λ x. maybe later (get a.values q) (kept a.cleared x)) (sym (get-one v m q))))
 
 -- a clear takes away from each mark of a list what it takes from the latest
 pub join_of-kept : {T : Type 0} (c : Option Stamp) (g : T → Option ValueMark) (es : List T) → join_of later (λ e. kept c (g e)) es ≡ kept c (join_of later g es)

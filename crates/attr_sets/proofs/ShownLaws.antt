@@ -151,7 +151,8 @@ module _ {K X : Type 0} (R : K → K → Ordering) where
   all_below k [] h = tt
   all_below k (e ∷ es) h = let p = first_of (is_lt (R k e.0)) (below_all R k es) h in (is_less (R k e.0) p.0, all_below k es p.1)
 
-  keys_rise : (es : List (K × X)) → T (is_sorted R es) → IsStrictlySortedBy R (keys_of es)
+  -- the keys of sorted entries ascend
+  pub keys_rise : (es : List (K × X)) → T (is_sorted R es) → IsStrictlySortedBy R (keys_of es)
   unfolding IsStrictlySortedBy
   keys_rise [] h = tt
   keys_rise (e ∷ es) h = let p = first_of (below_all R e.0 es) (is_sorted R es) h in (all_below e.0 es p.0, keys_rise es p.1)

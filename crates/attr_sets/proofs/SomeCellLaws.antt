@@ -15,7 +15,7 @@ use Rattle.attr_sets.specs.declared.cell.AttrCell.{AttrCell}
 use Rattle.attr_sets.specs.Marks.{later, kept}
 use Rattle.attr_sets.specs.Cells.{AttrMark, Cleared, Marked, greatest_clear, greatest_mark, cell_of, empty_cell, join_cells, IsValidCell}
 use Rattle.attr_sets.specs.CellPurges.{is_empty_cell, some_cell, cell_left, cell_after, purged_cell, after_cell}
-use Rattle.attr_sets.specs.CellLawProofs.{same_cell, get-cell_of, get-join_cells, join_cells-comm, cell_of-valid}
+use Rattle.attr_sets.specs.CellLawProofs.{same_cell, get-cell_of, get-join_cells, join_cells-comm, join_held, cell_of-valid}
 use Rattle.attr_sets.proofs.CellUndoing.{is_empty_cell-is, empty_cell-is_empty, new_cell}
 use Rattle.attr_sets.proofs.MarkPurgeLaws.{left, after, not_itself}
 use Rattle.attr_sets.proofs.CellPurgeLaws.{KnowsUpTo, get-purged_cell, get-after_cell, purged_cell-valid, after_cell-valid, purged_cell-joined, merged_cells}
@@ -92,26 +92,6 @@ some_cell-of_some x xs = some_of-other (cell_of (x ∷ xs)) (has_some x xs)
 pub empty-joined : (b : AttrCell) → IsValidCell b → join_cells empty_cell b ≡ b
 empty-joined b valid = same_cell (join_cells empty_cell b) b refl (λ v.
     get-join_cells empty_cell b v ∙ ap (λ x. kept b.cleared (maybe later x (get b.values v))) (get-empty octets_cmp v) ∙ valid v)
-
-nothing_left : (x y : Option Stamp) → maybe later_stamp x y ≡ None → x ≡ None
-nothing_left None y e = refl
-nothing_left (Some x) None e = cc
-nothing_left (Some x) (Some y) e = cc
-
-no_mark_left : (x y : Option ValueMark) → kept None (maybe later x y) ≡ None → x ≡ None
-no_mark_left None y e = refl
-no_mark_left (Some x) None e = cc
-no_mark_left (Some x) (Some y) e = cc
-
--- what is joined with a cell that has something has something
-pub join_held : (a b : AttrCell) → join_cells a b ≡ empty_cell → a ≡ empty_cell
-join_held a b e =
-    let none : (join_cells a b).cleared ≡ None = ap (λ (c : AttrCell). c.cleared) e in
-    same_cell a empty_cell (nothing_left a.cleared b.cleared none) (λ v.
-    no_mark_left (get a.values v) (get b.values v)
-    (ap (λ c. kept c (maybe later (get a.values v) (get b.values v))) (sym none) ∙ sym (get-join_cells a b v)
-    ∙ ap (λ (c : AttrCell). get c.values v) e ∙ get-empty octets_cmp v)
-    ∙ sym (get-empty octets_cmp v))
 
 alone : (x : Option AttrCell) → maybe join_cells x None ≡ x
 alone None = refl

@@ -1,7 +1,7 @@
 -- Proofs only: the laws of cells, which the join of cells cites.
 use Rattle.std.proofs.Common.{◌≡◌, ℕ, Bool, true, false, cond, not, List, [], ◌∷◌, ◌++◌, ◌||◌, Option, Some, None, refl, sym, ap, ◌∙◌, arith}
 use Rattle.std.specs.declared.cmp.Ordering.{Ordering}
-use Rattle.std.specs.FinMap.{get, same_map, IsAntisymmetric}
+use Rattle.std.specs.FinMap.{get, get-empty, same_map, IsAntisymmetric}
 use Rattle.std.specs.Cmp.Lexicographic.{nat_list_cmp_total}
 use Rattle.std.specs.Ordering.{eq_by_cmp, is_lt, ordering_then, bool_cmp}
 use Rattle.std.specs.Cmp.{IsTotalOrder}
@@ -17,6 +17,7 @@ use Rattle.cds_stamps.specs.Stamps.{is_earlier, later_stamp, later_stamp_laws, s
 use Rattle.cds_stamps.specs.Octets.{octets_cmp, octets_exact}
 use Rattle.attr_sets.specs.Marks.{later, later_laws, kept, RaisesKept}
 use Rattle.attr_sets.specs.Cells.{AttrMark, Cleared, Marked, clear_in, mark_in, value_in, greatest_clear, greatest_mark, cell_of, join_cells, IsValidCell}
+use Rattle.attr_sets.specs.Cells.{empty_cell}
 
 module _ {M K : Type 0} (f : M → K) {R : K → K → Ordering} (o : IsTotalOrder R) (same : IsAntisymmetric R) (S : M → M → Ordering) where
   abbrev not_before : (c : K) (m : M) → Option M
@@ -273,3 +274,23 @@ clear_joined a b s same keeps = same_cell b (join_cells a (cell_of (Cleared s �
     alone_value : (x : Option ValueMark) → x ≡ maybe later x None
     alone_value None = refl
     alone_value (Some x) = refl
+
+nothing_left : (x y : Option Stamp) → maybe later_stamp x y ≡ None → x ≡ None
+nothing_left None y e = refl
+nothing_left (Some x) None e = cc
+nothing_left (Some x) (Some y) e = cc
+
+no_mark_left : (x y : Option ValueMark) → kept None (maybe later x y) ≡ None → x ≡ None
+no_mark_left None y e = refl
+no_mark_left (Some x) None e = cc
+no_mark_left (Some x) (Some y) e = cc
+
+-- what is joined with a cell that has something has something
+pub join_held : (a b : AttrCell) → join_cells a b ≡ empty_cell → a ≡ empty_cell
+join_held a b e =
+    let none : (join_cells a b).cleared ≡ None = ap (λ (c : AttrCell). c.cleared) e in
+    same_cell a empty_cell (nothing_left a.cleared b.cleared none) (λ v.
+    no_mark_left (get a.values v) (get b.values v)
+    (ap (λ c. kept c (maybe later (get a.values v) (get b.values v))) (sym none) ∙ sym (get-join_cells a b v)
+    ∙ ap (λ (c : AttrCell). get c.values v) e ∙ get-empty octets_cmp v)
+    ∙ sym (get-empty octets_cmp v))

@@ -2,15 +2,12 @@
 -- loops that make a table of what is taken, and an index of its deletions.
 use Rattle.std.proofs.Common.{◌≡◌, Bool, true, false, cond, List, [], ◌∷◌, Option, Some, None, refl, sym, ap, subst, ◌∙◌, ◌⊎◌, inl, inr, ⊎_elim}
 use Rattle.std.proofs.Common.{is_eq, Result, Ok, Err, OnOk, OnErr}
-use Rattle.std.specs.Prelude.{ℕ, ◌++◌, ◌&&◌, ◌≢◌, T, IfSome, is_ok, if◌then◌else◌}
+use Rattle.std.specs.Prelude.{ℕ, ◌++◌, ◌≢◌, IfSome, is_ok, if◌then◌else◌}
 use Rattle.std.specs.FinMap.{FinMap, IsAntisymmetric, get, empty, insert, entries, entries_sorted, from_entries}
 use Rattle.std.specs.FinMap.{get-entries, get-empty, get-insert, get-from_entries, same_map}
-use Rattle.std.specs.FinMap.Entries.{is_sorted, below_all}
 use Rattle.std.specs.Option.{option_and_then}
 use Rattle.std.specs.declared.cmp.Ordering.{Ordering}
-use Rattle.std.specs.declared.cmp.Ordering.TheVariants.{Less, Equal, Greater}
-use Rattle.std.specs.Ordering.{is_lt, eq_by_cmp}
-use Rattle.std.specs.List.{AllByRecursion}
+use Rattle.std.specs.Ordering.{eq_by_cmp}
 use Rattle.std.specs.List.Sorted.{IsStrictlySortedBy}
 use Rattle.std.specs.Map.{lookup, keys_of}
 use Rattle.std.specs.BTreeMap.{is_at}
@@ -34,6 +31,7 @@ use Rattle.attr_sets.specs.Cells.{join_cells, IsValidCell}
 use Rattle.attr_sets.specs.CellLawProofs.{same_cell, get-join_cells}
 use Rattle.attr_sets.specs.CellPurges.{clear_left, mark_after, is_empty_cell, after_cell, cell_after}
 use Rattle.attr_sets.proofs.CellPurgeLaws.{get-after_cell}
+use Rattle.attr_sets.proofs.ShownLaws.{keys_rise}
 use Rattle.directory.specs.declared.entry.EntryCell.{EntryCell}
 use Rattle.directory.specs.declared.deletions.Deletion.{Deletion}
 use Rattle.directory.specs.declared.deletions.Deletions.{Deletions}
@@ -138,25 +136,6 @@ pub inserted_last : (old new : List (List ℕ × EntryCell)) (k : List ℕ) (x :
 inserted_last old new k x is = ap inserted is ∙ fold-append (λ m p. insert m p.0 p.1) empty old ((k, x) ∷ [])
 
 -- ---- the entries of a map are in order
-
-first_of : (a b : Bool) → T (a && b) → T a × T b
-first_of true b h = (tt, h)
-first_of false b h = absurd h
-
-is_less : (r : Ordering) → T (is_lt r) → r ≡ Less
-is_less Less h = refl
-is_less Equal h = absurd h
-is_less Greater h = absurd h
-
-module _ {K X : Type 0} (R : K → K → Ordering) where
-  all_below : (k : K) (es : List (K × X)) → T (below_all R k es) → AllByRecursion (λ y. R k y ≡ Less) (keys_of es)
-  all_below k [] h = tt
-  all_below k (e ∷ es) h = let p = first_of (is_lt (R k e.0)) (below_all R k es) h in (is_less (R k e.0) p.0, all_below k es p.1)
-
-  keys_rise : (es : List (K × X)) → T (is_sorted R es) → IsStrictlySortedBy R (keys_of es)
-  unfolding IsStrictlySortedBy
-  keys_rise [] h = tt
-  keys_rise (e ∷ es) h = let p = first_of (below_all R e.0 es) (is_sorted R es) h in (all_below e.0 es p.0, keys_rise es p.1)
 
 -- the map of the entries of a map, and a look-up among them
 of_entries : {K X : Type 0} {R : K → K → Ordering} → IsTotalOrder R → IsAntisymmetric R → (m : FinMap R X) → from_entries (entries m) ≡ m

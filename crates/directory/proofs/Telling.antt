@@ -20,9 +20,9 @@ use Rattle.directory.specs.declared.update.UpdateRefusal.TheVariants.{NoSuchEntr
 use Rattle.directory.specs.Applied.{TakesOwn, TakesIn, LeavesOthers}
 use Rattle.directory.specs.Entries.{Entries, join_entries, IsValidEntry}
 use Rattle.directory.specs.Histories.{Mark, entry_of}
-use Rattle.directory.specs.OwnUpdates.{own_refusal, own_made, IsOwnUpdate, AcceptsEntry, AcceptsOwn}
+use Rattle.directory.specs.OwnUpdateWords.{own_refusal, own_made, IsOwnUpdate, AcceptsEntry, AcceptsOwn}
 use Rattle.directory.specs.Shown.{Shown, shown_in, shown_entry, face_of, leads, refusal_of, marks_of}
-use Rattle.directory.specs.Told.{AcceptsUpdate, TellsUpdate}
+use Rattle.directory.specs.ToldWords.{AcceptsUpdate, TellsUpdate}
 use Rattle.directory.specs.Updates.{Change, changed_name}
 use Rattle.directory.proofs.Applying.{changed_here, takes_own, takes_shown}
 use Rattle.directory.proofs.Dropping.{found, stays}

@@ -45,7 +45,7 @@ join_tables = join_maps join_entries
 abbrev pub IsHeldCell : AttrCell → Type 0
 IsHeldCell a = IsValidCell a × (a ≢ empty_cell)
 
--- each cell of an entry, and each entry of a table, is so (own)
+-- each cell of an entry is so (own)
 abbrev pub IsValidEntry : EntryCell → Type 0
 IsValidEntry e = EachValue IsHeldCell e.attrs
 

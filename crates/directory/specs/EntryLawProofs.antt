@@ -1,21 +1,17 @@
 -- Proofs only: the laws of entries and tables, which their joins cite.
-use Rattle.std.specs.Prelude.{◌≡◌, Option, Some, None, refl}
+use Rattle.std.specs.Prelude.{refl}
 use Rattle.std.proofs.Common.{sym, ◌∙◌, ap}
-use Rattle.std.specs.FinMap.{IsAntisymmetric, get, get-empty}
+use Rattle.std.specs.FinMap.{IsAntisymmetric}
 use Rattle.std.specs.Cmp.{nat_cmp_total}
 use Rattle.std.specs.Cmp.Lexicographic.{nat_list_cmp_total}
 use Rattle.std.proofs.lemmas.Cmp.{on_total}
 use Rattle.std.proofs.lemmas.Map.Lookups.{exact_unsigned}
-use Rattle.cds_stamps.specs.declared.stamp.Stamp.{Stamp}
-use Rattle.attr_sets.specs.declared.mark.ValueMark.{ValueMark}
-use Rattle.attr_sets.specs.declared.cell.AttrCell.{AttrCell}
 use Rattle.directory.specs.declared.entry.EntryCell.{EntryCell}
 use Rattle.cds_stamps.specs.Semilattice.{IsJoin, IsSemilattice, maybe, maybe_semilattice, greater, greater_semilattice}
-use Rattle.cds_stamps.specs.Stamps.{stamp_total, stamp_exact, later_stamp, earlier_stamp, earlier_stamp_laws}
+use Rattle.cds_stamps.specs.Stamps.{stamp_total, stamp_exact, earlier_stamp, earlier_stamp_laws}
 use Rattle.cds_stamps.specs.Octets.{octets_cmp, octets_exact}
-use Rattle.attr_sets.specs.Marks.{later, kept}
-use Rattle.attr_sets.specs.Cells.{empty_cell, join_cells}
-use Rattle.attr_sets.specs.CellLawProofs.{same_cell, get-join_cells, join_cells-comm, join_cells-assoc, join_cells-idem, join_cells-valid}
+use Rattle.attr_sets.specs.Cells.{join_cells}
+use Rattle.attr_sets.specs.CellLawProofs.{join_cells-comm, join_cells-assoc, join_cells-idem, join_cells-valid, join_held}
 use Rattle.cds_stamps.specs.Joins.{JoinsTied, join_maps, map_join, key_join, EachValue}
 use Rattle.directory.specs.Kinds.{rank, kind_of_rank, rank_back, kind_cmp}
 use Rattle.directory.specs.Entries.{join_tied, join_entries, IsHeldCell, IsValidEntry, join_tables, IsValidTable}
@@ -30,26 +26,6 @@ kinds = greater_semilattice (on_total rank nat_cmp_total) kind_exact
 
 deaths : IsSemilattice (maybe earlier_stamp)
 deaths = maybe_semilattice earlier_stamp_laws
-
--- what is joined with a cell that holds something holds something
-nothing_left : (x y : Option Stamp) → maybe later_stamp x y ≡ None → x ≡ None
-nothing_left None y e = refl
-nothing_left (Some x) None e = cc
-nothing_left (Some x) (Some y) e = cc
-
-no_mark_left : (x y : Option ValueMark) → kept None (maybe later x y) ≡ None → x ≡ None
-no_mark_left None y e = refl
-no_mark_left (Some x) None e = cc
-no_mark_left (Some x) (Some y) e = cc
-
-join_held : (a b : AttrCell) → join_cells a b ≡ empty_cell → a ≡ empty_cell
-join_held a b e =
-    let none : (join_cells a b).cleared ≡ None = ap (λ (c : AttrCell). c.cleared) e in
-    same_cell a empty_cell (nothing_left a.cleared b.cleared none) (λ v.
-    no_mark_left (get a.values v) (get b.values v)
-    (ap (λ c. kept c (maybe later (get a.values v) (get b.values v))) (sym none) ∙ sym (get-join_cells a b v)
-    ∙ ap (λ (c : AttrCell). get c.values v) e ∙ get-empty octets_cmp v)
-    ∙ sym (get-empty octets_cmp v))
 
 -- the join of cells that hold something
 pub cell_join : IsJoin IsHeldCell join_cells

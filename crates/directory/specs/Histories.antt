@@ -25,7 +25,7 @@ pub data Mark : Type 0 where
   Death : (n : List ℕ) → (c s : Stamp) → Mark
   Attr : (n : List ℕ) → (c : Stamp) → (a : List ℕ) → AttrMark → Mark
 
--- the entry that a mark is about, by name and birth, and the mark's own stamp (own)
+-- the name of the entry that a mark is about (own)
 abbrev pub name_in : Mark → List ℕ
 name_in (Birth n kind c) = n
 name_in (Death n c s) = n
@@ -48,7 +48,7 @@ pub record Born : Type 0 where
   pub at : Stamp
   pub kind : Kind
 
--- what a mark says of the births of n, of the deaths of (n, c), of the attribute a of (n, c), and of attributes at all (own)
+-- what a mark says of the births of n (own)
 abbrev pub birth_in : List ℕ → Mark → Option Born
 birth_in n (Birth m kind c) = if is_octets n m then Some (record { at = c; kind = kind }) else None
 birth_in n (Death m c s) = None
@@ -76,7 +76,7 @@ attr_in (Attr n c a x) = Some a
 abbrev pub birth_cmp : Born → Born → Ordering
 birth_cmp a b = ordering_then (stamp_cmp a.at b.at) (kind_cmp a.kind b.kind)
 
--- of a history: the greatest birth of n, the least death of (n, c), and the marks of the attribute a of (n, c) (own)
+-- the greatest birth of n in a history (own)
 abbrev pub birth_of : List Mark → List ℕ → Option Born
 birth_of h n = join_of (greater birth_cmp) (birth_in n) h
 
@@ -97,7 +97,7 @@ cell_of_some (x ∷ h) = Some (cell_of (x ∷ h))
 abbrev pub attrs_of : List Mark → List ℕ → Stamp → FinMap octets_cmp AttrCell
 attrs_of h n c = of_keys (filter_map attr_in h) (λ a. cell_of_some (attr_history h n c a))
 
--- the entry of a birth, and of a name (own)
+-- the entry of a birth of a name (own)
 abbrev pub entry_at : List Mark → List ℕ → Born → EntryCell
 entry_at h n b = record { birth = b.at; kind = b.kind; death = death_of h n b.at; attrs = attrs_of h n b.at }
 

@@ -36,7 +36,7 @@ rank_back Child = refl
 abbrev pub kind_code : Coded Kind
 kind_code = code_by ℕ coded_ℕ rank kind_of_rank rank_back
 
--- the attributes that make an entry a link or a child (C705, CDS_LinkTarget and CDS_Replicas)
+-- the attribute that makes an entry a link (C705, CDS_LinkTarget)
 abbrev pub link_target : List ℕ
 link_target = codes "CDS_LinkTarget"
 

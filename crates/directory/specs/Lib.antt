@@ -12,5 +12,5 @@ pub mod Deletions
 pub mod IndexWords
 pub mod Held
 pub mod Applied
-pub mod OwnUpdates
-pub mod Told
+pub mod OwnUpdateWords
+pub mod ToldWords

@@ -25,7 +25,7 @@ pub record Shown : Type 0 where
   pub kind : Kind
   pub values : List ℕ → List (List ℕ)
 
--- those of the values that read as the name of a link's target, and as a child pointer (own)
+-- those of the values that read as the name of a link's target (own)
 abbrev pub targets : List (List ℕ) → List (List ℕ)
 targets = filter is_full_name
 
@@ -80,7 +80,7 @@ entry_values e a = option_map_or cell_values (get e.attrs a) []
 abbrev pub face_of : EntryCell → Shown
 face_of e = record { birth = e.birth; kind = e.kind; values = entry_values e }
 
--- what an entry of a table shows, and what a table shows of a name (own)
+-- what an entry of a table shows (own)
 abbrev pub shown_entry : EntryCell → Option Shown
 shown_entry e = shown_if_live e.death (face_of e)
 
@@ -103,7 +103,7 @@ live_count t = count_by (λ e. is_some (shown_entry e.1)) (entries t)
 abbrev pub is_reserved : List ℕ → Bool
 is_reserved a = is_octets a link_target || is_octets a replicas
 
--- why an update of an entry is refused, by what shows of its name; None where it is accepted (own)
+-- why the making of an entry is refused, by what shows of its name; None where it is accepted (own)
 abbrev pub new_refusal : Option Shown → Option UpdateRefusal
 new_refusal None = None
 new_refusal (Some e) = Some EntryExists

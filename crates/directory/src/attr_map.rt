@@ -85,6 +85,7 @@ impl Clone for AttrMap {
 }
 
 impl AttrMap {
+    /// No attribute. Takes no memory.
     pub fn new(alloc: Global) -> Self
         ensures { result ≡ map.empty }
     {
@@ -107,6 +108,7 @@ impl AttrMap {
         self.cells.iter()
     }
 
+    /// The cell of an attribute, if it has one.
     pub fn get(&self, name: &AttrName) -> Option<&AttrCell>
         ensures { option_copied result ≡ map.get self.now name.now }
     {
@@ -491,7 +493,7 @@ impl AttrMap {
 
     /// Whether each cell has something, all of it later than t.
     pub(crate) fn is_after(&self, t: Stamp) -> bool
-        ensures { MatchBool result (map_some (cell_after t) self.now ≡ self.now) (Unit {0}) }
+        ensures { IsTrue result ↔ (map_some (cell_after t) self.now ≡ self.now) }
     {
         let t = &t;
         for (_, cell) in self.cells.iter() {

@@ -16,7 +16,7 @@ ghost use Rattle.directory.specs.Deletions.{has_lost, entry_without};
 ghost use Rattle.directory.specs.Held.{held_in_entry, held_in_cell, most_held};
 ghost use Rattle.directory.specs.Applied.{changed_entry, deleted_entry};
 ghost use Rattle.cds_stamps.specs.Outcomes.{ok_unless};
-ghost use Rattle.directory.specs.OwnUpdates.{own_made, own_refusal, AcceptsEntry};
+ghost use Rattle.directory.specs.OwnUpdateWords.{own_made, own_refusal, AcceptsEntry};
 ghost use Rattle.directory.specs.Shown.{is_readable, is_reserved, leads, only_one, lead_of, entry_values, face_of, shown_entry, shown_dir};
 
 use crate::attr_map::{AttrMap, CellLog};
@@ -410,7 +410,7 @@ impl EntryCell {
 
     /// Whether all of it is later than t, but for its birth. It takes no memory.
     pub fn is_after(&self, t: Stamp) -> bool
-        ensures { MatchBool result (after_entry t self.now ≡ self.now) (Unit {0}) }
+        ensures { IsTrue result ↔ (after_entry t self.now ≡ self.now) }
     {
         let t = &t;
         !self.is_dead_up_to(*t) && self.attrs.is_after(*t)

@@ -1,5 +1,6 @@
 // The table of a directory.
-ghost use Rattle.std.specs.Prelude.{◌≡◌, ◌-◌, ◌<◌, min, ℕ, List, Option, Some, None, true, option_copied, IfOk, IfSome, IfNone, OnOk, OnErr, if◌then◌else◌};
+ghost use Rattle.std.specs.Prelude.{◌≡◌, ◌-◌, ◌<◌, min, ℕ, List, Option, Some, None, true, option_copied, if◌then◌else◌};
+ghost use Rattle.std.specs.Prelude.{IfOk, IfSome, IfNone, OnOk, OnErr};
 ghost use Rattle.std.specs.FinMap as map;
 ghost use Rattle.std.specs.List.{fold, AllByRecursion};
 ghost use Rattle.std.specs.Option.{option_map};
@@ -18,7 +19,7 @@ ghost use Rattle.directory.specs.Histories.{Mark, entry_of};
 ghost use Rattle.directory.specs.IndexWords.{IsIndexed};
 ghost use Rattle.directory.specs.Purges.{purged_table, purged, take_table};
 ghost use Rattle.directory.specs.Shown.{face_of, shown_in, live_count, refusal_of, marks_of};
-ghost use Rattle.directory.specs.Told.{AcceptsUpdate, TellsUpdate};
+ghost use Rattle.directory.specs.ToldWords.{AcceptsUpdate, TellsUpdate};
 ghost use Rattle.directory.specs.Updates.{change_of, changed_name};
 
 use crate::deletions::Deletions;
@@ -32,8 +33,8 @@ use std::alloc::{AllocError, Global};
 use std::collections::btree_map::Iter;
 use std::marker::Model;
 
-/// A valid entry for each simple name, in ascending order of the names; and an index of their deletions, which shows by
-/// `first_deletion`, `drop_first` and their cost alone.
+/// A valid entry for each simple name, in ascending order of the names; and an index of their deletions, on which `first_deletion`,
+/// `drop_first` and `drop_up_to` rest.
 #[derive(Drop)]
 pub struct Table {
     entries: EntryMap,
@@ -71,6 +72,7 @@ impl Clone for Table {
 
 // A table as a map, and what shows of it.
 impl Table {
+    /// No entry. Takes no memory.
     pub fn new(alloc: Global) -> Self
         ensures { result ≡ map.empty }
     {
@@ -194,7 +196,8 @@ impl Table {
     }
 
     /// Adds the marks of an update with this stamp in place, or refuses it: as check and apply do, but that the name of a deletion
-    /// or of a change of an attribute is looked up once.
+    /// or of a change of an attribute is looked up once. Memory for the index is asked for first, so that a refused update too may be
+    /// told as want of it.
     pub fn accept(
         &mut self,
         alloc: Global,
@@ -214,7 +217,8 @@ impl Table {
 
     /// Adds the marks of an update with this stamp in place, and gives its fragment; or refuses it: what check answers, what fragment
     /// gives of the table as it was, and what apply leaves, by one call. The name of a deletion or of a change of an attribute is
-    /// looked up once, and that of a new entry twice.
+    /// looked up once, and that of a new entry twice, where the table has none of its name, dead or alive. Memory for the index is
+    /// asked for first, so that a refused update too may be told as want of it.
     pub fn accept_told(
         &mut self,
         alloc: Global,
@@ -240,6 +244,7 @@ impl Table {
     pub fn join_entry(&mut self, alloc: Global, fragment: &Fragment) -> Result<(), AllocError>
         ensures ok { OnOk result (JoinsEntry self.old self.new fragment.now.name fragment.now.entry) }
         ensures others { OnOk result (LeavesOthers self.old self.new fragment.now.name) }
+        ensures left_out { OnOk result ((IsValidEntry fragment.now.entry → ⊥) → self.new ≡ self.old) }
         ensures err { OnErr result (self.new ≡ self.old) }
     {
         if !fragment.entry.is_valid() {

@@ -4,7 +4,7 @@ ghost use Rattle.cds_stamps.specs.Outcomes.{ok_unless};
 ghost use Rattle.directory.specs.Shown.{live_refusal};
 ghost use Rattle.directory.specs.Updates.{change_of, changed_name};
 ghost use Rattle.directory.specs.EntryChanges.{changes, creation};
-ghost use Rattle.directory.specs.OwnUpdates.{is_own, IsOwnUpdate};
+ghost use Rattle.directory.specs.OwnUpdateWords.{is_own, IsOwnUpdate};
 
 use attr_sets::{CellChange, Value};
 use cds_stamps::{AttrName, SimpleName};

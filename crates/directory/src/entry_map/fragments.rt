@@ -1,6 +1,6 @@
 // What an accepted update adds.
 ghost use Rattle.std.specs.Prelude.{◌≡◌, Some, None, true, IfOk};
-ghost use Rattle.directory.specs.OwnUpdates.{is_own};
+ghost use Rattle.directory.specs.OwnUpdateWords.{is_own};
 ghost use Rattle.directory.specs.Updates.{Repoint, changed_name, change_of};
 ghost use Rattle.directory.specs.Histories.{entry_of};
 ghost use Rattle.directory.specs.Shown.{shown_in, refusal_of, marks_of};

@@ -1,10 +1,10 @@
 // Updates that are applied in place, and whose fragments are told.
 ghost use Rattle.std.specs.Prelude.{◌≡◌, Option, IfOk, IfSome};
 ghost use Rattle.std.specs.FinMap as map;
-ghost use Rattle.directory.specs.OwnUpdates.{own_made, AcceptsOwn};
+ghost use Rattle.directory.specs.OwnUpdateWords.{own_made, AcceptsOwn};
 ghost use Rattle.directory.specs.Updates.{change_of};
 ghost use Rattle.directory.specs.Shown.{Shown, new_refusal, refusal_of};
-ghost use Rattle.directory.specs.Told.{TellsUpdate};
+ghost use Rattle.directory.specs.ToldWords.{TellsUpdate};
 
 use super::EntryMap;
 use crate::entry::Fragment;

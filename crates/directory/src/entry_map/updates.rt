@@ -1,10 +1,10 @@
 // Updates that are applied in place.
 ghost use Rattle.std.specs.Prelude.{◌≡◌, Option, None, OnOk, OnErr};
 ghost use Rattle.directory.specs.Applied.{TakesOwn, TakesIn, JoinsEntry, LeavesOthers};
-ghost use Rattle.directory.specs.OwnUpdates.{own_made, AcceptsOwn};
+ghost use Rattle.directory.specs.OwnUpdateWords.{own_made, AcceptsOwn};
 ghost use Rattle.directory.specs.Updates.{changed_name, change_of};
 ghost use Rattle.directory.specs.Shown.{Shown, shown_in, new_refusal, refusal_of, marks_of};
-ghost use Rattle.directory.specs.Told.{AcceptsUpdate};
+ghost use Rattle.directory.specs.ToldWords.{AcceptsUpdate};
 
 use super::EntryMap;
 use crate::entry::Fragment;

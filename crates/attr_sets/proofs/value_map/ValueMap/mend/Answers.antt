@@ -1,4 +1,4 @@
-use Rattle.std.proofs.Common.{ap, refl}
+use Rattle.std.proofs.Common.{refl}
 use Rattle.std.specs.Cmp.Lexicographic.{nat_list_cmp_total}
 use Rattle.cds_stamps.specs.Octets.{octets_exact}
 use Rattle.cds_stamps.specs.Undos.{put_back}

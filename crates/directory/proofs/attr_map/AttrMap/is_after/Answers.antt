@@ -8,4 +8,4 @@ use Rattle.directory.proofs.attr_map.AttrMap.is_after.Goals as goal
 pub loop-cell-init : goal.loop-cell-init
 loop-cell-init c =
     whole_starts nat_list_cmp_total octets_exact (cell_after c.args.t) c.args.self.now c.self.inside.cells _ c.self.view_is
-    (c.into_iter-cell-iterator.ensures.into_iter_gives ∙ c.iter-cell-items.ensures.rest)
+    c.iter-cell-items.ensures.ordered (c.into_iter-cell-iterator.ensures.into_iter_gives ∙ c.iter-cell-items.ensures.rest)

@@ -1,6 +1,6 @@
 use Rattle.std.proofs.Common.{◌∙◌, refl, sym}
 use Rattle.std.proofs.lemmas.Result.{on_ok_weaker}
-use Rattle.directory.specs.OwnUpdates.{own_made, own_refusal}
+use Rattle.directory.specs.OwnUpdateWords.{own_made, own_refusal}
 use Rattle.directory.specs.Updates.{changed_name, change_of}
 use Rattle.directory.specs.Shown.{shown_in, marks_of}
 use Rattle.directory.proofs.Applying.{takes_shown, takes_fragment}

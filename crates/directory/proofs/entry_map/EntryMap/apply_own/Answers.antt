@@ -4,7 +4,7 @@ use Rattle.std.specs.FinMap as map
 use Rattle.std.specs.Cmp.Lexicographic.{nat_list_cmp_total}
 use Rattle.cds_stamps.specs.Octets.{octets_exact}
 use Rattle.cds_stamps.proofs.Undoing.{not_here}
-use Rattle.directory.specs.OwnUpdates.{own_made}
+use Rattle.directory.specs.OwnUpdateWords.{own_made}
 use Rattle.directory.proofs.Applying.{takes_none}
 use Rattle.directory.proofs.Telling.{stays_here, takes_here, apart_here}
 use Rattle.directory.proofs.entry_map.EntryMap.apply_own.Goals.{in-Some, in-None}

@@ -1,6 +1,6 @@
 use Rattle.std.proofs.Common.{◌≡◌, IfOk, ap, refl, sym, subst}
 use Rattle.std.specs.Prelude.{IfSome}
-use Rattle.directory.specs.OwnUpdates.{own_made}
+use Rattle.directory.specs.OwnUpdateWords.{own_made}
 use Rattle.directory.proofs.Dropping.{found}
 use Rattle.directory.proofs.Telling.{accepts_here, accepts_none}
 use Rattle.directory.proofs.entry_map.EntryMap.tell_own.Goals.{in-Some, in-None}
