@@ -38,7 +38,7 @@ use Rattle.clearinghouse.specs.Refusing.{held_refusal, stamp_unless}
 use Rattle.clearinghouse.specs.Standing.{StandsHeld}
 use Rattle.clearinghouse.specs.Stepping.{IsStampAnswer}
 use Rattle.clearinghouse.specs.Posting.{StandEach, posts_if, posts_of}
-use Rattle.clearinghouse.specs.PrivateTurns.{new_marks, AddsMarks, IssuesAt, HeldStep, PostsFragment}
+use Rattle.clearinghouse.specs.PrivateTurns.{AddsMarks, HeldStep, IssuesAt, PostsFragment, new_marks}
 use Rattle.clearinghouse.proofs.Posts.{posts_stand}
 
 -- what is held shows what the replica of the model shows

@@ -37,7 +37,8 @@ use Rattle.clearinghouse.specs.Standing.{StandsPhase}
 use Rattle.clearinghouse.specs.Stepping.{IsBegunAnswer}
 use Rattle.clearinghouse.specs.Lawful.{IsLawfulHeld}
 use Rattle.clearinghouse.specs.Refusing.{begun_among}
-use Rattle.clearinghouse.specs.PrivateTurns.{Advances, IssuesAt, HeldStep, place_in}
+use Rattle.clearinghouse.specs.PrivateTurns.{HeldStep, IssuesAt}
+use Rattle.clearinghouse.specs.Taking.{Advances, place_in}
 use Rattle.clearinghouse.proofs.Phases.{BeginRow, complete, begun, begin_row, phase_listed, place_listed, same_running}
 use Rattle.clearinghouse.proofs.Accepting.{held_replica}
 use Rattle.clearinghouse.proofs.Posts.{posts_stand}

@@ -34,10 +34,12 @@ use Rattle.clearinghouse.specs.Lawful.{IsLawful}
 use Rattle.clearinghouse.specs.Posting.{LooksBody, LooksMessage, StandsMessage, posts_at}
 use Rattle.clearinghouse.specs.Standing.{LooksHouse, StandsHouse}
 use Rattle.clearinghouse.specs.Stepping.{IsStep, IsTakeAnswer, LooksStep, UnlessTaken, is_taken}
+use Rattle.clearinghouse.specs.Taking.{Takes, TakesBody}
 use Rattle.clearinghouse.specs.Times.{latest_in_message}
-use Rattle.clearinghouse.specs.PrivateTurns.{AfterGathered, AfterSpread, Heeds, SameHouse, TakesFirst, TakesOwn, TakesSecond, copy_of, held_in}
-use Rattle.clearinghouse.specs.PrivateTaking.{Answers, Copies, HasCopy, HasJoined, HasLeft, Merges, TakesAt, TakesHere, TakesJoin, TakesLeave}
-use Rattle.clearinghouse.specs.PrivateTaking.{TakesOther, holding, join_bar, leave_passed}
+use Rattle.clearinghouse.specs.PrivateTurns.{Heeds, SameHouse}
+use Rattle.clearinghouse.specs.Taking.{AfterGathered, AfterSpread, Answers, Copies, HasCopy, HasJoined, HasLeft, Merges, TakesAt, TakesFirst}
+use Rattle.clearinghouse.specs.Taking.{TakesHere, TakesJoin, TakesLeave, TakesOther, TakesOwn, TakesSecond, copy_of, held_in, holding, join_bar}
+use Rattle.clearinghouse.specs.Taking.{leave_passed}
 use Rattle.clearinghouse.proofs.Houses.{got_there, same_house}
 use Rattle.clearinghouse.proofs.Keeping.{other_kept, join_kept, leave_kept, stale_phase}
 use Rattle.clearinghouse.proofs.Maps.{if_ok_map}
@@ -48,6 +50,7 @@ use Rattle.clearinghouse.proofs.JoinSteps.{message_step, message_looks, join_ste
 pub record Does (msg : Message) (old new : Clearinghouse) (a : Taken) (o : Option Outgoing) : Type 0 where
   pub who : SameHouse old new
   pub same : UnlessTaken a ((new ≡ old) × (o ≡ None))
+  pub takes : Takes msg old new a o
   pub kept : IsValidMessage msg → IsLawful old → IsLawful new
   pub others : (dir : DirId) → dir ≢ msg.dir → get new.dirs dir ≡ get old.dirs dir
   pub looks : (now : model.House) (m : model.Message) → LooksHouse old msg.dir now → LooksMessage old.house.0 msg m
@@ -230,6 +233,19 @@ other_of (body.Spread t r) model.Leave j l z = z
 other_of (body.SpreadAck t) model.Leave j l z = z
 other_of (body.Advance t) model.Leave j l z = z
 
+-- what becomes of a clearinghouse where a message is neither
+other_takes : (b : Body) (msg : Message) (old new : Clearinghouse) (a : Taken) (o : Option Outgoing)
+    → ((ms : List declared.Member) (r : Replica) → b ≡ body.Join ms r → ⊥) → (b ≡ body.Leave → ⊥) → TakesOther msg old new a o
+    → TakesBody b msg old new a o
+other_takes (body.Update f) msg old new a o j l z = z
+other_takes (body.Gather t) msg old new a o j l z = z
+other_takes (body.Gathered t r) msg old new a o j l z = z
+other_takes (body.Spread t r) msg old new a o j l z = z
+other_takes (body.SpreadAck t) msg old new a o j l z = z
+other_takes (body.Advance t) msg old new a o j l z = z
+other_takes (body.Join ms r) msg old new a o j l z = absurd (j ms r refl)
+other_takes body.Leave msg old new a o j l z = absurd (l refl)
+
 -- any message but a Join or a Leave
 pub other_does : (msg : Message) (old new : Clearinghouse) (a : Taken) (o : Option Outgoing)
     → ((ms : List declared.Member) (r : Replica) → msg.body ≡ body.Join ms r → ⊥)
@@ -239,6 +255,7 @@ other_does msg old new a o not-join not-leave z =
     record {
       who = rest.0.0;
       same = rest.1;
+      takes = other_takes msg.body msg old new a o not-join not-leave z;
       kept = λ valid. other_kept msg old new a o valid z;
       others = rest.0.1;
       looks = λ now m looks carries. message_looks msg now old new a o m looks carries (other_of msg.body m.body not-join not-leave carries.body) z;
@@ -263,6 +280,7 @@ join_does msg ms r old new a o is z =
     record {
       who = rest.0.0;
       same = rest.1;
+      takes = subst (λ b. TakesBody b msg old new a o) (sym is) z;
       kept = λ valid. join_kept msg ms r old new a o is valid z;
       others = rest.0.1;
       looks = λ now m looks carries. join_looks msg now old new a o ms r m is looks carries z;
@@ -282,6 +300,7 @@ leave_does msg old new a o is z =
     record {
       who = rest.0.0;
       same = rest.1;
+      takes = subst (λ b. TakesBody b msg old new a o) (sym is) z;
       kept = λ valid. leave_kept msg old new a o z;
       others = rest.0.1;
       looks = λ now m looks carries. leave_looks msg now old new a o m is looks carries z;

@@ -32,7 +32,9 @@ use Rattle.clearinghouse.specs.Posting.{StandEach, epoch_posts_at, leave_of, num
 use Rattle.clearinghouse.specs.Refusing.{IsLater, epoch_refused}
 use Rattle.clearinghouse.specs.Standing.{StandsHeld, StandsHouse}
 use Rattle.clearinghouse.specs.Stepping.{Enters, IsEpochAnswer, IsStep, IsTurn}
-use Rattle.clearinghouse.specs.PrivateTurns.{SameHouse, first_held, held_in}
+use Rattle.clearinghouse.specs.PrivateTurns.{SameHouse}
+use Rattle.clearinghouse.specs.Stepping.{first_held, founded}
+use Rattle.clearinghouse.specs.Taking.{held_in}
 use Rattle.clearinghouse.proofs.Houses.{by_slot, got_here, house_holds, house_lawful, turn_of}
 use Rattle.clearinghouse.proofs.Posts.{each_append, each_stands, posts_stand}
 
@@ -54,10 +56,6 @@ first_lawful me floor ms = record {
   replica = record { table = table_of-up_to floor [] tt; all_up_to = tt };
   skulk = λ t e. absurd (cc);
 }
-
--- the house that holds it
-abbrev pub founded : Clearinghouse → DirId → List declared.Member → Clearinghouse
-founded c dir ms = record c { dirs = insert c.dirs dir (state.Held (first_held ms)) }
 
 -- makes a turn of the model
 founds : (c : Clearinghouse) (now : model.House) (dir : DirId) (ms : List declared.Member) → StandsHouse c now

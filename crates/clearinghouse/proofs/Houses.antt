@@ -23,7 +23,8 @@ use Rattle.clearinghouse.specs.Lawful.{IsLawful, IsLawfulHeld}
 use Rattle.clearinghouse.specs.Posting.{StandEach, posts_if, posts_at, sender_of}
 use Rattle.clearinghouse.specs.Standing.{LooksSlot, StandsHeld, StandsHouse, StandsSlot}
 use Rattle.clearinghouse.specs.Stepping.{IsCall, IsStep, IsTurn}
-use Rattle.clearinghouse.specs.PrivateTurns.{Heeds, HeldStep, HeldTurn, SameHouse, held_in}
+use Rattle.clearinghouse.specs.PrivateTurns.{Heeds, HeldStep, HeldTurn, SameHouse}
+use Rattle.clearinghouse.specs.Taking.{held_in}
 use Rattle.clearinghouse.proofs.Lawfulness.{lawful_later}
 use Rattle.clearinghouse.proofs.Maps.{if_ok_map, unchanged}
 use Rattle.clearinghouse.proofs.Posts.{posts_none}

@@ -35,9 +35,9 @@ use Rattle.clearinghouse.specs.Posting.{StandsBody, StandsMessage, LooksBody, Lo
 use Rattle.clearinghouse.specs.Standing.{LooksHeld, LooksSlot, LooksHouse, StandsHeld, StandsSlot, StandsHouse}
 use Rattle.clearinghouse.specs.Stepping.{IsTakeAnswer, IsStep, LooksStep, is_taken}
 use Rattle.clearinghouse.specs.Times.{latest_in_message}
-use Rattle.clearinghouse.specs.PrivateTurns.{HeldStep, LooksAfter, copy_of, floor_taken, held_in}
-use Rattle.clearinghouse.specs.PrivateTaking.{Answers, Merges, Copies, HasJoined, TakesJoin, HasLeft, TakesLeave, TakesAt, TakesOther, join_passed}
-use Rattle.clearinghouse.specs.PrivateTaking.{join_foreign, leave_passed}
+use Rattle.clearinghouse.specs.PrivateTurns.{HeldStep, LooksAfter, floor_taken}
+use Rattle.clearinghouse.specs.Taking.{Answers, Copies, HasJoined, HasLeft, Merges, TakesAt, TakesJoin, TakesLeave, TakesOther, copy_of, held_in}
+use Rattle.clearinghouse.specs.Taking.{join_foreign, join_passed, leave_passed}
 use Rattle.clearinghouse.proofs.Houses.{house_holds, got_here, slot_looks, step_of}
 use Rattle.clearinghouse.proofs.Posts.{posts_none}
 use Rattle.clearinghouse.proofs.TakeSteps.{replica_taken, message_is, latest_is, other_step, other_looks}

@@ -32,10 +32,9 @@ use Rattle.clearinghouse.specs.declared.taking.Taken.TheVariants as answers
 use Rattle.clearinghouse.specs.Lawful.{IsLawful, IsLawfulHeld, RunsSkulk}
 use Rattle.clearinghouse.specs.Stepping.{is_taken}
 use Rattle.clearinghouse.specs.Times.{BodyUpTo, latest_in_body, latest_in_message}
-use Rattle.clearinghouse.specs.PrivateTurns.{Advances, AfterGathered, AfterSpread, JoinsAnswer, JoinsCopy, TakesFirst, TakesOwn, TakesReplica}
-use Rattle.clearinghouse.specs.PrivateTurns.{TakesSecond, copy_of, held_in, place_in}
-use Rattle.clearinghouse.specs.PrivateTaking.{Answers, Copies, HasCopy, HasJoined, HasLeft, Merges, TakesAt, TakesHere, TakesJoin, TakesLeave}
-use Rattle.clearinghouse.specs.PrivateTaking.{TakesOther, join_bar, leave_passed}
+use Rattle.clearinghouse.specs.Taking.{Advances, AfterGathered, AfterSpread, Answers, Copies, HasCopy, HasJoined, HasLeft, JoinsAnswer, JoinsCopy}
+use Rattle.clearinghouse.specs.Taking.{Merges, TakesAt, TakesFirst, TakesHere, TakesJoin, TakesLeave, TakesOther, TakesOwn, TakesReplica}
+use Rattle.clearinghouse.specs.Taking.{TakesSecond, copy_of, held_in, join_bar, leave_passed, place_in}
 use Rattle.clearinghouse.proofs.Houses.{house_lawful, kept_at}
 use Rattle.clearinghouse.proofs.Lawfulness.{lawful_later}
 

@@ -26,7 +26,7 @@ use Rattle.cell_model.specs.Sets.{has}
 use Rattle.cell_model.specs.Turns as turn
 use Rattle.cell_model.specs.Turns.{HouseStep, all_answered}
 use Rattle.cell_model.proofs.Lists.{eq_from, stamp_from}
-use Rattle.clearinghouse.specs.PrivateTurns.{place_in}
+use Rattle.clearinghouse.specs.Taking.{place_in}
 use Rattle.clearinghouse.specs.Standing.{StandsRound, StandsPhase}
 
 -- ---- places of houses

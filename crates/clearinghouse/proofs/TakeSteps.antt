@@ -49,9 +49,9 @@ use Rattle.clearinghouse.specs.Posting.{receiver_of}
 use Rattle.clearinghouse.specs.Standing.{LooksHeld, StandsHeld, StandsPhase}
 use Rattle.clearinghouse.specs.Stepping.{IsTakeAnswer}
 use Rattle.clearinghouse.specs.Times.{BodyUpTo, latest_in_body, latest_in_message}
-use Rattle.clearinghouse.specs.PrivateTurns.{HeldTurn, HeldStep, LooksAfter, TakesFragment, TakesReplica, Advances, JoinsAnswer, AfterGathered}
-use Rattle.clearinghouse.specs.PrivateTurns.{TakesFirst, AfterSpread, TakesSecond, TakesOwn, floor_taken, place_in}
-use Rattle.clearinghouse.specs.PrivateTaking.{Answers, TakesHere}
+use Rattle.clearinghouse.specs.PrivateTurns.{HeldStep, HeldTurn, LooksAfter, floor_taken}
+use Rattle.clearinghouse.specs.Taking.{Advances, AfterGathered, AfterSpread, Answers, JoinsAnswer, TakesFirst, TakesFragment, TakesHere, TakesOwn}
+use Rattle.clearinghouse.specs.Taking.{TakesReplica, TakesSecond, place_in}
 use Rattle.clearinghouse.proofs.Phases.{GatherRow, AckRow, gather_row, ack_row, placed, unlisted, place_listed}
 use Rattle.clearinghouse.proofs.Phases as phases
 use Rattle.clearinghouse.proofs.Posts.{posts_stand}

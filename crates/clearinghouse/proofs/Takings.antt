@@ -17,8 +17,7 @@ use Rattle.clearinghouse.specs.declared.states.Held.{Held}
 use Rattle.clearinghouse.specs.declared.outgoing.Outgoing.{Outgoing}
 use Rattle.clearinghouse.specs.declared.taking.Taken.{Taken}
 use Rattle.clearinghouse.specs.declared.taking.Taken.TheVariants as answers
-use Rattle.clearinghouse.specs.PrivateTurns.{AfterGathered, AfterSpread, JoinsAnswer, copy_of, held_in}
-use Rattle.clearinghouse.specs.PrivateTaking.{HasCopy, Merges, Copies, join_foreign}
+use Rattle.clearinghouse.specs.Taking.{AfterGathered, AfterSpread, Copies, HasCopy, JoinsAnswer, Merges, copy_of, held_in, join_foreign}
 use Rattle.clearinghouse.proofs.Phases.{placed, unlisted}
 
 -- a house of which a place is found is listed, and any other is not

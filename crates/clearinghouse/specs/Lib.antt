@@ -2,10 +2,10 @@ pub mod PrivateCodes
 pub mod Posting
 pub mod Standing
 pub mod Stepping
+pub mod Taking
 pub mod Refusing
 pub mod Times
 pub mod Lawful
 pub mod PrivateTurns
-pub mod PrivateTaking
 pub mod PrivateLending
 pub mod Imaging

@@ -16,6 +16,7 @@ use Rattle.clearinghouse.specs.declared.outgoing.Outgoing.TheVariants as out
 use Rattle.clearinghouse.specs.declared.posted.Posted.{Posted}
 use Rattle.clearinghouse.specs.declared.states.Held.{Held}
 use Rattle.clearinghouse.specs.declared.states.DirState.TheVariants as state
+use Rattle.purge_rule.specs.Replicas.{replica_of}
 use Rattle.clearinghouse.specs.declared.updates.Accepted.{Accepted}
 use Rattle.clearinghouse.specs.declared.updates.Accepted.TheVariants as accepted
 use Rattle.clearinghouse.specs.declared.skulks.Skulked.{Skulked}
@@ -148,6 +149,14 @@ pub record Enters (old new : Clearinghouse) (dir : DirId) (epoch : EpochNo) (mem
   pub before : get old.dirs dir ≡ Some (state.Held held)
   pub after : new.dirs ≡ insert old.dirs dir (state.Held (record held { epoch = epoch; members = members; skulk = skulk.Idle }))
   pub floor : new.floor ≡ old.floor
+
+-- what the master of a new directory holds (own)
+abbrev pub first_held : List declared.Member → Held
+first_held ms = record { epoch = record { 0 = 1 }; members = ms; replica = replica_of [] None; skulk = skulk.Idle }
+
+-- the clearinghouse that holds it besides what it has (own)
+abbrev pub founded : Clearinghouse → DirId → List declared.Member → Clearinghouse
+founded c dir ms = record c { dirs = insert c.dirs dir (state.Held (first_held ms)) }
 
 -- ---- what was posted
 

@@ -5,7 +5,7 @@ ghost use Rattle.cds_stamps.specs.Members.{members_of, since_in};
 ghost use Rattle.purge_rule.specs.Replicas.{replica_of};
 ghost use Rattle.skulk_core.specs.declared.skulk.Skulk.TheVariants as skulk;
 ghost use Rattle.clearinghouse.specs.Posting.{leave_of, numbers_of, posts_to};
-ghost use Rattle.clearinghouse.specs.PrivateTurns.{first_held};
+ghost use Rattle.clearinghouse.specs.Stepping.{first_held};
 ghost use Rattle.clearinghouse.specs.Refusing.{epoch_fault};
 
 use crate::outgoing::Sender;

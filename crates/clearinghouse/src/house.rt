@@ -10,7 +10,8 @@ ghost use Rattle.cell_model.specs.Cells as model;
 ghost use Rattle.cell_model.specs.Turns.{found, accept, skulk, new_epoch};
 ghost use Rattle.clearinghouse.specs.Lawful.{IsLawful};
 ghost use Rattle.clearinghouse.specs.Posting.{epoch_posts_at, numbers_of, posts_at, sender_of};
-ghost use Rattle.clearinghouse.specs.PrivateTurns.{Heeds, SameHouse, first_held};
+ghost use Rattle.clearinghouse.specs.PrivateTurns.{Heeds, SameHouse};
+ghost use Rattle.clearinghouse.specs.Stepping.{first_held, founded};
 ghost use Rattle.clearinghouse.specs.declared.outgoing.Outgoing.TheVariants as out;
 ghost use Rattle.clearinghouse.specs.declared.states.DirState.TheVariants as state;
 ghost use Rattle.clearinghouse.specs.Refusing.{accept_answer, skulk_answer, epoch_refused, IsLater};
@@ -115,6 +116,8 @@ impl Clearinghouse {
         ensures call { IsCall self.old self.new result }
         ensures floor { self.new.floor ≡ self.old.floor }
         ensures kept { IsLawful self.old → IsLawful self.new }
+        ensures held { OnOk result (self.new ≡ founded self.old dir members.now) }
+        ensures posts { IfOk result (λ posted. posted ≡ posts_at self.new dir (Some out.Join)) }
         ensures step { (now : model.House) → StandsHouse self.old now
             → IfOk result (λ posted. IsTurn (found self.old.house.0 now dir.0 (members_of members.now)) self.new posted) }
     {
@@ -134,6 +137,8 @@ impl Clearinghouse {
         ensures call { IsCall self.old self.new result }
         ensures floor { self.new.floor ≡ self.old.floor }
         ensures kept { IsLawful self.old → IsLawful self.new }
+        ensures held { OnOk result (self.new ≡ founded self.old dir members.now) }
+        ensures posts { IfOk result (λ outgoing. outgoing ≡ out.Join) }
         ensures step { (now : model.House) → StandsHouse self.old now
             → IfOk result (λ outgoing. IsTurn (found self.old.house.0 now dir.0 (members_of members.now)) self.new (posts_at self.new dir (Some outgoing))) }
     {
@@ -309,6 +314,7 @@ impl Clearinghouse {
         ensures answer { IfOk result (λ e. epoch_result e ≡ epoch_refused self.old.house.0 epoch.0 (members_of members.now) (map.get self.old.dirs dir)) }
         ensures refused { IfOk result (λ e. IfSome (epoch_result e) (λ _. self.new ≡ self.old)) }
         ensures held { IfOk result (λ e. IfNone (epoch_result e) (Enters self.old self.new dir epoch members.now)) }
+        ensures posts { IfOk result (λ e. epoch_posts e ≡ epoch_posts_at self.new dir epoch leaving.now (epoch_result e)) }
         ensures step { (now : model.House) → StandsHouse self.old now → IsLater epoch.0 (map.get self.old.dirs dir)
             → IfOk result (λ e. IsStep (IsEpochAnswer epoch.0 (epoch_result e))
             (new_epoch self.old.house.0 now dir.0 epoch.0 (members_of members.now) (numbers_of leaving.now)) self.old self.new (epoch_posts e)) }

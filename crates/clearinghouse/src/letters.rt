@@ -1,5 +1,5 @@
 // Messages as octets, encoded from what a house holds. Nothing is copied for them.
-ghost use Rattle.std.specs.Prelude.{◌≡◌, ◌≤◌, ◌∷◌, [], false, Some, IfOk, IfSome, MatchOption, length};
+ghost use Rattle.std.specs.Prelude.{◌≡◌, ◌<◌, ◌≤◌, ◌∷◌, [], false, Some, IfOk, IfSome, MatchOption, length};
 ghost use Rattle.cds_records.specs.Decoding.{IsWhole};
 ghost use Rattle.cds_records.specs.Octets.{message_octets, message_with};
 ghost use Rattle.cds_records.specs.Records as records;
@@ -33,6 +33,7 @@ impl Clearinghouse {
         outgoing: &Outgoing,
     ) -> Result<Option<Letters>, AllocError>
         ensures usable { IfOk result (λ _. self.now.spent ≡ false) }
+        ensures some { IfOk result (λ o. IfSome o (λ l. 0 < length l.receivers.items)) }
         ensures few { IfOk result (λ o. IfSome o (λ l. length l.receivers.items ≤ most_members)) }
         ensures posts { IfOk result (λ o. MatchOption o (posts_at self.now dir (Some outgoing.now) ≡ [])
             (λ l. AreLetters l (posts_at self.now dir (Some outgoing.now)))) }
@@ -54,6 +55,7 @@ impl Clearinghouse {
     ) -> Result<Letters, AllocError>
         ensures usable { IfOk result (λ _. self.now.spent ≡ false) }
         ensures few { IfOk result (λ l. length l.receivers.items ≡ length leaving.now) }
+        ensures octets { IfOk result (λ l. l.octets.items ≡ message_octets (leave_of (sender_of self.now dir) epoch)) }
         ensures posts { IfOk result (λ l. AreLetters l (posts_to (numbers_of leaving.now) (leave_of (sender_of self.now dir) epoch))) }
     {
         self.usable()?;
@@ -102,6 +104,7 @@ impl Held {
         sender: Sender,
         outgoing: &Outgoing,
     ) -> Result<Option<Letters>, AllocError>
+        ensures some { IfOk result (λ o. IfSome o (λ l. 0 < length l.receivers.items)) }
         ensures few { IfOk result (λ o. IfSome o (λ l. length l.receivers.items ≤ most_members)) }
         ensures posts { IfOk result (λ o. MatchOption o (posts_of sender self.now outgoing.now ≡ [])
             (λ l. AreLetters l (posts_of sender self.now outgoing.now))) }

@@ -5,7 +5,7 @@ ghost use Rattle.std.specs.List.{list_all};
 ghost use Rattle.std.specs.Option.{option_copied_mut};
 ghost use Rattle.cds_stamps.specs.declared.members.Member as declared;
 ghost use Rattle.cds_stamps.specs.Members.{is_accepting, members_fault, members_of, most_members, since_in};
-ghost use Rattle.clearinghouse.specs.PrivateTurns.{held_in, held_of, place_in};
+ghost use Rattle.clearinghouse.specs.Taking.{held_in, held_of, place_in};
 
 use cds_stamps::{DirId, EpochNo, HouseNo, MemberKind, Members};
 use purge_rule::Replica;

@@ -12,8 +12,9 @@ ghost use Rattle.clearinghouse.specs.Posting.{LooksMessage, StandsMessage, posts
 ghost use Rattle.clearinghouse.specs.Standing.{LooksHouse, StandsHouse};
 ghost use Rattle.clearinghouse.specs.Stepping.{IsCall, IsStep, IsTakeAnswer, LooksStep, UnlessTaken, IfTaken, is_taken};
 ghost use Rattle.clearinghouse.specs.Times.{latest_in_message};
-ghost use Rattle.clearinghouse.specs.PrivateTurns.{Advances, JoinsCopy, TakesFirst, TakesOwn, TakesSecond, copy_of, second_round_of};
-ghost use Rattle.clearinghouse.specs.PrivateTaking.{HasCopy, TakesHere, TakesJoin, TakesLeave, TakesOther, join_bar, join_passed, leave_passed};
+ghost use Rattle.clearinghouse.specs.Taking.{Advances, HasCopy, JoinsCopy, Takes, TakesFirst, TakesHere, TakesJoin, TakesLeave};
+ghost use Rattle.clearinghouse.specs.Taking.{TakesOther, TakesOwn, TakesPosting, TakesSecond};
+ghost use Rattle.clearinghouse.specs.Taking.{copy_of, join_bar, join_passed, leave_passed, second_round_of};
 ghost use Rattle.clearinghouse.specs.declared.taking.Taken.TheVariants as answers;
 ghost use Rattle.clearinghouse.specs.declared.states.DirState.TheVariants as state;
 
@@ -248,6 +249,7 @@ impl Clearinghouse {
         ensures same { IfOk result (λ took. UnlessTaken took.taken ((self.new ≡ self.old) × (took.posted ≡ []))) }
         ensures floor { IfOk result (λ took. IfTaken took.taken (self.new.floor.time ≡ max self.old.floor.time (latest_in_message message.now))) }
         ensures others { OnOk result ((dir : number.DirId) → dir ≢ message.now.dir → map.get self.new.dirs dir ≡ map.get self.old.dirs dir) }
+        ensures does { IfOk result (λ took. TakesPosting message.now self.old self.new took.taken took.posted) }
         ensures looks { (now : model.House) (m : model.Message) → LooksHouse self.old message.now.dir now → LooksMessage self.old.house.0 message.now m
             → IfOk result (λ took. LooksStep (IsTakeAnswer took.taken) (take now m) message.now.dir self.new) }
         ensures step { (now : model.House) (m : model.Message) → StandsHouse self.old now → StandsMessage self.old.house.0 message.now m → CanTake now m
@@ -272,6 +274,7 @@ impl Clearinghouse {
         ensures same { IfOk result (λ turn. UnlessTaken turn.answer ((self.new ≡ self.old) × (turn.outgoing ≡ None))) }
         ensures floor { IfOk result (λ turn. IfTaken turn.answer (self.new.floor.time ≡ max self.old.floor.time (latest_in_message message.now))) }
         ensures others { OnOk result ((dir : number.DirId) → dir ≢ message.now.dir → map.get self.new.dirs dir ≡ map.get self.old.dirs dir) }
+        ensures does { IfOk result (λ turn. Takes message.now self.old self.new turn.answer turn.outgoing) }
         ensures looks { (now : model.House) (m : model.Message) → LooksHouse self.old message.now.dir now → LooksMessage self.old.house.0 message.now m
             → IfOk result (λ turn. LooksStep (IsTakeAnswer turn.answer) (take now m) message.now.dir self.new) }
         ensures step { (now : model.House) (m : model.Message) → StandsHouse self.old now → StandsMessage self.old.house.0 message.now m → CanTake now m

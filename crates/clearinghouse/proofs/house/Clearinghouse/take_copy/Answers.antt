@@ -7,8 +7,7 @@ use Rattle.std.proofs.lemmas.Result.{on_err_weaker}
 use Rattle.cds_stamps.specs.Members.{members_of, since_in}
 use Rattle.clearinghouse.specs.declared.house.Clearinghouse.{Clearinghouse}
 use Rattle.clearinghouse.specs.declared.states.DirState.TheVariants as state
-use Rattle.clearinghouse.specs.PrivateTurns.{held_in}
-use Rattle.clearinghouse.specs.PrivateTaking.{Copies, Merges}
+use Rattle.clearinghouse.specs.Taking.{Copies, Merges, held_in}
 use Rattle.clearinghouse.proofs.Houses.{same_house}
 use Rattle.clearinghouse.proofs.Takings.{copied_over, of_held, of_none, on_ok_map}
 use Rattle.clearinghouse.proofs.house.Clearinghouse.take_copy.Goals.{in_default-via-in-Some+else-le, in_default-via-in-None-1}

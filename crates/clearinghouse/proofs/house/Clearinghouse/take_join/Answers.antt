@@ -2,7 +2,7 @@ use Rattle.std.proofs.Common.{◌∙◌, ap, sym, subst}
 use Rattle.std.specs.Prelude.{max, MatchOption}
 use Rattle.cds_stamps.specs.declared.stamp.Floor.{Floor}
 use Rattle.clearinghouse.specs.declared.house.Clearinghouse.{Clearinghouse}
-use Rattle.clearinghouse.specs.PrivateTaking.{Answers, HasJoined}
+use Rattle.clearinghouse.specs.Taking.{Answers, HasJoined}
 use Rattle.clearinghouse.proofs.Takings.{copy_floor}
 use Rattle.clearinghouse.proofs.house.Clearinghouse.take_join.Goals as goal
 

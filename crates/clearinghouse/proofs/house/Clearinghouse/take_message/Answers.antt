@@ -3,6 +3,7 @@ use Rattle.clearinghouse.specs.declared.house.Clearinghouse.{Clearinghouse}
 use Rattle.clearinghouse.specs.declared.outgoing.Turn.{Turn}
 use Rattle.clearinghouse.specs.declared.taking.Taken.{Taken}
 use Rattle.clearinghouse.specs.Posting.{posts_at}
+use Rattle.clearinghouse.specs.Taking.{Takes}
 use Rattle.clearinghouse.specs.Stepping.{IsStep, IsTakeAnswer, LooksStep, UnlessTaken}
 use Rattle.cell_model.specs.Turns.{take}
 use Rattle.clearinghouse.proofs.Does.{DoesOr, done_other, done_join, done_leave, or_kept, or_others, or_told, or_who}
@@ -43,6 +44,13 @@ pub returns-clause-others : goal.returns-clause-others
 returns-clause-others c =
     or_others c.args.message.now c.args.self.now c.match-message.self c.heed.new.self c.match-message.done c.heed.result c.heed.ensures.result
     c.heed.ensures.heeds (does c)
+
+pub returns-clause-does : goal.returns-clause-does
+returns-clause-does c =
+    heed_ok c.match-message.self c.heed.new.self c.match-message.done c.heed.result c.heed.ensures.result c.heed.ensures.heeds
+    (λ (t : Turn Taken) (x : Clearinghouse). Takes c.args.message.now c.args.self.now x t.answer t.outgoing)
+    (or_told c.args.message.now c.args.self.now c.match-message.self c.match-message.done
+    (λ (t : Turn Taken). Takes c.args.message.now c.args.self.now c.match-message.self t.answer t.outgoing) (λ t d. d.takes) (does c))
 
 pub returns-clause-looks : goal.returns-clause-looks
 returns-clause-looks c now m looks carries =

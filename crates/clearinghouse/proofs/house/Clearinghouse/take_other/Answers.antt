@@ -4,7 +4,7 @@ use Rattle.std.specs.FinMap as map
 use Rattle.clearinghouse.specs.declared.house.Clearinghouse.{Clearinghouse}
 use Rattle.clearinghouse.specs.declared.states.DirState.TheVariants as state
 use Rattle.clearinghouse.specs.declared.taking.Taken.TheVariants as answers
-use Rattle.clearinghouse.specs.PrivateTaking.{Answers, TakesAt}
+use Rattle.clearinghouse.specs.Taking.{Answers, TakesAt}
 use Rattle.clearinghouse.proofs.Houses.{same_house}
 use Rattle.clearinghouse.proofs.Takings.{on_err_of}
 use Rattle.clearinghouse.proofs.house.Clearinghouse.take_other.Goals as goal

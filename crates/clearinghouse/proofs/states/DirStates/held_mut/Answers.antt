@@ -3,7 +3,7 @@ use Rattle.std.specs.FinMap as map
 use Rattle.cds_stamps.specs.declared.numbers.DirId.{DirId}
 use Rattle.clearinghouse.specs.declared.states.DirState.{DirState}
 use Rattle.clearinghouse.specs.declared.states.DirState.TheVariants as state
-use Rattle.clearinghouse.specs.PrivateTurns.{held_in}
+use Rattle.clearinghouse.specs.Taking.{held_in}
 use Rattle.clearinghouse.proofs.Maps.{found, same_ends, unchanged, written}
 use Rattle.clearinghouse.proofs.states.DirStates.held_mut.Goals as goal
 

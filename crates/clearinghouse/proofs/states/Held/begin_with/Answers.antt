@@ -1,6 +1,6 @@
 use Rattle.std.proofs.Common.{refl, subst}
 use Rattle.skulk_core.specs.Rounds.{IsPhaseOf}
-use Rattle.clearinghouse.specs.PrivateTurns.{place_in}
+use Rattle.clearinghouse.specs.Taking.{place_in}
 use Rattle.clearinghouse.proofs.Beginning.{row_begins, completed_step, completed_lawful, begun_answer, begun_step, begun_lawful}
 use Rattle.clearinghouse.proofs.states.Held.begin_with.Goals as goal
 
@@ -10,7 +10,7 @@ returns-in-Complete-clause-kept c =
     (row_begins c.args.by.house c.args.self.now.members c.args.t.now c.begin.new.self c.begin.result _ _ c.count-count.ensures.lawful
     c.requires.master c.count-count.ensures.count c.own_place-me.ensures.place c.begin.ensures.does)
     c.advance.new.self c.in-Complete.field-0 c.in-Complete.is
-    (record { merged = c.advance.ensures.merged; valid = c.advance.ensures.valid; below = λ n _. c.advance.ensures.times n })
+    (record { merged = c.advance.ensures.merged; up_to = c.advance.ensures.all_up_to; valid = c.advance.ensures.valid; below = λ n _. c.advance.ensures.times n })
 
 pub returns-in-Complete-clause-step : goal.returns-in-Complete-clause-step
 returns-in-Complete-clause-step c =
@@ -18,7 +18,7 @@ returns-in-Complete-clause-step c =
     (row_begins c.args.by.house c.args.self.now.members c.args.t.now c.begin.new.self c.begin.result _ _ c.count-count.ensures.lawful
     c.requires.master c.count-count.ensures.count c.own_place-me.ensures.place c.begin.ensures.does)
     c.advance.new.self c.in-Complete.field-0 c.in-Complete.is
-    (record { merged = c.advance.ensures.merged; valid = c.advance.ensures.valid; below = λ n _. c.advance.ensures.times n })
+    (record { merged = c.advance.ensures.merged; up_to = c.advance.ensures.all_up_to; valid = c.advance.ensures.valid; below = λ n _. c.advance.ensures.times n })
 
 pub returns-in_default : goal.returns-in_default
 returns-in_default c =

@@ -1,6 +1,6 @@
 use Rattle.std.proofs.Common.{◌≡◌, ◌∙◌, ap}
 use Rattle.std.specs.Prelude.{unwrap_or}
-use Rattle.clearinghouse.specs.PrivateTurns.{place_in}
+use Rattle.clearinghouse.specs.Taking.{place_in}
 use Rattle.clearinghouse.proofs.Phases.{place_within}
 use Rattle.clearinghouse.proofs.states.Held.own_place.Goals as goal
 

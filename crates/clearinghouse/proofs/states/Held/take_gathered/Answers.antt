@@ -1,6 +1,6 @@
 use Rattle.std.proofs.Common.{refl, ap, subst, ◌∙◌}
 use Rattle.skulk_core.specs.Rounds.{IsPhaseOf, TakesGathered}
-use Rattle.clearinghouse.specs.PrivateTurns.{place_in}
+use Rattle.clearinghouse.specs.Taking.{place_in}
 use Rattle.clearinghouse.proofs.Takings.{joins_answer}
 use Rattle.clearinghouse.proofs.states.Held.take_gathered.Goals as goal
 
@@ -21,6 +21,8 @@ returns-in_ok-take-in_default c = record {
     after = joins_answer c.args.t.now c.args.replica.now c.gathered.new.self c.gathered.result c.args.self.now _ _ _ c.in_default.not-Stale (record {
       replica = record {
         merged = c.in_ok-take-in_default.ensures.merged;
+        joined = c.in_ok-take-in_default.ensures.joined;
+        up_to = c.in_ok-take-in_default.ensures.all_up_to;
         valid = c.in_ok-take-in_default.ensures.valid;
         below = c.in_ok-take-in_default.ensures.times;
       };
