@@ -219,3 +219,16 @@ begun_answer t ms count mine phase n counted does more =
         → (count == 1) ≡ false
     by true does is = absurd (more t does.1)
     by false does is = is
+
+-- a skulk that is complete at once leaves none, and else its first round runs
+pub begun_idle : (b : Bool) (t : Stamp) (p : ℕ) (phase : Skulk) (n : Next) (u : Stamp)
+    → MatchBool b ((phase ≡ skulk.Idle) × (n ≡ next.Complete t)) (IsGathering t (only p) phase × (n ≡ next.Nothing)) → n ≡ next.Complete u
+    → phase ≡ skulk.Idle
+begun_idle true t p phase n u does is = does.0
+begun_idle false t p phase n u does is = absurd (let e : next.Nothing ≡ next.Complete u = sym does.1 ∙ is in cc)
+
+pub begun_round : (b : Bool) (t : Stamp) (p : ℕ) (phase : Skulk) (n : Next)
+    → MatchBool b ((phase ≡ skulk.Idle) × (n ≡ next.Complete t)) (IsGathering t (only p) phase × (n ≡ next.Nothing))
+    → ((u : Stamp) → n ≡ next.Complete u → ⊥) → IsGathering t (only p) phase
+begun_round true t p phase n does more = absurd (more t does.1)
+begun_round false t p phase n does more = does.0

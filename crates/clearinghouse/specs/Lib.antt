@@ -3,6 +3,7 @@ pub mod Posting
 pub mod Standing
 pub mod Stepping
 pub mod Taking
+pub mod Updating
 pub mod Refusing
 pub mod Times
 pub mod Lawful

@@ -16,6 +16,7 @@ ghost use Rattle.clearinghouse.specs.declared.outgoing.Outgoing.TheVariants as o
 ghost use Rattle.clearinghouse.specs.declared.states.DirState.TheVariants as state;
 ghost use Rattle.clearinghouse.specs.Refusing.{accept_answer, skulk_answer, epoch_refused, IsLater};
 ghost use Rattle.clearinghouse.specs.Standing.{StandsHouse};
+ghost use Rattle.clearinghouse.specs.Updating.{BeginsSkulk, PostsUpdate, TakesUpdate};
 ghost use Rattle.clearinghouse.specs.Stepping.{IsCall, IsTurn, IsStep, IsStampAnswer, IsAcceptAnswer, IsBegunAnswer, IsSkulkAnswer, Enters, begun_outgoing};
 ghost use Rattle.clearinghouse.specs.Stepping.{IsEpochAnswer, accept_result, accept_posts, skulk_result, skulk_posts, epoch_result, epoch_posts};
 
@@ -177,6 +178,8 @@ impl Clearinghouse {
         ensures answer { IfOk result (λ a. accept_result a
             ≡ accept_answer self.old.house.0 (next_stamp clock self.old.floor.time self.old.node) (change_of update.now) (map.get self.old.dirs dir)) }
         ensures refused { IfOk result (λ a. OnErr (accept_result a) (self.new ≡ self.old)) }
+        ensures takes { IfOk result (λ a. IfOk (accept_result a) (λ s.
+            PostsUpdate dir (change_of update.now) s self.old self.new (accept_posts a))) }
         ensures step { (now : model.House) → StandsHouse self.old now → now.clock ≡ clock
             → IfOk result (λ a. IsStep (IsAcceptAnswer a) (accept self.old.house.0 now dir.0 (change_of update.now)) self.old self.new (accept_posts a)) }
     {
@@ -201,6 +204,8 @@ impl Clearinghouse {
         ensures answer { IfOk result (λ turn. turn.answer
             ≡ accept_answer self.old.house.0 (next_stamp clock self.old.floor.time self.old.node) (change_of update.now) (map.get self.old.dirs dir)) }
         ensures refused { IfOk result (λ turn. OnErr turn.answer ((self.new ≡ self.old) × (turn.outgoing ≡ None))) }
+        ensures takes { IfOk result (λ turn. IfOk turn.answer (λ s.
+            TakesUpdate dir (change_of update.now) s self.old self.new turn.outgoing)) }
         ensures step { (now : model.House) → StandsHouse self.old now → now.clock ≡ clock
             → IfOk result (λ turn. IsStep (IsStampAnswer turn.answer) (accept self.old.house.0 now dir.0 (change_of update.now))
             self.old self.new (posts_at self.new dir turn.outgoing)) }
@@ -223,6 +228,8 @@ impl Clearinghouse {
         ensures answer { IfOk result (λ turn. turn.answer
             ≡ accept_answer self.old.house.0 (next_stamp clock self.old.floor.time self.old.node) (change_of update.now) (map.get self.old.dirs dir)) }
         ensures refused { IfOk result (λ turn. OnErr turn.answer ((self.new ≡ self.old) × (turn.outgoing ≡ None))) }
+        ensures takes { IfOk result (λ turn. IfOk turn.answer (λ s.
+            TakesUpdate dir (change_of update.now) s self.old self.new turn.outgoing)) }
         ensures step { (now : model.House) → StandsHouse self.old now → now.clock ≡ clock
             → IfOk result (λ turn. IsStep (IsStampAnswer turn.answer) (accept self.old.house.0 now dir.0 (change_of update.now))
             self.old self.new (posts_at self.new dir turn.outgoing)) }
@@ -247,6 +254,8 @@ impl Clearinghouse {
         ensures answer { IfOk result (λ s. skulk_result s
             ≡ skulk_answer self.old.house.0 (next_stamp clock self.old.floor.time self.old.node) (map.get self.old.dirs dir)) }
         ensures refused { IfOk result (λ s. OnErr (skulk_result s) (self.new ≡ self.old)) }
+        ensures begins { IfOk result (λ s. IfOk (skulk_result s) (λ b. BeginsSkulk dir b self.old self.new)) }
+        ensures posts { IfOk result (λ s. skulk_posts s ≡ posts_at self.new dir (begun_outgoing (skulk_result s))) }
         ensures step { (now : model.House) → StandsHouse self.old now → now.clock ≡ clock
             → IfOk result (λ s. IsStep (IsSkulkAnswer s) (skulk self.old.house.0 now dir.0) self.old self.new (skulk_posts s)) }
     {
@@ -271,6 +280,7 @@ impl Clearinghouse {
         ensures answer { IfOk result (λ turn. turn.answer
             ≡ skulk_answer self.old.house.0 (next_stamp clock self.old.floor.time self.old.node) (map.get self.old.dirs dir)) }
         ensures posts { IfOk result (λ turn. turn.outgoing ≡ begun_outgoing turn.answer) }
+        ensures begins { IfOk result (λ turn. IfOk turn.answer (λ b. BeginsSkulk dir b self.old self.new)) }
         ensures refused { IfOk result (λ turn. OnErr turn.answer ((self.new ≡ self.old) × (turn.outgoing ≡ None))) }
         ensures step { (now : model.House) → StandsHouse self.old now → now.clock ≡ clock
             → IfOk result (λ turn. IsStep (IsBegunAnswer turn.answer) (skulk self.old.house.0 now dir.0)
@@ -286,6 +296,7 @@ impl Clearinghouse {
         ensures kept { IsLawful self.old → IsLawful self.new }
         ensures answer { result.answer ≡ skulk_answer self.old.house.0 (next_stamp clock self.old.floor.time self.old.node) (map.get self.old.dirs dir) }
         ensures posts { result.outgoing ≡ begun_outgoing result.answer }
+        ensures begins { IfOk result.answer (λ b. BeginsSkulk dir b self.old self.new) }
         ensures refused { OnErr result.answer ((self.new ≡ self.old) × (result.outgoing ≡ None)) }
         ensures step { (now : model.House) → StandsHouse self.old now → now.clock ≡ clock
             → IsStep (IsBegunAnswer result.answer) (skulk self.old.house.0 now dir.0) self.old self.new (posts_at self.new dir result.outgoing) }

@@ -1,5 +1,5 @@
 // Skulks that a master begins.
-ghost use Rattle.std.specs.Prelude.{◌≡◌, ◌≤◌, ◌<◌, None, Some, Ok, OnErr};
+ghost use Rattle.std.specs.Prelude.{◌≡◌, ◌≤◌, ◌<◌, None, Some, Ok, IfOk, OnErr};
 ghost use Rattle.cds_stamps.specs.declared.numbers.DirId as number;
 ghost use Rattle.cds_stamps.specs.Members.{master_of, members_of, others_of};
 ghost use Rattle.cds_stamps.specs.Stamps.{next_stamp};
@@ -9,6 +9,7 @@ ghost use Rattle.clearinghouse.specs.Lawful.{IsLawfulHeld};
 ghost use Rattle.clearinghouse.specs.Refusing.{begun_among, not_master, stamp_unless};
 ghost use Rattle.clearinghouse.specs.Stepping.{IsBegunAnswer, begun_outgoing};
 ghost use Rattle.clearinghouse.specs.PrivateTurns.{HeldStep, IssuesAt};
+ghost use Rattle.clearinghouse.specs.Updating.{HeldBegins, stamp_of};
 
 use crate::outgoing::{Outgoing, Turn};
 use crate::posted::PostedList;
@@ -48,6 +49,7 @@ impl Held {
             ≡ begun_among self.old.members (stamp_unless (not_master by.house.0 self.old) (next_stamp by.clock floor.old.time by.node)) }
         ensures refused { OnErr result.answer ((self.new ≡ self.old) × (floor.new ≡ floor.old) × (result.outgoing ≡ None)) }
         ensures posts { result.outgoing ≡ begun_outgoing result.answer }
+        ensures begins { IfOk result.answer (λ b. HeldBegins by.house b self.old self.new × (floor.new.time ≡ (stamp_of b).time)) }
         ensures rises { floor.old.time ≤ floor.new.time }
         ensures kept { IsLawfulHeld by.house.0 floor.old.time self.old → IsLawfulHeld by.house.0 floor.new.time self.new }
         ensures step { (now : model.House) (dir : number.DirId) (r : model.Replica) → IssuesAt now by floor.old.time dir self.old r
@@ -68,6 +70,7 @@ impl Held {
         requires master { master_of (members_of self.old.members) ≡ by.house.0 }
         ensures answer { result.answer ≡ begun_among self.old.members (Ok t.now) }
         ensures posts { result.outgoing ≡ begun_outgoing result.answer }
+        ensures begins { IfOk result.answer (λ b. HeldBegins by.house b self.old self.new × (stamp_of b ≡ t.now)) }
         ensures kept { IsLawfulHeld by.house.0 t.now.time self.old → IsLawfulHeld by.house.0 t.now.time self.new }
         ensures step { (now : model.House) (dir : number.DirId) (r : model.Replica) → IssuesAt now by now.floor dir self.old r → now.floor < t.now.time
             → HeldStep (IsBegunAnswer result.answer) (begin by.house.0 now dir.0 r t.now (others_of by.house.0 r.members))

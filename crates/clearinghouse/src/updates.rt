@@ -12,6 +12,7 @@ ghost use Rattle.clearinghouse.specs.Refusing.{held_refusal, stamp_unless};
 ghost use Rattle.clearinghouse.specs.Stepping.{IsStampAnswer};
 ghost use Rattle.clearinghouse.specs.PrivateTurns.{AddsMarks, HeldStep, IssuesAt};
 ghost use Rattle.clearinghouse.specs.Standing.{StandsHeld};
+ghost use Rattle.clearinghouse.specs.Updating.{HeldTakes};
 
 use crate::outgoing::{Outgoing, Turn};
 use crate::posted::PostedList;
@@ -58,6 +59,8 @@ impl Held {
         ensures answer { IfOk result (λ turn. turn.answer
             ≡ stamp_unless (held_refusal by.house.0 (change_of update.now) self.old) (next_stamp by.clock floor.old.time by.node)) }
         ensures refused { IfOk result (λ turn. OnErr turn.answer ((self.new ≡ self.old) × (floor.new ≡ floor.old) × (turn.outgoing ≡ None))) }
+        ensures takes { IfOk result (λ turn. IfOk turn.answer (λ s.
+            HeldTakes by.house (change_of update.now) s self.old self.new turn.outgoing × (floor.new.time ≡ s.time))) }
         ensures rises { floor.old.time ≤ floor.new.time }
         ensures kept { OnOk result (IsLawfulHeld by.house.0 floor.old.time self.old → IsLawfulHeld by.house.0 floor.new.time self.new) }
         ensures err { OnErr result (self.new ≡ self.old) }
@@ -97,6 +100,7 @@ impl Held {
     ) -> Result<Result<Option<Outgoing>, UpdateRefusal>, AllocError>
         ensures refusal { IfOk result (λ answer.
             result_err answer ≡ refusal_of (shown_in self.old.replica.table (changed_name (change_of update.now))) (change_of update.now)) }
+        ensures takes { IfOk result (λ answer. IfOk answer (λ o. HeldTakes house (change_of update.now) stamp.now self.old self.new o)) }
         ensures adds { (r : model.Replica) (floor : ℕ) → StandsHeld house.0 floor self.old r → floor < stamp.now.time
             → IfOk result (λ answer. IfOk answer (λ o. AddsMarks house.0 r (change_of update.now) stamp.now self.new o)) }
         ensures kept { IfOk result (λ answer. OnOk answer

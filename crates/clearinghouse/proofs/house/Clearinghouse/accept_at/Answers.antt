@@ -1,15 +1,18 @@
 use Rattle.std.proofs.Common.{sym, ap, subst}
 use Rattle.std.specs.Prelude.{IfOk, OnOk}
+use Rattle.std.specs.FinMap as map
 use Rattle.std.proofs.lemmas.Result.{on_err_weaker}
 use Rattle.cds_stamps.specs.declared.stamp.Floor.{Floor}
 use Rattle.directory.specs.Updates.{change_of}
 use Rattle.cell_model.specs.Turns.{accept_in}
 use Rattle.cell_model.specs.Cells as model
 use Rattle.clearinghouse.specs.Lawful.{IsLawfulHeld}
+use Rattle.clearinghouse.specs.declared.states.DirState.TheVariants as state
+use Rattle.clearinghouse.specs.Updating.{HeldTakes}
 use Rattle.clearinghouse.specs.PrivateTurns.{HeldStep, IssuesAt}
 use Rattle.clearinghouse.specs.Stepping.{IsStampAnswer}
 use Rattle.clearinghouse.specs.declared.updates.Issuer.{Issuer}
-use Rattle.clearinghouse.proofs.Houses.{at_held, kept_at, kept_by, same_house}
+use Rattle.clearinghouse.proofs.Houses.{at_held, have_held, kept_at, kept_by, same_house}
 use Rattle.clearinghouse.proofs.Maps.{if_ok_map}
 use Rattle.clearinghouse.proofs.house.Clearinghouse.accept_at.Goals as goal
 
@@ -45,3 +48,20 @@ returns-in-Some-clause-step c = λ now stands ticks.
     (accept_in b.house.0 now c.args.dir.0 (change_of c.args.update.now) (model.Held q)) now b.house c.args.dir c.in-Some.held.now c.accept.new.self
     c.accept.new.floor.time x.outgoing)) who
     (c.accept.ensures.step now c.args.dir q at))
+
+pub returns-in-Some-clause-takes : goal.returns-in-Some-clause-takes
+returns-in-Some-clause-takes c =
+    if_ok_map _ _ c.accept.result
+    (λ turn takes. if_ok_map _ _ turn.answer
+    (λ s took. record {
+      before = c.in-Some.held.now;
+      holds = have_held (map.get c.args.self.now.dirs c.args.dir) c.in-Some.held.now c.in-Some.ensures.value;
+      held = c.accept.new.self;
+      takes = subst (λ (b : Issuer). HeldTakes b.house (change_of c.args.update.now) s c.in-Some.held.now c.accept.new.self turn.outgoing)
+          c.issuer-by.ensures took.0;
+      after = ap (λ t. record c.args.self.now {
+        floor = record { time = t };
+        dirs = map.insert c.args.self.now.dirs c.args.dir (state.Held c.accept.new.self);
+      }) took.1;
+    }) takes)
+    c.accept.ensures.takes

@@ -1,4 +1,5 @@
-use Rattle.std.proofs.Common.{sym, subst}
+use Rattle.std.proofs.Common.{ap, sym, subst}
+use Rattle.std.specs.FinMap as map
 use Rattle.std.proofs.lemmas.Result.{on_err_weaker}
 use Rattle.cell_model.specs.Cells as model
 use Rattle.cell_model.specs.Turns.{skulk_in}
@@ -6,7 +7,10 @@ use Rattle.clearinghouse.specs.Lawful.{IsLawfulHeld}
 use Rattle.clearinghouse.specs.PrivateTurns.{HeldStep, IssuesAt}
 use Rattle.clearinghouse.specs.Stepping.{IsBegunAnswer}
 use Rattle.clearinghouse.specs.declared.updates.Issuer.{Issuer}
-use Rattle.clearinghouse.proofs.Houses.{at_held_always, kept_at, same_house}
+use Rattle.clearinghouse.specs.declared.states.DirState.TheVariants as state
+use Rattle.clearinghouse.specs.Updating.{HeldBegins}
+use Rattle.clearinghouse.proofs.Maps.{if_ok_map}
+use Rattle.clearinghouse.proofs.Houses.{at_held_always, have_held, kept_at, same_house}
 use Rattle.clearinghouse.proofs.house.Clearinghouse.begin_at.Goals as goal
 
 pub returns-in-Some-clause-kept : goal.returns-in-Some-clause-kept
@@ -37,3 +41,18 @@ returns-in-Some-clause-step c = λ now stands ticks.
     subst (λ (b : Issuer). HeldStep (IsBegunAnswer c.begin_skulk.result.answer) (skulk_in b.house.0 now c.args.dir.0 (model.Held q)) now b.house c.args.dir
     c.in-Some.held.now c.begin_skulk.new.self c.begin_skulk.new.floor.time c.begin_skulk.result.outgoing) who
     (c.begin_skulk.ensures.step now c.args.dir q at))
+
+pub returns-in-Some-clause-begins : goal.returns-in-Some-clause-begins
+returns-in-Some-clause-begins c =
+    if_ok_map _ _ c.begin_skulk.result.answer
+    (λ b z. record {
+      before = c.in-Some.held.now;
+      holds = have_held (map.get c.args.self.now.dirs c.args.dir) c.in-Some.held.now c.in-Some.ensures.value;
+      held = c.begin_skulk.new.self;
+      begins = subst (λ (i : Issuer). HeldBegins i.house b c.in-Some.held.now c.begin_skulk.new.self) c.issuer-by.ensures z.0;
+      after = ap (λ t. record c.args.self.now {
+        floor = record { time = t };
+        dirs = map.insert c.args.self.now.dirs c.args.dir (state.Held c.begin_skulk.new.self);
+      }) z.1;
+    })
+    c.begin_skulk.ensures.begins

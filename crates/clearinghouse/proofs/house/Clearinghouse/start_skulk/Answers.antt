@@ -1,6 +1,8 @@
-use Rattle.std.proofs.Common.{[], Ok, refl, ap, ◌∙◌}
+use Rattle.std.proofs.Common.{[], Ok, refl, ap, sym, ◌∙◌}
 use Rattle.clearinghouse.proofs.Houses.{heed_lawful, posted_step}
-use Rattle.clearinghouse.proofs.Posts.{completed_posts}
+use Rattle.std.specs.FinMap as map
+use Rattle.clearinghouse.specs.Posting.{sender_of}
+use Rattle.clearinghouse.proofs.Posts.{completed_posts, posts_none}
 use Rattle.clearinghouse.proofs.house.Clearinghouse.start_skulk.Goals as goal
 
 pub returns-in_err-posted-clause-kept : goal.returns-in_err-posted-clause-kept
@@ -26,3 +28,11 @@ returns-in-Ok-Complete-clause-step c = λ now stands ticks.
 pub returns-clause-kept : goal.returns-clause-kept
 returns-clause-kept c = λ lawful.
     heed_lawful c.begin_skulk.new.self c.posted.new.self c.posted.result c.posted.result refl c.posted.ensures.heeds (c.begin_skulk.ensures.kept lawful)
+
+pub returns-in-Ok-Complete-clause-posts : goal.returns-in-Ok-Complete-clause-posts
+returns-in-Ok-Complete-clause-posts c =
+    sym (posts_none (sender_of c.posted.new.self c.args.dir) (map.get c.posted.new.self.dirs c.args.dir))
+
+pub returns-clause-posts : goal.returns-clause-posts
+returns-clause-posts c =
+    sym (posts_none (sender_of c.posted.new.self c.args.dir) (map.get c.posted.new.self.dirs c.args.dir))

@@ -44,3 +44,6 @@ returns-in-Err-clause-step c = λ now dir r at.
     rw (c.refused-in-Err.ensures, same)
     (table_refuses c.args.by now dir c.args.floor.now.time (change_of c.args.update.now) r c.args.self.now c.in-Err.refusal
     (sym c.if-not-accepts_from.ensures) why at)
+
+pub returns-in-Ok-clause-takes : goal.returns-in-Ok-clause-takes
+returns-in-Ok-clause-takes c = (rw c.in-Ok.is at c.in_ok-outgoing.ensures.takes, c.in-Some.ensures.floor)

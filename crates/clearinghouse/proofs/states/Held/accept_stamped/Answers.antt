@@ -1,6 +1,8 @@
-use Rattle.std.proofs.Common.{sym, ◌∙◌}
+use Rattle.std.proofs.Common.{None, Some, refl, subst, sym, ◌∙◌}
 use Rattle.cds_stamps.proofs.OutcomeLaws.{ok_unless-Ok, ok_unless-Err}
 use Rattle.directory.specs.Updates.{change_of}
+use Rattle.clearinghouse.specs.declared.outgoing.Outgoing.TheVariants as out
+use Rattle.clearinghouse.specs.Updating.{TellsMarks}
 use Rattle.clearinghouse.proofs.Accepting.{adds_alone, adds_posted}
 use Rattle.clearinghouse.proofs.Lawfulness.{adds_lawful}
 use Rattle.clearinghouse.proofs.MemberLists.{alone_none}
@@ -31,3 +33,21 @@ pub returns-in-Ok-told-clause-kept : goal.returns-in-Ok-told-clause-kept
 returns-in-Ok-told-clause-kept c =
     adds_lawful c.args.self.now c.accept_told.new.self (change_of c.args.update.now) c.args.stamp.now
     (sym (rw c.in-Ok-told.is at c.in_ok-told.ensures.answer)) (rw c.in-Ok-told.is at c.in_ok-told.ensures.ok)
+
+pub returns-in-Ok-clause-takes : goal.returns-in-Ok-clause-takes
+returns-in-Ok-clause-takes c = record {
+  takes = rw c.in-Ok.is at c.in_ok-accept.ensures.ok;
+  others = c.in_ok-accept.ensures.others;
+  rest = refl;
+  tells = subst (λ b. TellsMarks b c.args.self.now.replica.table (change_of c.args.update.now) c.args.stamp.now None) c.if-is_alone.ensures refl;
+}
+
+pub returns-in-Ok-told-clause-takes : goal.returns-in-Ok-told-clause-takes
+returns-in-Ok-told-clause-takes c = record {
+  takes = rw c.in-Ok-told.is at c.in_ok-told.ensures.ok;
+  others = c.in_ok-told.ensures.others;
+  rest = refl;
+  tells = subst (λ b. TellsMarks b c.args.self.now.replica.table (change_of c.args.update.now) c.args.stamp.now
+      (Some (out.Update c.in-Ok-told.fragment))) c.if-is_alone.ensures
+      (c.in-Ok-told.fragment, refl, rw c.in-Ok-told.is at c.in_ok-told.ensures.name, rw c.in-Ok-told.is at c.in_ok-told.ensures.entry);
+}

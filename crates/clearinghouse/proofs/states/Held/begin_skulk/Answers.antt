@@ -1,6 +1,8 @@
-use Rattle.std.proofs.Common.{◌≤◌, sym, arith}
+use Rattle.std.proofs.Common.{◌≤◌, ◌∙◌, ap, sym, arith}
 use Rattle.cell_model.proofs.Marks.{stamp_next}
 use Rattle.clearinghouse.proofs.Lawfulness.{lawful_later}
+use Rattle.clearinghouse.proofs.Maps.{if_ok_map}
+use Rattle.cds_stamps.specs.declared.stamp.Stamp.{Stamp}
 use Rattle.clearinghouse.proofs.states.Held.begin_skulk.Goals as goal
 
 pub returns-in-Some-clause-kept : goal.returns-in-Some-clause-kept
@@ -11,3 +13,8 @@ returns-in-Some-clause-kept c = λ lawful.
 
 pub returns-in-None-clause-kept : goal.returns-in-None-clause-kept
 returns-in-None-clause-kept c = λ lawful. rw c.in-None.ensures.floor lawful
+
+pub returns-in-Some-clause-begins : goal.returns-in-Some-clause-begins
+returns-in-Some-clause-begins c =
+    if_ok_map _ _ c.begin_with.result.answer
+    (λ b z. (z.0, c.in-Some.ensures.floor ∙ ap (λ (t : Stamp). t.time) (sym z.1))) c.begin_with.ensures.begins
