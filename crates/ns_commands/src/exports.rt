@@ -1,9 +1,10 @@
 // Commands about servers.
-ghost use Rattle.std.specs.Prelude.{option_copied};
+ghost use Rattle.std.specs.Prelude.{◌≡◌, IfSome, option_copied};
 ghost use Rattle.std.specs.Result.{result_map_both};
 ghost use Rattle.cds_stamps.specs.Outcomes.{Answers};
-ghost use Rattle.server_entries.specs.Exports.{unexported};
-ghost use Rattle.ns_commands.specs.Asks.{changes_in, export, unexport, unless_none};
+ghost use Rattle.cds_stamps.specs.declared.alloc_or.AllocOr.TheVariants.{Fault};
+ghost use Rattle.server_entries.specs.Exports.{export_fault, unexported};
+ghost use Rattle.ns_commands.specs.Asks.{changes_in, export, refusal_of_export as refusal, unexport, unless_none};
 
 use crate::entries::{object, place_to_fill, values_of};
 use crate::refusals::refusal_of_export;
@@ -19,7 +20,7 @@ use tower_codec::{Interface, StringBinding};
 use uuid::Uuid;
 
 /// The updates that export a server of an interface at these bindings, with these objects, to the entry of a name, which is
-/// made where it is absent.
+/// made where it is absent. Where there is nothing to export no memory is asked for.
 pub fn export<R: EntryReader>(
     alloc: Global,
     reader: &R,
@@ -28,8 +29,9 @@ pub fn export<R: EntryReader>(
     bindings: &[StringBinding],
     objects: &[Uuid],
 ) -> Result<Updates, AllocOr<ScriptRefusal>>
-    ensures { Answers (result_map_both changes_in (λ e. e) result)
+    ensures answer { Answers (result_map_both changes_in (λ e. e) result)
         (export (R.tells reader.now) name.now interface.now bindings.now objects.now) }
+    ensures faulty { IfSome (export_fault bindings.now objects.now) (λ fault. result ≡ Err (Fault (refusal fault))) }
 {
     check_export(bindings, objects).map_err(|fault| AllocOr::Fault(refusal_of_export(fault)))?;
     let place = place_to_fill(alloc, reader, name)?;

@@ -1,10 +1,12 @@
 // Commands about profiles.
-ghost use Rattle.std.specs.Prelude.{IsTrue, option_copied};
+ghost use Rattle.std.specs.Prelude.{◌≡◌, IfSome, IsTrue, option_copied};
 ghost use Rattle.std.specs.List.{list_all};
 ghost use Rattle.std.specs.Result.{result_map_both};
 ghost use Rattle.cds_stamps.specs.Outcomes.{Answers};
+ghost use Rattle.cds_stamps.specs.declared.alloc_or.AllocOr.TheVariants.{Fault};
 ghost use Rattle.ns_profiles.specs.Elements.{is_annotation_octet};
-ghost use Rattle.ns_commands.specs.Asks.{add_element, changes_in, delete_element, deleted_from};
+ghost use Rattle.ns_profiles.specs.Profiles.{add_fault};
+ghost use Rattle.ns_commands.specs.Asks.{add_element, changes_in, delete_element, deleted_from, refusal_of_profile as refusal};
 
 use crate::entries::{object, place_to_fill, values_of};
 use crate::refusals::refusal_of_profile;
@@ -19,7 +21,7 @@ use std::alloc::Global;
 use tower_codec::Interface;
 
 /// The updates that add an element to the profile of a name, which is made where it is absent: a default element where no
-/// interface is given. The annotation's octets are 0x20 to 0x7E.
+/// interface is given. The annotation's octets are 0x20 to 0x7E. Where there is a fault of the element no memory is asked for.
 pub fn add_element<R: EntryReader>(
     alloc: Global,
     reader: &R,
@@ -30,8 +32,10 @@ pub fn add_element<R: EntryReader>(
     annotation: &[u8],
 ) -> Result<Updates, AllocOr<ScriptRefusal>>
     requires { IsTrue (list_all is_annotation_octet annotation.now) }
-    ensures { Answers (result_map_both changes_in (λ e. e) result)
+    ensures answer { Answers (result_map_both changes_in (λ e. e) result)
         (add_element (R.tells reader.now) name.now (option_copied interface.entry) member.now priority annotation.now) }
+    ensures faulty { IfSome (add_fault (option_copied interface.entry) member.now priority annotation.now)
+        (λ fault. result ≡ Err (Fault (refusal fault))) }
 {
     check_new(interface, member, priority, annotation).map_err(|fault| AllocOr::Fault(
         refusal_of_profile(fault),

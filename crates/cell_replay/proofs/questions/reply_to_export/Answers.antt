@@ -19,7 +19,7 @@ returns-clause-said c g s =
     ∙ ap (λ (bs : List StringBinding). export (trusted g) a.name.now a.interface.now bs c.list-2.result.now) c.list.ensures
     ∙ ap (λ (os : List (List ℕ)). export (trusted g) a.name.now a.interface.now a.bindings.now os) c.list-2.ensures in
     asked_said c.export.result c.asked.result g (export (trusted g) a.name.now a.interface.now a.bindings.now a.objects.now) c.asked.ensures
-    (subst (Answers (result_map_both changes_in (λ e. e) c.export.result)) is c.export.ensures)
+    (subst (Answers (result_map_both changes_in (λ e. e) c.export.result)) is c.export.ensures.answer)
 
 pub returns-clause-up : goal.returns-clause-up
 returns-clause-up c =
@@ -27,7 +27,7 @@ returns-clause-up c =
     let cell = a.cell.now in
     let reader = told cell None true in
     let asks : Reader → Asks = λ r. export r a.name.now a.interface.now c.list.result.now c.list-2.result.now in
-    let is = subst (Answers (result_map_both changes_in (λ e. e) c.export.result)) (ap asks c.reader_of_masters-reader.ensures) c.export.ensures in
+    let is = subst (Answers (result_map_both changes_in (λ e. e) c.export.result)) (ap asks c.reader_of_masters-reader.ensures) c.export.ensures.answer in
     asked_up cell c.export.result c.asked.result (asks reader) c.asked.ensures is
     (unless_up cell _ _
     (place_up cell (placed reader c.args.name.now) _ (c.asked_houses_accept.ensures.placed_up cell None true c.args.name.now)))

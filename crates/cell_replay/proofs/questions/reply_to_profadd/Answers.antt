@@ -19,7 +19,7 @@ returns-clause-said c g s =
     ∙ ap (λ (os : List ℕ). add_element (trusted g) a.name.now (option_copied a.interface) a.member.now a.priority os) c.octets.ensures.octets in
     asked_said c.add_element.result c.asked.result g (add_element (trusted g) a.name.now (option_copied a.interface) a.member.now a.priority a.note.now)
     c.asked.ensures
-    (subst (Answers (result_map_both changes_in (λ e. e) c.add_element.result)) is c.add_element.ensures)
+    (subst (Answers (result_map_both changes_in (λ e. e) c.add_element.result)) is c.add_element.ensures.answer)
 
 pub returns-clause-up : goal.returns-clause-up
 returns-clause-up c =
@@ -27,7 +27,7 @@ returns-clause-up c =
     let cell = a.cell.now in
     let reader = told cell None true in
     let asks : Reader → Asks = λ r. add_element r a.name.now (option_copied a.interface) a.member.now a.priority c.octets.result.now in
-    let is = subst (Answers (result_map_both changes_in (λ e. e) c.add_element.result)) (ap asks c.reader_of_masters.ensures) c.add_element.ensures in
+    let is = subst (Answers (result_map_both changes_in (λ e. e) c.add_element.result)) (ap asks c.reader_of_masters.ensures) c.add_element.ensures.answer in
     asked_up cell c.add_element.result c.asked.result (asks reader) c.asked.ensures is
     (unless_up cell _ _
     (place_up cell (placed reader c.args.name.now) _ (c.asked_houses_accept.ensures.placed_up cell None true c.args.name.now)))
