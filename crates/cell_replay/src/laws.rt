@@ -12,7 +12,9 @@ ghost use Rattle.cell_replay.specs.Forms.{FormState, ByLines, ByTowers, Demands}
 ghost use Rattle.cell_replay.specs.Runs.{IsFront};
 ghost use Rattle.cell_replay.specs.Scripts.{IsScript, text_of};
 
-use crate::limits::{LONGEST_TOWER, MOST_TOWERS, MOST_UPDATES, MOST_WAITING, TOWER_SIGHT};
+use crate::limits::{
+    LONGEST_TOWER, MOST_ROUNDS, MOST_TOWERS, MOST_UPDATES, MOST_WAITING, TOWER_SIGHT,
+};
 use cds_cell::laws::{asked_houses_accept, masters_refuse_for_stamps_alone};
 use cell_model::holdings;
 use ns_groups::laws::group_updates_are_accepted;
@@ -74,11 +76,12 @@ pub fn name_commands_lack_stamps_alone()
     profile_updates_are_accepted();
 }
 
-/// The limits of towers, of updates, and of the replies that wait. A tower is looked at up to one octet more than it may have.
+/// The limits of towers, of updates, of the replies that wait, and of the rounds of `load`. A tower is looked at up to one octet more than it may have.
 pub fn limits_of_towers()
     ensures longest { LONGEST_TOWER ≡ 1024 }
     ensures sight { TOWER_SIGHT ≡ LONGEST_TOWER + 1 }
     ensures most { MOST_TOWERS ≡ 16777216 }
     ensures updates { MOST_UPDATES ≡ 3 * 2 ^ 30 }
     ensures waiting { MOST_WAITING ≡ 65536 }
+    ensures rounds { MOST_ROUNDS ≡ 20000 }
 {}

@@ -1,4 +1,4 @@
-//! The limits of towers, of updates, and of the replies that wait.
+//! The limits of towers, of updates, of the replies that wait, and of the rounds of `load`.
 
 /// How many octets a tower has at most.
 pub const LONGEST_TOWER: usize = 1024;
