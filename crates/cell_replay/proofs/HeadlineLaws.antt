@@ -1,13 +1,13 @@
 -- Where a line answers that a skulk is complete, its directory is settled; and what a line that imports lists.
-use Rattle.std.proofs.Common.{◌≡◌, ℕ, ◌≤◌, Bool, true, false, if◌then◌else◌, List, [], ◌∷◌, ◌++◌, refl, sym, ◌∙◌, ap, subst, append_assoc}
+use Rattle.std.proofs.Common.{◌≡◌, ℕ, Bool, true, false, if◌then◌else◌, List, [], ◌∷◌, ◌++◌, refl, sym, ◌∙◌, ap, subst, append_assoc}
 use Rattle.std.specs.Prelude.{Option, Some, None, Result, Ok, Err}
-use Rattle.std.specs.Option.{option_and_then, option_map}
+use Rattle.std.specs.Option.{option_and_then}
 use Rattle.cds_stamps.specs.declared.stamp.Stamp.{Stamp}
 use Rattle.directory.specs.declared.entry.Kind.{Kind}
 use Rattle.directory.specs.declared.entry.Kind.TheVariants as kind
 use Rattle.directory.specs.Kinds.{link_target}
 use Rattle.directory.specs.Shown.{targets}
-use Rattle.cell_model.specs.Agreement.{Agrees, place_of}
+use Rattle.cell_model.specs.Agreement.{Agrees}
 use Rattle.cell_model.specs.Cells.{Cell, Replica, Slot, IsHeld, empty_cell}
 use Rattle.cell_model.specs.Cells as slot
 use Rattle.cell_model.specs.Commands as model
@@ -49,7 +49,7 @@ use Rattle.cds_records.specs.Octets.{image_octets}
 use Rattle.cds_records.specs.Records.{message}
 use Rattle.cds_records.specs.declared.fault.RecordFault.{RecordFault}
 use Rattle.cds_records.specs.declared.message.Message as recorded
-use Rattle.cell_replay.specs.Headline.{Converges, Finds, Settled, accepted_in, cell_behind, commands_from, commands_of, import_line, line_place}
+use Rattle.cell_replay.specs.Headline.{Converges, Finds, Settled, cell_behind, commands_from, commands_of, import_line, line_place}
 use Rattle.cell_replay.specs.Replies.{Numbered, Said, asked_of, does, dump_told, first_target, message_told}
 use Rattle.cell_replay.specs.Replies.{octets_told, question_said, refusal_behind, reply_to, says}
 use Rattle.cell_replay.specs.Replies.{refusal_of_octets, slot_told, steps_of, target_of, target_read, trusted, updates_told, values_read, wanted_by}

@@ -1,5 +1,5 @@
 -- What a cell of the program has is told as what the model's has.
-use Rattle.std.proofs.Common.{◌≡◌, ℕ, List, true, false, refl, sym, ap, ◌∙◌}
+use Rattle.std.proofs.Common.{◌≡◌, ℕ, List, false, refl, sym, ap, ◌∙◌}
 use Rattle.std.specs.Prelude.{Option, Some, None}
 use Rattle.std.specs.FinMap.{get}
 use Rattle.std.specs.Option.{option_map}
@@ -8,7 +8,6 @@ use Rattle.cds_records.specs.declared.image.ImageDir.{ImageDir}
 use Rattle.cds_records.specs.declared.image.ImageDir.TheVariants as kept
 use Rattle.cds_stamps.specs.declared.numbers.DirId.{DirId}
 use Rattle.cell_model.specs.Cells as model
-use Rattle.cell_model.specs.Sets.{has}
 use Rattle.cell_model.specs.Steps.{is_unknown}
 use Rattle.cell_script.specs.declared.answer.Answer.{Answer}
 use Rattle.cell_script.specs.declared.answer.Answer.TheVariants as answer

@@ -1,5 +1,5 @@
 -- Updates that a command of the name service asks for: what becomes of them, and that they are refused for want of stamps alone.
-use Rattle.std.proofs.Common.{◌≡◌, ◌⊎◌, ℕ, Bool, true, List, refl, sym, ◌∙◌, ap, subst, map, take}
+use Rattle.std.proofs.Common.{◌≡◌, ◌⊎◌, ℕ, true, List, refl, ap}
 use Rattle.std.specs.Prelude.{Option, Some, None, Result, Ok, Err, is_none}
 use Rattle.std.specs.Option.{option_map}
 use Rattle.cds_stamps.specs.Members.{master_of}
@@ -11,7 +11,6 @@ use Rattle.directory.specs.Histories.{IsHistory, Mark}
 use Rattle.directory.specs.Shown.{Shown, shown}
 use Rattle.directory.specs.Updates.{Change}
 use Rattle.cell_model.specs.Cells as model
-use Rattle.cell_model.specs.Commands as command
 use Rattle.cell_model.specs.Holdings.{HistoriesHold}
 use Rattle.cell_model.specs.Reached.{IsReached}
 use Rattle.resolver.specs.declared.refusal.Refusal.{Refusal}

@@ -1,4 +1,4 @@
-use Rattle.std.proofs.Common.{◌≡◌, true, None, Some, subst, List}
+use Rattle.std.proofs.Common.{true, None, subst}
 use Rattle.std.specs.Prelude.{Bool}
 use Rattle.directory.specs.EntryChanges.{AreAccepted}
 use Rattle.resolver.specs.WalkEnds.{placed, walked}
