@@ -1,17 +1,18 @@
 -- How a run goes on step by step, a line or a tower at a time, and how it ends.
-use Rattle.std.proofs.Common.{◌≡◌, ◌⊎◌, inl, inr, ⊎_elim, ℕ, ◌+◌, ◌≤◌, ◌<◌, Bool, List, [], ◌++◌, length, take, drop, refl, sym, ◌∙◌, ap, subst, arith}
+use Rattle.std.proofs.Common.{◌≡◌, ◌≢◌, ◌⊎◌, inl, inr, ⊎_elim, ℕ, ◌+◌, ◌≤◌, ◌<◌, Bool, List, [], ◌++◌, length, take, drop, refl, sym, ◌∙◌, ap, subst, arith}
 use Rattle.std.proofs.Common.{append_assoc, append-nil, length-append, take-append-drop, length-take}
 use Rattle.std.specs.Prelude.{Option, None, Some, IfSome, IsTrue}
 use Rattle.std.specs.Io.KnownBytes.{Consumes, Appends}
 use Rattle.cds_base.specs.Counts.{Rose}
 use Rattle.cds_base.specs.Reading.{GrowsByReading}
 use Rattle.cds_base.proofs.KnownOctets.{appends_none, appends_more, consumes_self, consumes_more}
-use Rattle.cell_replay.specs.Demand.{Demand, with_front}
+use Rattle.cell_replay.specs.Demand.{Demand, Faulty, with_front}
 use Rattle.cell_replay.specs.Forms.{FormState, Demands}
 use Rattle.cell_replay.specs.declared.endings.Status.{Status}
 use Rattle.cell_replay.specs.declared.endings.Status.TheVariants.{Ok as AllRead, Usage, BadInput, ReadFault, WriteFault, OutOfMemory}
 use Rattle.cell_replay.specs.PrivateWaiting.{Flushes}
-use Rattle.cell_replay.specs.Runs.{IsFront, Wrote, IsWhole, IsFaulty, IsBody, CameLate, WroteAllBefore, IsPart, IsTakenAtOnce, read_ahead, WroteSoon}
+use Rattle.cell_replay.specs.Runs.{IsFront, Wrote, IsWhole, IsFaulty, IsBody, CameLate, WroteAllBefore, IsPart, IsCutShort, IsTakenAtOnce, read_ahead}
+use Rattle.cell_replay.specs.Runs.{WroteSoon, AnswersFront}
 use Rattle.cell_replay.specs.PrivateEndings.{IsDue, IsQueued, Finishes, StopsWith, side, Ended}
 
 -- ---- fronts
@@ -32,24 +33,24 @@ part_of : (left : Option (List ℕ)) (d : Demand) (xs ys : List ℕ) → IsFront
 part_of left d xs ys front (inl part) = inl (front_over xs ys d.body front part)
 part_of left d xs ys front (inr part) = inr (part.0, front_over xs ys (d.body ++ d.end) front part.1)
 
--- what is shorter than a part lacks something
-short_of : (left : Option (List ℕ)) (d : Demand) (xs ys : List ℕ) → length xs < length ys → IsPart left d ys → length xs < length (d.body ++ d.end)
-short_of left d xs ys less (inl part) =
+-- a front of a part that is shorter than it is cut short
+cut_of : (left : Option (List ℕ)) (d : Demand) (xs ys : List ℕ) → IsFront xs ys → length xs < length ys → IsPart left d ys → IsCutShort left d xs
+cut_of left d xs ys front less (inl part) =
     let size = ap length part.1 in
-    omega (arith, less, size, length-append ys part.0, length-append d.body d.end)
-short_of left d xs ys less (inr part) =
+    inl (front_over xs ys d.body front part, omega (arith, less, size, length-append ys part.0))
+cut_of left d xs ys front less (inr part) =
     let size = ap length part.1.1 in
-    omega (arith, less, size, length-append ys part.1.0)
+    inr (part.0, (front_over xs ys (d.body ++ d.end) front part.1, omega (arith, less, size, length-append ys part.1.0)))
 
 -- what is due in full is due in part
-due_part : (left : Option (List ℕ)) (status : Status) (d : Demand) (text : List ℕ) → IsDue left status d text → IsPart left d text
-due_part left AllRead d text due = inr (due.0, subst (IsFront text) due.1.1 (front_self text))
-due_part left BadInput d text (inl due) = inl (subst (IsFront text) due.1 (front_self text))
-due_part left BadInput d text (inr due) = inr (due.1, subst (IsFront text) due.2 (front_self text))
-due_part left OutOfMemory d text due = due
-due_part left Usage d text due = absurd due
-due_part left ReadFault d text due = absurd due
-due_part left WriteFault d text due = absurd due
+due_part : (A : List ℕ → Type 0) (left : Option (List ℕ)) (status : Status) (d : Demand) (text : List ℕ) → IsDue A left status d text → IsPart left d text
+due_part A left AllRead d text due = inr (due.0, subst (IsFront text) due.1.1 (front_self text))
+due_part A left BadInput d text (inl due) = inl (subst (IsFront text) due.1 (front_self text))
+due_part A left BadInput d text (inr due) = inr (due.1, subst (IsFront text) due.2 (front_self text))
+due_part A left OutOfMemory d text due = due.0
+due_part A left Usage d text due = absurd due
+due_part A left ReadFault d text due = absurd due
+due_part A left WriteFault d text due = absurd due
 
 -- ---- octets read
 
@@ -118,11 +119,12 @@ pub record Reached (state : FormState) (first left old new : Option (List ℕ)) 
   pub pending : Pending state first left old new held
   pub so_far : (r : List ℕ) (d : Demand) → Behind r d → Demands state ((pending.front ++ pending.since) ++ r) (with_front (pending.out ++ waits) d)
 
--- where nothing follows, no text is due whatever follows
+-- where nothing follows, no text is due whatever follows, and no fault shows
 pub record StopsHere (Behind : List ℕ → Demand → Type 0) : Type 0 where
   pub demand : Demand
   pub behind : Behind [] demand
   pub none : demand.body ≡ []
+  pub unbroken : demand.verdict ≢ Faulty
 
 -- the same octets demand the same
 pub moved : (state : FormState) (xs ys : List ℕ) (d e : Demand) → xs ≡ ys → d ≡ e → Demands state xs d → Demands state ys e
@@ -218,6 +220,22 @@ module _ (state : FormState) (first left old new : Option (List ℕ)) (held wait
         moved state (consumed ++ r) (consumed ++ r) (with_front (now.out ++ waits) d) (with_front ((now.out ++ sent) ++ waits') d) refl
         (ap (λ (w : List ℕ). with_front w d) (ap (λ (w : List ℕ). now.out ++ w) split ∙ sym (append_assoc now.out sent waits')))
         (reached.so_far r d behind);
+  }
+
+  -- with what waits, all that was taken is answered
+  pub answers_taken : (left' : Option (List ℕ)) (one behind : List ℕ) → StopsHere Behind → Consumes first left' (consumed ++ (one ++ behind))
+      → (one ≡ []) ⊎ IsTakenAtOnce state one → length behind ≤ read_ahead state → AnswersFront state first left' (now.out ++ waits)
+  answers_taken left' one behind stop taken at_once few = record {
+    front = consumed;
+    one = one;
+    behind = behind;
+    demand = with_front (now.out ++ waits) stop.demand;
+    taken = taken;
+    demands = moved state (consumed ++ []) consumed (with_front (now.out ++ waits) stop.demand) (with_front (now.out ++ waits) stop.demand)
+        (append-nil consumed) refl (reached.so_far [] stop.demand stop.behind);
+    due = (sym (ap (λ (l : List ℕ). (now.out ++ waits) ++ l) stop.none ∙ append-nil (now.out ++ waits)), stop.unbroken);
+    at_once = at_once;
+    soon = few;
   }
 
   -- ---- one more line or tower is taken
@@ -403,11 +421,8 @@ module _ (state : FormState) (first left' old new : Option (List ℕ)) (held : L
         taken = now.taken;
         written = appends_more old new new' now.out (take k waits) now.written went;
         demands = demands;
-        due = (
-          part_of left' d (now.out ++ take k waits) (now.out ++ waits) (taken_front now.out waits k) part,
-          short_of left' d (now.out ++ take k waits) (now.out ++ waits)
-              (omega (arith, few, length-append now.out (take k waits), length-append now.out waits, length-take k waits)) part,
-        );
+        due = cut_of left' d (now.out ++ take k waits) (now.out ++ waits) (taken_front now.out waits k)
+            (omega (arith, few, length-append now.out (take k waits), length-append now.out waits, length-take k waits)) part;
       },
       soon new' (take k waits) went,
       rose,
@@ -429,44 +444,54 @@ module _ (state : FormState) (first left' old new : Option (List ℕ)) (held : L
     rose_from : (a b c : ℕ) → b ≡ a → Rose b c → Rose a c
     rose_from a b c same rose = omega (arith, same, rose)
 
+    abbrev Answered : List ℕ → Type 0
+    Answered = AnswersFront state first left'
+
     -- what waits goes out, and the run ends
     pub finishes : (new' : Option (List ℕ)) (waits : List ℕ) (status result : Status) (reads reads' writes mid writes' : ℕ)
-        → IsDue left' status d (now.out ++ waits)
+        → IsDue Answered left' status d (now.out ++ waits)
         → Finishes (side new mid) (side new' writes') waits status result → reads' ≡ reads → mid ≡ writes
         → Ended state (side first reads) (side left' reads') (side old writes) (side new' writes') result
     finishes new' waits status result reads reads' writes mid writes' due (inr failed) calm same =
         subst (Ended state (side first reads) (side left' reads') (side old writes) (side new' writes')) (sym failed.0)
-        (write_failed new' waits failed.1.0 writes writes' reads reads' (failed.1.1, failed.1.2) (due_part left' status d (now.out ++ waits) due)
+        (write_failed new' waits failed.1.0 writes writes' reads reads' (failed.1.1, failed.1.2) (due_part Answered left' status d (now.out ++ waits) due)
         (rose_from writes mid writes' same failed.2) calm)
     finishes new' waits status result reads reads' writes mid writes' due (inl done) calm same =
         subst (Ended state (side first reads) (side left' reads') (side old writes) (side new' writes')) (sym done.0) (by_status status due)
       where
-        by_status : (s : Status) → IsDue left' s d (now.out ++ waits)
+        by_status : (s : Status) → IsDue Answered left' s d (now.out ++ waits)
             → Ended state (side first reads) (side left' reads') (side old writes) (side new' writes') s
         by_status AllRead due = (due.0, wrote new' waits IsWhole done.1 due.1, (calm, done.2 ∙ same))
         by_status BadInput due = (wrote new' waits (IsFaulty left') done.1 due, (calm, done.2 ∙ same))
-        by_status OutOfMemory due = (wrote new' waits (IsPart left') done.1 due, (calm, done.2 ∙ same))
+        by_status OutOfMemory due = (
+          wrote new' waits (IsPart left') done.1 due.0,
+          (now.out ++ waits, appends_more old new new' now.out waits now.written done.1, due.1),
+          (calm, done.2 ∙ same),
+        )
         by_status Usage due = absurd due
         by_status ReadFault due = absurd due
         by_status WriteFault due = absurd due
 
     -- the same with a last text, where there was memory for it
     pub stops_with : (new' : Option (List ℕ)) (text waits : List ℕ) (status result : Status) (reads reads' writes mid writes' : ℕ)
-        → IsDue left' status d (now.out ++ (waits ++ text))
+        → IsDue Answered left' status d (now.out ++ (waits ++ text)) → Answered (now.out ++ waits)
         → StopsWith (side new mid) (side new' writes') status text waits result → reads' ≡ reads → mid ≡ writes
         → Ended state (side first reads) (side left' reads') (side old writes) (side new' writes') result
-    stops_with new' text waits status result reads reads' writes mid writes' due stops calm same = by_memory stops.2
+    stops_with new' text waits status result reads reads' writes mid writes' due answered stops calm same = by_memory stops.2
       where
         by_memory : IsQueued status text waits stops.1 stops.0 → Ended state (side first reads) (side left' reads') (side old writes) (side new' writes') result
         by_memory (inl is) =
             finishes new' stops.1 stops.0 result reads reads' writes mid writes'
-            (subst (λ (s : Status). IsDue left' s d (now.out ++ stops.1)) (sym is.0)
-            (subst (λ (w : List ℕ). IsDue left' status d (now.out ++ w)) (sym is.1) due)) stops.3 calm same
+            (subst (λ (s : Status). IsDue Answered left' s d (now.out ++ stops.1)) (sym is.0)
+            (subst (λ (w : List ℕ). IsDue Answered left' status d (now.out ++ w)) (sym is.1) due)) stops.3 calm same
         by_memory (inr is) =
             finishes new' stops.1 stops.0 result reads reads' writes mid writes'
-            (subst (λ (s : Status). IsDue left' s d (now.out ++ stops.1)) (sym is.0) (subst (λ (w : List ℕ). IsPart left' d (now.out ++ w)) (sym is.1)
-            (part_of left' d (now.out ++ waits) (now.out ++ (waits ++ text)) (text, sym (append_assoc now.out waits text))
-            (due_part left' status d (now.out ++ (waits ++ text)) due)))) stops.3 calm same
+            (subst (λ (s : Status). IsDue Answered left' s d (now.out ++ stops.1)) (sym is.0)
+            (subst (λ (w : List ℕ). IsPart left' d (now.out ++ w) × Answered (now.out ++ w)) (sym is.1) (
+              part_of left' d (now.out ++ waits) (now.out ++ (waits ++ text)) (text, sym (append_assoc now.out waits text))
+                  (due_part Answered left' status d (now.out ++ (waits ++ text)) due),
+              answered,
+            ))) stops.3 calm same
 
     -- all of the body is out, where nothing more came
     pub wrote_all : CameLate state all_read [] → IsBody d now.out → WroteAllBefore state first left' old new

@@ -22,17 +22,18 @@ use Rattle.cell_replay.specs.Demand.{Demand, Faulty, whole, with_front, faulty_w
 use Rattle.cell_replay.specs.Forms.{ByTowers}
 use Rattle.cell_replay.specs.PrivateSights.{TellsFault, IsUnended}
 use Rattle.cell_replay.specs.Fillings.{LeavesPart, BeginsFilling, AtFirst, Behind}
+use Rattle.cell_replay.specs.Runs.{AnswersFront}
 use Rattle.cell_replay.specs.PrivateEndings.{IsDue, Finishes, StopsWith, side, Ended}
 use Rattle.cell_replay.proofs.Streams.{total, le_or_lt}
 use Rattle.cell_replay.proofs.Progress.{Pending, Reached, StopsHere, Turn, moved, started, all_out, goes_on, reached_more, more_read, write_failed}
-use Rattle.cell_replay.proofs.Progress.{finishes, stops_with, read_failed}
+use Rattle.cell_replay.proofs.Progress.{finishes, stops_with, read_failed, answers_taken}
 
 -- what the octets behind the towers so far demand
 abbrev pub BehindTowers : ℕ → List ℕ → Demand → Type 0
 BehindTowers number r d = TowersDemand number r d
 
 pub towers_stop : (number : ℕ) → StopsHere (BehindTowers number)
-towers_stop number = record { demand = ends_with []; behind = ([], Nothing, refl, refl); none = refl }
+towers_stop number = record { demand = ends_with []; behind = ([], Nothing, refl, refl); none = refl; unbroken = λ is. cc (is) }
 
 -- the towers so far were told; nothing follows what is held where the input has ended; and no call failed
 pub record IsAmong (first left old new : Option (List ℕ)) (reads reads' writes writes' : ℕ) (window : WindowOctets) (number : ℕ) (ended : Bool)
@@ -118,6 +119,11 @@ module _ (first left old new : Option (List ℕ)) (reads reads' writes writes' :
   abbrev now : Pending ByTowers first left old new held
   now = b.reached.pending
 
+  -- with what waits, the towers so far are answered
+  answered : AnswersFront ByTowers first left (now.out ++ waits)
+  answered =
+      answers_taken ByTowers first left old new held waits (BehindTowers number) b.reached left [] held (towers_stop number) now.taken (inl refl) now.few
+
   -- a tower is told, and taken off
   pub tower_told : (floors : List Floor) (n : ℕ) (window' : WindowOctets) (waits' : List ℕ) → n ≤ length held → IsTaken number floors (take n held)
       → window' ≡ record { octets = drop n held; room = window.room } → waits' ≡ waits ++ tower_text floors
@@ -148,16 +154,16 @@ module _ (first left old new : Option (List ℕ)) (reads reads' writes writes' :
   module _ (d : Demand) (behind : BehindTowers number held d) where
     -- what is due goes out with a last text
     pub tells : (new' : Option (List ℕ)) (mid writes'' : ℕ) (text : List ℕ) (status result : Status)
-        → IsDue left status (with_front (now.out ++ waits) d) (now.out ++ (waits ++ text))
+        → IsDue (AnswersFront ByTowers first left) left status (with_front (now.out ++ waits) d) (now.out ++ (waits ++ text))
         → StopsWith (side new writes') (side new' writes'') status text waits result
         → Ended ByTowers (side first reads) (side left reads') (side old writes) (side new' writes'') result
     tells new' mid writes'' text status result due stops =
         stops_with ByTowers first left old new held now (with_front (now.out ++ waits) d) (b.reached.so_far held d behind) new' text waits status
-        result reads reads' writes writes' writes'' due stops b.calm b.quiet
+        result reads reads' writes writes' writes'' due answered stops b.calm b.quiet
 
     -- what is due goes out
     pub stops : (new' : Option (List ℕ)) (writes'' : ℕ) (status result : Status)
-        → IsDue left status (with_front (now.out ++ waits) d) (now.out ++ waits) → Finishes (side new writes') (side new' writes'') waits status result
+        → IsDue (AnswersFront ByTowers first left) left status (with_front (now.out ++ waits) d) (now.out ++ waits) → Finishes (side new writes') (side new' writes'') waits status result
         → Ended ByTowers (side first reads) (side left reads') (side old writes) (side new' writes'') result
     stops new' writes'' status result due finished =
         finishes ByTowers first left old new held now (with_front (now.out ++ waits) d) (b.reached.so_far held d behind) new' waits status result
@@ -169,7 +175,7 @@ module _ (first left old new : Option (List ℕ)) (reads reads' writes writes' :
       → Ended ByTowers (side first reads) (side left reads') (side old writes) (side new' writes'') result
   tower_without_memory bytes new' writes'' waits' result same finished =
       let d = total number held bytes in
-      stops d.0 d.1 new' writes'' OutOfMemory result (inl (d.0.body, refl))
+      stops d.0 d.1 new' writes'' OutOfMemory result (inl (d.0.body, refl), answered)
       (subst (λ (w : List ℕ). Finishes (side new writes') (side new' writes'') w OutOfMemory result) same finished)
 
   -- the input ends behind the last tower
@@ -312,5 +318,20 @@ unread_towers left old reads writes = (
     demands = ([], Nothing, refl, refl);
     due = inl ([], refl);
   },
+  (
+    [],
+    appends_none old,
+    record {
+      front = [];
+      one = [];
+      behind = [];
+      demand = ends_with [];
+      taken = consumes_self left;
+      demands = ([], Nothing, refl, refl);
+      due = (refl, λ is. cc (is));
+      at_once = inl refl;
+      soon = omega arith;
+    },
+  ),
   (refl, refl),
 )

@@ -21,19 +21,19 @@ use Rattle.cell_replay.specs.Demand.{faulty_with, ends_with, cut_short_with, wit
 use Rattle.cell_replay.specs.Forms.{ByLines, Demands}
 use Rattle.cell_replay.specs.PrivateStanding.{IsAt, Ends}
 use Rattle.cell_replay.specs.PrivateWaiting.{Flushes}
-use Rattle.cell_replay.specs.Runs.{IsBody, IsPart}
+use Rattle.cell_replay.specs.Runs.{AnswersFront, IsBody, IsFaulty, IsPart, IsWhole}
 use Rattle.cell_replay.specs.PrivateEndings.{IsDue, Finishes, StopsWith, side, Ended}
 use Rattle.cell_replay.proofs.Scanning.{scanned, demanded_scanned}
 use Rattle.cell_replay.proofs.Demands.{demand_line, demand_broken, demand_part}
 use Rattle.cell_replay.proofs.Progress.{Pending, Reached, StopsHere, Turn, started, flushed_before, goes_on, one_taken, demands_with, more_read}
-use Rattle.cell_replay.proofs.Progress.{write_failed, finishes, stops_with, wrote_all, read_failed}
+use Rattle.cell_replay.proofs.Progress.{write_failed, finishes, stops_with, wrote_all, read_failed, reads_on, answers_taken}
 
 -- what the octets behind the lines so far demand
 abbrev pub BehindLines : ℕ → LineState → List ℕ → Demand → Type 0
 BehindLines count at r d = scanned (count + 1) at [] r ≡ d
 
 pub lines_stop : (count : ℕ) (at : LineState) → StopsHere (BehindLines count at)
-lines_stop count at = record { demand = at_end (count + 1) at []; behind = demand_part (count + 1) at [] tt; none = refl }
+lines_stop count at = record { demand = at_end (count + 1) at []; behind = demand_part (count + 1) at [] tt; none = refl; unbroken = λ is. cc (is) }
 
 -- before the first line
 pub first_line : (state : LineState) (first old : Option (List ℕ)) (held waits : List ℕ) (count : ℕ) → held ≡ [] → waits ≡ [] → count ≡ 0
@@ -101,7 +101,7 @@ counts_on left left' lines lines' number octets x next few =
 module _ (left' : Option (List ℕ)) (out waits : List ℕ) (count : ℕ) (at : LineState) where
   -- a line is faulty
   line_due : (line r text waits' : List ℕ) → IsLine (count + 1) line → response (count + 1) at line ≡ Stops text → waits' ≡ waits ++ text
-      → BehindLines count at ((line ++ 10 ∷ []) ++ r) (faulty_with text) × IsDue left' BadInput (with_front (out ++ waits) (faulty_with text)) (out ++ waits')
+      → BehindLines count at ((line ++ 10 ∷ []) ++ r) (faulty_with text) × IsFaulty left' (with_front (out ++ waits) (faulty_with text)) (out ++ waits')
   line_due line r text waits' is responds waiting = (
     demand_line (count + 1) at line r is ∙ ap (λ e. then_rest e (λ next. scanned (count + 1 + 1) next [] r)) responds,
     inl (refl, ap (λ (w : List ℕ). out ++ w) waiting ∙ sym (append_assoc out waits text)),
@@ -109,10 +109,11 @@ module _ (left' : Option (List ℕ)) (out waits : List ℕ) (count : ℕ) (at : 
 
   -- the input ends
   all_due : (held' : List ℕ) → held' ≡ [] → IsAtEnd left' → BehindLines count at held' (ends_with (end_text at))
-      × IsDue left' AllRead (with_front (out ++ waits) (ends_with (end_text at))) (out ++ (waits ++ end_text at))
+      × IsAtEnd left' × IsWhole (with_front (out ++ waits) (ends_with (end_text at))) (out ++ (waits ++ end_text at))
   all_due held' none ended = (
     ap (scanned (count + 1) at []) none ∙ demand_part (count + 1) at [] tt,
-    (ended, (refl, sym (append_assoc out waits (end_text at)) ∙ ap (λ (w : List ℕ). w ++ end_text at) (sym (append-nil (out ++ waits))))),
+    ended,
+    (refl, sym (append_assoc out waits (end_text at)) ∙ ap (λ (w : List ℕ). w ++ end_text at) (sym (append-nil (out ++ waits)))),
   )
 
   -- a read failed: all that is due whatever follows was written
@@ -134,7 +135,7 @@ module _ (left' : Option (List ℕ)) (out waits : List ℕ) (count : ℕ) (at : 
   -- the octets held show a fault, or the input ends within the line
   fault_due : (held' : List ℕ) (fault : LineFault) → ShowsFault (count + 1) fault held'
       ⊎ (IsAtEnd left' × AreClean (count + 1) 1 held' × (0 < length held') × (fault ≡ NoLineEnd (count + 1) (length held' + 1)))
-      → (d : Demand) × BehindLines count at held' d × IsDue left' BadInput (with_front (out ++ waits) d) (out ++ (waits ++ told_fault at fault))
+      → (d : Demand) × BehindLines count at held' d × IsFaulty left' (with_front (out ++ waits) d) (out ++ (waits ++ told_fault at fault))
   fault_due held' fault (inl shows) = (
     faulty_with (told_fault at fault),
     ap (scanned (count + 1) at []) (sym (append-nil held')) ∙ demand_broken (count + 1) at fault held' shows [],
@@ -246,9 +247,14 @@ module _ {S : Type 0} (left_of : S → Option (List ℕ)) (faults_of : S → ℕ
           → Ended (ByLines state) (side first reads) (side left' (faults_of source')) (side old writes) (side new' writes') result
       line_without_memory same finished =
           let rest : Demand = scanned (given lines + 1) at [] (one ++ held lines') in
+          let answered : AnswersFront (ByLines state) first left' (now.out ++ waits) =
+          answers_taken (ByLines state) first left old new (held lines) waits Behind t.reached left' one (held lines') (lines_stop (given lines) at)
+          (reads_on first left left' (now.front ++ now.since) (held lines) (one ++ held lines') now.taken next.answer.2)
+          (inr (given lines + 1, octets, is_line, refl)) moved.few in
           finishes (ByLines state) first left' old new (held lines') taken (with_front (now.out ++ waits) rest) (demands rest refl)
           new' waits' OutOfMemory result reads (faults_of source') writes mid writes'
-          (subst (λ (w : List ℕ). IsPart left' (with_front (now.out ++ waits) rest) (now.out ++ w)) (sym same) (inl (rest.body, refl)))
+          (subst (λ (w : List ℕ). IsPart left' (with_front (now.out ++ waits) rest) (now.out ++ w) × AnswersFront (ByLines state) first left' (now.out ++ w))
+          (sym same) (inl (rest.body, refl), answered))
           finished (moved.cause unbroken ∙ calm) quiet
 
   -- nothing more is taken
@@ -258,13 +264,16 @@ module _ {S : Type 0} (left_of : S → Option (List ℕ)) (faults_of : S → ℕ
 
     -- what is due goes out with a last text
     ends_so : (d : Demand) → Behind (held lines') d → (text : List ℕ) (status : Status)
-        → IsDue left' status (with_front (now.out ++ waits) d) (now.out ++ (waits ++ text))
+        → IsDue (AnswersFront (ByLines state) first left') left' status (with_front (now.out ++ waits) d) (now.out ++ (waits ++ text))
         → (new' : Option (List ℕ)) (mid writes' : ℕ) (result : Status) → StopsWith (side new mid) (side new' writes') status text waits result
         → faults_of source' ≡ reads → mid ≡ writes → Ended (ByLines state) (side first reads) (side left' (faults_of source')) (side old writes)
         (side new' writes') result
     ends_so d behind text status due new' mid writes' result stops calm quiet =
         stops_with (ByLines state) first left' old new (held lines') read_so (with_front (now.out ++ waits) d) (t.reached.so_far (held lines') d behind)
-        new' text waits status result reads (faults_of source') writes mid writes' due stops calm quiet
+        new' text waits status result reads (faults_of source') writes mid writes' due
+        (answers_taken (ByLines state) first left old new (held lines) waits Behind t.reached left' [] (held lines') (lines_stop (given lines) at)
+        (reads_on first left left' (now.front ++ now.since) (held lines) (held lines') now.taken grows) (inl refl) few)
+        stops calm quiet
 
     -- a read failed, where nothing waited
     fails_so : AreClean (given lines + 1) 1 (held lines') → waits ≡ [] → (writes' : ℕ) → Rose reads (faults_of source') → writes' ≡ writes
@@ -284,7 +293,7 @@ module _ {S : Type 0} (left_of : S → Option (List ℕ)) (faults_of : S → ℕ
         let next = moved.next unbroken in
         let due = all_due left' now.out waits (given lines) at (held lines') next.answer.1 next.answer.2 in
         ends_so next.answer.0 moved.few (turn (Ok None) moved) (ends_with (end_text at)) due.0
-        (end_text at) AllRead due.1 new' mid writes' result stops (moved.cause unbroken ∙ calm) quiet
+        (end_text at) AllRead (due.1, due.2) new' mid writes' result stops (moved.cause unbroken ∙ calm) quiet
 
     -- the octets show a fault, or the input ends within a line
     pub line_breaks : (fault : LineFault) → Moved (Err fault) → fault ≢ NotRead
@@ -344,5 +353,20 @@ unread_lines state left old reads writes = (
     demands = refl;
     due = inl ((demanded state []).body, refl);
   },
+  (
+    [],
+    appends_none old,
+    record {
+      front = [];
+      one = [];
+      behind = [];
+      demand = at_end 1 state [];
+      taken = consumes_self left;
+      demands = demanded_scanned state [] ∙ demand_part 1 state [] tt;
+      due = (refl, λ is. cc (is));
+      at_once = inl refl;
+      soon = omega arith;
+    },
+  ),
   (refl, refl),
 )

@@ -7,7 +7,7 @@ use Rattle.cell_replay.specs.declared.endings.Status.TheVariants.{Ok as AllRead,
 use Rattle.cell_replay.specs.Demand.{Demand}
 use Rattle.cell_replay.specs.Forms.{FormState, Task, Reading, Loading}
 use Rattle.cell_replay.specs.Loading.{load_text}
-use Rattle.cell_replay.specs.Runs.{LoadEnds, Wrote, WroteAllBefore, WroteSoon, IsWhole, IsFaulty, IsPart, IsCutShort}
+use Rattle.cell_replay.specs.Runs.{LoadEnds, Wrote, WroteAllBefore, WroteSoon, WroteAnswers, IsWhole, IsFaulty, IsPart, IsCutShort}
 
 -- a source or a sink: the octets that it has left or that it took, where it tells them, and how often it failed
 pub record Side : Type 0 where
@@ -22,14 +22,14 @@ side octets faults = record { octets = octets; faults = faults }
 abbrev pub side_of : {A : Type 0} → (A → Option (List ℕ)) → (A → ℕ) → A → Side
 side_of octets faults it = side (octets it) (faults it)
 
--- what ends a run, where this was written of what the octets read demand
-abbrev pub IsDue : Option (List ℕ) → Status → Demand → List ℕ → Type 0
-IsDue left AllRead d text = IsAtEnd left × IsWhole d text
-IsDue left BadInput d text = IsFaulty left d text
-IsDue left OutOfMemory d text = IsPart left d text
-IsDue left Usage d text = ⊥
-IsDue left ReadFault d text = ⊥
-IsDue left WriteFault d text = ⊥
+-- what ends a run, where this was written of what the octets read demand; Answered says that it answers those in front
+abbrev pub IsDue : (Answered : List ℕ → Type 0) → Option (List ℕ) → Status → Demand → List ℕ → Type 0
+IsDue Answered left AllRead d text = IsAtEnd left × IsWhole d text
+IsDue Answered left BadInput d text = IsFaulty left d text
+IsDue Answered left OutOfMemory d text = IsPart left d text × Answered text
+IsDue Answered left Usage d text = ⊥
+IsDue Answered left ReadFault d text = ⊥
+IsDue Answered left WriteFault d text = ⊥
 
 -- what waited went out, and the run ends so; or a part of it, and the sink failed
 abbrev pub Finishes : (sink sink' : Side) → (waits : List ℕ) → Status → Status → Type 0
@@ -66,7 +66,8 @@ Ended state source source' sink sink' WriteFault =
     × WroteSoon state source.octets source'.octets sink.octets sink'.octets
     × Rose sink.faults sink'.faults × (source'.faults ≡ source.faults)
 Ended state source source' sink sink' OutOfMemory =
-    Wrote state source.octets source'.octets sink.octets sink'.octets (IsPart source'.octets) × Calm source source' sink sink'
+    Wrote state source.octets source'.octets sink.octets sink'.octets (IsPart source'.octets)
+    × WroteAnswers state source.octets source'.octets sink.octets sink'.octets × Calm source source' sink sink'
 
 -- writing failed, or nothing did
 abbrev pub HasWriteCause : (sink sink' : Side) → Status → Type 0

@@ -73,9 +73,13 @@ pub record WroteAllBefore (state : FormState) (left left' old new : Option (List
 abbrev pub IsPart : Option (List ℕ) → Demand → List ℕ → Type 0
 IsPart left d text = IsFront text d.body ⊎ (IsAtEnd left × IsFront text (d.body ++ d.end))
 
--- the same, and something is missing (own)
+-- xs is a front of ys, and something is missing (own)
+abbrev pub Lacks : List ℕ → List ℕ → Type 0
+Lacks xs ys = IsFront xs ys × (length xs < length ys)
+
+-- of the body something is missing; or of the body and the end where nothing is left (own)
 abbrev pub IsCutShort : Option (List ℕ) → Demand → List ℕ → Type 0
-IsCutShort left d text = IsPart left d text × (length text < length (d.body ++ d.end))
+IsCutShort left d text = Lacks text d.body ⊎ (IsAtEnd left × Lacks text (d.body ++ d.end))
 
 -- what a form takes at once: a line with its end, or a tower (own)
 abbrev pub IsTakenAtOnce : FormState → List ℕ → Type 0
@@ -101,6 +105,23 @@ pub record WroteSoon (state : FormState) (left left' old new : Option (List ℕ)
   pub answered : IsFront demand.body text
   pub at_once : (one ≡ []) ⊎ IsTakenAtOnce state one
   pub soon : length behind ≤ read_ahead state
+
+-- The text is the whole body of the octets in front, in which no fault shows; then comes one more line or tower, or none;
+-- and behind it at most so many octets were read (own)
+pub record AnswersFront (state : FormState) (left left' : Option (List ℕ)) (text : List ℕ) : Type 0 where
+  pub front : List ℕ
+  pub one : List ℕ
+  pub behind : List ℕ
+  pub demand : Demand
+  pub taken : Consumes left left' (front ++ (one ++ behind))
+  pub demands : Demands state front demand
+  pub due : IsBody demand text
+  pub at_once : (one ≡ []) ⊎ IsTakenAtOnce state one
+  pub soon : length behind ≤ read_ahead state
+
+-- such a text was written (own)
+abbrev pub WroteAnswers : FormState → (left left' old new : Option (List ℕ)) → Type 0
+WroteAnswers state left left' old new = (text : List ℕ) × Appends old new text × AnswersFront state left left' text
 
 -- A run that reads nothing writes its text; or a front of it, where writing failed; or nothing, where there was no memory. It has no other
 -- ending (own)

@@ -9,7 +9,8 @@ ghost use Rattle.cell_replay.specs.Forms.{FormState, ByLines, Loading, Reading, 
 ghost use Rattle.cell_replay.specs.Loading.{load_text};
 ghost use Rattle.cell_replay.specs.Scripts.{IsReplay};
 ghost use Rattle.cell_replay.specs.PrivateStanding.{IsAt, IsForm, counted, start_of};
-ghost use Rattle.cell_replay.specs.Runs.{LoadEnds, Wrote, WroteSoon, IsWhole, IsFaulty, WroteAllBefore, IsPart, IsCutShort, NoCallFailed};
+ghost use Rattle.cell_replay.specs.Runs.{LoadEnds, Wrote, WroteSoon, WroteAnswers, IsWhole, IsFaulty, WroteAllBefore, IsPart, IsCutShort};
+ghost use Rattle.cell_replay.specs.Runs.{NoCallFailed};
 ghost use Rattle.cell_replay.specs.PrivateEndings.{Did, Ended, LeavesSource, StopsWith, side_of};
 
 use crate::check::Tally;
@@ -149,6 +150,8 @@ pub fn run<S: Source, K: Sink>(
         ⊎ (result ≡ Status.ReadFault) → WroteSoon state (S.left source.old) (S.left source.new) (K.written sink.old) (K.written sink.new) }
     ensures memory { (state : FormState) → task_of (map string_bytes words.now) ≡ Some (Reading state) → result ≡ Status.OutOfMemory
         → Wrote state (S.left source.old) (S.left source.new) (K.written sink.old) (K.written sink.new) (IsPart (S.left source.new)) }
+    ensures answers { (state : FormState) → task_of (map string_bytes words.now) ≡ Some (Reading state) → result ≡ Status.OutOfMemory
+        → WroteAnswers state (S.left source.old) (S.left source.new) (K.written sink.old) (K.written sink.new) }
     ensures load { (rounds : ℕ) → task_of (map string_bytes words.now) ≡ Some (Loading rounds) → (source.new ≡ source.old)
         × LoadEnds (load_text rounds) (K.written sink.old) (K.written sink.new) result }
     ensures read_cause { result ≡ Status.ReadFault → Rose (S.faults source.old) (S.faults source.new) × (K.faults sink.new ≡ K.faults sink.old) }
