@@ -1,6 +1,7 @@
 -- Lines of a script, and the faults that octets show in them. Own.
 -- A line is at most 4,096 octets from 0x20 to 0x7E and its end 0x0A; there are at most 16,777,216 lines.
-use Rattle.std.specs.Prelude.{◌≡◌, ◌≢◌, ℕ, ◌+◌, ◌≤◌, ◌<◌, List, [], ◌∷◌, ◌++◌, length, Bool, nat_lt, ◌==◌, ◌&&◌, if◌then◌else◌, None, Some, take, drop}
+use Rattle.std.specs.Prelude.{◌≡◌, ◌≢◌, ℕ, ◌+◌, ◌≤◌, ◌<◌, List, [], ◌∷◌, ◌++◌, length, Bool, nat_lt}
+use Rattle.std.specs.Prelude.{◌==◌, ◌&&◌, if◌then◌else◌, None, Some, take, drop}
 use Rattle.std.specs.declared.option.Option.{Option}
 use Rattle.cds_base.specs.declared.scan.TheConstants.{LONGEST_LINE, MOST_LINES}
 use Rattle.cds_base.specs.declared.scan.LineFault.{LineFault}

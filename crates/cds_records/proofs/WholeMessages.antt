@@ -116,7 +116,8 @@ pub members_whole : (ms : List Member) → FitsMembers ms → Whole members ms (
 unfolding members members_octets
 members_whole ms fits =
     let l = members_lawful ms fits.lawful in
-    whole_next {second = λ n. listed n None false} (octet_whole (outside BadLength 1 most_members) (length ms) (within_lawful BadLength 1 most_members (length ms) l.1 l.2))
+    whole_next {second = λ n. listed n None false}
+    (octet_whole (outside BadLength 1 most_members) (length ms) (within_lawful BadLength 1 most_members (length ms) l.1 l.2))
     (listed_whole None false ms l.0 fits.since)
 
 -- ---- messages

@@ -1,5 +1,6 @@
 -- The text of towers is lines that say them again.
-use Rattle.std.proofs.Common.{◌≡◌, ◌≢◌, inl, inr, ℕ, zero, suc, ◌+◌, ◌*◌, ◌/◌, ◌%◌, ◌≤◌, ◌<◌, Bool, true, false, ◌&&◌, not, List, [], ◌∷◌, ◌++◌, length}
+use Rattle.std.proofs.Common.{◌≡◌, ◌≢◌, inl, inr, ℕ, zero, suc, ◌+◌, ◌*◌, ◌/◌, ◌%◌, ◌≤◌, ◌<◌, Bool}
+use Rattle.std.proofs.Common.{true, false, ◌&&◌, not, List, [], ◌∷◌, ◌++◌, length}
 use Rattle.std.proofs.Common.{map, refl, sym, ◌∙◌, ap, subst, arith, append-nil, length-append}
 use Rattle.std.specs.Prelude.{Option, Some, None, nat_le, nat_lt, nat_eq, ◌==◌, codes, filter, slice_index, if◌then◌else◌}
 use Rattle.std.specs.List.{flat_map, slice_split, starts_with, AllByRecursion}

@@ -163,7 +163,8 @@ module _ (first left old new : Option (List ℕ)) (reads reads' writes writes' :
 
     -- what is due goes out
     pub stops : (new' : Option (List ℕ)) (writes'' : ℕ) (status result : Status)
-        → IsDue (AnswersFront ByTowers first left) left status (with_front (now.out ++ waits) d) (now.out ++ waits) → Finishes (side new writes') (side new' writes'') waits status result
+        → IsDue (AnswersFront ByTowers first left) left status (with_front (now.out ++ waits) d) (now.out ++ waits)
+        → Finishes (side new writes') (side new' writes'') waits status result
         → Ended ByTowers (side first reads) (side left reads') (side old writes) (side new' writes'') result
     stops new' writes'' status result due finished =
         finishes ByTowers first left old new held now (with_front (now.out ++ waits) d) (b.reached.so_far held d behind) new' waits status result

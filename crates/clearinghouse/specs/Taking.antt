@@ -24,6 +24,7 @@ use Rattle.cds_stamps.specs.declared.stamp.Stamp.{Stamp}
 use Rattle.directory.specs.declared.entry.Fragment.{Fragment}
 use Rattle.directory.specs.Entries.{IsValidEntry, IsValidTable}
 use Rattle.directory.specs.Histories.{Mark, CanMerge}
+use Rattle.directory.specs.Purges.{purged_table}
 use Rattle.purge_rule.specs.Latest.{EntryUpTo, ReplicaUpTo}
 use Rattle.purge_rule.specs.Replicas.{replica_of, together, merged_entry, merged_table, IsFragmentOf}
 use Rattle.skulk_core.specs.declared.skulk.Skulk.{Skulk}
@@ -71,10 +72,11 @@ pub record TakesReplica (old other new : Replica) : Type 0 where
   pub valid : IsValidTable old.table → IsValidTable other.table → IsValidTable new.table
   pub below : (n : ℕ) → IsValidTable old.table → IsValidTable other.table → ReplicaUpTo n old → ReplicaUpTo n other → ReplicaUpTo n new
 
--- a replica whose AllUpTo is raised to this stamp (own)
+-- a replica whose AllUpTo is raised to this stamp: of a valid table the deletions up to it are dropped (own)
 pub record Advances (old : Replica) (t : Stamp) (new : Replica) : Type 0 where
   pub merged : (h : List Mark) → old ≡ replica_of h old.all_up_to → new ≡ replica_of h (together old.all_up_to (Some t))
   pub up_to : new.all_up_to ≡ together old.all_up_to (Some t)
+  pub dropped : IsValidTable old.table → IfSome new.all_up_to (λ u. new.table ≡ purged_table u old.table)
   pub valid : IsValidTable old.table → IsValidTable new.table
   pub below : (n : ℕ) → IsValidTable old.table → ReplicaUpTo n old → t.time ≤ n → ReplicaUpTo n new
 

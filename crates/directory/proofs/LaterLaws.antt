@@ -250,7 +250,8 @@ rest_step x y m k e es rest first keeps adds before d has =
     ⊎_elim (λ lost. at (is_at (octets_cmp d.name) k) refl
     (ap (λ es. is_lost (lookup (is_at (octets_cmp d.name)) es) d.stamp d.what) (sym first) ∙ lost)) (λ known. inr (keeps d known)) (before d has)
   where
-    at : (b : Bool) → is_at (octets_cmp d.name) k ≡ b → is_lost (cond (is_at (octets_cmp d.name) k) (Some e) (lookup (is_at (octets_cmp d.name)) rest)) d.stamp d.what ≡ true
+    at : (b : Bool) → is_at (octets_cmp d.name) k ≡ b
+        → is_lost (cond (is_at (octets_cmp d.name) k) (Some e) (lookup (is_at (octets_cmp d.name)) rest)) d.stamp d.what ≡ true
         → (is_lost (lookup (is_at (octets_cmp d.name)) rest) d.stamp d.what ≡ true) ⊎ (is_indexed y d ≡ true)
     at true is lost =
         let own : has_lost e d.stamp d.what ≡ true = ap (λ b. is_lost (cond b (Some e) (lookup (is_at (octets_cmp d.name)) rest)) d.stamp d.what) (sym is) ∙ lost in

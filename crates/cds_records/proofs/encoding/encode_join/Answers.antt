@@ -5,7 +5,8 @@ use Rattle.cds_records.proofs.encoding.encode_join.Goals as goal
 
 pub returns-clause-octets : goal.returns-clause-octets
 unfolding body_octets
-returns-clause-octets c = message_written c.args.head.now (Join c.args.members.now c.args.replica.now) _ _ c.in_ok-out.ensures.octets c.in_ok-put_joined.ensures.octets
+returns-clause-octets c =
+    message_written c.args.head.now (Join c.args.members.now c.args.replica.now) _ _ c.in_ok-out.ensures.octets c.in_ok-put_joined.ensures.octets
 
 pub returns-clause-whole : goal.returns-clause-whole
 returns-clause-whole c =

@@ -8,7 +8,8 @@ returns-in-Some c =
     let octets = c.args.octets.now in
     let components = c.args.components.now in
     let split : octets ≡ spelling components ++ c.in-Some.rest.now = c.in-Some.ensures in
-    tests_octets c.is_empty.result (spelling components) octets (spelled_whole octets (spelling components) c.in-Some.rest.now c.is_empty.result split c.is_empty.ensures)
+    tests_octets c.is_empty.result (spelling components) octets
+    (spelled_whole octets (spelling components) c.in-Some.rest.now c.is_empty.result split c.is_empty.ensures)
 
 pub returns-in-None : goal.returns-in-None
 returns-in-None c =
