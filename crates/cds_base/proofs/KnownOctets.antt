@@ -20,10 +20,12 @@ keeps_more (Some p) (Some q) (Some r) first second = second ∙ first
 
 -- ---- octets written
 
+-- what is known of a sink is itself with no octets more behind it
 pub appends_none : (known : Option (List ℕ)) → Appends known known []
 appends_none None = tt
 appends_none (Some xs) = sym (append-nil xs)
 
+-- what a sink takes in two turns stands in it one behind the other
 pub appends_more : (a b c : Option (List ℕ)) (xs ys : List ℕ) → Appends a b xs → Appends b c ys → Appends a c (xs ++ ys)
 appends_more None b c xs ys first second = tt
 appends_more (Some p) None c xs ys first second = absurd first
@@ -49,10 +51,12 @@ appends_part a b c piece m n first second =
 
 -- ---- octets read
 
+-- what is known of a source is itself with no octets taken off its front
 pub consumes_self : (known : Option (List ℕ)) → Consumes known known []
 consumes_self None = tt
 consumes_self (Some xs) = refl
 
+-- what is read of a source in two turns stood at its front one behind the other
 pub consumes_more : (a b c : Option (List ℕ)) (xs ys : List ℕ) → Consumes a b xs → Consumes b c ys → Consumes a c (xs ++ ys)
 consumes_more None b c xs ys first second = tt
 consumes_more (Some p) None c xs ys first second = absurd first

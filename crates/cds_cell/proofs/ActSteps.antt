@@ -205,6 +205,7 @@ pub crash_placed : (c : Cell) (g : model.Cell) (x : ℕ) → Stands c g → firs
 crash_placed c g x s none unmade =
     never_missing c g x [] s.stands (passed (refusals_of g (command.Crash x)) (is_missing g (x ∷ [])) command.NoHouse (inl refl) none) unmade
 
+-- a house is up where its crash is not refused
 pub crash_up : (g : model.Cell) (x : ℕ) → first_refusal (refusals_of g (command.Crash x)) ≡ None → (g.house x).up ≡ true
 crash_up g x none = up_where g x (passed (refusals_of g (command.Crash x)) (is_down g x) command.Down (inr (inl refl)) none)
 
@@ -214,6 +215,7 @@ pub start_placed : (c : Cell) (g : model.Cell) (x : ℕ) → Stands c g → firs
 start_placed c g x s none unmade =
     never_missing c g x [] s.stands (passed (refusals_of g (command.Start x)) (is_missing g (x ∷ [])) command.NoHouse (inl refl) none) unmade
 
+-- a house is down where its start is not refused
 pub start_down : (g : model.Cell) (x : ℕ) → first_refusal (refusals_of g (command.Start x)) ≡ None → (g.house x).up ≡ false
 start_down g x none = down ((g.house x).up) (passed (refusals_of g (command.Start x)) (not (is_down g x)) command.Up (inr (inl refl)) none)
   where

@@ -131,6 +131,7 @@ cell_valid x c y e =
     map_valid nat_list_cmp_total (λ m. stamp_order h.0 m.stamp ≡ None) value (mark h.0) (mark_valid h.0) h.3.0 h.3.1 h.3.3.0 h.3.3.1 marks in
     subst IsHeldCell h.3.3.3.0 (λ v. kept_all h.0 (get h.3.3.0 v) (each v), not_empty h.0 h.3.0 h.3.1 h.3.3.0 h.3.3.1 h.3.2.4 marks)
 
+-- an entry that is read from octets is valid
 pub entry_valid : (x : List ℕ) (d : EntryCell) (y : List ℕ) → read entry x ≡ Ok (d, y) → IsValidEntry d
 unfolding entry
 entry_valid x d y e =

@@ -184,6 +184,7 @@ pub in_order : (b : Bool) → T b → (if b then None else Some OutOfOrder) ≡ 
 in_order true p = refl
 in_order false p = absurd p
 
+-- keys of octets, such as names and values: each is to be above the one before it
 abbrev pub octets_keys : KeyOrder (List ℕ)
 octets_keys = record {
   cmp = octets_cmp;
@@ -202,6 +203,7 @@ dir_order before d = number_order (option_map (λ d. d.0) before) d.0
 pub dir_above : (b k : ℕ) → T (is_lt (nat_cmp b k)) → number_order (Some b) k ≡ None
 dir_above b k p = grind (arith, p)
 
+-- directories as keys: the number of each is to be above that of the one before it
 abbrev pub dir_keys : KeyOrder DirId
 dir_keys = record {
   cmp = dir_cmp;

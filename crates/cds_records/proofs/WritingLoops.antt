@@ -26,10 +26,12 @@ behind old x y out new e f = f ∙ ap (λ (z : List ℕ). z ++ y) e ∙ append_a
 pub behind_3 : {b c d : List ℕ} (a x y z : List ℕ) → b ≡ a ++ x → c ≡ b ++ y → d ≡ c ++ z → d ≡ a ++ (x ++ y ++ z)
 behind_3 a x y z e f g = behind a (x ++ y) z _ _ (behind a x y _ _ e f) g
 
+-- five parts that are written one behind another stand as one piece behind the old octets
 pub behind_5 : {b c d e f : List ℕ} (a u v x y z : List ℕ) → b ≡ a ++ u → c ≡ b ++ v → d ≡ c ++ x → e ≡ d ++ y → f ≡ e ++ z
     → f ≡ a ++ (u ++ v ++ x ++ y ++ z)
 behind_5 a u v x y z p q r s t = behind_3 a (u ++ v ++ x) y z (behind_3 a u v x p q r) s t
 
+-- six parts that are written one behind another stand as one piece behind the old octets
 pub behind_6 : {b c d e f g : List ℕ} (a u v w x y z : List ℕ) → b ≡ a ++ u → c ≡ b ++ v → d ≡ c ++ w → e ≡ d ++ x → f ≡ e ++ y → g ≡ f ++ z
     → g ≡ a ++ (u ++ v ++ w ++ x ++ y ++ z)
 behind_6 a u v w x y z p q r s t i = behind a (u ++ v ++ w ++ x ++ y) z _ _ (behind_5 a u v w x y p q r s t) i

@@ -193,6 +193,7 @@ pub eight : (us : List ℕ) → length us ≡ 8 → from_be_bytes w64 us ≡ spe
 eight (a ∷ b ∷ c ∷ d ∷ e ∷ f ∷ g ∷ h ∷ []) len = omega arith
 eight us len = absurd (omega (arith, len))
 
+-- four octets are read as the number that they spell
 pub four : (us : List ℕ) → length us ≡ 4 → from_be_bytes w32 us ≡ spelled 0 us
 four (a ∷ b ∷ c ∷ d ∷ []) len = omega arith
 four us len = absurd (omega (arith, len))

@@ -117,6 +117,7 @@ up_to_trans s t u a b = ⊎_elim
     (up_to_parts t u b))
     (up_to_parts s t a)
 
+-- a number that the test finds in a list is in it
 pub In-from_has : (x : ℕ) (xs : List ℕ) → has x xs ≡ true → In x xs
 In-from_has x [] e = absurd (cc)
 In-from_has x (y ∷ ys) e = ⊎_elim (λ h. inl (eq_from x y h)) (λ h. inr (In-from_has x ys h)) (or_cases (eqb x y) (has x ys) e)

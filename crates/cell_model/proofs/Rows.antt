@@ -76,6 +76,7 @@ late_row now m (Some e) x k = passes (Late m.epoch e) tt
 
 -- ---- epochs
 
+-- a number is at most another where the test says so
 pub le_from : (a b : ℕ) → nat_le a b ≡ true → a ≤ b
 le_from a b e = grind arith
 

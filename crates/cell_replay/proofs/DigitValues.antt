@@ -53,10 +53,12 @@ pub pair_valued : (text : List ℕ) (i h l : ℕ) → Some h ≡ hex_digit_value
     → pair_value (slice_index text (2 * i)) (slice_index text (2 * i + 1)) (2 * i) ≡ Ok (h * 16 + l)
 pair_valued text i h l eh el = rw (sym eh, sym el) refl
 
+-- a pair whose first octet is no digit is at fault there
 pub high_at_fault : (text : List ℕ) (i : ℕ) → None ≡ hex_digit_value (slice_index text (2 * i))
     → pair_value (slice_index text (2 * i)) (slice_index text (2 * i + 1)) (2 * i) ≡ Err (InvalidHexCharacter (slice_index text (2 * i)) (2 * i))
 high_at_fault text i e = rw (sym e) refl
 
+-- a pair whose second octet alone is no digit is at fault there
 pub low_at_fault : (text : List ℕ) (i h : ℕ) → Some h ≡ hex_digit_value (slice_index text (2 * i)) → None ≡ hex_digit_value (slice_index text (2 * i + 1))
     → pair_value (slice_index text (2 * i)) (slice_index text (2 * i + 1)) (2 * i) ≡ Err (InvalidHexCharacter (slice_index text (2 * i + 1)) (2 * i + 1))
 low_at_fault text i h eh el = rw (sym eh, sym el) refl

@@ -38,6 +38,7 @@ pub record IsLoading (loader : Loader) (left all : List Command) : Type 0 where
   pub complete : loader.complete + count_by completes (answered_from cell left) ≡ count_by completes (answered_from empty_cell all)
   pub behind : replay_from cell (map step_of left) ≡ replay (map step_of all)
 
+-- a load begins with all commands left, a cell without houses, and nothing counted
 pub loading_begins : (loader : Loader) (left all : List Command) → left ≡ all → Stands loader.replayer.cell empty_cell → loader.commands ≡ 0
     → loader.accepted ≡ 0 → loader.complete ≡ 0 → IsLoading loader left all
 loading_begins loader left all same stands no_command none_accepted none_complete =
@@ -101,6 +102,7 @@ comes_next (c ∷ cs) left' l taken =
     let same : l ≡ line.Cell c = cc in
     (c, ap (λ (xs : List Command). c ∷ xs) (sym taken.1), same)
 
+-- where no command comes next, none is left
 pub none_left : (left left' : List Command) → TakesFirst left left' None → left ≡ []
 none_left [] left' taken = refl
 none_left (c ∷ cs) left' taken = let e : None ≡ Some (line.Cell c) = taken.0 in cc

@@ -26,6 +26,7 @@ loads_with text sink sink' mid result waits (inr none) (inr cut) =
     let empty : length waits ≡ 0 = ap length none.1 in
     absurd (omega (arith, few, empty))
 
+-- a run that writes this text with nothing waiting in front of it, and stops, ends as `load` ends
 pub loads : (text waited : List ℕ) (sink sink' : Side) (result : Status) → waited ≡ [] → StopsWith sink sink' AllRead text waited result
     → Loaded text sink sink' result
 loads text waited sink sink' result none stops =

@@ -38,6 +38,7 @@ is_change (command.Add h d n a v) = true
 is_change (command.Remove h d n a v) = true
 is_change _ = false
 
+-- `deliver` alone delivers a message (own)
 abbrev pub is_delivery : Command → Bool
 is_delivery (command.Deliver n) = true
 is_delivery _ = false
@@ -47,6 +48,7 @@ abbrev pub is_refusal : model.Answer → Bool
 is_refusal (model.Refused r) = true
 is_refusal _ = false
 
+-- an answer that tells that a skulk is complete (own)
 abbrev pub is_completion : model.Answer → Bool
 is_completion (model.Complete t ns) = true
 is_completion _ = false
@@ -55,6 +57,7 @@ is_completion _ = false
 abbrev pub is_accepted : Answered → Bool
 is_accepted (c, a) = is_change c && not (is_refusal a)
 
+-- a delivery that is answered by the completion of a skulk (own)
 abbrev pub completes : Answered → Bool
 completes (c, a) = is_delivery c && is_completion a
 
@@ -64,9 +67,11 @@ completes (c, a) = is_delivery c && is_completion a
 abbrev pub value_count : EntryCell → ℕ
 value_count e = sum_by (λ a. length (cell_values a.1)) (entries e.attrs)
 
+-- how many values of an entry show: those that are present where it is live, and else none (own)
 abbrev pub shown_count : EntryCell → ℕ
 shown_count e = if is_some (shown_entry e) then value_count e else 0
 
+-- how many values show in a table, over all its entries (own)
 abbrev pub values_shown : Entries → ℕ
 values_shown t = sum_by (λ e. shown_count e.1) (entries t)
 

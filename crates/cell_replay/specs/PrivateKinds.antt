@@ -11,6 +11,7 @@ abbrev pub line_changes : ScriptLine → Bool
 line_changes (line.Cell c) = is_change c
 line_changes (line.Question q) = false
 
+-- whether a line is a command that delivers a message
 abbrev pub line_delivers : ScriptLine → Bool
 line_delivers (line.Cell c) = is_delivery c
 line_delivers (line.Question q) = false
@@ -20,6 +21,7 @@ abbrev pub refuses : Answer → Bool
 refuses (answer.Refused r) = true
 refuses _ = false
 
+-- whether an answer of the script tells that a skulk is complete
 abbrev pub is_complete : Answer → Bool
 is_complete (answer.Complete t ns) = true
 is_complete _ = false

@@ -115,9 +115,11 @@ no_command = Err (UnknownCommand 1)
 abbrev pub said_in_row : List Row → List ℕ → Words → Result ScriptLine ParseFault
 said_in_row rows word s = said_among rows no_command word s
 
+-- what the words behind a first word say, by the row of that word among all commands (own)
 unfoldable pub said_by : List ℕ → Words → Result ScriptLine ParseFault
 said_by = said_in_row rows
 
+-- a line that says something, or its fault (own)
 abbrev pub some_line : Result ScriptLine ParseFault → Result (Option ScriptLine) ParseFault
 some_line r = do
   l ← r

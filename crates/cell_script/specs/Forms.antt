@@ -71,6 +71,7 @@ pub record Words : Type 0 where
 
 -- a step of a line, and then the next one (own)
 infixl 10 ◌>>=◌
+-- the next step of a line that has no fault so far (own)
 abbrev pub ◌>>=◌ : {A B : Type 0} → Result A ParseFault → (A → Result B ParseFault) → Result B ParseFault
 Ok x >>= f = f x
 Err e >>= f = Err e

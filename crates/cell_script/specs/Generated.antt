@@ -27,6 +27,7 @@ laid_out first (p ∷ ps) =
 abbrev pub nobody : ℕ → List ℕ
 nobody first = []
 
+-- the first message alone is delivered (own)
 abbrev pub the_first : ℕ → List ℕ
 the_first first = first ∷ []
 
@@ -58,9 +59,11 @@ opening = record { commands = map house_made (range_with_len 1 3) ++ root_made �
 abbrev pub entry_name : ℕ → List ℕ
 entry_name k = codes "e" ++ decimal k
 
+-- entry k is made at house 1 (own)
 abbrev pub entry_made : ℕ → Command
 entry_made k = command.Create (house 1) the_root (entry_name k)
 
+-- entry k is deleted at house 1 (own)
 abbrev pub entry_deleted : ℕ → Command
 entry_deleted k = command.Delete (house 1) the_root (entry_name k)
 
@@ -68,6 +71,7 @@ entry_deleted k = command.Delete (house 1) the_root (entry_name k)
 abbrev pub value_added : (k v : ℕ) → Command
 value_added k v = command.Add (house 1) the_root (entry_name k) (codes "A") (v ∷ [])
 
+-- the attribute `A` of entry k loses a value of one octet (own)
 abbrev pub value_removed : (k v : ℕ) → Command
 value_removed k v = command.Remove (house 1) the_root (entry_name k) (codes "A") (v ∷ [])
 
@@ -90,12 +94,15 @@ draws x (suc count) = next_draw x ∷ draws (next_draw x) count
 abbrev pub drawn_entry : ℕ → ℕ
 drawn_entry x = x / 256 % 16
 
+-- the value that a number says, which is an octet (own)
 abbrev pub drawn_value : ℕ → ℕ
 drawn_value x = x / 256 / 16 % 256
 
+-- what a number says is done: 0 to 4 add the value, 5 and 6 remove it, and 7 makes the entry anew (own)
 abbrev pub drawn_change : ℕ → ℕ
 drawn_change x = x / 256 / 4096 % 8
 
+-- whether a number says that one of the houses is told (own)
 abbrev pub is_told : ℕ → Bool
 is_told x = x / 256 / 32768 % 2 == 1
 
@@ -125,6 +132,7 @@ new_entry_round x =
 abbrev pub change_round : ℕ → Part
 change_round x = if drawn_change x == 7 then new_entry_round x else value_round x
 
+-- house 1 begins a skulk of the root directory (own)
 abbrev pub skulk_made : Command
 skulk_made = command.Skulk (house 1) the_root
 
@@ -136,6 +144,7 @@ skulk = record { commands = skulk_made ∷ []; delivered = so_many 10; posted = 
 abbrev pub ends_with_skulk : (last round : ℕ) → Bool
 ends_with_skulk last round = (round % 32 == 0) || (round == last)
 
+-- a skulk where one is due, and else nothing (own)
 abbrev pub skulk_if : Bool → List Part
 skulk_if due = if due then skulk ∷ [] else []
 

@@ -14,6 +14,7 @@ use Rattle.cell_script.specs.Notes.{note_in}
 
 -- a step of a word, and then the next one (own)
 infixl 10 ◌>>=◌
+-- the next step of a word that said something so far (own)
 abbrev pub ◌>>=◌ : {A B : Type 0} → Option A → (A → Option B) → Option B
 o >>= f = option_and_then f o
 
@@ -85,6 +86,7 @@ object_said w = do
 unfoldable pub bindings_of : List ℕ → Option (List StringBinding)
 bindings_of = list_of binding_said
 
+-- one or more objects with commas between, or the word for none (own)
 unfoldable pub objects_of : List ℕ → Option (List (List ℕ))
 objects_of = list_of object_said
 
@@ -109,6 +111,7 @@ protocols_of w =
 abbrev pub most_priority : ℕ
 most_priority = 255
 
+-- a priority: a decimal number of at most the greatest (own)
 unfoldable pub priority_of : List ℕ → Option ℕ
 priority_of = number_within most_priority
 

@@ -11,20 +11,26 @@ use Rattle.cell_script.specs.Commands.{event_rows, question_rows, service_rows}
 unfoldable pub served_by : List ℕ → Words → Result ScriptLine ParseFault
 served_by word = said_among service_rows no_command word
 
+-- what they say where the first word is that of a question or of a command of the name service (own)
 unfoldable pub asked_by : List ℕ → Words → Result ScriptLine ParseFault
 asked_by word s = said_among question_rows (served_by word s) word s
 
+-- what they say where it is one of these or that of an event (own)
 unfoldable pub befallen_by : List ℕ → Words → Result ScriptLine ParseFault
 befallen_by word s = said_among event_rows (asked_by word s) word s
 
+-- what they say where it is one of these or that of a command about all replicas of a directory (own)
 unfoldable pub replicated_by : List ℕ → Words → Result ScriptLine ParseFault
 replicated_by word s = said_among replica_rows (befallen_by word s) word s
 
+-- what they say where it is one of these or that of a change of an entry's values (own)
 unfoldable pub changed_by : List ℕ → Words → Result ScriptLine ParseFault
 changed_by word s = said_among value_rows (replicated_by word s) word s
 
+-- what they say where it is one of these or that of an update of an entry (own)
 unfoldable pub updated_by : List ℕ → Words → Result ScriptLine ParseFault
 updated_by word s = said_among entry_rows (changed_by word s) word s
 
+-- what they say where it is one of these or that of a command that makes houses or directories: so of any command (own)
 unfoldable pub made_by : List ℕ → Words → Result ScriptLine ParseFault
 made_by word s = said_among making_rows (updated_by word s) word s

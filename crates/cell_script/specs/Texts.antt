@@ -199,6 +199,7 @@ value_line value m = codes "value " ++ (encode_lower value ++ (32 ∷ (presence 
 unfoldable pub lines_of_each : {X : Type 0} → (List ℕ → X → List (List ℕ)) → List (List ℕ × X) → List (List ℕ)
 lines_of_each lines es = flat_map (λ e. lines e.0 e.1) es
 
+-- the lines of all keys of a map, and of what stands at them, in ascending order (own)
 abbrev pub each_lines : {X : Type 0} → (List ℕ → X → List (List ℕ)) → FinMap octets_cmp X → List (List ℕ)
 each_lines lines m = lines_of_each lines (entries m)
 
@@ -206,9 +207,11 @@ each_lines lines m = lines_of_each lines (entries m)
 abbrev pub value_lines : List ℕ → ValueMark → List (List ℕ)
 value_lines value m = value_line value m ∷ []
 
+-- the lines of an attribute: its own, and those of its values (own)
 abbrev pub attr_lines : List ℕ → AttrCell → List (List ℕ)
 attr_lines name c = attr_line name c.cleared ∷ each_lines value_lines c.values
 
+-- the lines of an entry: its own, and those of its attributes (own)
 abbrev pub entry_lines : List ℕ → EntryCell → List (List ℕ)
 entry_lines name e = entry_line name e ∷ each_lines attr_lines e.attrs
 
@@ -268,6 +271,7 @@ answer_text number a = lines_text number (answer_lines a)
 abbrev pub fault_text : ℕ → List ℕ → ℕ → List ℕ
 fault_text number name place = decimal number ++ (codes " fault " ++ (name ++ (32 ∷ (decimal place ++ 10 ∷ []))))
 
+-- the line of a fault of a script line: its name, and the number of the word, or how many words there are (own)
 abbrev pub parse_fault_text : ℕ → ParseFault → List ℕ
 parse_fault_text number (parse.UnknownCommand word) = fault_text number (codes "UnknownCommand") word
 parse_fault_text number (parse.WrongCount words) = fault_text number (codes "WrongCount") words

@@ -78,9 +78,11 @@ node_of w = option_map (λ octets. from_be_bytes w64 (0 ∷ 0 ∷ octets)) (resu
 abbrev pub simple_name_of : List ℕ → Option (List ℕ)
 simple_name_of w = result_ok (ok_unless (simple_name_fault w) w)
 
+-- a full name, as its components (own, after C705, CDS names)
 abbrev pub full_name_of : List ℕ → Option (List (List ℕ))
 full_name_of w = result_ok (ok_unless (name_fault w) (components_of w))
 
+-- the name of an attribute (own, after C705, CDS names)
 abbrev pub attr_name_of : List ℕ → Option (List ℕ)
 attr_name_of w = result_ok (ok_unless (attr_fault w) w)
 
@@ -88,6 +90,7 @@ attr_name_of w = result_ok (ok_unless (attr_fault w) w)
 abbrev pub value_in : List ℕ → Option (List ℕ)
 value_in octets = result_ok (ok_unless (value_fault octets) octets)
 
+-- the value that a word of hexadecimal digits spells, two for each octet (own)
 abbrev pub octets_value_of : List ℕ → Option (List ℕ)
 octets_value_of w = option_and_then value_in (result_ok (decode_of w))
 

@@ -227,6 +227,7 @@ pub begun_idle : (b : Bool) (t : Stamp) (p : ℕ) (phase : Skulk) (n : Next) (u 
 begun_idle true t p phase n u does is = does.0
 begun_idle false t p phase n u does is = absurd (let e : next.Nothing ≡ next.Complete u = sym does.1 ∙ is in cc)
 
+-- a skulk that is not complete at once runs its first round, in which the master alone has answered
 pub begun_round : (b : Bool) (t : Stamp) (p : ℕ) (phase : Skulk) (n : Next)
     → MatchBool b ((phase ≡ skulk.Idle) × (n ≡ next.Complete t)) (IsGathering t (only p) phase × (n ≡ next.Nothing))
     → ((u : Stamp) → n ≡ next.Complete u → ⊥) → IsGathering t (only p) phase

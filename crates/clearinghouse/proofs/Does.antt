@@ -329,6 +329,7 @@ does_or msg old mid new done result P self is each ok err =
     subst (λ x. DoesOr msg old x result) (sym self)
     (subst (DoesOr msg old mid) (sym is) (record { does = if_ok_map P (λ t. Does msg old mid t.answer t.outgoing) done each ok; wants = err }))
 
+-- a call with a message that is neither a Join nor a Leave does what is promised, or wants for memory and changes nothing
 pub done_other : (msg : Message) (old mid new : Clearinghouse) (done result : Result (Turn Taken) AllocError) → new ≡ mid → result ≡ done
     → ((ms : List declared.Member) (r : Replica) → msg.body ≡ body.Join ms r → ⊥) → (msg.body ≡ body.Leave → ⊥)
     → IfOk done (λ t. TakesOther msg old mid t.answer t.outgoing) → OnErr done (mid ≡ old) → DoesOr msg old new result
@@ -336,6 +337,7 @@ done_other msg old mid new done result self is not-join not-leave ok err =
     does_or msg old mid new done result (λ t. TakesOther msg old mid t.answer t.outgoing) self is
     (λ t z. other_does msg old mid t.answer t.outgoing not-join not-leave z) ok err
 
+-- a call with a Join does what is promised, or wants for memory and changes nothing
 pub done_join : (msg : Message) (ms : List declared.Member) (r : Replica) (old mid new : Clearinghouse) (done result : Result (Turn Taken) AllocError)
     → new ≡ mid → result ≡ done → msg.body ≡ body.Join ms r → IfOk done (λ t. TakesJoin msg ms r old mid t.answer t.outgoing) → OnErr done (mid ≡ old)
     → DoesOr msg old new result
@@ -343,6 +345,7 @@ done_join msg ms r old mid new done result self is join ok err =
     does_or msg old mid new done result (λ t. TakesJoin msg ms r old mid t.answer t.outgoing) self is
     (λ t z. join_does msg ms r old mid t.answer t.outgoing join z) ok err
 
+-- a call with a Leave does what is promised, or wants for memory and changes nothing
 pub done_leave : (msg : Message) (old mid new : Clearinghouse) (done result : Result (Turn Taken) AllocError) → new ≡ mid → result ≡ done
     → msg.body ≡ body.Leave → IfOk done (λ t. TakesLeave msg old mid t.answer t.outgoing) → OnErr done (mid ≡ old) → DoesOr msg old new result
 done_leave msg old mid new done result self is leave ok err =

@@ -154,6 +154,7 @@ step_of A (Turns turn) c now dir old new floor o stands here le step = (step.0, 
 pub held_is : (o : Option DirState) (x h : Held) → Some x ≡ held_in o → o ≡ Some (state.Held h) → x ≡ h
 held_is o x h is got = let e : Some x ≡ Some h = is ∙ ap held_in got in cc
 
+-- where this is held of a directory, the house has that directory, and holds just this of it
 pub have_held : (o : Option DirState) (x : Held) → Some x ≡ held_in o → o ≡ Some (state.Held x)
 have_held None x is = absurd (cc)
 have_held (Some (state.Gone e)) x is = absurd (cc)

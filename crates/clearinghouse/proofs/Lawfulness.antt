@@ -64,6 +64,7 @@ update_times t u s f floor fine entry up above =
 pub up_to_later : (r : Replica) (a b : ℕ) → a ≤ b → ReplicaUpTo a r → ReplicaUpTo b r
 up_to_later r a b le h = (latest_time-≤ b r).0 (le_trans ((latest_time-≤ a r).1 h) le)
 
+-- what a house holds stays lawful with a later floor
 pub lawful_later : (me a b : ℕ) (h : Held) → a ≤ b → IsLawfulHeld me a h → IsLawfulHeld me b h
 lawful_later me a b h le w = record {
   valid = w.valid;

@@ -46,6 +46,7 @@ above place least (y ∷ ys) h p m is = by (above (place + 1) (y.house + 1) ys) 
         ap (λ b. cond b (Some place) (first_unordered (place + 1) (y.house + 1) ys)) (sym low) ∙ h in
         let high = more rest q m is in grind (arith, nat_tests)
 
+-- the members behind the first of an ordered list are in order, and above it
 pub rest_ordered : (place least : ℕ) (y : Member) (ys : List Member) → first_unordered place least (y ∷ ys) ≡ None
     → first_unordered (place + 1) (y.house + 1) ys ≡ None
 rest_ordered place least y ys h = by (nat_lt y.house least) refl
@@ -111,12 +112,15 @@ unlisted x ms none = by (is_listed x ms) refl
     by true is = absurd (let w = listed_from x 0 ms is in let e : Some w.0 ≡ None = sym w.1 ∙ none in cc)
     by false is = refl
 
+-- a house that has a place is listed
 pub placed : (x k : ℕ) (ms : List Member) → place_of x ms ≡ Some k → is_listed x ms ≡ true
 placed x k ms is = from_found x 0 k ms is
 
+-- the place of a house is within the list
 pub within : (x k : ℕ) (ms : List Member) → place_of x ms ≡ Some k → k < length ms
 within x k ms is = let w = found_from x 0 k ms is in omega (arith, w.1)
 
+-- a house that is listed has a place
 pub place_listed : (x : ℕ) (ms : List Member) → is_listed x ms ≡ true → place_of x ms ≡ Some (unwrap_or (place_of x ms) 0)
 place_listed x ms is = let w = listed_from x 0 ms is in rw w.1 refl
 
@@ -445,6 +449,7 @@ others_all x (y ∷ ys) h = by (others_all x ys) (y.house == x) refl
         ap (λ b. if b then others_of x ys else y.house ∷ others_of x ys) is
         ∙ ap (λ hs. y.house ∷ hs) (rest (ap (λ b. b || is_listed x ys) (sym is) ∙ h))
 
+-- a house is not listed among ordered members that are all above it
 pub rest_unlisted : (place x : ℕ) (ys : List Member) → first_unordered place (x + 1) ys ≡ None → is_listed x ys ≡ false
 rest_unlisted place x ys sorted = by (is_listed x ys) refl
   where
@@ -477,6 +482,7 @@ pub data BeginRow (me : ℕ) (ms : List Member) (t : Stamp) (phase : Skulk) (n :
   complete : others_of me ms ≡ [] → phase ≡ skulk.Idle → n ≡ next.Complete t → BeginRow me ms t phase n
   begun : (y : ℕ) (ys : List ℕ) → others_of me ms ≡ y ∷ ys → StandsPhase me ms phase (model.Gathering t []) → n ≡ next.Nothing → BeginRow me ms t phase n
 
+-- a skulk that a member begins is complete at once, or runs its first round as the model has it
 pub begin_row : (me mine : ℕ) (ms : List Member) (t : Stamp) (phase : Skulk) (n : Next) → members_fault ms ≡ None → place_of me ms ≡ Some mine
     → Begins t (length ms) mine phase n → BeginRow me ms t phase n
 begin_row me mine ms t phase n lawful here does = by (length ms == 1) refl does (others_of me ms) refl

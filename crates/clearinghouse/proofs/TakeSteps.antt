@@ -63,6 +63,7 @@ pub fragment_taken : (old new : Replica) (f : Fragment) (h marks : List Mark) (t
 fragment_taken old new f h marks t is can fragment takes =
     (subst (λ (x : Replica). TakesFragment x f new) is takes).merged h marks can fragment refl
 
+-- a replica into which another is merged is that of both histories, up to the later of their stamps
 pub replica_taken : (old other new : Replica) (h g : List Mark) (t u : Option Stamp) → old ≡ replica_of h t → other ≡ replica_of g u
     → CanMerge h g (together t u) → TakesReplica old other new → new ≡ replica_of (h ++ g) (together t u)
 replica_taken old other new h g t u is also can takes =

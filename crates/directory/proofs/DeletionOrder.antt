@@ -39,6 +39,7 @@ derived_what (Absent a v) (Absent b w) = refl
 abbrev pub derived : Deletion → Deletion → Ordering
 derived = (deletions.ghosts).cmp
 
+-- the derived order of deletions is that of the definitions
 pub derived_cmp : derived ≡ deletion_cmp
 derived_cmp = λ i d e. ap (λ o. ordering_then (stamp_cmp d.stamp e.stamp) (ordering_then (octets_cmp d.name e.name) o)) (derived_what d.what e.what) i
 

@@ -108,6 +108,7 @@ on_result (Err e) p q f g = g q
 pub adds_none : (n : List ℕ) (x : Deletions) → AddsAt n x x
 adds_none n x = (λ d has. has, λ d apart. refl)
 
+-- deletions that are added in two turns, all in the entry of one name, are added in that entry alone
 pub adds_both : (n : List ℕ) (x y z : Deletions) → AddsAt n x y → AddsAt n y z → AddsAt n x z
 adds_both n x y z a b = (λ d has. b.0 d (a.0 d has), λ d apart. b.1 d apart ∙ a.1 d apart)
 
@@ -123,6 +124,7 @@ adds_one x y d put = (λ e has. put e ∙ kept (is_deletion e d) (is_indexed x e
     other e apart true same = absurd (apart (ap (λ d. d.name) (one_deletion e d same)))
     other e apart false is = put e ∙ ap (λ b. if b then true else is_indexed x e) is
 
+-- an index that still knows of just the same has nothing added outside the entry of this name
 pub adds_same : (n : List ℕ) (x y : Deletions) → ((e : Deletion) → is_indexed y e ≡ is_indexed x e) → AddsAt n x y
 adds_same n x y same = (λ d has. same d ∙ has, λ d apart. same d)
 
@@ -154,9 +156,11 @@ none_at x n w o none s at = absurd (let no : false ≡ true = sym (ap (λ o. sta
 pub more_at : (x y : Deletions) → Keeps x y → (n : List ℕ) (w : What) (o : Option Stamp) → KnowsAt x n w o → KnowsAt y n w o
 more_at x y keeps n w o known s at = keeps (record { stamp = s; name = n; what = w }) (known s at)
 
+-- what is known of the mark of a value stays known
 pub more_of_mark : (x y : Deletions) → Keeps x y → (n a v : List ℕ) (m : ValueMark) → KnowsMark x n a v m → KnowsMark y n a v m
 more_of_mark x y keeps n a v m known s absent = keeps (record { stamp = s; name = n; what = Absent a v }) (known s absent)
 
+-- what is known of the cell of an attribute stays known
 pub more_of_cell : (x y : Deletions) → Keeps x y → (n a : List ℕ) (c : AttrCell) → KnowsCell x n a c → KnowsCell y n a c
 more_of_cell x y keeps n a c known = (more_at x y keeps n (Clear a) c.cleared known.0, λ v. marks v (get c.values v) (known.1 v))
   where

@@ -122,6 +122,7 @@ put_here old new k l x y put name entry =
     ap (λ m. get m k) put ∙ get-insert nat_list_cmp_total old l y k ∙ ap (λ l. cond (eq_by_cmp octets_cmp k l) (Some y) (get old k)) name
     ∙ ap (λ b. cond b (Some y) (get old k)) (ap is_eq (tied_itself nat_list_cmp_total k)) ∙ ap Some entry
 
+-- where an entry is put at a name, each other name has what it had
 pub put_elsewhere : (old new : Entries) (k l : List ℕ) (y : EntryCell) → new ≡ insert old l y → l ≡ k → (q : List ℕ) → q ≢ k → get new q ≡ get old q
 put_elsewhere old new k l y put name q other =
     ap (λ m. get m q) put ∙ get-insert nat_list_cmp_total old l y q ∙ at (eq_by_cmp octets_cmp q l) refl
@@ -212,6 +213,7 @@ IsTaken t own other q x = IfSome x IsValidEntry × (maybe join_entries (get own 
 abbrev pub TakesPart : Stamp → Entries → Entries → Entries → List (List ℕ × EntryCell) → Type 0
 TakesPart t own other = InTurn nat_list_cmp_total octets_exact (IsTaken t own other) other
 
+-- a table of what is taken is so with one entry fewer to come, where the name of that one got what is taken of it
 pub part_step : (t : Stamp) (own other old new : Entries) (k : List ℕ) (e : EntryCell) (es rest : List (List ℕ × EntryCell)) → es ≡ (k, e) ∷ rest
     → IsValidTable own → IsValidTable other → (get old k ≡ None → IsValidEntry e → IfSome (get new k) IsValidEntry)
     → (get old k ≡ None → IfSome (get own k) IsValidEntry → IsValidEntry e → maybe join_entries (get own k) (get new k) ≡ take_entry t (get own k) (Some e))
@@ -221,6 +223,7 @@ part_step t own other old new k e es rest first mine theirs valid joined others 
     let entry : IsValidEntry e = subst (λ x. IfSome x IsValidEntry) found (theirs k) in
     (valid none entry, joined none (mine k) entry ∙ ap (take_entry t (get own k)) (sym found)))
 
+-- once no entry is still to come, each name has what is taken of the other table
 pub part_end : (t : Stamp) (own other new : Entries) (es : List (List ℕ × EntryCell)) → es ≡ [] → TakesPart t own other new es
     → (q : List ℕ) → IsTaken t own other q (get new q)
 part_end t own other new es none = turns_end nat_list_cmp_total octets_exact (IsTaken t own other) other new es none (λ q absent.
@@ -239,10 +242,12 @@ abbrev pub KnowsRest : Deletions → Entries → List (List ℕ × EntryCell) �
 KnowsRest x m es = (d : Deletion) → has_deletion m d ≡ true
     → (is_lost (lookup (is_at (octets_cmp d.name)) es) d.stamp d.what ≡ true) ⊎ (is_indexed x d ≡ true)
 
+-- before the first entry each deletion of the table is still to come
 pub rest_starts : (x : Deletions) (m : Entries) (items : List (List ℕ × EntryCell)) → items ≡ entries m → KnowsRest x m items
 rest_starts x m items all d has = inl (ap (λ e. is_lost e d.stamp d.what)
     (ap (lookup (is_at (octets_cmp d.name))) all ∙ lookup-entries nat_list_cmp_total octets_exact m d.name) ∙ has)
 
+-- each deletion is known or still to come where the index got to know of those of the entry that came
 pub rest_step : (x y : Deletions) (m : Entries) (k : List ℕ) (e : EntryCell) (es rest : List (List ℕ × EntryCell)) → es ≡ (k, e) ∷ rest → Keeps x y
     → ((s : Stamp) (w : What) → has_lost e s w ≡ true → is_indexed y (record { stamp = s; name = k; what = w }) ≡ true)
     → KnowsRest x m es → KnowsRest y m rest
@@ -258,6 +263,7 @@ rest_step x y m k e es rest first keeps adds before d has =
         inr (ap (λ n. is_indexed y (record { stamp = d.stamp; name = n; what = d.what })) (tied octets_exact d.name k is) ∙ adds d.stamp d.what own)
     at false is lost = inl (ap (λ b. is_lost (cond b (Some e) (lookup (is_at (octets_cmp d.name)) rest)) d.stamp d.what) (sym is) ∙ lost)
 
+-- once no entry is still to come, the index knows of each deletion of the table
 pub rest_ends : (x : Deletions) (m : Entries) (es : List (List ℕ × EntryCell)) → es ≡ [] → KnowsRest x m es → KnowsAll x m
 rest_ends x m es none rest d has = ⊎_elim
     (λ lost. absurd (nothing (ap (λ es. is_lost (lookup (is_at (octets_cmp d.name)) es) d.stamp d.what) (sym none) ∙ lost))) (λ known. known) (rest d has)

@@ -156,6 +156,7 @@ deleted_from interface member entry values =
     changes_unless (option_map refusal_of_profile (profiles_of.delete_fault interface member values)) entry
     (profiles_of.deleted entry.name interface member values)
 
+-- a profile loses its elements for an interface, or the default ones, with this member (own, after C706, profiles)
 abbrev pub delete_element : Reader → List (List ℕ) → Option Interface → (member : List (List ℕ)) → Asks
 delete_element reader name interface member = of_entry (object_in (walked reader true name)) (λ entry.
     deleted_from interface member entry (reader.values entry profiles_of.profile))

@@ -133,6 +133,7 @@ interface_in octets = record {
 abbrev pub member_octets : List ℕ → List ℕ
 member_octets octets = slice_range octets 23 (23 + name_length octets)
 
+-- the octets of the annotation: all that are behind the member's name (own)
 abbrev pub annotation_octets : List ℕ → List ℕ
 annotation_octets octets = drop (23 + name_length octets) octets
 

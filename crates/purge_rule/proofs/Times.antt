@@ -45,6 +45,7 @@ latest_in_cell-≤ n c =
       λ h. let a = clear.1 h.cleared in let b = marks.1 h.values in omega (arith, a, b),
     )
 
+-- the greatest time of an entry is at most n exactly where no time of it is later
 pub latest_in_entry-≤ : (n : ℕ) (e : EntryCell) → (latest_in_entry e ≤ n) ↔ EntryUpTo n e
 latest_in_entry-≤ n e =
     let death = time_of-≤ n e.death in
@@ -53,9 +54,11 @@ latest_in_entry-≤ n e =
       λ h. let a = h.birth in let b = death.1 h.death in let c = cells.1 h.attrs in omega (arith, a, b, c),
     )
 
+-- the greatest time of a table is at most n exactly where no time of it is later
 pub latest_in-≤ : (n : ℕ) (t : Entries) → (latest_in t ≤ n) ↔ TableUpTo n t
 latest_in-≤ n t = greatest_value-≤ nat_list_cmp_total octets_exact latest_in_entry n (EntryUpTo n) (latest_in_entry-≤ n) t
 
+-- the greatest time of a replica is at most n exactly where no time of its table, nor that of its AllUpTo, is later
 pub latest_time-≤ : (n : ℕ) (r : Replica) → (latest_time r ≤ n) ↔ ReplicaUpTo n r
 latest_time-≤ n r =
     let table = latest_in-≤ n r.table in

@@ -58,6 +58,7 @@ follow reader links came_up name = follow_unless (link_refusal links came_up nam
 abbrev pub found : (dir house : ℕ) → List ℕ → Kind → Step
 found dir house name k = Stops (ends.Found (record { dir = record { 0 = dir }; house = record { 0 = house }; name = name; kind = k }))
 
+-- the walk stops at the place of an entry that does not show, with so many components done (own)
 abbrev pub missing : (dir house : ℕ) → List ℕ → (done : ℕ) → Step
 missing dir house name done = Stops (ends.Missing (record { dir = record { 0 = dir }; house = record { 0 = house }; name = name; kind = None }) done)
 

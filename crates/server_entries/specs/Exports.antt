@@ -19,6 +19,7 @@ use Rattle.server_entries.specs.Clients.{ndr_syntax}
 abbrev pub tower_attribute : List ℕ
 tower_attribute = codes "CDS_Towers"
 
+-- The attribute of a server's objects (C706, name service attributes).
 abbrev pub object_attribute : List ℕ
 object_attribute = codes "RPC_ObjectUUIDs"
 
@@ -27,9 +28,11 @@ abbrev pub exported_tower : Interface → StringBinding → RpcTower
 exported_tower interface binding =
     record { interface = interface; transfer = ndr_syntax; protseq = binding.protseq; port = binding.port; address = binding.address }
 
+-- The entry of this name gets the tower of a server of the interface at a binding (C706, exporting servers).
 abbrev pub tower_added : List ℕ → Interface → StringBinding → Change
 tower_added name interface binding = Add name tower_attribute (rpc_octets (exported_tower interface binding))
 
+-- The entry of this name gets an object (C706, exporting servers).
 abbrev pub object_added : List ℕ → List ℕ → Change
 object_added name object = Add name object_attribute object
 
@@ -52,6 +55,7 @@ offers (Some interface) (Some tower) = same_interface tower.interface interface
 abbrev pub tower_goes : Option Interface → List ℕ → Bool
 tower_goes interface octets = offers interface (rpc_tower_of octets)
 
+-- A value of `RPC_ObjectUUIDs` goes if it is one of the objects (C706, unexporting servers).
 abbrev pub object_goes : List (List ℕ) → List ℕ → Bool
 object_goes objects octets = list_any (λ object. bytes_eq object octets) objects
 
