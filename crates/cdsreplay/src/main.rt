@@ -1,6 +1,9 @@
 //! `cdsreplay`: runs one form of the program, which its words name, from standard input to standard output.
 #![tactic(auto)]
 
+ghost use Rattle.std.specs.Prelude.{◌≡◌, ◌≢◌, ◌⊎◌, IfErr};
+ghost use Rattle.std.specs.IoError.{error_kind};
+
 use cds_base::{StdSink, StdSource};
 use cell_replay::{Status, run};
 use std::alloc::{AllocError, Global};
@@ -10,15 +13,20 @@ use std::process::ExitCode;
 use std::rt::Env;
 
 /// How the program ends where its words can't be had: there is no memory for them, or they are no text.
-fn status_without_words(error: &Error) -> Status {
+fn status_without_words(error: &Error) -> Status
+    ensures memory { error_kind error.now ≡ ErrorKind.OutOfMemory → result ≡ Status.OutOfMemory }
+    ensures usage { error_kind error.now ≢ ErrorKind.OutOfMemory → result ≡ Status.Usage }
+{
     match error.kind() {
         ErrorKind::OutOfMemory => Status::OutOfMemory,
         _ => Status::Usage,
     }
 }
 
-/// The words behind the program's name.
-fn words_of(rt: &(impl Env + Alloc<A = Global>)) -> Result<Vec<String>, Status> {
+/// The words behind the program's name, or how the program ends without them.
+fn words_of(rt: &(impl Env + Alloc<A = Global>)) -> Result<Vec<String>, Status>
+    ensures causes { IfErr result (λ status. (status ≡ Status.Usage) ⊎ (status ≡ Status.OutOfMemory)) }
+{
     let args = match env::args(rt) {
         Ok(args) => args,
         Err(error) => return Err(status_without_words(&error)),
