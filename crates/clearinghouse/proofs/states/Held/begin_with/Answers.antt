@@ -10,7 +10,13 @@ returns-in-Complete-clause-kept c =
     (row_begins c.args.by.house c.args.self.now.members c.args.t.now c.begin.new.self c.begin.result _ _ c.count-count.ensures.lawful
     c.requires.master c.count-count.ensures.count c.own_place-me.ensures.place c.begin.ensures.does)
     c.advance.new.self c.in-Complete.field-0 c.in-Complete.is
-    (record { merged = c.advance.ensures.merged; up_to = c.advance.ensures.all_up_to; valid = c.advance.ensures.valid; below = λ n _. c.advance.ensures.times n })
+    (record {
+      merged = c.advance.ensures.merged;
+      up_to = c.advance.ensures.all_up_to;
+      dropped = λ _. c.advance.ensures.dropped;
+      valid = c.advance.ensures.valid;
+      below = λ n _. c.advance.ensures.times n;
+    })
 
 pub returns-in-Complete-clause-step : goal.returns-in-Complete-clause-step
 returns-in-Complete-clause-step c =
@@ -18,7 +24,13 @@ returns-in-Complete-clause-step c =
     (row_begins c.args.by.house c.args.self.now.members c.args.t.now c.begin.new.self c.begin.result _ _ c.count-count.ensures.lawful
     c.requires.master c.count-count.ensures.count c.own_place-me.ensures.place c.begin.ensures.does)
     c.advance.new.self c.in-Complete.field-0 c.in-Complete.is
-    (record { merged = c.advance.ensures.merged; up_to = c.advance.ensures.all_up_to; valid = c.advance.ensures.valid; below = λ n _. c.advance.ensures.times n })
+    (record {
+      merged = c.advance.ensures.merged;
+      up_to = c.advance.ensures.all_up_to;
+      dropped = λ _. c.advance.ensures.dropped;
+      valid = c.advance.ensures.valid;
+      below = λ n _. c.advance.ensures.times n;
+    })
 
 pub returns-in-Complete-clause-begins : goal.returns-in-Complete-clause-begins
 returns-in-Complete-clause-begins c = (
@@ -26,6 +38,7 @@ returns-in-Complete-clause-begins c = (
     record {
       merged = c.advance.ensures.merged;
       up_to = c.advance.ensures.all_up_to;
+      dropped = λ _. c.advance.ensures.dropped;
       valid = c.advance.ensures.valid;
       below = λ n _. c.advance.ensures.times n;
     },
