@@ -1,5 +1,5 @@
 -- What is known of one attribute of one entry, the cell that it makes, and the values that show (own, after C705, attributes and their timestamps).
-use Rattle.std.specs.Prelude.{[], ◌∷◌, ◌≡◌, ℕ, List, Option, Some, None, if◌then◌else◌, refl}
+use Rattle.std.specs.Prelude.{[], ◌∷◌, ◌≡◌, ◌≢◌, ℕ, List, Option, Some, None, if◌then◌else◌, refl}
 use Rattle.std.specs.FinMap.{FinMap, get, empty, entries, code}
 use Rattle.std.specs.Coded.{Coded, code_by, coded×, coded_option}
 use Rattle.std.specs.List.{filter_map}
@@ -10,7 +10,7 @@ use Rattle.cds_stamps.specs.Stamps.{later_stamp, stamp_code}
 use Rattle.cds_stamps.specs.Octets.{octets_cmp, octets_code, is_octets}
 use Rattle.attr_sets.specs.declared.mark.ValueMark.{ValueMark}
 use Rattle.attr_sets.specs.declared.cell.AttrCell.{AttrCell}
-use Rattle.attr_sets.specs.Marks.{later, kept, mark_code}
+use Rattle.attr_sets.specs.Marks.{later, kept, mark_code, JoinsKept}
 
 -- a mark about one attribute of one entry: a clear, or a value that is present or absent (own)
 pub data AttrMark : Type 0 where
@@ -79,6 +79,12 @@ join_cells a b =
 -- a cell holds no value mark that is earlier than its clear (own)
 abbrev pub IsValidCell : AttrCell → Type 0
 IsValidCell a = (v : List ℕ) → kept a.cleared (get a.values v) ≡ get a.values v
+
+-- n is a, valid or not, with b joined in: where the clear of a stays its own marks stay too, and a later clear leaves the join (own)
+abbrev pub TakesCell : AttrCell → AttrCell → AttrCell → Type 0
+TakesCell a b n =
+    let c = maybe later_stamp a.cleared b.cleared in
+    (c ≡ a.cleared → (n.cleared ≡ a.cleared) × JoinsKept a.cleared a.values n.values b.values) × (c ≢ a.cleared → n ≡ join_cells a b)
 
 -- cells are told apart by their two parts (own)
 abbrev pub cell_code : Coded AttrCell

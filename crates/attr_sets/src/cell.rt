@@ -1,14 +1,15 @@
 // The cell of an attribute.
-ghost use Rattle.std.specs.Prelude.{◌≡◌, ◌↔◌, IsTrue, List, ℕ, [], ◌∷◌, true, false, IfOk, OnOk, OnErr, MatchBool};
+ghost use Rattle.std.specs.Prelude.{◌≡◌, ◌↔◌, ◌≢◌, IsTrue, List, ℕ, [], ◌∷◌, true, false, IfOk, IsOk, OnOk, OnErr, MatchBool};
 ghost use Rattle.std.specs.FinMap as map;
 ghost use Rattle.std.specs.Option.{option_and_then};
 ghost use Rattle.cds_stamps.specs.Semilattice.{maybe};
 ghost use Rattle.cds_stamps.specs.Stamps.{later_stamp};
 ghost use Rattle.attr_sets.specs.Marks.{kept, present_at, absent_at, RaisesKept, AgreesOnKept};
-ghost use Rattle.attr_sets.specs.Cells.{Cleared, Marked, cell_of, cell_values, join_cells, IsValidCell};
+ghost use Rattle.attr_sets.specs.Cells.{Cleared, Marked, cell_of, cell_values, join_cells, IsValidCell, TakesCell};
 ghost use Rattle.attr_sets.specs.CellPurges.{clear_left, purged_cell, after_cell, is_empty_cell};
 ghost use Rattle.attr_sets.specs.CellUndoWords.{undo_cell};
-ghost use Rattle.attr_sets.specs.CellChanges.{change_marks};
+ghost use Rattle.attr_sets.specs.CellChanges.{change_marks, ChangesCell};
+ghost use Rattle.attr_sets.specs.declared.change.CellChange.TheVariants.{Clear};
 ghost use Rattle.attr_sets.specs.CellLawProofs.{join_cells-comm, join_cells-assoc, join_cells-idem, join_cells-valid};
 
 use crate::change::CellChange;
@@ -129,6 +130,8 @@ impl AttrCell {
         stamp: Stamp,
     ) -> Result<(), AllocError>
         ensures ok { OnOk result (IsValidCell self.old → self.new ≡ join_cells self.old (cell_of (change_marks change.now stamp))) }
+        ensures any { OnOk result (ChangesCell change.now stamp self.old self.new) }
+        ensures clear { change.now ≡ Clear → IsOk result }
         ensures cleared { let made = cell_of (change_marks change.now stamp) in
             OnOk result (self.new.cleared ≡ maybe later_stamp self.old.cleared made.cleared) }
         ensures values { let made = cell_of (change_marks change.now stamp) in
@@ -168,6 +171,7 @@ impl AttrCell {
     /// kept whole, and the marks that the clear leaves of it are copied.
     pub fn join_logged(&mut self, alloc: Global, other: &AttrCell) -> Result<CellUndo, AllocError>
         ensures ok { OnOk result (IsValidCell self.old → self.new ≡ join_cells self.old other.now) }
+        ensures any { OnOk result (TakesCell self.old other.now self.new) }
         ensures cleared { OnOk result (self.new.cleared ≡ maybe later_stamp self.old.cleared other.now.cleared) }
         ensures values { OnOk result (AgreesOnKept self.new.cleared self.old.values other.now.values self.new.values) }
         ensures back { IfOk result (λ undo. undo_cell undo self.new ≡ self.old) }
@@ -296,6 +300,8 @@ impl Lattice for AttrCell {
 
     fn join(&mut self, alloc: Global, other: &Self) -> Result<(), AllocError>
         ensures ok { OnOk result (IsValidCell self.old → IsValidCell other.now → self.new ≡ join_cells self.old other.now) }
+        ensures own { OnOk result (IsValidCell self.old → self.new ≡ join_cells self.old other.now) }
+        ensures any { OnOk result (TakesCell self.old other.now self.new) }
         ensures cleared { OnOk result (self.new.cleared ≡ maybe later_stamp self.old.cleared other.now.cleared) }
         ensures values { OnOk result (AgreesOnKept self.new.cleared self.old.values other.now.values self.new.values) }
         ensures err { OnErr result (self.new ≡ self.old) }
@@ -312,7 +318,7 @@ impl Lattice for AttrCell {
 
 /// Whether the other clear is not later.
 fn covers_clear(own: &Option<Stamp>, other: &Option<Stamp>) -> bool
-    ensures { MatchBool result (maybe later_stamp own.now other.now ≡ own.now) (Unit {0}) }
+    ensures { MatchBool result (maybe later_stamp own.now other.now ≡ own.now) (maybe later_stamp own.now other.now ≢ own.now) }
 {
     match (own, other) {
         (Some(a), Some(b)) => *b <= *a,

@@ -1,5 +1,5 @@
 // Marks of values.
-ghost use Rattle.std.specs.Prelude.{◌≡◌};
+ghost use Rattle.std.specs.Prelude.{◌≡◌, IsOk, OnOk, OnErr};
 ghost use Rattle.attr_sets.specs.Marks.{later, later_laws};
 
 use cds_stamps::{Lattice, Stamp};
@@ -38,7 +38,11 @@ impl Lattice for ValueMark {
 
     ghost idempotent = { λ x _. later_laws.idem x };
 
-    fn join(&mut self, _alloc: Global, other: &Self) -> Result<(), AllocError> {
+    fn join(&mut self, _alloc: Global, other: &Self) -> Result<(), AllocError>
+        ensures always { IsOk result }
+        ensures ok { OnOk result (self.new ≡ later self.old other.now) }
+        ensures err { OnErr result (self.new ≡ self.old) }
+    {
         *self = self.later(*other);
         Ok(())
     }
