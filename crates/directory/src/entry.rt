@@ -1,9 +1,10 @@
 // Entries.
-ghost use Rattle.std.specs.Prelude.{◌≡◌, ◌↔◌, IsTrue, min, true, Some, None, if◌then◌else◌, filter, is_some, option_copied};
-ghost use Rattle.std.specs.Prelude.{MatchBool, IsSome, IfSome, IfOk, OnOk, OnErr};
+ghost use Rattle.std.specs.Prelude.{◌≡◌, ◌≢◌, ◌↔◌, IsTrue, min, true, Some, None, if◌then◌else◌, filter, is_some, option_copied};
+ghost use Rattle.std.specs.Prelude.{MatchBool, IsSome, IfSome, IsOk, IfOk, OnOk, OnErr};
+ghost use Rattle.std.specs.FinMap as map;
 ghost use Rattle.std.specs.Option.{option_and_then};
 ghost use Rattle.cds_stamps.specs.Semilattice.{maybe, greater};
-ghost use Rattle.cds_stamps.specs.Stamps.{earlier_stamp};
+ghost use Rattle.cds_stamps.specs.Stamps.{earlier_stamp, is_earlier};
 ghost use Rattle.directory.specs.Kinds.{kind_cmp, is_child};
 ghost use Rattle.directory.specs.Entries.{join_tied, join_entries, IsValidEntry};
 ghost use Rattle.directory.specs.EntryLawProofs.{entry_join};
@@ -17,6 +18,7 @@ ghost use Rattle.directory.specs.Held.{held_in_entry, held_in_cell, most_held};
 ghost use Rattle.directory.specs.Applied.{changed_entry, deleted_entry};
 ghost use Rattle.cds_stamps.specs.Outcomes.{ok_unless};
 ghost use Rattle.directory.specs.OwnUpdateWords.{own_made, own_refusal, AcceptsEntry};
+ghost use Rattle.directory.specs.declared.update.OwnUpdate.TheVariants.{Delete};
 ghost use Rattle.directory.specs.Shown.{is_readable, is_reserved, leads, only_one, lead_of, entry_values, face_of, shown_entry, shown_dir};
 
 use crate::attr_map::{AttrMap, CellLog};
@@ -38,7 +40,7 @@ pub const LINK_TARGET: &[u8] = b"CDS_LinkTarget";
 pub const REPLICAS: &[u8] = b"CDS_Replicas";
 
 /// The kind of an entry.
-#[derive(Clone, Copy, Debug, PartialEq, Eq, PartialOrd, Ord, Hash)]
+#[derive(Clone, Copy, Debug, PartialEq, Eq, Hash)]
 pub enum Kind {
     Object,
     Link,
@@ -106,9 +108,10 @@ impl EntryCell {
         if self.is_live() { Some(self) } else { None }
     }
 
-    /// The values of an attribute that are present, ascending.
+    /// The values of an attribute that are present, ascending. Where it has no cell no memory is asked for.
     pub fn values(&self, alloc: Global, attr: &AttrName) -> Result<Vec<Value>, AllocError>
-        ensures { IfOk result (λ found. found.items ≡ entry_values self.now attr.now) }
+        ensures values { IfOk result (λ found. found.items ≡ entry_values self.now attr.now) }
+        ensures none { map.get self.now.attrs attr.now ≡ None → IsOk result }
     {
         match self.attrs.get(attr) {
             Some(cell) => cell.present_values(alloc),
@@ -181,7 +184,7 @@ impl EntryCell {
         self.death = earlier_of(self.death, Some(stamp));
     }
 
-    /// Adds the marks of an update, in place.
+    /// Adds the marks of an update, in place. A deletion takes no memory.
     pub(crate) fn apply(
         &mut self,
         alloc: Global,
@@ -189,6 +192,7 @@ impl EntryCell {
         stamp: Stamp,
     ) -> Result<(), AllocError>
         ensures ok { OnOk result (IsValidEntry self.old → self.new ≡ join_entries self.old (own_made update.now self.old stamp)) }
+        ensures deletes { update.now ≡ Delete → IsOk result }
         ensures err { OnErr result (self.new ≡ self.old) }
     {
         match update {
@@ -329,13 +333,19 @@ impl EntryCell {
         false
     }
 
-    /// Joins another entry in. What takes it back. Where the other birth is later, the old entry is kept whole.
+    /// Joins another entry in. What takes it back. Where the other birth is later, the old entry is kept whole. Where it is
+    /// earlier no memory is asked for.
     pub(crate) fn join_logged(
         &mut self,
         alloc: Global,
         other: &EntryCell,
     ) -> Result<EntryUndo, AllocError>
         ensures ok { OnOk result (IsValidEntry self.old → IsValidEntry other.now → self.new ≡ join_entries self.old other.now) }
+        ensures birth { OnOk result (self.new.birth ≡ (join_entries self.old other.now).birth) }
+        ensures kind { OnOk result (self.new.kind ≡ (join_entries self.old other.now).kind) }
+        ensures death { OnOk result (self.new.death ≡ (join_entries self.old other.now).death) }
+        ensures whole { OnOk result (self.old.birth ≢ other.now.birth → self.new ≡ join_entries self.old other.now) }
+        ensures stays { is_earlier other.now.birth self.old.birth ≡ true → IsOk result }
         ensures back { IfOk result (λ undo. undo_entry undo self.new ≡ self.old) }
         ensures err { OnErr result (self.new ≡ self.old) }
     {
@@ -355,6 +365,9 @@ impl EntryCell {
     /// Joins an entry of the same birth in.
     fn join_tied(&mut self, alloc: Global, other: &EntryCell) -> Result<(), AllocError>
         ensures ok { OnOk result (IsValidEntry self.old → IsValidEntry other.now → self.new ≡ join_tied self.old other.now) }
+        ensures birth { OnOk result (self.new.birth ≡ self.old.birth) }
+        ensures kind { OnOk result (self.new.kind ≡ greater kind_cmp self.old.kind other.now.kind) }
+        ensures death { OnOk result (self.new.death ≡ maybe earlier_stamp self.old.death other.now.death) }
         ensures err { OnErr result (self.new ≡ self.old) }
     {
         self.attrs.join(alloc, &other.attrs)?;
@@ -372,6 +385,9 @@ impl EntryCell {
         other: &EntryCell,
     ) -> Result<EntryUndo, AllocError>
         ensures ok { OnOk result (IsValidEntry self.old → IsValidEntry other.now → self.new ≡ join_tied self.old other.now) }
+        ensures birth { OnOk result (self.new.birth ≡ self.old.birth) }
+        ensures kind { OnOk result (self.new.kind ≡ greater kind_cmp self.old.kind other.now.kind) }
+        ensures death { OnOk result (self.new.death ≡ maybe earlier_stamp self.old.death other.now.death) }
         ensures back { IfOk result (λ undo. undo_entry undo self.new ≡ self.old) }
         ensures err { OnErr result (self.new ≡ self.old) }
     {
@@ -486,7 +502,16 @@ impl Lattice for EntryCell {
 
     ghost idempotent = { λ x valid. entry_join.idem x valid };
 
-    fn join(&mut self, alloc: Global, other: &Self) -> Result<(), AllocError> {
+    // Where the other birth is earlier no memory is asked for.
+    fn join(&mut self, alloc: Global, other: &Self) -> Result<(), AllocError>
+        ensures ok { OnOk result (IsValidEntry self.old → IsValidEntry other.now → self.new ≡ join_entries self.old other.now) }
+        ensures birth { OnOk result (self.new.birth ≡ (join_entries self.old other.now).birth) }
+        ensures kind { OnOk result (self.new.kind ≡ (join_entries self.old other.now).kind) }
+        ensures death { OnOk result (self.new.death ≡ (join_entries self.old other.now).death) }
+        ensures whole { OnOk result (self.old.birth ≢ other.now.birth → self.new ≡ join_entries self.old other.now) }
+        ensures stays { is_earlier other.now.birth self.old.birth ≡ true → IsOk result }
+        ensures err { OnErr result (self.new ≡ self.old) }
+    {
         match self.birth.cmp(&other.birth) {
             Ordering::Less => {
                 *self = other.copy(alloc)?;

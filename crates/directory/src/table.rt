@@ -1,6 +1,6 @@
 // The table of a directory.
 ghost use Rattle.std.specs.Prelude.{◌≡◌, ◌-◌, ◌<◌, min, ℕ, List, Option, Some, None, true, option_copied, if◌then◌else◌};
-ghost use Rattle.std.specs.Prelude.{IfOk, IfSome, IfNone, OnOk, OnErr};
+ghost use Rattle.std.specs.Prelude.{IsOk, IfOk, IfSome, IfNone, OnOk, OnErr};
 ghost use Rattle.std.specs.FinMap as map;
 ghost use Rattle.std.specs.List.{fold, AllByRecursion};
 ghost use Rattle.std.specs.Option.{option_map};
@@ -136,14 +136,16 @@ impl Table {
         self.entries.live(name)
     }
 
-    /// The values of an attribute that show of a name, ascending; none, where the name has no entry that shows.
+    /// The values of an attribute that show of a name, ascending; none, where the name has no entry that shows, and then no
+    /// memory is asked for.
     pub fn values(
         &self,
         alloc: Global,
         name: &SimpleName,
         attr: &AttrName,
     ) -> Result<Option<Vec<Value>>, AllocError>
-        ensures { IfOk result (λ found. option_map (λ v. v.items) found ≡ option_map (λ e. e.values attr.now) (shown_in self.now name.now)) }
+        ensures values { IfOk result (λ found. option_map (λ v. v.items) found ≡ option_map (λ e. e.values attr.now) (shown_in self.now name.now)) }
+        ensures none { shown_in self.now name.now ≡ None → IsOk result }
     {
         match self.live(name) {
             Some(entry) => Ok(Some(entry.values(alloc, attr)?)),

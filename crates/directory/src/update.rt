@@ -1,5 +1,5 @@
 // Updates, and why one is refused.
-ghost use Rattle.std.specs.Prelude.{◌≡◌, IfOk, IfSome, is_some};
+ghost use Rattle.std.specs.Prelude.{◌≡◌, false, IsOk, IfOk, IfSome, is_some};
 ghost use Rattle.cds_stamps.specs.Outcomes.{ok_unless};
 ghost use Rattle.directory.specs.Shown.{live_refusal};
 ghost use Rattle.directory.specs.Updates.{change_of, changed_name};
@@ -174,7 +174,8 @@ fn copy_repointing(
 
 /// The update that creates an entry, if it is absent. Where it is not no memory is asked for.
 pub fn creation(alloc: Global, name: &SimpleName, absent: bool) -> Result<Vec<Update>, AllocError>
-    ensures { IfOk result (λ list. changes list.items ≡ creation name.now absent) }
+    ensures changes { IfOk result (λ list. changes list.items ≡ creation name.now absent) }
+    ensures none { absent ≡ false → IsOk result }
 {
     let mut updates = Vec::new(alloc);
     if absent {
