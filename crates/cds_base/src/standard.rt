@@ -1,5 +1,8 @@
 // Readers and writers of std as a source and a sink: the trusted edge of a program.
-ghost use Rattle.std.specs.Prelude.{◌≡◌};
+ghost use Rattle.std.specs.Prelude.{◌≡◌, ◌<◌, length, IfOk, is_err, if◌then◌else◌};
+ghost use Rattle.std.specs.Io.{ReadsAtMost, WritesAtMost};
+ghost use Rattle.std.specs.Io.KnownBytes.{ReadConsumes, WriteAppends};
+ghost use Rattle.cds_base.specs.Counts.{HasCause, next_count};
 
 use crate::{Failed, Sink, Source};
 use std::io::{Read, Write};
@@ -30,7 +33,12 @@ impl<R: Read> Source for StdSource<R> {
 
     ghost faults = { failed_reads };
 
-    fn read(&mut self, buf: &mut [u8]) -> Result<usize, Failed> {
+    fn read(&mut self, buf: &mut [u8]) -> Result<usize, Failed>
+        ensures bound { ReadsAtMost result buf.new }
+        ensures bytes { ReadConsumes (R.remaining (reader_of self.old)) (R.remaining (reader_of self.new)) result buf.new }
+        ensures cause { HasCause (failed_reads self.old) (failed_reads self.new) result }
+        ensures faults { failed_reads self.new ≡ (if is_err result then next_count (failed_reads self.old) else failed_reads self.old) }
+    {
         match self.reader.read(buf) {
             Ok(count) => Ok(count),
             Err(_) => {
@@ -68,7 +76,13 @@ impl<W: Write> Sink for StdSink<W> {
 
     ghost faults = { failed_writes };
 
-    fn write(&mut self, piece: &[u8]) -> Result<usize, Failed> {
+    fn write(&mut self, piece: &[u8]) -> Result<usize, Failed>
+        ensures bound { WritesAtMost result piece.now }
+        ensures moves { IfOk result (λ n. 0 < length piece.now → 0 < n) }
+        ensures bytes { WriteAppends (W.contents (writer_of self.old)) (W.contents (writer_of self.new)) result piece.now }
+        ensures cause { HasCause (failed_writes self.old) (failed_writes self.new) result }
+        ensures faults { failed_writes self.new ≡ (if is_err result then next_count (failed_writes self.old) else failed_writes self.old) }
+    {
         match self.writer.write(piece) {
             Ok(count) if count > 0 || piece.is_empty() => Ok(count),
             _ => {

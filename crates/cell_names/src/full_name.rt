@@ -1,6 +1,6 @@
 // Full names.
 ghost use Rattle.std.specs.Prelude.{◌≡◌, ◌==◌, ◌↔◌, ◌+◌, ◌-◌, ◌≤◌, ◌<◌, ◌++◌};
-ghost use Rattle.std.specs.Prelude.{None, length, take, slice_get, option_copied, IsSome, SomeIff, OnSome, IfOk, OnOk, IfSome};
+ghost use Rattle.std.specs.Prelude.{None, length, take, slice_get, option_copied, IsSome, SomeIff, OnSome, IfOk, OnOk, OnErr, IfSome};
 ghost use Rattle.std.specs.List.{All, slice_split};
 ghost use Rattle.std.specs.Cmp.Rules.{comparing, hashing};
 ghost use Rattle.std.specs.Hash as fed;
@@ -160,7 +160,8 @@ impl FullName {
 
     /// Puts the octets that spell the name behind others. After want of memory some of them may be there.
     pub fn append_spelling(&self, octets: &mut Vec<u8>) -> Result<(), AllocError>
-        ensures { OnOk result (octets.new.items ≡ octets.old.items ++ spelling self.now) }
+        ensures ok { OnOk result (octets.new.items ≡ octets.old.items ++ spelling self.now) }
+        ensures err { OnErr result (take (length octets.old.items) octets.new.items ≡ octets.old.items) }
     {
         octets.extend_from_slice(ROOT)?;
         let components = self.components();
