@@ -39,7 +39,8 @@ fn take_table(own: &mut Table, alloc: Global, other: &Table, t: Stamp) -> Result
     Ok(())
 }
 
-/// Takes of the entry of one name what is later than t, unless it is passed by.
+/// Takes of the entry of one name what is later than t, unless it is passed by. An entry that is not valid is left out. Nothing is
+/// copied where all of it is later.
 fn take_entry(
     own: &mut Table,
     alloc: Global,
@@ -49,16 +50,23 @@ fn take_entry(
     ensures ok { OnOk result (let f = fragment.now in IfSome (map.get own.old f.name) IsValidEntry → IsValidEntry f.entry →
         (q : List ℕ) → map.get own.new q ≡ take_entry t (map.get own.old q) (if is_octets q f.name then Some f.entry else None)) }
     ensures others { OnOk result (LeavesOthers own.old own.new fragment.now.name) }
+    ensures left_out { OnOk result ((IsValidEntry fragment.now.entry → ⊥) → own.new ≡ own.old) }
     ensures err { OnErr result (own.new ≡ own.old) }
 {
     let t = &t;
     if is_passed(own.get(&fragment.name), &fragment.entry, *t) {
         return Ok(());
     }
+    if fragment.entry.is_after(*t) {
+        return own.join_entry(alloc, fragment);
+    }
+    if !fragment.entry.is_valid() {
+        return Ok(());
+    }
     join_later(own, alloc, fragment, *t)
 }
 
-/// Joins in what is later than t of the entry of one name. Nothing is copied where all of it is later.
+/// Joins a copy in of what is later than t of the entry of one name.
 fn join_later(
     own: &mut Table,
     alloc: Global,
@@ -70,9 +78,6 @@ fn join_later(
     ensures err { OnErr result (own.new ≡ own.old) }
 {
     let t = &t;
-    if fragment.entry.is_after(*t) {
-        return own.join_entry(alloc, fragment);
-    }
     let later = Fragment {
         name: fragment.name.copy(alloc)?,
         entry: fragment.entry.after(alloc, *t)?,
@@ -80,7 +85,7 @@ fn join_later(
     own.join_entry(alloc, &later)
 }
 
-/// Merges the entry of one name in, up to a stamp, if there is one.
+/// Merges the entry of one name in, up to a stamp, if there is one. An entry that is not valid is left out.
 pub(crate) fn merge_entry(
     own: &mut Table,
     alloc: Global,
@@ -90,6 +95,7 @@ pub(crate) fn merge_entry(
     ensures ok { OnOk result (let f = fragment.now in IfSome (map.get own.old f.name) IsValidEntry → IsValidEntry f.entry →
         (q : List ℕ) → map.get own.new q ≡ merged_entry up_to (map.get own.old q) (if is_octets q f.name then Some f.entry else None)) }
     ensures others { OnOk result (LeavesOthers own.old own.new fragment.now.name) }
+    ensures left_out { OnOk result ((IsValidEntry fragment.now.entry → ⊥) → own.new ≡ own.old) }
     ensures err { OnErr result (own.new ≡ own.old) }
 {
     match up_to {

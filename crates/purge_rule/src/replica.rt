@@ -59,7 +59,8 @@ impl Replica {
     }
 
     /// Merges the marks of one update in: of their entry what is later than AllUpTo is taken, and every other name stays as it
-    /// is. Of a history that they can be merged with it becomes the replica of both together, up to the same stamp.
+    /// is. Of a history that they can be merged with it becomes the replica of both together, up to the same stamp. An entry that is
+    /// not valid is left out.
     pub fn take_marks(&mut self, alloc: Global, fragment: &Fragment) -> Result<(), AllocError>
         ensures merged { OnOk result ((h marks : List Mark) →
             CanMerge h marks self.old.all_up_to → IsFragmentOf marks fragment.now →
@@ -68,6 +69,7 @@ impl Replica {
             IfSome (map.get self.old.table f.name) IsValidEntry → IsValidEntry f.entry → (q : List ℕ) → map.get self.new.table q ≡
             merged_entry self.old.all_up_to (map.get self.old.table q) (if is_octets q f.name then Some f.entry else None)) }
         ensures others { OnOk result ((q : List ℕ) → q ≢ fragment.now.name → map.get self.new.table q ≡ map.get self.old.table q) }
+        ensures left_out { OnOk result ((IsValidEntry fragment.now.entry → ⊥) → self.new ≡ self.old) }
         ensures all_up_to { self.new.all_up_to ≡ self.old.all_up_to }
         ensures valid { OnOk result (IsValidTable self.old.table → IsValidEntry fragment.now.entry → IsValidTable self.new.table) }
         ensures times { OnOk result (let f = fragment.now in
