@@ -4,15 +4,12 @@ use Rattle.std.proofs.Common.{refl, sym, ap, subst, ◌∙◌, append_assoc, app
 use Rattle.std.specs.Prelude.{◌||◌, ◌==◌, not, nat_lt, if◌then◌else◌}
 use Rattle.std.proofs.lemmas.List.{length-map}
 use Rattle.std.proofs.lemmas.List.Sums.{sum_by-cons}
-use Rattle.cds_stamps.specs.declared.alloc_or.AllocOr.{AllocOr}
-use Rattle.cds_stamps.specs.declared.alloc_or.AllocOr.TheVariants.{Fault, OutOfMemory}
 use Rattle.cds_stamps.specs.declared.members.Member.{Member}
 use Rattle.cds_stamps.specs.Members.{Member as listed_member}
 use Rattle.cds_stamps.specs.Members.{is_master, member_of, members_of, members_fault, first_unordered, masters_in, most_members}
 use Rattle.cds_records.specs.declared.fault.Broken.{Broken}
 use Rattle.cds_records.specs.Layouts.{next, done}
 use Rattle.cds_records.specs.Reading.{◌>>=◌, read}
-use Rattle.cds_records.specs.PrivateReading.{Reads}
 use Rattle.cds_records.specs.Fields.{number_order, octet}
 use Rattle.cds_records.specs.Kinds.{kind_in}
 use Rattle.cds_records.specs.Records.{kind_rule, member_kind, member, listed}
@@ -51,12 +48,11 @@ members_go_on front count i before master x m z total lt h so_far =
     sym one ∙ so_far
 
 -- a member that fails fails the list
-pub members_end : {V : Type 0} (seen : V → List Member) (e : AllocOr Broken) (front : List Member) (count i : ℕ) (before : Option ℕ) (master : Bool)
-    (x z w start : List ℕ) → i < count → Reads (λ (m : Member). m) (member (count - i - 1) before master) x z (Err e)
-    → behind front (read (listed (count - i) before master) x) ≡ read (listed count None false) start → Reads seen (listed count None false) start w (Err e)
+pub members_end : (b : Broken) (front : List Member) (count i : ℕ) (before : Option ℕ) (master : Bool) (x start : List ℕ) → i < count
+    → read (member (count - i - 1) before master) x ≡ Err b
+    → behind front (read (listed (count - i) before master) x) ≡ read (listed count None false) start → read (listed count None false) start ≡ Err b
 unfolding listed
-members_end seen OutOfMemory front count i before master x z w start lt h so_far = tt
-members_end seen (Fault b) front count i before master x z w start lt h so_far =
+members_end b front count i before master x start lt h so_far =
     let k : count - i ≡ suc (count - (i + 1)) = omega arith in
     let j : count - i - 1 ≡ count - (i + 1) = omega arith in
     let read_here : read (member (count - (i + 1)) before master) x ≡ Err b = ap (λ n. read (member n before master) x) (sym j) ∙ h in

@@ -14,6 +14,11 @@ Reads view l old new (Ok x) = read l old ≡ Ok (view x, new)
 Reads view l old new (Err (Fault b)) = read l old ≡ Err b
 Reads view l old new (Err OutOfMemory) = Unit {0}
 
+-- what a reader that takes no memory returned, and what it leaves, in the same way; it never wants for memory (own)
+abbrev pub ReadsSurely : {X A : Type 0} → (X → A) → Layout A → List ℕ → List ℕ → Result X Broken → Type 0
+ReadsSurely view l old new (Ok x) = read l old ≡ Ok (view x, new)
+ReadsSurely view l old new (Err b) = read l old ≡ Err b
+
 -- what a reader of one more item returned, its key, and how it left the map and the octets (own)
 abbrev pub Adds : {Y K X : Type 0} {R : K → K → Ordering} → (Y → K) → Layout (K × X) → (old new : FinMap R X) → List ℕ → List ℕ → Result Y (AllocOr Broken)
     → Type 0

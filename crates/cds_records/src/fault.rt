@@ -41,5 +41,16 @@ pub(crate) struct Broken {
     pub(crate) left: usize,
 }
 
-/// Why a reader gives no value.
+impl From<Broken> for AllocOr<Broken> {
+    ghost use Rattle.std.specs.Prelude.{◌≡◌};
+    ghost use Rattle.cds_stamps.specs.declared.alloc_or.AllocOr.TheVariants.{Fault};
+
+    ghost from_gives = { λ b e. e ≡ Fault b };
+
+    fn from(broken: Broken) -> AllocOr<Broken> {
+        AllocOr::Fault(broken)
+    }
+}
+
+/// Why a reader that takes memory gives no value.
 pub(crate) type ReadError = AllocOr<Broken>;

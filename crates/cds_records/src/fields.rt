@@ -6,16 +6,14 @@ ghost use Rattle.std.specs.List.{list_all};
 ghost use Rattle.std.specs.Option.{option_map};
 ghost use Rattle.cds_stamps.specs.Names.{is_name_octet, is_attr_octet, simple_name_fault, attr_fault};
 ghost use Rattle.attr_sets.specs.Values.{value_fault};
-ghost use Rattle.cds_records.specs.PrivateReading.{Reads};
+ghost use Rattle.cds_records.specs.PrivateReading.{ReadsSurely};
 ghost use Rattle.cds_records.specs.Fields.{node_of, free, outside, stamp_order, octets_order, name_rule, octet, number, node, stamp, optional_stamp};
 ghost use Rattle.cds_records.specs.Fields.{octets_of, simple_name, attr_name, value};
 ghost use Rattle.cds_records.specs.declared.fault.Rule.TheVariants.{Short, OutOfOrder};
 
-use crate::fault::{Broken, ReadError, Rule};
+use crate::fault::{Broken, Rule};
 use attr_sets::LONGEST_VALUE;
-use cds_stamps::{
-    AllocOr, LONGEST_ATTR, LONGEST_COMPONENT, Node, Stamp, is_attr_octet, is_name_octet,
-};
+use cds_stamps::{LONGEST_ATTR, LONGEST_COMPONENT, Node, Stamp, is_attr_octet, is_name_octet};
 use std::marker::Model;
 
 /// Octets that are still to be read.
@@ -33,17 +31,17 @@ impl<'a> Model for Reader<'a> {
 }
 
 /// The error of a field that is not whole.
-fn short() -> ReadError
-    ensures { result ≡ AllocOr.Fault (record { rule = Short; left = 0 }) }
+fn short() -> Broken
+    ensures { result ≡ record { rule = Short; left = 0 } }
 {
     broken(Rule::Short, 0)
 }
 
 /// The error of a whole field that breaks a rule, with so many octets left from its first one on.
-pub(crate) fn broken(rule: Rule, left: usize) -> ReadError
-    ensures { result ≡ AllocOr.Fault (record { rule = rule; left = left }) }
+pub(crate) fn broken(rule: Rule, left: usize) -> Broken
+    ensures { result ≡ record { rule = rule; left = left } }
 {
-    AllocOr::Fault(Broken { rule, left })
+    Broken { rule, left }
 }
 
 /// The node of 6 octets.
@@ -72,8 +70,8 @@ impl<'a> Reader<'a> {
 
     /// So many octets.
     #[tactic(auto, unfolding(crate::specs::Fields::octets_of))]
-    fn take(&mut self, size: usize) -> Result<&'a [u8], ReadError>
-        ensures read { Reads (λ x. x.now) (octets_of size free) self.old self.new result }
+    fn take(&mut self, size: usize) -> Result<&'a [u8], Broken>
+        ensures read { ReadsSurely (λ x. x.now) (octets_of size free) self.old self.new result }
         ensures len { IfOk result (λ x. length x.now ≡ size) }
     {
         if self.rest.len() < size {
@@ -86,8 +84,8 @@ impl<'a> Reader<'a> {
 
     /// An octet of any value.
     #[tactic(auto, unfolding(crate::specs::Fields::octet))]
-    pub(crate) fn octet(&mut self) -> Result<u8, ReadError>
-        ensures { Reads (λ x. x) (octet free) self.old self.new result }
+    pub(crate) fn octet(&mut self) -> Result<u8, Broken>
+        ensures { ReadsSurely (λ x. x) (octet free) self.old self.new result }
     {
         match self.rest {
             [first, rest @ ..] => {
@@ -100,8 +98,8 @@ impl<'a> Reader<'a> {
 
     /// A number of 2 octets.
     #[tactic(auto, unfolding(crate::specs::Fields::number))]
-    fn u16(&mut self) -> Result<u16, ReadError>
-        ensures { Reads (λ x. x) (number w16 free) self.old self.new result }
+    fn u16(&mut self) -> Result<u16, Broken>
+        ensures { ReadsSurely (λ x. x) (number w16 free) self.old self.new result }
     {
         match self.rest {
             [a, b, rest @ ..] => {
@@ -114,8 +112,8 @@ impl<'a> Reader<'a> {
 
     /// A number of 4 octets.
     #[tactic(auto, unfolding(crate::specs::Fields::number))]
-    pub(crate) fn u32(&mut self) -> Result<u32, ReadError>
-        ensures { Reads (λ x. x) (number w32 free) self.old self.new result }
+    pub(crate) fn u32(&mut self) -> Result<u32, Broken>
+        ensures { ReadsSurely (λ x. x) (number w32 free) self.old self.new result }
     {
         match self.rest {
             [a, b, c, d, rest @ ..] => {
@@ -128,8 +126,8 @@ impl<'a> Reader<'a> {
 
     /// A number of 8 octets.
     #[tactic(auto, unfolding(crate::specs::Fields::number))]
-    pub(crate) fn u64(&mut self) -> Result<u64, ReadError>
-        ensures { Reads (λ x. x) (number w64 free) self.old self.new result }
+    pub(crate) fn u64(&mut self) -> Result<u64, Broken>
+        ensures { ReadsSurely (λ x. x) (number w64 free) self.old self.new result }
     {
         match self.rest {
             [a, b, c, d, e, f, g, h, rest @ ..] => {
@@ -142,8 +140,8 @@ impl<'a> Reader<'a> {
 
     /// A node.
     #[tactic(auto, unfolding(crate::specs::Fields::node))]
-    pub(crate) fn node(&mut self) -> Result<Node, ReadError>
-        ensures { Reads (λ x. x) node self.old self.new result }
+    pub(crate) fn node(&mut self) -> Result<Node, Broken>
+        ensures { ReadsSurely (λ x. x) node self.old self.new result }
     {
         match self.rest {
             [a, b, c, d, e, f, rest @ ..] => {
@@ -156,8 +154,8 @@ impl<'a> Reader<'a> {
 
     /// A stamp: its time and its node.
     #[tactic(auto, unfolding(crate::specs::Fields::stamp))]
-    pub(crate) fn stamp(&mut self) -> Result<Stamp, ReadError>
-        ensures { Reads (λ x. x) (stamp free) self.old self.new result }
+    pub(crate) fn stamp(&mut self) -> Result<Stamp, Broken>
+        ensures { ReadsSurely (λ x. x) (stamp free) self.old self.new result }
     {
         match self.rest {
             [a, b, c, d, e, f, g, h, i, j, k, l, m, n, rest @ ..] => {
@@ -173,8 +171,8 @@ impl<'a> Reader<'a> {
 
     /// An octet that is not less than the one number and not more than the other.
     #[tactic(auto, unfolding(crate::specs::Fields::octet))]
-    pub(crate) fn octet_within(&mut self, rule: Rule, least: u8, most: u8) -> Result<u8, ReadError>
-        ensures read { Reads (λ x. x) (octet (outside rule least most)) self.old self.new result }
+    pub(crate) fn octet_within(&mut self, rule: Rule, least: u8, most: u8) -> Result<u8, Broken>
+        ensures read { ReadsSurely (λ x. x) (octet (outside rule least most)) self.old self.new result }
         ensures within { IfOk result (λ n. (least ≤ n) × (n ≤ most)) }
     {
         let left = self.left();
@@ -187,8 +185,8 @@ impl<'a> Reader<'a> {
 
     /// A number of 2 octets that is not less than the one number and not more than the other.
     #[tactic(auto, unfolding(crate::specs::Fields::number))]
-    fn u16_within(&mut self, rule: Rule, least: u16, most: u16) -> Result<u16, ReadError>
-        ensures read { Reads (λ x. x) (number w16 (outside rule least most)) self.old self.new result }
+    fn u16_within(&mut self, rule: Rule, least: u16, most: u16) -> Result<u16, Broken>
+        ensures read { ReadsSurely (λ x. x) (number w16 (outside rule least most)) self.old self.new result }
         ensures within { IfOk result (λ n. (least ≤ n) × (n ≤ most)) }
     {
         let left = self.left();
@@ -201,8 +199,8 @@ impl<'a> Reader<'a> {
 
     /// A stamp behind a flag of 1, or a flag of 0.
     #[tactic(auto, unfolding(crate::specs::Fields::optional_stamp))]
-    pub(crate) fn optional_stamp(&mut self) -> Result<Option<Stamp>, ReadError>
-        ensures { Reads (λ x. x) optional_stamp self.old self.new result }
+    pub(crate) fn optional_stamp(&mut self) -> Result<Option<Stamp>, Broken>
+        ensures { ReadsSurely (λ x. x) optional_stamp self.old self.new result }
     {
         let flag = self.octet_within(Rule::BadFlag, 0, 1)?;
         if flag == 0 {
@@ -213,8 +211,8 @@ impl<'a> Reader<'a> {
 
     /// A stamp that is not earlier than the clear.
     #[tactic(auto, unfolding(crate::specs::Fields::stamp))]
-    pub(crate) fn uncleared_stamp(&mut self, cleared: &Option<Stamp>) -> Result<Stamp, ReadError>
-        ensures { Reads (λ x. x) (stamp (stamp_order cleared.now)) self.old self.new result }
+    pub(crate) fn uncleared_stamp(&mut self, cleared: &Option<Stamp>) -> Result<Stamp, Broken>
+        ensures { ReadsSurely (λ x. x) (stamp (stamp_order cleared.now)) self.old self.new result }
     {
         let left = self.left();
         let stamp = self.stamp()?;
@@ -226,8 +224,9 @@ impl<'a> Reader<'a> {
 
     /// So many octets, each in names, above those before them.
     #[tactic(auto, unfolding(crate::specs::Fields::octets_of))]
-    fn name_octets(&mut self, size: usize, before: Option<&[u8]>) -> Result<&'a [u8], ReadError>
-        ensures read { Reads (λ x. x.now) (octets_of size (name_rule is_name_octet (option_map (λ b. b.now) before.entry))) self.old self.new result }
+    fn name_octets(&mut self, size: usize, before: Option<&[u8]>) -> Result<&'a [u8], Broken>
+        ensures read { ReadsSurely (λ x. x.now) (octets_of size (name_rule is_name_octet (option_map (λ b. b.now) before.entry)))
+            self.old self.new result }
         ensures each { IfOk result (λ x. list_all is_name_octet x.now ≡ true) }
         ensures len { IfOk result (λ x. length x.now ≡ size) }
     {
@@ -244,8 +243,9 @@ impl<'a> Reader<'a> {
 
     /// So many octets, each in names of attributes, above those before them.
     #[tactic(auto, unfolding(crate::specs::Fields::octets_of))]
-    fn attr_octets(&mut self, size: usize, before: Option<&[u8]>) -> Result<&'a [u8], ReadError>
-        ensures read { Reads (λ x. x.now) (octets_of size (name_rule is_attr_octet (option_map (λ b. b.now) before.entry))) self.old self.new result }
+    fn attr_octets(&mut self, size: usize, before: Option<&[u8]>) -> Result<&'a [u8], Broken>
+        ensures read { ReadsSurely (λ x. x.now) (octets_of size (name_rule is_attr_octet (option_map (λ b. b.now) before.entry)))
+            self.old self.new result }
         ensures each { IfOk result (λ x. list_all is_attr_octet x.now ≡ true) }
         ensures len { IfOk result (λ x. length x.now ≡ size) }
     {
@@ -262,8 +262,8 @@ impl<'a> Reader<'a> {
 
     /// So many octets, above those before them.
     #[tactic(auto, unfolding(crate::specs::Fields::octets_of))]
-    fn value_octets(&mut self, size: usize, before: Option<&[u8]>) -> Result<&'a [u8], ReadError>
-        ensures read { Reads (λ x. x.now) (octets_of size (octets_order (option_map (λ b. b.now) before.entry))) self.old self.new result }
+    fn value_octets(&mut self, size: usize, before: Option<&[u8]>) -> Result<&'a [u8], Broken>
+        ensures read { ReadsSurely (λ x. x.now) (octets_of size (octets_order (option_map (λ b. b.now) before.entry))) self.old self.new result }
         ensures len { IfOk result (λ x. length x.now ≡ size) }
     {
         let left = self.left();
@@ -276,8 +276,8 @@ impl<'a> Reader<'a> {
 
     /// The octets of a simple name above those before it.
     #[tactic(auto, unfolding(crate::specs::Fields::simple_name))]
-    pub(crate) fn simple_name(&mut self, before: Option<&[u8]>) -> Result<&'a [u8], ReadError>
-        ensures read { Reads (λ x. x.now) (simple_name (option_map (λ b. b.now) before.entry)) self.old self.new result }
+    pub(crate) fn simple_name(&mut self, before: Option<&[u8]>) -> Result<&'a [u8], Broken>
+        ensures read { ReadsSurely (λ x. x.now) (simple_name (option_map (λ b. b.now) before.entry)) self.old self.new result }
         ensures lawful { IfOk result (λ x. simple_name_fault x.now ≡ None) }
     {
         let size = self.octet_within(Rule::BadLength, 1, LONGEST_COMPONENT as u8)?;
@@ -287,8 +287,8 @@ impl<'a> Reader<'a> {
 
     /// The octets of an attribute's name above those before it.
     #[tactic(auto, unfolding(crate::specs::Fields::attr_name))]
-    pub(crate) fn attr_name(&mut self, before: Option<&[u8]>) -> Result<&'a [u8], ReadError>
-        ensures read { Reads (λ x. x.now) (attr_name (option_map (λ b. b.now) before.entry)) self.old self.new result }
+    pub(crate) fn attr_name(&mut self, before: Option<&[u8]>) -> Result<&'a [u8], Broken>
+        ensures read { ReadsSurely (λ x. x.now) (attr_name (option_map (λ b. b.now) before.entry)) self.old self.new result }
         ensures lawful { IfOk result (λ x. attr_fault x.now ≡ None) }
     {
         let size = self.octet_within(Rule::BadLength, 1, LONGEST_ATTR as u8)?;
@@ -298,8 +298,8 @@ impl<'a> Reader<'a> {
 
     /// The octets of a value above those before it.
     #[tactic(auto, unfolding(crate::specs::Fields::value))]
-    pub(crate) fn value(&mut self, before: Option<&[u8]>) -> Result<&'a [u8], ReadError>
-        ensures read { Reads (λ x. x.now) (value (option_map (λ b. b.now) before.entry)) self.old self.new result }
+    pub(crate) fn value(&mut self, before: Option<&[u8]>) -> Result<&'a [u8], Broken>
+        ensures read { ReadsSurely (λ x. x.now) (value (option_map (λ b. b.now) before.entry)) self.old self.new result }
         ensures lawful { IfOk result (λ x. value_fault x.now ≡ None) }
     {
         let size = self.u16_within(Rule::BadLength, 1, LONGEST_VALUE as u16)?;

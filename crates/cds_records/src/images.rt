@@ -3,14 +3,14 @@ ghost use Rattle.std.specs.Prelude.{◌≡◌, Some, None, OnOk, if◌then◌els
 ghost use Rattle.std.specs.FinMap as map;
 ghost use Rattle.std.specs.Int.{w32};
 ghost use Rattle.std.specs.Option.{option_map};
-ghost use Rattle.cds_records.specs.PrivateReading.{Reads, Adds};
+ghost use Rattle.cds_records.specs.PrivateReading.{Reads, ReadsSurely, Adds};
 ghost use Rattle.cds_records.specs.Fields.{number_order, number};
 ghost use Rattle.cds_records.specs.Records.{item, map_of};
 ghost use Rattle.cds_records.specs.Dirs.{dir_cmp};
 ghost use Rattle.cds_records.specs.Images.{dir_number, held, dir_state, image, image_in};
 ghost use Rattle.cds_records.specs.declared.fault.Rule.TheVariants.{OutOfOrder};
 
-use crate::fault::{ReadError, Rule};
+use crate::fault::{Broken, ReadError, Rule};
 use crate::fields::{Reader, broken};
 use crate::format::{FORMAT, GONE, HELD, IMAGE};
 use crate::image::{Image, ImageDir, ImageDirs};
@@ -20,8 +20,8 @@ use std::alloc::{AllocError, Global};
 impl<'a> Reader<'a> {
     /// A directory above the one before it.
     #[tactic(auto, unfolding(crate::specs::Images::dir_number, crate::specs::Fields::number))]
-    fn dir_number(&mut self, before: Option<DirId>) -> Result<DirId, ReadError>
-        ensures { Reads (λ x. x) (dir_number before) self.old self.new result }
+    fn dir_number(&mut self, before: Option<DirId>) -> Result<DirId, Broken>
+        ensures { ReadsSurely (λ x. x) (dir_number before) self.old self.new result }
     {
         let left = self.left();
         let number = self.u32()?;

@@ -1,13 +1,13 @@
 // Readers of member lists.
 ghost use Rattle.std.specs.Prelude.{◌≡◌, ◌-◌, ◌||◌, Some, None, MatchOption, false, if◌then◌else◌};
 ghost use Rattle.cds_stamps.specs.Members.{is_master, members_of, members_fault};
-ghost use Rattle.cds_records.specs.PrivateReading.{Reads};
+ghost use Rattle.cds_records.specs.PrivateReading.{Reads, ReadsSurely};
 ghost use Rattle.cds_records.specs.Fields.{number_order, octet};
 ghost use Rattle.cds_records.specs.Kinds.{kind_in};
 ghost use Rattle.cds_records.specs.Records.{kind_rule, member_kind, member, listed, members};
 ghost use Rattle.cds_records.specs.declared.fault.Rule.TheVariants.{OutOfOrder, BadFlag};
 
-use crate::fault::{ReadError, Rule};
+use crate::fault::{Broken, ReadError, Rule};
 use crate::fields::{Reader, broken};
 use cds_stamps::{EpochNo, HouseNo, MOST_MEMBERS, Member, MemberKind, Members};
 use std::alloc::Global;
@@ -15,8 +15,8 @@ use std::alloc::Global;
 impl<'a> Reader<'a> {
     /// A house that is above the one before it.
     #[tactic(auto, unfolding(crate::specs::Fields::octet))]
-    fn house_above(&mut self, before: Option<u8>) -> Result<u8, ReadError>
-        ensures { Reads (λ x. x) (octet (number_order before)) self.old self.new result }
+    fn house_above(&mut self, before: Option<u8>) -> Result<u8, Broken>
+        ensures { ReadsSurely (λ x. x) (octet (number_order before)) self.old self.new result }
     {
         let left = self.left();
         let house = self.octet()?;
@@ -28,8 +28,8 @@ impl<'a> Reader<'a> {
 
     /// The kind of a member, before so many members, with or without a master before it.
     #[tactic(auto, unfolding(crate::specs::Records::member_kind, crate::specs::Fields::octet))]
-    fn member_kind(&mut self, following: u8, master: bool) -> Result<MemberKind, ReadError>
-        ensures { Reads (λ x. x) (member_kind following master) self.old self.new result }
+    fn member_kind(&mut self, following: u8, master: bool) -> Result<MemberKind, Broken>
+        ensures { ReadsSurely (λ x. x) (member_kind following master) self.old self.new result }
     {
         let left = self.left();
         let number = self.octet()?;
@@ -41,13 +41,8 @@ impl<'a> Reader<'a> {
 
     /// A member, before so many members, behind a house, with or without a master before it.
     #[tactic(auto, unfolding(crate::specs::Records::member))]
-    fn member(
-        &mut self,
-        following: u8,
-        before: Option<u8>,
-        master: bool,
-    ) -> Result<Member, ReadError>
-        ensures { Reads (λ x. x) (member following before master) self.old self.new result }
+    fn member(&mut self, following: u8, before: Option<u8>, master: bool) -> Result<Member, Broken>
+        ensures { ReadsSurely (λ x. x) (member following before master) self.old self.new result }
     {
         let house = self.house_above(before)?;
         let since = self.u64()?;

@@ -5,12 +5,12 @@ ghost use Rattle.std.specs.Int.{w64};
 ghost use Rattle.std.specs.Option.{option_map};
 ghost use Rattle.cds_stamps.specs.Octets.{octets_cmp};
 ghost use Rattle.directory.specs.Kinds.{kind_of_rank};
-ghost use Rattle.cds_records.specs.PrivateReading.{Reads, Adds, Puts};
+ghost use Rattle.cds_records.specs.PrivateReading.{Reads, ReadsSurely, Adds, Puts};
 ghost use Rattle.cds_records.specs.Fields.{number, value, attr_name, simple_name};
 ghost use Rattle.cds_records.specs.Records.{item, ascending, map_of, mark, empty_cell, cell, kind, entry, replica};
 ghost use Rattle.cds_records.specs.declared.fault.Rule.TheVariants.{BadLength};
 
-use crate::fault::{ReadError, Rule};
+use crate::fault::{Broken, ReadError, Rule};
 use crate::fields::{Reader, broken};
 use attr_sets::{AttrCell, Value, ValueMap, ValueMark};
 use cds_stamps::{AttrName, SimpleName, Stamp};
@@ -22,8 +22,8 @@ use std::alloc::{AllocError, Global};
 impl<'a> Reader<'a> {
     /// The mark of a value, which is not earlier than the clear.
     #[tactic(auto, unfolding(crate::specs::Records::mark))]
-    fn mark(&mut self, cleared: &Option<Stamp>) -> Result<ValueMark, ReadError>
-        ensures { Reads (λ x. x) (mark cleared.now) self.old self.new result }
+    fn mark(&mut self, cleared: &Option<Stamp>) -> Result<ValueMark, Broken>
+        ensures { ReadsSurely (λ x. x) (mark cleared.now) self.old self.new result }
     {
         let present = self.octet_within(Rule::BadFlag, 0, 1)?;
         let stamp = self.uncleared_stamp(cleared)?;
@@ -71,8 +71,8 @@ impl<'a> Reader<'a> {
 
     /// How many marks a cell with this clear has.
     #[tactic(auto, unfolding(crate::specs::Fields::number))]
-    fn mark_count(&mut self, cleared: &Option<Stamp>) -> Result<u64, ReadError>
-        ensures { Reads (λ x. x) (number w64 (empty_cell cleared.now)) self.old self.new result }
+    fn mark_count(&mut self, cleared: &Option<Stamp>) -> Result<u64, Broken>
+        ensures { ReadsSurely (λ x. x) (number w64 (empty_cell cleared.now)) self.old self.new result }
     {
         let left = self.left();
         let count = self.u64()?;
@@ -128,8 +128,8 @@ impl<'a> Reader<'a> {
 
     /// The kind of an entry: an object is 1, a link 2, a child 3.
     #[tactic(auto, unfolding(crate::specs::Records::kind))]
-    fn kind(&mut self) -> Result<Kind, ReadError>
-        ensures { Reads (λ x. x) kind self.old self.new result }
+    fn kind(&mut self) -> Result<Kind, Broken>
+        ensures { ReadsSurely (λ x. x) kind self.old self.new result }
     {
         let number = self.octet_within(Rule::BadFlag, 1, 3)?;
         Ok(kind_from(number))

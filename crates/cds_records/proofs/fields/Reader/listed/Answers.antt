@@ -1,5 +1,4 @@
-use Rattle.std.proofs.Common.{None, false, Vec, Global}
-use Rattle.cds_stamps.specs.declared.members.Member.{Member}
+use Rattle.std.proofs.Common.{None, false}
 use Rattle.std.proofs.lemmas.Result.{err_from_is_err_and}
 use Rattle.cds_records.specs.Reading.{read}
 use Rattle.cds_records.specs.Records.{listed}
@@ -12,9 +11,8 @@ loop-i-init c = rw c.new-list.ensures.items (members_begin c.args.count c.args.s
 pub returns-in_err-member : goal.returns-in_err-member
 returns-in_err-member c =
     let p = err_from_is_err_and c.from_residual.result c.from_residual.ensures.1 in
-    rw (p.1, p.2) (members_end
-    (λ (v : Vec Member Global). v.items) c.in_err-member.field-0.0 c.loop-i.list.items c.args.count c.loop-i.i c.loop-i.before c.loop-i.master c.loop-i.self
-    c.member.new.self c.member.new.self c.args.self.now c.loop-i-test.true c.in_err-member.ensures c.loop-i.invariant)
+    rw (p.1, p.2) (members_end c.in_err-member.field-0.0 c.loop-i.list.items c.args.count c.loop-i.i c.loop-i.before c.loop-i.master c.loop-i.self
+    c.args.self.now c.loop-i-test.true c.in_err-member.ensures c.loop-i.invariant)
 
 pub loop-i-preserved : goal.loop-i-preserved
 loop-i-preserved c =
