@@ -12,7 +12,7 @@ use Rattle.cell_script.specs.declared.fault.ParseFault.{ParseFault}
 use Rattle.cell_script.specs.declared.fault.ParseFault.TheVariants.{UnknownCommand}
 use Rattle.cell_script.specs.Forms.{◌>>=◌, Form, House, Directory, Serial, Time, Node, SimpleName, FullName, AttrName, Value, Octets, Confidence, Encoded}
 use Rattle.cell_script.specs.Forms.{Interface, ElementInterface, InterfaceOrNone, Bindings, Objects, Object, Protocols, Priority, Note, Houses, Words}
-use Rattle.cell_script.specs.Forms.{Builds, followed_by, read_as}
+use Rattle.cell_script.specs.Forms.{Builds, followed_by, miscounted, read_as}
 
 -- a command of any type of line: its first word, the forms of the words behind it, and what a line of them says (own)
 pub record RowOf (Line : Type 0) : Type 0 where
@@ -25,6 +25,12 @@ abbrev pub said_among : {Line : Type 0} → List (RowOf Line) → Result Line Pa
 said_among [] other word s = other
 said_among (row ∷ rows) other word s =
     if bytes_eq word row.word then read_as row.forms row.says s else said_among rows other word s
+
+-- the fault that shows before a word behind the first one is read: that of their number, by the row of the first one, or what is
+-- told where no row has it (own)
+abbrev pub early_among : {Line : Type 0} → List (RowOf Line) → Option ParseFault → List ℕ → Words → Option ParseFault
+early_among [] other word s = other
+early_among (row ∷ rows) other word s = if bytes_eq word row.word then miscounted row.forms s else early_among rows other word s
 
 -- ---- the script
 
@@ -119,6 +125,10 @@ said_in_row rows word s = said_among rows no_command word s
 unfoldable pub said_by : List ℕ → Words → Result ScriptLine ParseFault
 said_by = said_in_row rows
 
+-- the fault of a first word of no command, or else of a wrong number of words behind it (own)
+unfoldable pub early_by : List ℕ → Words → Option ParseFault
+early_by = early_among rows (Some (UnknownCommand 1))
+
 -- a line that says something, or its fault (own)
 abbrev pub some_line : Result ScriptLine ParseFault → Result (Option ScriptLine) ParseFault
 some_line r = do
@@ -131,3 +141,8 @@ said_in [] = Ok None
 said_in (word ∷ words) =
     if starts_with nat_eq word (codes "#") then Ok None
     else some_line (said_by word (record { read = 1; rest = words }))
+
+-- the fault of a line that shows before any word but the first one is read (own)
+abbrev pub early_fault : List (List ℕ) → Option ParseFault
+early_fault [] = None
+early_fault (word ∷ words) = if starts_with nat_eq word (codes "#") then None else early_by word (record { read = 1; rest = words })

@@ -1,5 +1,6 @@
 -- The forms of words, and how a line is read word by word (own).
 use Rattle.std.specs.Prelude.{◌≡◌, ℕ, ◌+◌, Bool, true, false, nat_le, ◌==◌, if◌then◌else◌, List, [], ◌∷◌, length, Some, None, Option, Ok, Err, Result}
+use Rattle.std.specs.Result.{result_err}
 use Rattle.cds_stamps.specs.declared.numbers.HouseNo.{HouseNo}
 use Rattle.cds_stamps.specs.declared.numbers.DirId.{DirId}
 use Rattle.cds_stamps.specs.declared.alloc_or.AllocOr.{AllocOr}
@@ -148,6 +149,10 @@ is_open (f ∷ fs) = is_open fs
 unfoldable pub counted : Bool → ℕ → Words → Result (Unit {0}) ParseFault
 counted more least s =
     if (if more then nat_le least (length s.rest) else length s.rest == least) then Ok tt else Err (WrongCount (s.read + length s.rest))
+
+-- the fault of a number of words that these forms don't stand for (own)
+abbrev pub miscounted : List Form → Words → Option ParseFault
+miscounted fs s = result_err (counted (is_open fs) (least_of fs) s)
 
 -- what builds an A of what words of these forms say (own)
 abbrev pub Builds : List Form → Type 0 → Type 0

@@ -1,9 +1,11 @@
 // Lines to commands.
-ghost use Rattle.std.specs.Prelude.{◌≡◌, ◌∷◌, Ok, None};
+ghost use Rattle.std.specs.Prelude.{◌≡◌, ◌∷◌, Ok, Err, None, IfSome};
 ghost use Rattle.cds_stamps.specs.Outcomes.{Answers};
+ghost use Rattle.cds_stamps.specs.declared.alloc_or.AllocOr.TheVariants.{Fault};
 ghost use Rattle.cell_script.specs.Words.{words_of};
-ghost use Rattle.cell_script.specs.Commands.{said_in};
+ghost use Rattle.cell_script.specs.Commands.{said_in, early_fault};
 ghost use Rattle.cell_script.specs.RowWords.{made_by, updated_by, changed_by, replicated_by, befallen_by, asked_by, served_by};
+ghost use Rattle.cell_script.specs.RowWords.{made_early, updated_early, changed_early, replicated_early, befallen_early, asked_early, served_early};
 
 use crate::command::ScriptLine;
 use crate::fault::ParseFault;
@@ -13,9 +15,10 @@ use cds_stamps::AllocOr;
 use std::alloc::Global;
 
 // What the words behind the first one say: of a command that makes houses or directories, or of another.
-#[tactic(auto, unfolding(crate::specs::RowWords::made_by))]
+#[tactic(auto, unfolding(crate::specs::RowWords::made_by, crate::specs::RowWords::made_early))]
 fn said(alloc: Global, word: &[u8], words: &mut Words<'_>) -> Parsed<ScriptLine>
-    ensures { Answers result (made_by word.now words.old) }
+    ensures answer { Answers result (made_by word.now words.old) }
+    ensures early { IfSome (made_early word.now words.old) (λ fault. result ≡ Err (Fault fault)) }
 {
     if word == b"house".as_slice() {
         return commands::house(words);
@@ -36,9 +39,10 @@ fn said(alloc: Global, word: &[u8], words: &mut Words<'_>) -> Parsed<ScriptLine>
 }
 
 // The same of an update of an entry, or of another.
-#[tactic(auto, unfolding(crate::specs::RowWords::updated_by))]
+#[tactic(auto, unfolding(crate::specs::RowWords::updated_by, crate::specs::RowWords::updated_early))]
 fn updated(alloc: Global, word: &[u8], words: &mut Words<'_>) -> Parsed<ScriptLine>
-    ensures { Answers result (updated_by word.now words.old) }
+    ensures answer { Answers result (updated_by word.now words.old) }
+    ensures early { IfSome (updated_early word.now words.old) (λ fault. result ≡ Err (Fault fault)) }
 {
     if word == b"create".as_slice() {
         return updates::create(alloc, words);
@@ -53,9 +57,10 @@ fn updated(alloc: Global, word: &[u8], words: &mut Words<'_>) -> Parsed<ScriptLi
 }
 
 // The same of a change of an entry's values, or of another.
-#[tactic(auto, unfolding(crate::specs::RowWords::changed_by))]
+#[tactic(auto, unfolding(crate::specs::RowWords::changed_by, crate::specs::RowWords::changed_early))]
 fn changed(alloc: Global, word: &[u8], words: &mut Words<'_>) -> Parsed<ScriptLine>
-    ensures { Answers result (changed_by word.now words.old) }
+    ensures answer { Answers result (changed_by word.now words.old) }
+    ensures early { IfSome (changed_early word.now words.old) (λ fault. result ≡ Err (Fault fault)) }
 {
     if word == b"add".as_slice() {
         return updates::add(alloc, words);
@@ -73,9 +78,10 @@ fn changed(alloc: Global, word: &[u8], words: &mut Words<'_>) -> Parsed<ScriptLi
 }
 
 // The same of a command about all replicas of a directory, or of another.
-#[tactic(auto, unfolding(crate::specs::RowWords::replicated_by))]
+#[tactic(auto, unfolding(crate::specs::RowWords::replicated_by, crate::specs::RowWords::replicated_early))]
 fn replicated(alloc: Global, word: &[u8], words: &mut Words<'_>) -> Parsed<ScriptLine>
-    ensures { Answers result (replicated_by word.now words.old) }
+    ensures answer { Answers result (replicated_by word.now words.old) }
+    ensures early { IfSome (replicated_early word.now words.old) (λ fault. result ≡ Err (Fault fault)) }
 {
     if word == b"epoch".as_slice() {
         return replicas::epoch(alloc, words);
@@ -87,9 +93,10 @@ fn replicated(alloc: Global, word: &[u8], words: &mut Words<'_>) -> Parsed<Scrip
 }
 
 // The same of what befalls a message or a house, or of a question.
-#[tactic(auto, unfolding(crate::specs::RowWords::befallen_by))]
+#[tactic(auto, unfolding(crate::specs::RowWords::befallen_by, crate::specs::RowWords::befallen_early))]
 fn befallen(alloc: Global, word: &[u8], words: &mut Words<'_>) -> Parsed<ScriptLine>
-    ensures { Answers result (befallen_by word.now words.old) }
+    ensures answer { Answers result (befallen_by word.now words.old) }
+    ensures early { IfSome (befallen_early word.now words.old) (λ fault. result ≡ Err (Fault fault)) }
 {
     if word == b"deliver".as_slice() {
         return replicas::deliver(words);
@@ -107,9 +114,10 @@ fn befallen(alloc: Global, word: &[u8], words: &mut Words<'_>) -> Parsed<ScriptL
 }
 
 // The same of a question, or of a command of the name service.
-#[tactic(auto, unfolding(crate::specs::RowWords::asked_by))]
+#[tactic(auto, unfolding(crate::specs::RowWords::asked_by, crate::specs::RowWords::asked_early))]
 fn asked(alloc: Global, word: &[u8], words: &mut Words<'_>) -> Parsed<ScriptLine>
-    ensures { Answers result (asked_by word.now words.old) }
+    ensures answer { Answers result (asked_by word.now words.old) }
+    ensures early { IfSome (asked_early word.now words.old) (λ fault. result ≡ Err (Fault fault)) }
 {
     if word == b"read".as_slice() {
         return questions::read(alloc, words);
@@ -131,9 +139,10 @@ fn asked(alloc: Global, word: &[u8], words: &mut Words<'_>) -> Parsed<ScriptLine
 
 // The same of a command that finds or changes what servers export, of groups and of profiles, or the fault of a word of no
 // command.
-#[tactic(auto, unfolding(crate::specs::RowWords::served_by))]
+#[tactic(auto, unfolding(crate::specs::RowWords::served_by, crate::specs::RowWords::served_early))]
 fn served(alloc: Global, word: &[u8], words: &mut Words<'_>) -> Parsed<ScriptLine>
-    ensures { Answers result (served_by word.now words.old) }
+    ensures answer { Answers result (served_by word.now words.old) }
+    ensures early { IfSome (served_early word.now words.old) (λ fault. result ≡ Err (Fault fault)) }
 {
     if word == b"export".as_slice() {
         return service::export(alloc, words);
@@ -165,6 +174,7 @@ fn served(alloc: Global, word: &[u8], words: &mut Words<'_>) -> Parsed<ScriptLin
 pub fn parse_line(alloc: Global, line: &[u8]) -> Result<Option<ScriptLine>, AllocOr<ParseFault>>
     ensures answer { Answers result (said_in (words_of line.now)) }
     ensures passed_over { said_in (words_of line.now) ≡ Ok None → result ≡ Ok None }
+    ensures early { IfSome (early_fault (words_of line.now)) (λ fault. result ≡ Err (Fault fault)) }
 {
     let mut words = Words::of(line);
     match words.next() {
@@ -174,11 +184,12 @@ pub fn parse_line(alloc: Global, line: &[u8]) -> Result<Option<ScriptLine>, Allo
 }
 
 // What a line of this first word says.
-#[tactic(auto, using(crate::proofs::Families::made_by_is, crate::proofs::Reading::some_line_says))]
+#[tactic(auto, using(crate::proofs::Families::made_by_is, crate::proofs::Families::made_early_is, crate::proofs::Reading::some_line_says))]
 fn said_behind(alloc: Global, word: &[u8], words: &mut Words<'_>) -> Parsed<Option<ScriptLine>>
     requires { words.old.read ≡ 1 }
     ensures answer { Answers result (said_in (word.now ∷ words.old.rest)) }
     ensures passed_over { said_in (word.now ∷ words.old.rest) ≡ Ok None → result ≡ Ok None }
+    ensures early { IfSome (early_fault (word.now ∷ words.old.rest)) (λ fault. result ≡ Err (Fault fault)) }
 {
     if word.starts_with(b"#") {
         return Ok(None);

@@ -1,12 +1,12 @@
 // The words of a line, read one after another.
 #![tactic(auto, unfolding(crate::specs::Forms::taken, crate::specs::Forms::counted))]
 
-ghost use Rattle.std.specs.Prelude.{◌≡◌, ◌≢◌, ◌+◌, ◌^◌, ◌<◌, ◌≤◌, ◌==◌, not, true, false, ℕ, List, [], ◌∷◌, ◌++◌, length, get_or, Result, Ok};
+ghost use Rattle.std.specs.Prelude.{◌≡◌, ◌≢◌, ◌+◌, ◌^◌, ◌<◌, ◌≤◌, ◌==◌, not, true, false, ℕ, List, [], ◌∷◌, ◌++◌, length, get_or, Result, Ok, Err};
 ghost use Rattle.std.specs.Prelude.{IfOk, IfErr, IfSome, IfNone};
 ghost use Rattle.std.specs.Result.{result_ok};
 ghost use Rattle.std.specs.List.{prefix_len};
 ghost use Rattle.cds_stamps.specs.Outcomes.{Answers};
-ghost use Rattle.cds_stamps.specs.declared.alloc_or.AllocOr.TheVariants.{Fault};
+ghost use Rattle.cds_stamps.specs.declared.alloc_or.AllocOr.TheVariants.{Fault, OutOfMemory};
 ghost use Rattle.cell_script.specs.declared.fault.ParseFault.TheVariants.{WrongCount};
 ghost use Rattle.cell_script.specs.Words.{words_of};
 ghost use Rattle.cell_script.specs.PrivateCounts.{words_behind};
@@ -152,7 +152,8 @@ impl<'a> Words<'a> {
 
     /// There have to be so many words.
     pub(crate) fn exactly(&self, wanted: usize) -> Parsed<()>
-        ensures { Answers result (counted false wanted self.now) }
+        ensures answer { Answers result (counted false wanted self.now) }
+        ensures memory { result ≢ Err OutOfMemory }
     {
         let count = self.count();
         if count == wanted {
@@ -164,7 +165,8 @@ impl<'a> Words<'a> {
 
     /// There have to be so many words, or more.
     pub(crate) fn at_least(&self, wanted: usize) -> Parsed<()>
-        ensures { Answers result (counted true wanted self.now) }
+        ensures answer { Answers result (counted true wanted self.now) }
+        ensures memory { result ≢ Err OutOfMemory }
     {
         let count = self.count();
         if count >= wanted {
@@ -189,7 +191,8 @@ impl<'a> Words<'a> {
 
     /// What the last word says; it has to say something.
     pub(crate) fn said<T>(&self, value: Option<T>) -> Parsed<T>
-        ensures { Answers result (said_at self.now.read value) }
+        ensures answer { Answers result (said_at self.now.read value) }
+        ensures memory { result ≢ Err OutOfMemory }
     {
         match value {
             Some(value) => Ok(value),
@@ -199,7 +202,8 @@ impl<'a> Words<'a> {
 
     // The same of a form whose values are kept in memory.
     fn kept<T, E: Drop>(&self, value: Result<T, AllocOr<E>>) -> Parsed<T>
-        ensures { (expected : Result T E) → Answers value expected → Answers result (said_at self.now.read (result_ok expected)) }
+        ensures answer { (expected : Result T E) → Answers value expected → Answers result (said_at self.now.read (result_ok expected)) }
+        ensures memory { result ≡ Err OutOfMemory → value ≡ Err OutOfMemory }
     {
         match value {
             Ok(value) => Ok(value),

@@ -1,6 +1,8 @@
 // Where a full name leads.
-ghost use Rattle.std.specs.Prelude.{true};
+ghost use Rattle.std.specs.Prelude.{◌≡◌, [], Err, true};
 ghost use Rattle.cds_stamps.specs.Outcomes.{Answers};
+ghost use Rattle.cds_stamps.specs.declared.alloc_or.AllocOr.TheVariants.{Fault};
+ghost use Rattle.resolver.specs.declared.refusal.Refusal.TheVariants.{RootName};
 ghost use Rattle.resolver.specs.Walks.{SomeEnd, found_of, place_of};
 ghost use Rattle.resolver.specs.WalkEnds.{walked, placed};
 
@@ -22,6 +24,7 @@ pub fn resolve<R: EntryReader>(
 ) -> Result<Found, AllocOr<Refusal>>
     ensures ends { SomeEnd (R.tells reader.now) follow_last name.now (λ end. Answers result (found_of end)) }
     ensures walked { Answers result (walked (R.tells reader.now) follow_last name.now) }
+    ensures root { name.now ≡ [] → result ≡ Err (Fault RootName) }
 {
     match walk(alloc, reader, name, follow_last)? {
         End::Found(found) => Ok(found),
@@ -39,6 +42,7 @@ pub fn place<R: EntryReader>(
 ) -> Result<crate::seen::Place, AllocOr<Refusal>>
     ensures ends { SomeEnd (R.tells reader.now) true name.now (λ end. Answers result (place_of end)) }
     ensures placed { Answers result (placed (R.tells reader.now) name.now) }
+    ensures root { name.now ≡ [] → result ≡ Err (Fault RootName) }
 {
     match walk(alloc, reader, name, true)? {
         End::Found(found) => Ok(crate::seen::Place {

@@ -1,10 +1,13 @@
 // The walk of a full name.
-ghost use Rattle.std.specs.Prelude.{◌≡◌, ◌+◌, ◌<◌, ◌∷◌, ◌++◌, ℕ, List, Some, length, drop, IfOk};
+ghost use Rattle.std.specs.Prelude.{◌≡◌, ◌+◌, ◌<◌, ◌≤◌, [], ◌∷◌, ◌++◌, ℕ, List, Some, Ok, Err, length, drop, IfOk};
 ghost use Rattle.std.specs.List.{list_any};
 ghost use Rattle.cds_stamps.specs.Outcomes.{Answers, ok_unless};
+ghost use Rattle.cds_stamps.specs.declared.alloc_or.AllocOr.TheVariants.{Fault};
 ghost use Rattle.cell_names.specs.FullNames.{is_name};
 ghost use Rattle.cell_names.specs.ChildPointers.{pointer_in};
-ghost use Rattle.resolver.specs.Walks.{Ends, link_refusal};
+ghost use Rattle.resolver.specs.declared.refusal.Refusal.TheVariants.{RootName, TooManyLinks};
+ghost use Rattle.resolver.specs.declared.walk.End.TheVariants.{Refused};
+ghost use Rattle.resolver.specs.Walks.{Ends, most_links, link_refusal};
 ghost use Rattle.resolver.specs.PassWords.{Passes, present_name, current_dir, beginning};
 
 use crate::component::Component;
@@ -51,7 +54,8 @@ pub(crate) fn walk<R: EntryReader>(
     name: &FullName,
     follow_last: bool,
 ) -> Result<End, AllocError>
-    ensures { IfOk result (λ end. Ends (R.tells reader.now) follow_last name.now end) }
+    ensures ends { IfOk result (λ end. Ends (R.tells reader.now) follow_last name.now end) }
+    ensures root { name.now ≡ [] → result ≡ Ok (Refused RootName) }
 {
     if name.len() == 0 {
         return Ok(End::Refused(Refusal::RootName));
@@ -153,7 +157,8 @@ fn follow(
     at: usize,
 ) -> Result<FullName, AllocOr<Refusal>>
     requires { at < length (present_name first.now later.now) }
-    ensures { let next = target.now ++ drop (at + 1) (present_name first.now later.now) in
+    ensures links { most_links ≤ length later.now → result ≡ Err (Fault TooManyLinks) }
+    ensures answer { let next = target.now ++ drop (at + 1) (present_name first.now later.now) in
         Answers result (ok_unless (link_refusal (length later.now) (first.now ∷ later.now) next) next) }
 {
     if later.len() >= MOST_LINKS {

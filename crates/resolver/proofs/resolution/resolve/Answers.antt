@@ -9,10 +9,10 @@ returns-in_err-found-clause-ends g c =
     without_memory (g.R.EntryReader.tells c.args.reader.now) c.args.follow_last c.args.name.now found_of c.from_residual.result c.from_residual.ensures.1
 
 pub returns-in-Found-clause-walked : goal.returns-in-Found-clause-walked
-returns-in-Found-clause-walked g c = walked_at (Found c.in-Found.found) c.in_ok-found.ensures c.in-Found.is
+returns-in-Found-clause-walked g c = walked_at (Found c.in-Found.found) c.in_ok-found.ensures.ends c.in-Found.is
 
 pub returns-in-Missing-clause-walked : goal.returns-in-Missing-clause-walked
-returns-in-Missing-clause-walked g c = walked_at (Missing c.in-Missing.field-0 c.in-Missing.done) c.in_ok-found.ensures c.in-Missing.is
+returns-in-Missing-clause-walked g c = walked_at (Missing c.in-Missing.field-0 c.in-Missing.done) c.in_ok-found.ensures.ends c.in-Missing.is
 
 pub returns-clause-walked : goal.returns-clause-walked
-returns-clause-walked g c = walked_at (Refused c.in-Refused.refusal) c.in_ok-found.ensures c.in-Refused.is
+returns-clause-walked g c = walked_at (Refused c.in-Refused.refusal) c.in_ok-found.ensures.ends c.in-Refused.is

@@ -22,7 +22,7 @@ returns-in-Err-Fault g c =
     (names_stop (g.R.EntryReader.tells c.args.reader.now) c.args.follow_last c.args.root.now c.args.name.now c.names.later.items c.deref-in-Link.result.now
     c.present.result.now c.in_ok-end.field-0 c.in-Link.target c.in-Link.at c.in-Err-Fault.refusal
     c.deref-in-Link.ensures.value (c.present.ensures ∙ ap (present_name c.args.name.now) c.deref.ensures.value) c.in-Link.is c.in_ok-end.ensures
-    (rw c.in-Err-Fault.field-0-is at c.in-Err-Fault.ensures)) in
+    (rw c.in-Err-Fault.field-0-is at c.in-Err-Fault.ensures.answer)) in
     rw c.in-Err-Fault.field-0-is refused
 
 pub names-preserved : goal.names-preserved
@@ -30,4 +30,4 @@ names-preserved g c = λ e r.
     c.names.invariant e (names_go (g.R.EntryReader.tells c.args.reader.now) c.args.follow_last c.args.root.now c.args.name.now c.names.later.items
     c.deref-in-Link.result.now c.push.new.self.items c.present.result.now c.in_ok-end.field-0 c.in-Link.target c.in-Link.at c.in-Ok.next
     c.deref-in-Link.ensures.value c.in_ok-push-in-Ok.ensures.items c.requires (c.present.ensures
-    ∙ ap (present_name c.args.name.now) c.deref.ensures.value) c.in-Link.is c.in_ok-end.ensures c.in-Ok.ensures e r)
+    ∙ ap (present_name c.args.name.now) c.deref.ensures.value) c.in-Link.is c.in_ok-end.ensures c.in-Ok.ensures.answer e r)
