@@ -5,6 +5,7 @@ pub mod ListLoops
 pub mod Valid
 pub mod Listed
 pub mod DecodingLaws
+pub mod WantingLaws
 pub mod Ascending
 pub mod WholeFields
 pub mod WholeReplicas

@@ -4,6 +4,7 @@ pub mod PrivateReading
 pub mod Fields
 pub mod Records
 pub mod Decoding
+pub mod Wanting
 pub mod Validity
 pub mod Kinds
 pub mod Dirs

@@ -1,6 +1,7 @@
 // Readers of messages.
-ghost use Rattle.std.specs.Prelude.{◌≡◌, ◌≤◌};
+ghost use Rattle.std.specs.Prelude.{◌≡◌, ◌≤◌, true};
 ghost use Rattle.cds_records.specs.PrivateReading.{Reads};
+ghost use Rattle.cds_records.specs.Wanting.{takes_memory, IfWant, WantsForMessage};
 ghost use Rattle.cds_records.specs.Records.{fragment, copied, joined, body, message, message_in};
 
 use crate::fault::{ReadError, Rule};
@@ -48,7 +49,8 @@ impl<'a> Reader<'a> {
     #[tactic(auto, unfolding(crate::specs::Records::body))]
     fn body(&mut self, alloc: Global, tag: u8) -> Result<Body, ReadError>
         requires { tag ≤ 8 }
-        ensures { Reads (λ x. x) (body tag) self.old self.new result }
+        ensures read { Reads (λ x. x) (body tag) self.old self.new result }
+        ensures wanting { IfWant (takes_memory tag ≡ true) result }
     {
         match tag {
             UPDATE => {
@@ -86,7 +88,8 @@ impl<'a> Reader<'a> {
     /// A message.
     #[tactic(auto, unfolding(crate::specs::Records::message, crate::specs::Records::message_in))]
     pub(crate) fn message(&mut self, alloc: Global) -> Result<Message, ReadError>
-        ensures { Reads (λ x. x) message self.old self.new result }
+        ensures read { Reads (λ x. x) message self.old self.new result }
+        ensures wanting { IfWant (WantsForMessage self.old) result }
     {
         let _format = self.octet_within(Rule::BadTag, FORMAT, FORMAT)?;
         let tag = self.octet_within(Rule::BadTag, UPDATE, LEAVE)?;

@@ -3,6 +3,7 @@ ghost use Rattle.std.specs.Prelude.{◌≡◌, length, IfOk};
 ghost use Rattle.cds_records.specs.Images.{image};
 ghost use Rattle.cds_records.specs.Records.{message};
 ghost use Rattle.cds_records.specs.Decoding.{fault_at, error_of, IsLeftWithin, Decodes};
+ghost use Rattle.cds_records.specs.Wanting.{IfWant, WantsForMessage, WantsForImage};
 ghost use Rattle.cds_records.specs.Validity.{IsValidImage, IsValidMessage};
 
 use crate::fault::{ReadError, RecordFault, Rule};
@@ -16,6 +17,7 @@ use std::alloc::Global;
 pub fn decode(alloc: Global, octets: &[u8]) -> Result<(Message, usize), AllocOr<RecordFault>>
     ensures decodes { Decodes message octets.now result }
     ensures valid { IfOk result (λ r. IsValidMessage r.0) }
+    ensures wanting { IfWant (WantsForMessage octets.now) result }
 {
     let mut reader = Reader::new(octets);
     match reader.message(alloc) {
@@ -28,6 +30,7 @@ pub fn decode(alloc: Global, octets: &[u8]) -> Result<(Message, usize), AllocOr<
 pub fn decode_image(alloc: Global, octets: &[u8]) -> Result<(Image, usize), AllocOr<RecordFault>>
     ensures decodes { Decodes image octets.now result }
     ensures valid { IfOk result (λ r. IsValidImage r.0) }
+    ensures wanting { IfWant (WantsForImage octets.now) result }
 {
     let mut reader = Reader::new(octets);
     match reader.image(alloc) {

@@ -8,6 +8,7 @@ ghost use Rattle.cds_records.specs.Fields.{number_order, number};
 ghost use Rattle.cds_records.specs.Records.{item, map_of};
 ghost use Rattle.cds_records.specs.Dirs.{dir_cmp};
 ghost use Rattle.cds_records.specs.Images.{dir_number, held, dir_state, image, image_in};
+ghost use Rattle.cds_records.specs.Wanting.{IfWant, WantsForImage};
 ghost use Rattle.cds_records.specs.declared.fault.Rule.TheVariants.{OutOfOrder};
 
 use crate::fault::{Broken, ReadError, Rule};
@@ -87,7 +88,8 @@ impl<'a> Reader<'a> {
     /// An image.
     #[tactic(auto, unfolding(crate::specs::Images::image, crate::specs::Images::image_in))]
     pub(crate) fn image(&mut self, alloc: Global) -> Result<Image, ReadError>
-        ensures { Reads (λ x. x) image self.old self.new result }
+        ensures read { Reads (λ x. x) image self.old self.new result }
+        ensures wanting { IfWant (WantsForImage self.old) result }
     {
         let _format = self.octet_within(Rule::BadTag, FORMAT, FORMAT)?;
         let _tag = self.octet_within(Rule::BadTag, IMAGE, IMAGE)?;
