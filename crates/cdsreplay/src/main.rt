@@ -1,7 +1,7 @@
 //! `cdsreplay`: runs one form of the program, which its words name, from standard input to standard output.
 #![tactic(auto)]
 
-ghost use Rattle.std.specs.Prelude.{◌≡◌, ◌≢◌, ◌⊎◌, IfErr};
+ghost use Rattle.std.specs.Prelude.{◌≡◌, ◌≢◌, ◌⊎◌, Ok, Err, IfOk, IfErr};
 ghost use Rattle.std.specs.IoError.{error_kind};
 
 use cds_base::{StdSink, StdSource};
@@ -23,6 +23,17 @@ fn status_without_words(error: &Error) -> Status
     }
 }
 
+/// The words where they could be kept, or how the program ends where there was no memory for them.
+fn kept(words: Result<Vec<String>, AllocError>) -> Result<Vec<String>, Status>
+    ensures same { IfOk words (λ kept. result ≡ Ok kept) }
+    ensures memory { IfErr words (λ _. result ≡ Err Status.OutOfMemory) }
+{
+    match words {
+        Ok(words) => Ok(words),
+        Err(AllocError) => Err(Status::OutOfMemory),
+    }
+}
+
 /// The words behind the program's name, or how the program ends without them.
 fn words_of(rt: &(impl Env + Alloc<A = Global>)) -> Result<Vec<String>, Status>
     ensures causes { IfErr result (λ status. (status ≡ Status.Usage) ⊎ (status ≡ Status.OutOfMemory)) }
@@ -31,10 +42,7 @@ fn words_of(rt: &(impl Env + Alloc<A = Global>)) -> Result<Vec<String>, Status>
         Ok(args) => args,
         Err(error) => return Err(status_without_words(&error)),
     };
-    match args.skip(1).collect(rt.alloc()) {
-        Ok(words) => Ok(words),
-        Err(AllocError) => Err(Status::OutOfMemory),
-    }
+    kept(args.skip(1).collect(rt.alloc()))
 }
 
 fn main(rt: HostRuntime) -> ExitCode {

@@ -1,6 +1,7 @@
 // Names that wait in a search.
-ghost use Rattle.std.specs.Prelude.{◌≡◌, Result, IfOk};
+ghost use Rattle.std.specs.Prelude.{◌≡◌, Result, Err, IfOk};
 ghost use Rattle.cds_stamps.specs.Outcomes.{Answers};
+ghost use Rattle.cds_stamps.specs.declared.alloc_or.AllocOr.TheVariants.{OutOfMemory};
 ghost use Rattle.resolver.specs.declared.seen.Found.{Found};
 ghost use Rattle.resolver.specs.declared.refusal.Refusal.{Refusal};
 ghost use Rattle.resolver.specs.Nears.{Knows};
@@ -115,7 +116,8 @@ pub(crate) fn object<R: EntryReader>(
 
 // What a walk found, if it is an object.
 fn object_found(found: Result<Found, AllocOr<Refusal>>) -> Result<Found, AllocOr<ImportFault>>
-    ensures { (walked : Result Found Refusal) → Answers found walked → Answers result (object_walked walked) }
+    ensures answer { (walked : Result Found Refusal) → Answers found walked → Answers result (object_walked walked) }
+    ensures memory { result ≡ Err OutOfMemory → found ≡ Err OutOfMemory }
 {
     match found {
         Ok(entry) => {
