@@ -19,6 +19,6 @@ returns-clause-does c =
     let turn = c.in_ok-turn.turn in
     let stays : c.posted.new.self ≡ mid = subst (λ r. OnOk r (c.posted.new.self ≡ mid)) c.in_ok-posted.was c.posted.ensures.heeds.same in
     let posts : c.in_ok-posted.posted ≡ posts_at mid c.args.message.now.dir turn.outgoing =
-      c.in_ok-posted.ensures.posts ∙ ap (posts_at mid c.args.message.now.dir) c.as_ref.ensures.value in
+    c.in_ok-posted.ensures.posts ∙ ap (posts_at mid c.args.message.now.dir) c.as_ref.ensures.value in
     subst (λ x. TakesPosting c.args.message.now c.args.self.now x turn.answer c.in_ok-posted.posted) (sym stays)
     (record { outgoing = turn.outgoing; takes = c.in_ok-turn.ensures.does; posts = posts })
