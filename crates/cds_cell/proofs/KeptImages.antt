@@ -2,10 +2,10 @@
 use Rattle.std.proofs.Common.{◌≡◌, List, ℕ, Option, Some, None, Ok, refl, sym, ap, ◌∙◌}
 use Rattle.std.specs.FinMap.{get, same_map}
 use Rattle.std.specs.Option.{option_map}
-use Rattle.cds_records.specs.Dirs.{dir_exact, dir_total}
+use Rattle.cds_messages.specs.Dirs.{dir_exact, dir_total}
 use Rattle.cds_records.specs.Octets.{image_octets}
-use Rattle.cds_records.specs.declared.image.ImageDir.{ImageDir}
-use Rattle.cds_records.specs.declared.image.ImageDir.TheVariants as kept
+use Rattle.cds_messages.specs.declared.image.ImageDir.{ImageDir}
+use Rattle.cds_messages.specs.declared.image.ImageDir.TheVariants as kept
 use Rattle.cds_stamps.specs.declared.stamp.Floor.{Floor}
 use Rattle.clearinghouse.specs.Imaging.{image_of, kept_of, restarted, started, started_of}
 use Rattle.clearinghouse.specs.Lawful.{IsLawful}

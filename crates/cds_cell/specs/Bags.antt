@@ -5,8 +5,8 @@ use Rattle.indexmap.specs.IndexMap.{get}
 use Rattle.cds_records.specs.Decoding.{IsWhole}
 use Rattle.cds_records.specs.Octets.{message_octets}
 use Rattle.cds_records.specs.Records.{message}
-use Rattle.cds_records.specs.Validity.{IsValidMessage}
-use Rattle.cds_records.specs.declared.message.Message.{Message}
+use Rattle.cds_messages.specs.Validity.{IsValidMessage}
+use Rattle.cds_messages.specs.declared.message.Message.{Message}
 use Rattle.cell_model.specs.Cells as model
 use Rattle.cell_model.specs.Sets.{has}
 use Rattle.cell_model.specs.Steps.{message_at}

@@ -6,8 +6,8 @@ use Rattle.directory.specs.Updates.{Change}
 use Rattle.cds_records.specs.Decoding.{IsWhole}
 use Rattle.cds_records.specs.Octets.{message_octets}
 use Rattle.cds_records.specs.Records as records
-use Rattle.cds_records.specs.Validity.{IsValidMessage}
-use Rattle.cds_records.specs.declared.message.Message.{Message}
+use Rattle.cds_messages.specs.Validity.{IsValidMessage}
+use Rattle.cds_messages.specs.declared.message.Message.{Message}
 use Rattle.cell_model.specs.Cells as model
 use Rattle.cell_model.specs.Commands as command
 use Rattle.cell_model.specs.Sets.{has}

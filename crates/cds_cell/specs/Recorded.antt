@@ -9,12 +9,12 @@ use Rattle.cds_stamps.specs.Members.{Member}
 use Rattle.directory.specs.Histories.{Mark, name_in, entry_of}
 use Rattle.purge_rule.specs.Replicas.{replica_of}
 use Rattle.cds_records.specs.Octets.{message_octets}
-use Rattle.cds_records.specs.declared.image.Image.{Image}
-use Rattle.cds_records.specs.declared.image.ImageDir.{ImageDir}
-use Rattle.cds_records.specs.declared.image.ImageDir.TheVariants as kept
-use Rattle.cds_records.specs.declared.message.Message.{Message}
-use Rattle.cds_records.specs.declared.message.Body.{Body}
-use Rattle.cds_records.specs.declared.message.Body.TheVariants as body
+use Rattle.cds_messages.specs.declared.image.Image.{Image}
+use Rattle.cds_messages.specs.declared.image.ImageDir.{ImageDir}
+use Rattle.cds_messages.specs.declared.image.ImageDir.TheVariants as kept
+use Rattle.cds_messages.specs.declared.message.Message.{Message}
+use Rattle.cds_messages.specs.declared.message.Body.{Body}
+use Rattle.cds_messages.specs.declared.message.Body.TheVariants as body
 use Rattle.cell_model.specs.Cells as model
 
 -- a member list of the model, as the program has it (own)

@@ -13,7 +13,7 @@ use Rattle.std.proofs.lemmas.List.Elements.{Contains-append_left, Contains-appen
 use Rattle.attr_sets.specs.declared.cell.AttrCell.{AttrCell}
 use Rattle.attr_sets.specs.Cells.{cell_values}
 use Rattle.attr_sets.proofs.ShownLaws.{cell_values-ascending}
-use Rattle.cds_records.specs.Dirs.{dir_exact}
+use Rattle.cds_messages.specs.Dirs.{dir_exact}
 use Rattle.cds_stamps.proofs.ListMembers.{Contains-head, Contains-tail, Contains-map}
 use Rattle.cds_stamps.specs.declared.numbers.DirId.{DirId}
 use Rattle.cds_stamps.specs.Keyed.{tied}

@@ -1,7 +1,7 @@
 // The houses of a cell, and what each does when it is asked.
 ghost use Rattle.std.specs.Prelude.{◌≡◌, ◌≤◌, true, false, not, List, [], length, Some, None, IfOk, IfNone, IfSome, OnOk, OnErr, MatchOption};
 ghost use Rattle.std.specs.Result.{result_err};
-ghost use Rattle.cds_records.specs.Validity.{IsValidMessage};
+ghost use Rattle.cds_messages.specs.Validity.{IsValidMessage};
 ghost use Rattle.cds_stamps.specs.declared.numbers.HouseNo as house_no;
 ghost use Rattle.cds_stamps.specs.Members.{members_of, master_of, most_members};
 ghost use Rattle.directory.specs.declared.update.UpdateRefusal.TheVariants as why;
@@ -14,7 +14,7 @@ ghost use Rattle.clearinghouse.specs.Stepping.{IsStampAnswer, IsBegunAnswer, IsE
 ghost use Rattle.cds_cell.specs.Houses.{StandsAtHouse};
 ghost use Rattle.cds_cell.specs.PrivateHouses.{Asks, IsNewEpoch, IsSameHouse, IsTurnAt, epoch_posted_by, leaves_by, posted_at};
 
-use cds_records::Message;
+use cds_messages::Message;
 use cds_stamps::{AllocOr, DirId, EpochNo, HouseNo, Members, Node, Stamp};
 use cell_script::Octets;
 use clearinghouse::{

@@ -10,7 +10,7 @@ ghost use Rattle.directory.specs.declared.update.UpdateRefusal.TheVariants as wh
 ghost use Rattle.cds_records.specs.Decoding.{decoding};
 ghost use Rattle.cds_records.specs.Octets.{image_octets};
 ghost use Rattle.cds_records.specs.Records.{message};
-ghost use Rattle.cds_records.specs.declared.message.Message.{Message};
+ghost use Rattle.cds_messages.specs.declared.message.Message.{Message};
 ghost use Rattle.cell_model.specs.Agreement.{Converges};
 ghost use Rattle.cell_model.specs.Cells as model;
 ghost use Rattle.cell_model.specs.Commands as command;

@@ -1,6 +1,6 @@
 // Messages that are delivered or lost, and houses that go down and start again.
 ghost use Rattle.std.specs.Prelude.{◌≡◌, ◌≤◌, ◌<◌, ◌+◌, ℕ, None, Ok, IfOk, OnOk, MatchResult, length};
-ghost use Rattle.cds_records.specs.Validity.{IsValidMessage};
+ghost use Rattle.cds_messages.specs.Validity.{IsValidMessage};
 ghost use Rattle.cell_model.specs.Cells as model;
 ghost use Rattle.cell_model.specs.Commands as command;
 ghost use Rattle.cell_model.specs.Steps.{effect, first_refusal, refusals_of};
@@ -16,7 +16,8 @@ ghost use Rattle.cds_cell.specs.Standing.{HasRoom, Stands};
 use crate::answers::taken_in_script;
 use crate::cell::Cell;
 use crate::house::HouseState;
-use cds_records::{Message, decode};
+use cds_messages::Message;
+use cds_records::decode;
 use cds_stamps::{AllocOr, HouseNo};
 use cell_script::{Answer, ScriptRefusal, Serials};
 use clearinghouse::Taken;

@@ -6,7 +6,6 @@ pub mod Valid
 pub mod Listed
 pub mod DecodingLaws
 pub mod WantingLaws
-pub mod Ascending
 pub mod WholeFields
 pub mod WholeReplicas
 pub mod WholeMessages

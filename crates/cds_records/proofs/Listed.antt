@@ -11,7 +11,7 @@ use Rattle.cds_records.specs.declared.fault.Broken.{Broken}
 use Rattle.cds_records.specs.Layouts.{next, done}
 use Rattle.cds_records.specs.Reading.{◌>>=◌, read}
 use Rattle.cds_records.specs.Fields.{number_order, octet}
-use Rattle.cds_records.specs.Kinds.{kind_in}
+use Rattle.cds_messages.specs.Kinds.{kind_in}
 use Rattle.cds_records.specs.Records.{kind_rule, member_kind, member, listed}
 use Rattle.cds_records.proofs.LayoutLaws.{ok_is, bind_ok, read_stands}
 

@@ -8,7 +8,8 @@ use Rattle.cds_records.specs.declared.fault.Broken.{Broken}
 use Rattle.cds_records.specs.Layouts.{Layout}
 use Rattle.cds_records.specs.Reading.{◌>>=◌, read}
 use Rattle.cds_records.specs.PrivateReading.{Reads, Adds}
-use Rattle.cds_records.specs.Records.{item, ascending, add_all, map_of}
+use Rattle.cds_messages.specs.Added.{add_all}
+use Rattle.cds_records.specs.Records.{item, ascending, map_of}
 
 -- the items that are still to be read, added to the map of those before
 abbrev pub added : {K X : Type 0} {R : K → K → Ordering} → FinMap R X → Result (List (K × X) × List ℕ) Broken → Result (FinMap R X × List ℕ) Broken

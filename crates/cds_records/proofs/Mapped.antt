@@ -9,12 +9,12 @@ use Rattle.std.specs.FinMap.Entries.{below_all}
 use Rattle.std.proofs.lemmas.List.{length-map}
 use Rattle.cds_stamps.specs.declared.numbers.DirId.{DirId}
 use Rattle.cds_stamps.specs.declared.numbers.HouseNo.{HouseNo}
-use Rattle.cds_records.specs.declared.image.ImageDir.{ImageDir}
-use Rattle.cds_records.specs.Dirs.{dir_cmp, dir_total, dir_exact}
-use Rattle.cds_records.specs.Records.{add_all}
+use Rattle.cds_messages.specs.declared.image.ImageDir.{ImageDir}
+use Rattle.cds_messages.specs.Dirs.{dir_cmp, dir_total, dir_exact}
+use Rattle.cds_messages.specs.Added.{add_all}
 use Rattle.cds_records.specs.Octets.{items_octets, dir_octets, kept_octets, image_head, image_octets_in, image_octets}
 use Rattle.cds_records.specs.Ranges.{ItemsFit, FitsDir, FitsImage}
-use Rattle.cds_records.proofs.Ascending.{both, first_of, second_of, entries_added}
+use Rattle.cds_messages.proofs.Ascending.{both, first_of, second_of, entries_added}
 
 module _ {K X Y : Type 0} {R : K → K → Ordering} (total : IsTotalOrder R) (exact : IsAntisymmetric R) (f : X → Y) where
   below_kept : (k : K) (es : List (K × X)) → T (below_all R k es) → T (below_all R k (map (λ e. (e.0, f e.1)) es))

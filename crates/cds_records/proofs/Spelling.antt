@@ -19,9 +19,10 @@ use Rattle.cds_records.specs.declared.fault.Rule.{Rule}
 use Rattle.cds_records.specs.Layouts.{Layout, done, field, next, choose, Stands}
 use Rattle.cds_records.specs.Decoding.{IsWhole}
 use Rattle.cds_records.specs.Fields.{node_of, stamp_of, octet, number, node, stamp, octets_of}
-use Rattle.cds_records.specs.Records.{item, ascending, add_all, map_of}
+use Rattle.cds_messages.specs.Added.{add_all}
+use Rattle.cds_records.specs.Records.{item, ascending, map_of}
 use Rattle.cds_records.proofs.LayoutLaws.{front_stands}
-use Rattle.cds_records.proofs.Ascending.{both, below_less, entries_added}
+use Rattle.cds_messages.proofs.Ascending.{both, below_less, entries_added}
 
 -- ---- octets are below 256
 

@@ -19,19 +19,20 @@ use Rattle.directory.specs.Kinds.{rank, kind_of_rank}
 use Rattle.purge_rule.specs.declared.replica.Replica.{Replica}
 use Rattle.cds_records.specs.declared.fault.Rule.{Rule}
 use Rattle.cds_records.specs.declared.fault.Rule.TheVariants.{BadTag, BadName, OutOfOrder, BadFlag}
-use Rattle.cds_records.specs.declared.image.ImageDir.{ImageDir}
-use Rattle.cds_records.specs.declared.image.ImageDir.TheVariants.{Held, Gone}
-use Rattle.cds_records.specs.declared.image.Image.{Image}
-use Rattle.cds_records.specs.declared.message.Message.{Message}
-use Rattle.cds_records.specs.declared.message.Body.{Body}
-use Rattle.cds_records.specs.declared.message.Body.TheVariants.{Update, Gather, Gathered, Spread, SpreadAck, Advance, Join, Leave}
-use Rattle.cds_records.specs.Dirs.{dir_cmp, dir_total}
-use Rattle.cds_records.specs.Kinds.{kind_in, kind_number}
+use Rattle.cds_messages.specs.declared.image.ImageDir.{ImageDir}
+use Rattle.cds_messages.specs.declared.image.ImageDir.TheVariants.{Held, Gone}
+use Rattle.cds_messages.specs.declared.image.Image.{Image}
+use Rattle.cds_messages.specs.declared.message.Message.{Message}
+use Rattle.cds_messages.specs.declared.message.Body.{Body}
+use Rattle.cds_messages.specs.declared.message.Body.TheVariants.{Update, Gather, Gathered, Spread, SpreadAck, Advance, Join, Leave}
+use Rattle.cds_messages.specs.Dirs.{dir_cmp, dir_total}
+use Rattle.cds_messages.specs.Kinds.{kind_in, kind_number}
 use Rattle.cds_records.specs.Layouts.{done, choose, Stands}
 use Rattle.cds_records.specs.Fields.{free, outside, number_order, octets_order, stamp_order, octet, number, stamp_if, optional_stamp, octets_of, simple_name}
 use Rattle.cds_records.specs.Fields.{attr_name, value}
 use Rattle.cds_records.specs.Records.{mark, cell, kind, entry, replica, kind_rule, member_kind, member, listed, members, fragment, copied, joined, body}
-use Rattle.cds_records.specs.Records.{tag_of, message, message_in}
+use Rattle.cds_messages.specs.Messages.{tag_of}
+use Rattle.cds_records.specs.Records.{message, message_in}
 use Rattle.cds_records.specs.Images.{dir_number, held, dir_state, image, image_in}
 use Rattle.cds_records.proofs.Spelling.{OneSpelling, tells, spell_next, spell_done, spell_last, spell_choose, spell_cons, spell_octet, spell_16, spell_32}
 use Rattle.cds_records.proofs.Spelling.{spell_64, spell_node, spell_stamp, spell_sized, spell_counted}

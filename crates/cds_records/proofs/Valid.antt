@@ -19,19 +19,20 @@ use Rattle.directory.specs.Entries.{IsHeldCell, IsValidEntry, IsValidTable}
 use Rattle.purge_rule.specs.declared.replica.Replica.{Replica}
 use Rattle.directory.specs.declared.entry.Fragment.{Fragment}
 use Rattle.cds_stamps.specs.declared.members.Member.{Member}
-use Rattle.cds_records.specs.declared.message.Message.{Message}
-use Rattle.cds_records.specs.declared.message.Body.{Body}
-use Rattle.cds_records.specs.declared.message.Body.TheVariants.{Update, Gather, Gathered, Spread, SpreadAck, Advance, Join, Leave}
-use Rattle.cds_records.specs.Validity.{IsValidBody, IsValidMessage, IsValidDir, IsValidImage}
-use Rattle.cds_records.specs.declared.image.ImageDir.{ImageDir}
-use Rattle.cds_records.specs.declared.image.ImageDir.TheVariants.{Gone}
-use Rattle.cds_records.specs.declared.image.Image.{Image}
-use Rattle.cds_records.specs.Dirs.{dir_cmp, dir_total}
+use Rattle.cds_messages.specs.declared.message.Message.{Message}
+use Rattle.cds_messages.specs.declared.message.Body.{Body}
+use Rattle.cds_messages.specs.declared.message.Body.TheVariants.{Update, Gather, Gathered, Spread, SpreadAck, Advance, Join, Leave}
+use Rattle.cds_messages.specs.Validity.{IsValidBody, IsValidMessage, IsValidDir, IsValidImage}
+use Rattle.cds_messages.specs.declared.image.ImageDir.{ImageDir}
+use Rattle.cds_messages.specs.declared.image.ImageDir.TheVariants.{Gone}
+use Rattle.cds_messages.specs.declared.image.Image.{Image}
+use Rattle.cds_messages.specs.Dirs.{dir_cmp, dir_total}
 use Rattle.cds_records.specs.Images.{dir_number, held, dir_state, image, image_in}
 use Rattle.cds_records.specs.Layouts.{Layout, next, done, choose}
 use Rattle.cds_records.specs.Reading.{read}
 use Rattle.cds_records.specs.Fields.{free, stamp_order, number, stamp, value, attr_name, simple_name}
-use Rattle.cds_records.specs.Records.{item, ascending, add_all, map_of, mark, empty_cell, cell, entry, replica, fragment, copied, joined, body, message}
+use Rattle.cds_messages.specs.Added.{add_all}
+use Rattle.cds_records.specs.Records.{item, ascending, map_of, mark, empty_cell, cell, entry, replica, fragment, copied, joined, body, message}
 use Rattle.cds_records.specs.Records.{message_in}
 use Rattle.cds_records.proofs.LayoutLaws.{ok_is, bind_ok, stands_read, read_stands}
 

@@ -24,14 +24,15 @@ use Rattle.cds_records.specs.declared.fault.Rule.{Rule}
 use Rattle.cds_records.specs.declared.fault.Rule.TheVariants.{BadLength, OutOfOrder, BadFlag}
 use Rattle.cds_records.specs.Layouts.{Layout, done, field, next, Stands}
 use Rattle.cds_records.specs.Decoding.{IsWhole}
-use Rattle.cds_records.specs.Dirs.{dir_cmp, dir_total, dir_exact}
+use Rattle.cds_messages.specs.Dirs.{dir_cmp, dir_total, dir_exact}
 use Rattle.cds_records.specs.Fields.{free, outside, number_order, name_rule, node_of, node_octets, stamp_of, octets_order, octet, number, node, stamp}
 use Rattle.cds_records.specs.Fields.{stamp_if, optional_stamp, octets_of, simple_name, attr_name, value}
-use Rattle.cds_records.specs.Records.{item, ascending, add_all, map_of}
+use Rattle.cds_messages.specs.Added.{add_all}
+use Rattle.cds_records.specs.Records.{item, ascending, map_of}
 use Rattle.cds_records.specs.Octets.{stamp_octets, optional_stamp_octets, name_octets, value_octets, items_octets, each_octets}
 use Rattle.cds_records.specs.Ranges.{FitsStamp, ItemsFit}
 use Rattle.cds_records.proofs.LayoutLaws.{front_stands}
-use Rattle.cds_records.proofs.Ascending.{first_of, second_of, added_entries, each_entry}
+use Rattle.cds_messages.proofs.Ascending.{first_of, second_of, added_entries, each_entry}
 
 -- ---- one layout and then another
 

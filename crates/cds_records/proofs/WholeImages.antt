@@ -4,9 +4,9 @@ use Rattle.std.specs.Prelude.{◌==◌}
 use Rattle.std.specs.FinMap.{len}
 use Rattle.cds_stamps.specs.declared.numbers.DirId.{DirId}
 use Rattle.cds_records.specs.declared.fault.Rule.TheVariants.{BadTag, BadFlag}
-use Rattle.cds_records.specs.declared.image.Image.{Image}
-use Rattle.cds_records.specs.declared.image.ImageDir.{ImageDir}
-use Rattle.cds_records.specs.declared.image.ImageDir.TheVariants.{Held, Gone}
+use Rattle.cds_messages.specs.declared.image.Image.{Image}
+use Rattle.cds_messages.specs.declared.image.ImageDir.{ImageDir}
+use Rattle.cds_messages.specs.declared.image.ImageDir.TheVariants.{Held, Gone}
 use Rattle.cds_records.specs.Layouts.{done, next, choose}
 use Rattle.cds_records.specs.Decoding.{IsWhole}
 use Rattle.cds_records.specs.Fields.{free, outside, number, node_octets}
@@ -14,7 +14,7 @@ use Rattle.cds_records.specs.Images.{dir_number, held, dir_state, image, image_i
 use Rattle.std.specs.Int.{w64, to_be_bytes}
 use Rattle.cds_records.specs.Octets.{members_octets, replica_octets, each_octets, dir_octets, kept_octets, image_head, image_octets_in, image_octets}
 use Rattle.cds_records.specs.Ranges.{FitsDir, FitsImage}
-use Rattle.cds_records.specs.Validity.{IsValidDir, IsValidImage}
+use Rattle.cds_messages.specs.Validity.{IsValidDir, IsValidImage}
 use Rattle.cds_records.proofs.WholeFields.{Whole, Keyed, dir_keys, dir_order, whole_next, whole_last, whole_as, within_lawful, octet_whole}
 use Rattle.cds_records.proofs.WholeFields.{u32_whole, u64_whole, node_whole, map_whole}
 use Rattle.cds_records.proofs.WholeReplicas.{replica_whole}

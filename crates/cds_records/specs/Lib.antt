@@ -5,10 +5,6 @@ pub mod Fields
 pub mod Records
 pub mod Decoding
 pub mod Wanting
-pub mod Validity
-pub mod Kinds
-pub mod Dirs
-pub mod PrivateDirCodes
 pub mod Images
 pub mod Octets
 pub mod Ranges

@@ -12,16 +12,16 @@ use Rattle.attr_sets.specs.declared.cell.AttrCell.{AttrCell}
 use Rattle.directory.specs.declared.entry.EntryCell.{EntryCell}
 use Rattle.directory.specs.Kinds.{rank}
 use Rattle.purge_rule.specs.declared.replica.Replica.{Replica}
-use Rattle.cds_records.specs.declared.image.ImageDir.{ImageDir}
-use Rattle.cds_records.specs.declared.image.ImageDir.TheVariants.{Held, Gone}
-use Rattle.cds_records.specs.declared.image.Image.{Image}
-use Rattle.cds_records.specs.declared.message.Head.{Head}
-use Rattle.cds_records.specs.declared.message.Message.{Message}
-use Rattle.cds_records.specs.declared.message.Body.{Body}
-use Rattle.cds_records.specs.declared.message.Body.TheVariants.{Update, Gather, Gathered, Spread, SpreadAck, Advance, Join, Leave}
+use Rattle.cds_messages.specs.declared.image.ImageDir.{ImageDir}
+use Rattle.cds_messages.specs.declared.image.ImageDir.TheVariants.{Held, Gone}
+use Rattle.cds_messages.specs.declared.image.Image.{Image}
+use Rattle.cds_messages.specs.declared.message.Head.{Head}
+use Rattle.cds_messages.specs.declared.message.Message.{Message}
+use Rattle.cds_messages.specs.declared.message.Body.{Body}
+use Rattle.cds_messages.specs.declared.message.Body.TheVariants.{Update, Gather, Gathered, Spread, SpreadAck, Advance, Join, Leave}
 use Rattle.cds_records.specs.Fields.{node_octets}
-use Rattle.cds_records.specs.Kinds.{kind_number}
-use Rattle.cds_records.specs.Records.{tag_of}
+use Rattle.cds_messages.specs.Kinds.{kind_number}
+use Rattle.cds_messages.specs.Messages.{head_of, tag_of}
 
 -- ---- fields
 
@@ -98,10 +98,6 @@ body_octets Leave = []
 -- what stands before that: format and tag, the directory, the sender's house, epoch and floor (own)
 unfoldable pub message_head : (format : ℕ) → Head → (tag : ℕ) → List ℕ
 message_head format h tag = format ∷ tag ∷ to_be_bytes w32 h.dir.0 ++ h.from.0 ∷ to_be_bytes w64 h.epoch.0 ++ to_be_bytes w64 h.floor
-
--- the head of a message (own)
-abbrev pub head_of : Message → Head
-head_of m = record { dir = m.dir; from = m.from; epoch = m.epoch; floor = m.floor }
 
 -- the message with this head that carries this (own)
 abbrev pub message_with : Head → Body → Message

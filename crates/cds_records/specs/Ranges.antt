@@ -12,14 +12,14 @@ use Rattle.attr_sets.specs.declared.cell.AttrCell.{AttrCell}
 use Rattle.attr_sets.specs.Values.{value_fault}
 use Rattle.directory.specs.declared.entry.EntryCell.{EntryCell}
 use Rattle.purge_rule.specs.declared.replica.Replica.{Replica}
-use Rattle.cds_records.specs.declared.image.ImageDir.{ImageDir}
-use Rattle.cds_records.specs.declared.image.ImageDir.TheVariants.{Held, Gone}
-use Rattle.cds_records.specs.declared.image.Image.{Image}
-use Rattle.cds_records.specs.declared.message.Head.{Head}
-use Rattle.cds_records.specs.declared.message.Message.{Message}
-use Rattle.cds_records.specs.declared.message.Body.{Body}
-use Rattle.cds_records.specs.declared.message.Body.TheVariants.{Update, Gather, Gathered, Spread, SpreadAck, Advance, Join, Leave}
-use Rattle.cds_records.specs.Octets.{head_of}
+use Rattle.cds_messages.specs.declared.image.ImageDir.{ImageDir}
+use Rattle.cds_messages.specs.declared.image.ImageDir.TheVariants.{Held, Gone}
+use Rattle.cds_messages.specs.declared.image.Image.{Image}
+use Rattle.cds_messages.specs.declared.message.Head.{Head}
+use Rattle.cds_messages.specs.declared.message.Message.{Message}
+use Rattle.cds_messages.specs.declared.message.Body.{Body}
+use Rattle.cds_messages.specs.declared.message.Body.TheVariants.{Update, Gather, Gathered, Spread, SpreadAck, Advance, Join, Leave}
+use Rattle.cds_messages.specs.Messages.{head_of}
 
 -- a time of 64 bits, and a node of 48 (own)
 pub record FitsStamp (s : Stamp) : Type 0 where

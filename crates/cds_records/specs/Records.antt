@@ -1,6 +1,6 @@
 -- The records of messages and images (own). Each keyed list ascends strictly by its key.
 use Rattle.std.specs.Prelude.{ℕ, zero, suc, ◌-◌, Bool, false, ◌&&◌, ◌||◌, not, ◌==◌, List, [], ◌∷◌, Option, Some, None, if◌then◌else◌}
-use Rattle.std.specs.FinMap.{FinMap, empty, insert}
+use Rattle.std.specs.FinMap.{FinMap, empty}
 use Rattle.std.specs.Int.{w32, w64}
 use Rattle.std.specs.declared.cmp.Ordering.{Ordering}
 use Rattle.cds_stamps.specs.declared.stamp.Stamp.{Stamp}
@@ -16,10 +16,11 @@ use Rattle.directory.specs.Kinds.{kind_of_rank}
 use Rattle.purge_rule.specs.declared.replica.Replica.{Replica}
 use Rattle.cds_records.specs.declared.fault.Rule.{Rule}
 use Rattle.cds_records.specs.declared.fault.Rule.TheVariants.{BadTag, BadLength, BadFlag}
-use Rattle.cds_records.specs.declared.message.Message.{Message}
-use Rattle.cds_records.specs.declared.message.Body.{Body}
-use Rattle.cds_records.specs.declared.message.Body.TheVariants.{Update, Gather, Gathered, Spread, SpreadAck, Advance, Join, Leave}
-use Rattle.cds_records.specs.Kinds.{kind_in}
+use Rattle.cds_messages.specs.declared.message.Message.{Message}
+use Rattle.cds_messages.specs.declared.message.Body.{Body}
+use Rattle.cds_messages.specs.declared.message.Body.TheVariants.{Update, Gather, Gathered, Spread, SpreadAck, Advance, Join, Leave}
+use Rattle.cds_messages.specs.Kinds.{kind_in}
+use Rattle.cds_messages.specs.Added.{add_all}
 use Rattle.cds_records.specs.Layouts.{Layout, done, next, choose}
 use Rattle.cds_records.specs.Fields.{free, outside, number_order, stamp_order, octet, number, stamp, optional_stamp, simple_name, attr_name, value}
 
@@ -33,11 +34,6 @@ item key content before = next (key before) (λ k. next content (λ x. done (k, 
 unfoldable pub ascending : {K X : Type 0} → (Option K → Layout K) → Layout X → ℕ → Option K → Layout (List (K × X))
 ascending key content zero before = done []
 ascending key content (suc n) before = next (item key content before) (λ e. next (ascending key content n (Some e.0)) (λ es. done (e ∷ es)))
-
--- a map with these entries added, one after another (own)
-abbrev pub add_all : {K X : Type 0} {R : K → K → Ordering} → FinMap R X → List (K × X) → FinMap R X
-add_all m [] = m
-add_all m (e ∷ es) = add_all (insert m e.0 e.1) es
 
 -- the map of so many items (own)
 unfoldable pub map_of : {K X : Type 0} {R : K → K → Ordering} → (Option K → Layout K) → Layout X → ℕ → Layout (FinMap R X)
@@ -127,17 +123,6 @@ body tag =
     (choose (tag == 6) (next (stamp free) (λ t. done (Advance t)))
     (choose (tag == 7) (next joined (λ j. done (Join j.0 j.1)))
     (done Leave)))))))
-
--- the tag of what a message carries (own)
-abbrev pub tag_of : Body → ℕ
-tag_of (Update f) = 1
-tag_of (Gather t) = 2
-tag_of (Gathered t r) = 3
-tag_of (Spread t r) = 4
-tag_of (SpreadAck t) = 5
-tag_of (Advance t) = 6
-tag_of (Join ms r) = 7
-tag_of Leave = 8
 
 -- format and tag, the directory, the sender's house, epoch and floor, and what the message carries (own)
 unfoldable pub message_in : (format : ℕ) → Layout Message

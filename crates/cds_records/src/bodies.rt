@@ -6,8 +6,10 @@ ghost use Rattle.cds_records.specs.Records.{fragment, copied, joined, body, mess
 
 use crate::fault::{ReadError, Rule};
 use crate::fields::Reader;
-use crate::format::{ADVANCE, FORMAT, GATHER, GATHERED, JOIN, LEAVE, SPREAD, SPREAD_ACK, UPDATE};
-use crate::message::{Body, Message};
+use crate::format::FORMAT;
+use cds_messages::{
+    ADVANCE, Body, GATHER, GATHERED, JOIN, LEAVE, Message, SPREAD, SPREAD_ACK, UPDATE,
+};
 use cds_stamps::{DirId, EpochNo, HouseNo, Members, SimpleName, Stamp};
 use directory::Fragment;
 use purge_rule::Replica;

@@ -4,12 +4,11 @@ ghost use Rattle.cds_records.specs.Images.{image};
 ghost use Rattle.cds_records.specs.Records.{message};
 ghost use Rattle.cds_records.specs.Decoding.{fault_at, error_of, IsLeftWithin, Decodes};
 ghost use Rattle.cds_records.specs.Wanting.{IfWant, WantsForMessage, WantsForImage};
-ghost use Rattle.cds_records.specs.Validity.{IsValidImage, IsValidMessage};
+ghost use Rattle.cds_messages.specs.Validity.{IsValidImage, IsValidMessage};
 
 use crate::fault::{ReadError, RecordFault, Rule};
 use crate::fields::Reader;
-use crate::image::Image;
-use crate::message::Message;
+use cds_messages::{Image, Message};
 use cds_stamps::AllocOr;
 use std::alloc::Global;
 

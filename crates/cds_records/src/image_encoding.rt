@@ -6,13 +6,13 @@ ghost use Rattle.cds_records.specs.Decoding.{IsWhole};
 ghost use Rattle.cds_records.specs.Images as images;
 ghost use Rattle.cds_records.specs.Octets.{each_octets, dir_octets, kept_octets, image_head, image_octets};
 ghost use Rattle.cds_records.specs.Ranges.{ItemsFit, FitsDir};
-ghost use Rattle.cds_records.specs.Validity.{IsValidImage};
-ghost use Rattle.cds_records.specs.declared.image.ImageDir.TheVariants as states;
+ghost use Rattle.cds_messages.specs.Validity.{IsValidImage};
+ghost use Rattle.cds_messages.specs.declared.image.ImageDir.TheVariants as states;
 
 use crate::encoding::put_members;
 use crate::format::{FORMAT, GONE, HELD, IMAGE};
-use crate::image::{Image, ImageDir, ImageDirs};
 use crate::writing::{put_node, put_octet, put_replica, put_u32, put_u64};
+use cds_messages::{Image, ImageDir, ImageDirs};
 use cds_stamps::{DirId, EpochNo, HouseNo, Members, Node};
 use purge_rule::Replica;
 use std::alloc::{AllocError, Global};

@@ -6,7 +6,7 @@ ghost use Rattle.std.specs.Option.{option_map};
 ghost use Rattle.cds_records.specs.PrivateReading.{Reads, ReadsSurely, Adds};
 ghost use Rattle.cds_records.specs.Fields.{number_order, number};
 ghost use Rattle.cds_records.specs.Records.{item, map_of};
-ghost use Rattle.cds_records.specs.Dirs.{dir_cmp};
+ghost use Rattle.cds_messages.specs.Dirs.{dir_cmp};
 ghost use Rattle.cds_records.specs.Images.{dir_number, held, dir_state, image, image_in};
 ghost use Rattle.cds_records.specs.Wanting.{IfWant, WantsForImage};
 ghost use Rattle.cds_records.specs.declared.fault.Rule.TheVariants.{OutOfOrder};
@@ -14,7 +14,7 @@ ghost use Rattle.cds_records.specs.declared.fault.Rule.TheVariants.{OutOfOrder};
 use crate::fault::{Broken, ReadError, Rule};
 use crate::fields::{Reader, broken};
 use crate::format::{FORMAT, GONE, HELD, IMAGE};
-use crate::image::{Image, ImageDir, ImageDirs};
+use cds_messages::{Image, ImageDir, ImageDirs};
 use cds_stamps::{DirId, EpochNo, HouseNo};
 use std::alloc::{AllocError, Global};
 

@@ -1,14 +1,14 @@
 //! Laws of the definitions: functions that do nothing, whose contracts are proved.
 ghost use Rattle.std.specs.Prelude.{◌≡◌, ◌++◌, ◌<◌, ℕ, List};
 ghost use Rattle.std.specs.List.{All};
-ghost use Rattle.cds_records.specs.declared.message.Message.{Message};
+ghost use Rattle.cds_messages.specs.declared.message.Message.{Message};
 ghost use Rattle.cds_records.specs.Decoding.{IsWhole, Decodes, decoding, with_memory};
-ghost use Rattle.cds_records.specs.declared.image.Image.{Image};
+ghost use Rattle.cds_messages.specs.declared.image.Image.{Image};
 ghost use Rattle.cds_records.specs.Images.{image};
 ghost use Rattle.cds_records.specs.Octets.{message_octets, image_octets};
 ghost use Rattle.cds_records.specs.Ranges.{FitsMessage, FitsImage};
 ghost use Rattle.cds_records.specs.Records.{message};
-ghost use Rattle.cds_records.specs.Validity.{IsValidMessage, IsValidImage};
+ghost use Rattle.cds_messages.specs.Validity.{IsValidMessage, IsValidImage};
 
 /// The octets of no message begin those of another, so what follows a message is never taken as its own, and octets are
 /// those of one message at most.

@@ -7,18 +7,14 @@ mod encoding;
 mod fault;
 mod fields;
 mod format;
-mod image;
 mod image_encoding;
 mod images;
 pub mod laws;
 mod members;
-mod message;
 mod tables;
 mod writing;
 
 pub use decoding::{decode, decode_image};
 pub use encoding::{encode, encode_gathered, encode_join, encode_spread, encode_update};
 pub use fault::RecordFault;
-pub use image::{Image, ImageDir, ImageDirs};
 pub use image_encoding::{ImageWriter, encode_image};
-pub use message::{Body, Head, Message};

@@ -3,7 +3,7 @@ ghost use Rattle.std.specs.Prelude.{◌≡◌, ◌-◌, ◌||◌, Some, None, Ma
 ghost use Rattle.cds_stamps.specs.Members.{is_master, members_of, members_fault};
 ghost use Rattle.cds_records.specs.PrivateReading.{Reads, ReadsSurely};
 ghost use Rattle.cds_records.specs.Fields.{number_order, octet};
-ghost use Rattle.cds_records.specs.Kinds.{kind_in};
+ghost use Rattle.cds_messages.specs.Kinds.{kind_in};
 ghost use Rattle.cds_records.specs.Records.{kind_rule, member_kind, member, listed, members};
 ghost use Rattle.cds_records.specs.declared.fault.Rule.TheVariants.{OutOfOrder, BadFlag};
 

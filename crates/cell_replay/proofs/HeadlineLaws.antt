@@ -48,7 +48,7 @@ use Rattle.cds_records.specs.Decoding.{decoding}
 use Rattle.cds_records.specs.Octets.{image_octets}
 use Rattle.cds_records.specs.Records.{message}
 use Rattle.cds_records.specs.declared.fault.RecordFault.{RecordFault}
-use Rattle.cds_records.specs.declared.message.Message as recorded
+use Rattle.cds_messages.specs.declared.message.Message as recorded
 use Rattle.cell_replay.specs.Headline.{Converges, Finds, Settled, cell_behind, commands_from, commands_of, import_line, line_place}
 use Rattle.cell_replay.specs.Replies.{Numbered, Said, asked_of, does, dump_told, first_target, message_told}
 use Rattle.cell_replay.specs.Replies.{octets_told, question_said, refusal_behind, reply_to, says}

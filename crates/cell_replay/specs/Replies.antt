@@ -34,11 +34,12 @@ use Rattle.tower_codec.specs.declared.rpc.Interface.{Interface}
 use Rattle.server_entries.specs.declared.client.Wanted.{Wanted}
 use Rattle.ns_commands.specs.Asks.{Asks, add_element, add_member, delete_element, delete_member, export, refusal_of_walk, unexport}
 use Rattle.ns_commands.specs.Imported.{import_answer}
-use Rattle.cds_records.specs.declared.message.Message as recorded
+use Rattle.cds_messages.specs.declared.message.Message as recorded
 use Rattle.cds_records.specs.Octets.{image_octets}
 use Rattle.cds_records.specs.declared.fault.RecordFault.{RecordFault}
 use Rattle.cds_records.specs.declared.fault.RecordFault.TheVariants as fault
-use Rattle.cds_records.specs.Records.{message, tag_of}
+use Rattle.cds_messages.specs.Messages.{tag_of}
+use Rattle.cds_records.specs.Records.{message}
 use Rattle.cds_records.specs.Decoding.{decoding}
 
 -- the values of an attribute of the entry that is found (own)

@@ -14,10 +14,10 @@ use Rattle.purge_rule.specs.declared.replica.Replica.{Replica}
 use Rattle.skulk_core.specs.declared.skulk.Next.{Next}
 use Rattle.skulk_core.specs.declared.skulk.Next.TheVariants as next
 use Rattle.skulk_core.specs.Rounds.{TakesSpread}
-use Rattle.cds_records.specs.declared.message.Body.{Body}
-use Rattle.cds_records.specs.declared.message.Body.TheVariants as body
-use Rattle.cds_records.specs.declared.message.Message.{Message}
-use Rattle.cds_records.specs.Validity.{IsValidMessage}
+use Rattle.cds_messages.specs.declared.message.Body.{Body}
+use Rattle.cds_messages.specs.declared.message.Body.TheVariants as body
+use Rattle.cds_messages.specs.declared.message.Message.{Message}
+use Rattle.cds_messages.specs.Validity.{IsValidMessage}
 use Rattle.cell_model.specs.Cells as model
 use Rattle.cell_model.specs.Taking.{CanTake}
 use Rattle.cell_model.specs.Turns.{take}

@@ -5,7 +5,7 @@ use Rattle.std.proofs.lemmas.List.{length-append}
 use Rattle.cds_records.specs.Decoding.{IsWhole}
 use Rattle.cds_records.specs.Octets.{message_octets}
 use Rattle.cds_records.specs.Records as records
-use Rattle.cds_records.specs.Validity.{IsValidMessage}
+use Rattle.cds_messages.specs.Validity.{IsValidMessage}
 use Rattle.cds_stamps.specs.declared.members.Member.{Member}
 use Rattle.cds_stamps.specs.declared.numbers.EpochNo.{EpochNo}
 use Rattle.cds_stamps.specs.declared.numbers.HouseNo.{HouseNo}

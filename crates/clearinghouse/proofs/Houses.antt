@@ -8,7 +8,7 @@ use Rattle.std.proofs.lemmas.Bool.Decides.{nat_tests}
 use Rattle.cds_stamps.specs.declared.numbers.DirId.{DirId}
 use Rattle.cds_stamps.specs.declared.stamp.Floor.{Floor}
 use Rattle.cds_stamps.specs.Keyed.{tied}
-use Rattle.cds_records.specs.Dirs.{dir_cmp, dir_total, dir_exact}
+use Rattle.cds_messages.specs.Dirs.{dir_cmp, dir_total, dir_exact}
 use Rattle.cell_model.specs.Cells as model
 use Rattle.cell_model.specs.Commands as command
 use Rattle.cell_model.specs.Turns.{Turn, HouseStep, Stays, Turns, holding}

@@ -10,8 +10,8 @@ use Rattle.cds_stamps.specs.declared.stamp.Floor.{Floor}
 use Rattle.cds_stamps.specs.Members.{Member, members_of, is_listed, since_in}
 use Rattle.purge_rule.specs.declared.replica.Replica.{Replica}
 use Rattle.purge_rule.specs.Replicas.{replica_of, together}
-use Rattle.cds_records.specs.declared.message.Body.TheVariants as body
-use Rattle.cds_records.specs.declared.message.Message.{Message}
+use Rattle.cds_messages.specs.declared.message.Body.TheVariants as body
+use Rattle.cds_messages.specs.declared.message.Message.{Message}
 use Rattle.cell_model.specs.Cells as model
 use Rattle.cell_model.specs.Commands as command
 use Rattle.cell_model.specs.Turns as turn

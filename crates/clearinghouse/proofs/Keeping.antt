@@ -19,10 +19,10 @@ use Rattle.skulk_core.specs.declared.skulk.Skulk.TheVariants as skulk
 use Rattle.skulk_core.specs.declared.skulk.Next.{Next}
 use Rattle.skulk_core.specs.declared.skulk.Next.TheVariants as next
 use Rattle.skulk_core.specs.Rounds.{Gathers, IsGathering, IsPhaseOf, IsSpreading, IsStale, Spreads, TakesGathered, TakesSpread, Waits, also, only, running}
-use Rattle.cds_records.specs.declared.message.Body.{Body}
-use Rattle.cds_records.specs.declared.message.Body.TheVariants as body
-use Rattle.cds_records.specs.declared.message.Message.{Message}
-use Rattle.cds_records.specs.Validity.{IsValidBody, IsValidMessage}
+use Rattle.cds_messages.specs.declared.message.Body.{Body}
+use Rattle.cds_messages.specs.declared.message.Body.TheVariants as body
+use Rattle.cds_messages.specs.declared.message.Message.{Message}
+use Rattle.cds_messages.specs.Validity.{IsValidBody, IsValidMessage}
 use Rattle.clearinghouse.specs.declared.house.Clearinghouse.{Clearinghouse}
 use Rattle.clearinghouse.specs.declared.states.Held.{Held}
 use Rattle.clearinghouse.specs.declared.states.DirState.TheVariants as state

@@ -18,11 +18,11 @@ use Rattle.purge_rule.proofs.MapValues.{each_entry}
 use Rattle.skulk_core.specs.declared.skulk.Skulk.{Skulk}
 use Rattle.skulk_core.specs.declared.skulk.Skulk.TheVariants as skulk
 use Rattle.skulk_core.specs.Rounds.{IsRound, running}
-use Rattle.cds_records.specs.Dirs.{dir_total, dir_exact}
+use Rattle.cds_messages.specs.Dirs.{dir_total, dir_exact}
 use Rattle.cds_records.specs.Ranges.{FitsDir, FitsImage, ItemsFit}
-use Rattle.cds_records.specs.declared.message.Message.{Message}
-use Rattle.cds_records.specs.declared.message.Body.{Body}
-use Rattle.cds_records.specs.declared.message.Body.TheVariants as body
+use Rattle.cds_messages.specs.declared.message.Message.{Message}
+use Rattle.cds_messages.specs.declared.message.Body.{Body}
+use Rattle.cds_messages.specs.declared.message.Body.TheVariants as body
 use Rattle.cell_model.specs.Cells as model
 use Rattle.cell_model.specs.Sets.{has}
 use Rattle.cell_model.proofs.Lists.{eq_from}

@@ -10,7 +10,7 @@ use Rattle.cds_stamps.specs.declared.numbers.DirId.{DirId}
 use Rattle.cds_stamps.proofs.TreeViews.{get-view, view-insert}
 use Rattle.cds_stamps.specs.Keyed.{tied}
 use Rattle.cds_stamps.specs.Outcomes.{ok_unless}
-use Rattle.cds_records.specs.Dirs.{dir_cmp, dir_total, dir_exact}
+use Rattle.cds_messages.specs.Dirs.{dir_cmp, dir_total, dir_exact}
 use borrow.Follows.Closed.{read_of}
 use base.Fml.{GName}
 use mathlib.Core.Option as logic

@@ -10,7 +10,7 @@ use Rattle.std.specs.FinMap.{get}
 use Rattle.cds_stamps.specs.declared.numbers.DirId.{DirId}
 use Rattle.cds_stamps.specs.declared.stamp.Stamp.{Stamp}
 use Rattle.directory.specs.declared.update.UpdateRefusal.{UpdateRefusal}
-use Rattle.cds_records.specs.declared.message.Message.{Message}
+use Rattle.cds_messages.specs.declared.message.Message.{Message}
 use Rattle.cell_model.specs.Cells as model
 use Rattle.cell_model.specs.Turns.{to_each}
 use Rattle.clearinghouse.specs.declared.outgoing.Outgoing.{Outgoing}

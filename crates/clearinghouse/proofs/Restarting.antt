@@ -9,8 +9,8 @@ use Rattle.purge_rule.specs.Latest.{ReplicaUpTo, StampUpTo}
 use Rattle.purge_rule.proofs.MapValues.{greatest_value-≤}
 use Rattle.purge_rule.proofs.Times.{latest_time-≤}
 use Rattle.purge_rule.proofs.MergeLaws.{purged-up_to}
-use Rattle.cds_records.specs.Dirs.{dir_total, dir_exact}
-use Rattle.cds_records.specs.declared.image.ImageDir.{ImageDir}
+use Rattle.cds_messages.specs.Dirs.{dir_total, dir_exact}
+use Rattle.cds_messages.specs.declared.image.ImageDir.{ImageDir}
 use Rattle.cell_model.specs.Cells as model
 use Rattle.cell_model.specs.Turns.{crashed, crashed_house, started_house}
 use Rattle.cell_model.proofs.Fine.{idle_below}

@@ -13,14 +13,14 @@ use Rattle.cds_stamps.proofs.Masks.{same_place, other_place}
 use Rattle.purge_rule.specs.Latest.{greatest_of, latest_time}
 use Rattle.purge_rule.proofs.Times.{latest_time-≤}
 use Rattle.cds_records.specs.Decoding.{Decodes, IsWhole, decoding, with_memory}
-use Rattle.cds_records.specs.Dirs.{dir_cmp, dir_total, dir_exact}
+use Rattle.cds_messages.specs.Dirs.{dir_cmp, dir_total, dir_exact}
 use Rattle.cds_records.specs.Images.{image}
-use Rattle.cds_records.specs.Validity.{IsValidDir, IsValidImage}
+use Rattle.cds_messages.specs.Validity.{IsValidDir, IsValidImage}
 use Rattle.cds_records.specs.declared.fault.RecordFault.{RecordFault}
 use Rattle.cds_records.specs.declared.fault.RecordFault.TheVariants.{Trailing}
-use Rattle.cds_records.specs.declared.image.Image.{Image}
-use Rattle.cds_records.specs.declared.image.ImageDir.{ImageDir}
-use Rattle.cds_records.specs.declared.image.ImageDir.TheVariants as kept
+use Rattle.cds_messages.specs.declared.image.Image.{Image}
+use Rattle.cds_messages.specs.declared.image.ImageDir.{ImageDir}
+use Rattle.cds_messages.specs.declared.image.ImageDir.TheVariants as kept
 use Rattle.cds_records.proofs.Mapped.{entries_mapped}
 use Rattle.std.proofs.Common.{append-nil}
 use Rattle.cds_records.specs.Octets.{image_octets}

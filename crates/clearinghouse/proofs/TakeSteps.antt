@@ -21,9 +21,9 @@ use Rattle.skulk_core.specs.declared.skulk.Skulk.{Skulk}
 use Rattle.skulk_core.specs.declared.skulk.Next.{Next}
 use Rattle.skulk_core.specs.declared.skulk.Next.TheVariants as next
 use Rattle.skulk_core.specs.Rounds.{TakesGathered, TakesSpread}
-use Rattle.cds_records.specs.declared.message.Body.{Body}
-use Rattle.cds_records.specs.declared.message.Body.TheVariants as body
-use Rattle.cds_records.specs.declared.message.Message.{Message}
+use Rattle.cds_messages.specs.declared.message.Body.{Body}
+use Rattle.cds_messages.specs.declared.message.Body.TheVariants as body
+use Rattle.cds_messages.specs.declared.message.Message.{Message}
 use Rattle.cell_model.specs.Sets.{In}
 use Rattle.cell_model.specs.Cells as model
 use Rattle.cell_model.specs.Bodies.{marks_in, up_to_in, round_of}

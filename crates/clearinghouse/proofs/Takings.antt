@@ -10,7 +10,7 @@ use Rattle.purge_rule.specs.declared.replica.Replica.{Replica}
 use Rattle.skulk_core.specs.declared.skulk.Skulk.{Skulk}
 use Rattle.skulk_core.specs.declared.skulk.Next.{Next}
 use Rattle.skulk_core.specs.declared.skulk.Next.TheVariants as next
-use Rattle.cds_records.specs.declared.message.Message.{Message}
+use Rattle.cds_messages.specs.declared.message.Message.{Message}
 use Rattle.clearinghouse.specs.declared.house.Clearinghouse.{Clearinghouse}
 use Rattle.clearinghouse.specs.declared.states.DirState.TheVariants as state
 use Rattle.clearinghouse.specs.declared.states.Held.{Held}

@@ -5,9 +5,9 @@ use Rattle.cds_records.specs.Decoding.{decoding}
 use Rattle.cds_records.specs.Images.{image}
 use Rattle.cds_records.specs.declared.fault.RecordFault.{RecordFault}
 use Rattle.cds_records.specs.declared.fault.RecordFault.TheVariants.{Trailing}
-use Rattle.cds_records.specs.declared.image.Image.{Image}
-use Rattle.cds_records.specs.declared.image.ImageDir.{ImageDir}
-use Rattle.cds_records.specs.declared.image.ImageDir.TheVariants as kept
+use Rattle.cds_messages.specs.declared.image.Image.{Image}
+use Rattle.cds_messages.specs.declared.image.ImageDir.{ImageDir}
+use Rattle.cds_messages.specs.declared.image.ImageDir.TheVariants as kept
 use Rattle.skulk_core.specs.declared.skulk.Skulk.TheVariants as skulk
 use Rattle.clearinghouse.specs.declared.images.StartFault.{StartFault}
 use Rattle.clearinghouse.specs.declared.images.StartFault.TheVariants.{BadImage}

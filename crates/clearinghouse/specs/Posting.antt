@@ -8,11 +8,11 @@ use Rattle.cds_stamps.specs.Members.{members_of, others_of}
 use Rattle.cds_records.specs.Decoding.{IsWhole}
 use Rattle.cds_records.specs.Octets.{message_octets}
 use Rattle.cds_records.specs.Records as records
-use Rattle.cds_records.specs.Validity.{IsValidMessage}
-use Rattle.cds_records.specs.declared.message.Head.{Head}
-use Rattle.cds_records.specs.declared.message.Message.{Message}
-use Rattle.cds_records.specs.declared.message.Body.{Body}
-use Rattle.cds_records.specs.declared.message.Body.TheVariants as body
+use Rattle.cds_messages.specs.Validity.{IsValidMessage}
+use Rattle.cds_messages.specs.declared.message.Head.{Head}
+use Rattle.cds_messages.specs.declared.message.Message.{Message}
+use Rattle.cds_messages.specs.declared.message.Body.{Body}
+use Rattle.cds_messages.specs.declared.message.Body.TheVariants as body
 use Rattle.purge_rule.specs.declared.replica.Replica.{Replica}
 use Rattle.purge_rule.specs.Replicas.{replica_of, IsFragmentOf}
 use Rattle.cell_model.specs.Cells as model

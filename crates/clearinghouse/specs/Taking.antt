@@ -8,7 +8,7 @@ use Rattle.cds_stamps.specs.declared.members.Member as declared
 use Rattle.cds_stamps.specs.Members.{Member, members_of, place_of, is_listed, since_in, members_fault}
 use Rattle.cds_stamps.specs.Octets.{is_octets}
 use Rattle.purge_rule.specs.declared.replica.Replica.{Replica}
-use Rattle.cds_records.specs.declared.message.Message.{Message}
+use Rattle.cds_messages.specs.declared.message.Message.{Message}
 use Rattle.clearinghouse.specs.declared.house.Clearinghouse.{Clearinghouse}
 use Rattle.clearinghouse.specs.declared.states.Held.{Held}
 use Rattle.clearinghouse.specs.declared.states.DirState.{DirState}
@@ -32,8 +32,8 @@ use Rattle.skulk_core.specs.declared.skulk.Skulk.TheVariants as skulk
 use Rattle.skulk_core.specs.declared.skulk.Next.{Next}
 use Rattle.skulk_core.specs.declared.skulk.Next.TheVariants as next
 use Rattle.skulk_core.specs.Rounds.{IsPhaseOf, TakesGathered, TakesSpread}
-use Rattle.cds_records.specs.declared.message.Body.{Body}
-use Rattle.cds_records.specs.declared.message.Body.TheVariants as body
+use Rattle.cds_messages.specs.declared.message.Body.{Body}
+use Rattle.cds_messages.specs.declared.message.Body.TheVariants as body
 use Rattle.clearinghouse.specs.declared.outgoing.Outgoing.TheVariants as out
 
 -- what is held of a directory, if it is (own)

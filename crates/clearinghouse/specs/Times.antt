@@ -2,12 +2,12 @@
 use Rattle.std.specs.Prelude.{ℕ, ◌≤◌, max}
 use Rattle.std.specs.FinMap.{entries}
 use Rattle.purge_rule.specs.Latest.{EntryUpTo, ReplicaUpTo, greatest_of, latest_in_entry, latest_time}
-use Rattle.cds_records.specs.declared.image.Image.{Image}
-use Rattle.cds_records.specs.declared.image.ImageDir.{ImageDir}
-use Rattle.cds_records.specs.declared.image.ImageDir.TheVariants as kept
-use Rattle.cds_records.specs.declared.message.Message.{Message}
-use Rattle.cds_records.specs.declared.message.Body.{Body}
-use Rattle.cds_records.specs.declared.message.Body.TheVariants.{Update, Gather, Gathered, Spread, SpreadAck, Advance, Join, Leave}
+use Rattle.cds_messages.specs.declared.image.Image.{Image}
+use Rattle.cds_messages.specs.declared.image.ImageDir.{ImageDir}
+use Rattle.cds_messages.specs.declared.image.ImageDir.TheVariants as kept
+use Rattle.cds_messages.specs.declared.message.Message.{Message}
+use Rattle.cds_messages.specs.declared.message.Body.{Body}
+use Rattle.cds_messages.specs.declared.message.Body.TheVariants.{Update, Gather, Gathered, Spread, SpreadAck, Advance, Join, Leave}
 
 -- no time that a message carries is later than n (own)
 abbrev pub BodyUpTo : ℕ → Body → Type 0

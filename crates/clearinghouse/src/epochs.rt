@@ -11,7 +11,7 @@ ghost use Rattle.clearinghouse.specs.Refusing.{epoch_fault};
 use crate::outgoing::Sender;
 use crate::posted::{Posted, PostedList};
 use crate::states::{Held, since_in};
-use cds_records::{Body, Message};
+use cds_messages::{Body, Message};
 use cds_stamps::{EpochNo, HouseNo, Members};
 use directory::Table;
 use purge_rule::Replica;

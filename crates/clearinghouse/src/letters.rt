@@ -3,7 +3,7 @@ ghost use Rattle.std.specs.Prelude.{◌≡◌, ◌<◌, ◌≤◌, ◌∷◌, []
 ghost use Rattle.cds_records.specs.Decoding.{IsWhole};
 ghost use Rattle.cds_records.specs.Octets.{message_octets, message_with};
 ghost use Rattle.cds_records.specs.Records as records;
-ghost use Rattle.cds_records.specs.Validity.{IsValidMessage};
+ghost use Rattle.cds_messages.specs.Validity.{IsValidMessage};
 ghost use Rattle.cds_stamps.specs.Members.{members_of, most_members, others_of};
 ghost use Rattle.clearinghouse.specs.Posting.{AreLetters, body_of, head_from, leave_of, numbers_of, posts_at, posts_of, posts_to};
 ghost use Rattle.clearinghouse.specs.Posting.{receiver_of, receivers_of, sender_of};
@@ -11,9 +11,8 @@ ghost use Rattle.clearinghouse.specs.Posting.{receiver_of, receivers_of, sender_
 use crate::house::Clearinghouse;
 use crate::outgoing::{Outgoing, Sender};
 use crate::states::Held;
-use cds_records::{
-    Body, Head, Message, encode, encode_gathered, encode_join, encode_spread, encode_update,
-};
+use cds_messages::{Body, Head, Message};
+use cds_records::{encode, encode_gathered, encode_join, encode_spread, encode_update};
 use cds_stamps::{DirId, EpochNo, HouseNo};
 use std::alloc::{AllocError, Global};
 

@@ -6,7 +6,7 @@ ghost use Rattle.clearinghouse.specs.Posting.{body_of, message_of, posts_of, pos
 
 use crate::posted::{Posted, PostedList};
 use crate::states::Held;
-use cds_records::{Body, Message};
+use cds_messages::{Body, Message};
 use cds_stamps::{DirId, HouseNo, Stamp};
 use directory::Fragment;
 use std::alloc::{AllocError, Global};

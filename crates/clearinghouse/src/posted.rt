@@ -1,7 +1,7 @@
 // Messages that a house posts.
 ghost use Rattle.std.specs.Prelude.{◌≡◌, ◌++◌, ◌∷◌, [], OnOk, OnErr};
 
-use cds_records::Message;
+use cds_messages::Message;
 use cds_stamps::HouseNo;
 use std::alloc::{AllocError, Global};
 use std::marker::Model;

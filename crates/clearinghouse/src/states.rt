@@ -41,8 +41,8 @@ pub struct DirStates {
 
 impl Model for DirStates {
     ghost use Rattle.std.specs.FinMap as map;
-    ghost use Rattle.cds_records.specs.Dirs.{dir_cmp};
-    ghost use Rattle.cds_records.specs.PrivateDirCodes.{dir_code};
+    ghost use Rattle.cds_messages.specs.Dirs.{dir_cmp};
+    ghost use Rattle.cds_messages.specs.PrivateDirCodes.{dir_code};
     ghost use Rattle.clearinghouse.specs.PrivateCodes.{dir_state_code};
     ghost use Rattle.clearinghouse.specs.declared.states.DirState.{DirState};
 

@@ -3,7 +3,7 @@ ghost use Rattle.std.specs.Prelude.{◌≡◌, ◌≢◌, ◌<◌, length, [], N
 ghost use Rattle.std.specs.FinMap as map;
 ghost use Rattle.cds_stamps.specs.declared.numbers.DirId as number;
 ghost use Rattle.cds_stamps.specs.Members.{members_of, place_of};
-ghost use Rattle.cds_records.specs.Validity.{IsValidMessage};
+ghost use Rattle.cds_messages.specs.Validity.{IsValidMessage};
 ghost use Rattle.cell_model.specs.Cells as model;
 ghost use Rattle.cell_model.specs.Taking.{CanTake};
 ghost use Rattle.cell_model.specs.Turns.{take};
@@ -23,7 +23,7 @@ use crate::outgoing::{Outgoing, Turn};
 use crate::posted::PostedList;
 use crate::states::{DirState, Held, since_in};
 use crate::times::latest_in_message;
-use cds_records::{Body, Message};
+use cds_messages::{Body, Message};
 use cds_stamps::{EpochNo, HouseNo, Members, Stamp};
 use purge_rule::{Replica, Steps};
 use skulk_core::{Next, Skulk};

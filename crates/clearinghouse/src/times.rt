@@ -2,7 +2,7 @@
 ghost use Rattle.std.specs.Prelude.{◌≡◌};
 ghost use Rattle.clearinghouse.specs.Times.{latest_in_body, latest_in_image, latest_in_kept, latest_in_message};
 
-use cds_records::{Body, Image, ImageDir, Message};
+use cds_messages::{Body, Image, ImageDir, Message};
 use purge_rule::latest_in_entry;
 
 /// The greatest time in a message: of its floor, of the stamp that it carries, and of its entry or its replica.

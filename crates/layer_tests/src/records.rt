@@ -1,5 +1,6 @@
 // Messages and images that are copied and written again whole, as the program does in parts; and octets that are no image.
-use cds_records::{Image, RecordFault, decode, decode_image, encode, encode_image};
+use cds_messages::Image;
+use cds_records::{RecordFault, decode, decode_image, encode, encode_image};
 use cds_stamps::AllocOr;
 use clearinghouse::{Clearinghouse, StartFault};
 use std::alloc::Global;

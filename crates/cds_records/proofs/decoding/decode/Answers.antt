@@ -3,7 +3,7 @@ use Rattle.cds_records.specs.Reading.{read}
 use Rattle.cds_records.specs.Wanting.{WantsForMessage}
 use Rattle.cds_records.specs.PrivateReading.{Reads}
 use Rattle.cds_records.specs.Records.{message}
-use Rattle.cds_records.specs.declared.message.Message.{Message}
+use Rattle.cds_messages.specs.declared.message.Message.{Message}
 use Rattle.cds_records.proofs.DecodingLaws.{decoded, rest_within, error_within, error_decodes}
 use Rattle.cds_records.proofs.WantingLaws.{place_wants}
 use Rattle.cds_records.proofs.Valid.{message_valid}

@@ -3,7 +3,7 @@ use Rattle.cds_records.specs.Reading.{read}
 use Rattle.cds_records.specs.Wanting.{WantsForImage}
 use Rattle.cds_records.specs.PrivateReading.{Reads}
 use Rattle.cds_records.specs.Images.{image}
-use Rattle.cds_records.specs.declared.image.Image.{Image}
+use Rattle.cds_messages.specs.declared.image.Image.{Image}
 use Rattle.cds_records.proofs.DecodingLaws.{decoded, rest_within, error_within, error_decodes}
 use Rattle.cds_records.proofs.WantingLaws.{place_wants}
 use Rattle.cds_records.proofs.Valid.{image_valid}

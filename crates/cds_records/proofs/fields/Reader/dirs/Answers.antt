@@ -2,7 +2,7 @@ use Rattle.std.proofs.lemmas.Result.{err_from_is_err_and}
 use Rattle.cds_stamps.specs.declared.numbers.DirId.{DirId}
 use Rattle.cds_records.specs.Reading.{read}
 use Rattle.cds_records.specs.Records.{map_of}
-use Rattle.cds_records.specs.Dirs.{dir_cmp}
+use Rattle.cds_messages.specs.Dirs.{dir_cmp}
 use Rattle.cds_records.specs.Images.{dir_number, dir_state}
 use Rattle.cds_records.proofs.MapLoops.{begins, goes_on, ends, is_done}
 use Rattle.cds_records.proofs.fields.Reader.dirs.Goals as goal

@@ -1,7 +1,7 @@
 use Rattle.std.proofs.Common.{◌≡◌}
 use Rattle.cds_records.specs.Reading.{read}
 use Rattle.cds_records.specs.Records.{map_of}
-use Rattle.cds_records.specs.Dirs.{dir_cmp}
+use Rattle.cds_messages.specs.Dirs.{dir_cmp}
 use Rattle.cds_records.specs.Images.{dir_number, dir_state}
 use Rattle.cds_records.proofs.MapLoops.{to_come}
 use Rattle.cds_records.proofs.fields.Reader.dirs.Given as goal

@@ -1,6 +1,6 @@
 use Rattle.std.proofs.Common.{sym, ◌∙◌, ap}
 use Rattle.std.specs.FinMap as map
-use Rattle.cds_records.specs.Dirs.{dir_total}
+use Rattle.cds_messages.specs.Dirs.{dir_total}
 use Rattle.cds_stamps.proofs.TreeViews.{get-view}
 use Rattle.clearinghouse.proofs.states.DirStates.get.Goals as goal
 

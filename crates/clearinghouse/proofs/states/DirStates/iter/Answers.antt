@@ -1,6 +1,6 @@
 use Rattle.std.proofs.Common.{sym, ap, ◌∙◌}
 use Rattle.std.specs.FinMap as map
-use Rattle.cds_records.specs.Dirs.{dir_total, dir_exact}
+use Rattle.cds_messages.specs.Dirs.{dir_total, dir_exact}
 use Rattle.cds_stamps.proofs.TreeViews.{entries-view}
 use Rattle.clearinghouse.proofs.states.DirStates.iter.Goals as goal
 

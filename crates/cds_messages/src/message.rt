@@ -1,9 +1,9 @@
 // Messages between the houses of a directory.
 ghost use Rattle.std.specs.Prelude.{◌≡◌, IfOk};
-ghost use Rattle.cds_records.specs.Octets.{head_of};
-ghost use Rattle.cds_records.specs.Records.{tag_of};
+ghost use Rattle.cds_messages.specs.Messages.{head_of};
+ghost use Rattle.cds_messages.specs.Messages.{tag_of};
 
-use crate::format::{ADVANCE, GATHER, GATHERED, JOIN, LEAVE, SPREAD, SPREAD_ACK, UPDATE};
+use crate::tags::{ADVANCE, GATHER, GATHERED, JOIN, LEAVE, SPREAD, SPREAD_ACK, UPDATE};
 use cds_stamps::{DirId, EpochNo, HouseNo, Members, Stamp};
 use directory::Fragment;
 use purge_rule::Replica;

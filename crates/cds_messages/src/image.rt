@@ -35,9 +35,9 @@ pub struct ImageDirs {
 
 impl Model for ImageDirs {
     ghost use Rattle.std.specs.FinMap as map;
-    ghost use Rattle.cds_records.specs.Dirs.{dir_cmp};
-    ghost use Rattle.cds_records.specs.PrivateDirCodes.{dir_code, image_dir_code};
-    ghost use Rattle.cds_records.specs.declared.image.ImageDir.{ImageDir};
+    ghost use Rattle.cds_messages.specs.Dirs.{dir_cmp};
+    ghost use Rattle.cds_messages.specs.PrivateDirCodes.{dir_code, image_dir_code};
+    ghost use Rattle.cds_messages.specs.declared.image.ImageDir.{ImageDir};
 
     ghost Value = { map.FinMap dir_cmp ImageDir };
 

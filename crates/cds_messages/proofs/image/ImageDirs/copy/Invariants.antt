@@ -1,6 +1,6 @@
 use Rattle.std.proofs.Common.{◌≡◌}
-use Rattle.cds_records.specs.Records.{add_all}
-use Rattle.cds_records.proofs.image.ImageDirs.copy.Given as goal
+use Rattle.cds_messages.specs.Added.{add_all}
+use Rattle.cds_messages.proofs.image.ImageDirs.copy.Given as goal
 
 -- with the rest of the directories it is the whole
 abbrev pub invariant-loop-dir : goal.invariant-loop-dir

@@ -1,7 +1,7 @@
 use Rattle.std.proofs.Common.{◌∙◌}
-use Rattle.cds_records.specs.Dirs.{dir_total}
-use Rattle.cds_records.proofs.Ascending.{entries_make}
-use Rattle.cds_records.proofs.image.ImageDirs.copy.Goals as goal
+use Rattle.cds_messages.specs.Dirs.{dir_total}
+use Rattle.cds_messages.proofs.Ascending.{entries_make}
+use Rattle.cds_messages.proofs.image.ImageDirs.copy.Goals as goal
 
 pub loop-dir-init : goal.loop-dir-init
 loop-dir-init c = entries_make dir_total c.args.self.now _ _ c.new-copy.ensures (c.into_iter-dir-iterator.ensures.into_iter_gives ∙ c.iter-dir-items.ensures)

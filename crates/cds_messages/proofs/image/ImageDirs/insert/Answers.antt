@@ -1,8 +1,8 @@
 use Rattle.std.proofs.Common.{sym, ◌∙◌, ap}
 use Rattle.std.specs.FinMap as map
-use Rattle.cds_records.specs.Dirs.{dir_total, dir_exact}
+use Rattle.cds_messages.specs.Dirs.{dir_total, dir_exact}
 use Rattle.cds_stamps.proofs.TreeViews.{get-view, view-insert}
-use Rattle.cds_records.proofs.image.ImageDirs.insert.Goals as goal
+use Rattle.cds_messages.proofs.image.ImageDirs.insert.Goals as goal
 
 pub returns-clause-before : goal.returns-clause-before
 returns-clause-before c =

@@ -11,7 +11,7 @@ use Rattle.std.specs.FinMap.{FinMap, IsAntisymmetric, empty, insert, entries, en
 use Rattle.std.specs.FinMap.{len-entries, len-empty}
 use Rattle.std.specs.FinMap.Entries.{below_all}
 use Rattle.cds_stamps.specs.Keyed.{tied}
-use Rattle.cds_records.specs.Records.{add_all}
+use Rattle.cds_messages.specs.Added.{add_all}
 
 -- two tests that hold, as one
 pub both : (a b : Bool) → T a → T b → T (a && b)

@@ -11,9 +11,9 @@ use Rattle.cds_stamps.specs.Stamps.{stamp_code}
 use Rattle.cds_stamps.specs.Octets.{octets_code}
 use Rattle.directory.specs.Entries.{Entries, entry_code}
 use Rattle.purge_rule.specs.declared.replica.Replica.{Replica}
-use Rattle.cds_records.specs.Kinds.{kind_in, kind_number, kind_back}
-use Rattle.cds_records.specs.declared.image.ImageDir.{ImageDir}
-use Rattle.cds_records.specs.declared.image.ImageDir.TheVariants.{Held, Gone}
+use Rattle.cds_messages.specs.Kinds.{kind_in, kind_number, kind_back}
+use Rattle.cds_messages.specs.declared.image.ImageDir.{ImageDir}
+use Rattle.cds_messages.specs.declared.image.ImageDir.TheVariants.{Held, Gone}
 
 -- a directory is told by its number (own)
 abbrev pub dir_code : Coded DirId

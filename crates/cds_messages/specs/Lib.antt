@@ -1,0 +1,6 @@
+pub mod Added
+pub mod Dirs
+pub mod Kinds
+pub mod PrivateDirCodes
+pub mod Messages
+pub mod Validity
