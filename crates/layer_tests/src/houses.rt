@@ -1,6 +1,4 @@
-// Two houses and a directory of both, by the calls that post messages whole (the program makes those that post octets); and messages
-// that no house sends.
-use cds_records::decode;
+// Two houses and a directory of both, by the calls that post messages whole (the program makes those that post octets).
 use cds_stamps::{DirId, EpochNo, HouseNo, Member, MemberKind, Members, Node, SimpleName};
 use clearinghouse::{Accepted, Clearinghouse, DirState, EpochSet, PostedList, Skulked, Taken};
 use directory::Update;
@@ -17,28 +15,19 @@ struct Pair {
     mail: PostedList,
 }
 
-// The answer to a message, with times in the place of stamps.
+// A message is taken, or it completes the skulk of this time.
 #[derive(Clone, Copy, Debug, PartialEq, Eq)]
 enum Answer {
     Taken,
-    Late(u64, u64),
-    Early(u64, u64),
-    Stale(u64, Option<u64>),
-    NoReplica,
-    Foreign,
     Complete(u64),
+    Other,
 }
 
 fn in_times(taken: Taken) -> Answer {
     match taken {
         Taken::Taken => Answer::Taken,
-        Taken::Late(sent, held) => Answer::Late(sent.0, held.0),
-        Taken::Early(sent, held) => Answer::Early(sent.0, held.0),
-        Taken::Stale(t, None) => Answer::Stale(t.time, None),
-        Taken::Stale(t, Some(runs)) => Answer::Stale(t.time, Some(runs.time)),
-        Taken::NoReplica => Answer::NoReplica,
-        Taken::Foreign => Answer::Foreign,
         Taken::Complete(t) => Answer::Complete(t.time),
+        _ => Answer::Other,
     }
 }
 
@@ -222,69 +211,5 @@ fn a_house_that_is_listed_no_more_leaves(rt: HostRuntime) -> Result<(), Fail> {
     goes_alone(alloc, &mut pair.first, &mut pair.mail)?;
     assert_eq!(rt; delivered(alloc, &mut pair)?, (2, 8, Answer::Taken));
     assert_eq!(rt; entries_at(&pair.second), None);
-    Ok(())
-}
-
-// Messages about the root with stamps of node 10, the answer of house 2, and its floor then.
-#[rattlefmt::skip]
-static FORGED: [(&[u8], Answer, u64); 13] = [
-    // Gathered of house 2 in epoch 1, at 3
-    (b"\x01\x03\0\0\0\x01\x02\0\0\0\0\0\0\0\x01\0\0\0\0\0\0\0\0\
-    \0\0\0\0\0\0\0\x03\0\0\0\0\0\x0a\0\0\0\0\0\0\0\0\0", Answer::Stale(3, None), 0),
-    // SpreadAck of house 2 in epoch 1, at 3
-    (b"\x01\x05\0\0\0\x01\x02\0\0\0\0\0\0\0\x01\0\0\0\0\0\0\0\0\
-    \0\0\0\0\0\0\0\x03\0\0\0\0\0\x0a", Answer::Stale(3, None), 0),
-    // Leave of house 1 in epoch 1
-    (b"\x01\x08\0\0\0\x01\x01\0\0\0\0\0\0\0\x01\0\0\0\0\0\0\0\0", Answer::Late(1, 1), 0),
-    // Gather of house 3 in epoch 1, at 5
-    (b"\x01\x02\0\0\0\x01\x03\0\0\0\0\0\0\0\x01\0\0\0\0\0\0\0\0\
-    \0\0\0\0\0\0\0\x05\0\0\0\0\0\x0a", Answer::Foreign, 0),
-    // Join of house 3 in epoch 2
-    (b"\x01\x07\0\0\0\x01\x03\0\0\0\0\0\0\0\x02\0\0\0\0\0\0\0\0\
-    \x02\x01\0\0\0\0\0\0\0\x01\x01\x02\0\0\0\0\0\0\0\x01\x02\0\0\0\0\0\0\0\0\0", Answer::Foreign, 0),
-    // Gather of house 1 in epoch 0, at 5
-    (b"\x01\x02\0\0\0\x01\x01\0\0\0\0\0\0\0\0\0\0\0\0\0\0\0\0\
-    \0\0\0\0\0\0\0\x05\0\0\0\0\0\x0a", Answer::Late(0, 1), 0),
-    // Spread of house 1 in epoch 9, at 5
-    (b"\x01\x04\0\0\0\x01\x01\0\0\0\0\0\0\0\x09\0\0\0\0\0\0\0\0\
-    \0\0\0\0\0\0\0\x05\0\0\0\0\0\x0a\0\0\0\0\0\0\0\0\0", Answer::Early(9, 1), 0),
-    // Join of house 1 in epoch 0
-    (b"\x01\x07\0\0\0\x01\x01\0\0\0\0\0\0\0\0\0\0\0\0\0\0\0\0\
-    \x02\x01\0\0\0\0\0\0\0\x01\x01\x02\0\0\0\0\0\0\0\x01\x02\0\0\0\0\0\0\0\0\0", Answer::Late(0, 1), 0),
-    // Gather of house 1 in epoch 1, at 7
-    (b"\x01\x02\0\0\0\x01\x01\0\0\0\0\0\0\0\x01\0\0\0\0\0\0\0\0\
-    \0\0\0\0\0\0\0\x07\0\0\0\0\0\x0a", Answer::Taken, 7),
-    // Spread of house 1 in epoch 1, at 6
-    (b"\x01\x04\0\0\0\x01\x01\0\0\0\0\0\0\0\x01\0\0\0\0\0\0\0\0\
-    \0\0\0\0\0\0\0\x06\0\0\0\0\0\x0a\0\0\0\0\0\0\0\0\0", Answer::Taken, 7),
-    // Advance of house 1 in epoch 1, at 8
-    (b"\x01\x06\0\0\0\x01\x01\0\0\0\0\0\0\0\x01\0\0\0\0\0\0\0\0\
-    \0\0\0\0\0\0\0\x08\0\0\0\0\0\x0a", Answer::Taken, 8),
-    // Gather of house 2 in epoch 1, at the last time
-    (b"\x01\x02\0\0\0\x01\x02\0\0\0\0\0\0\0\x01\0\0\0\0\0\0\0\0\
-    \xff\xff\xff\xff\xff\xff\xff\xff\0\0\0\0\0\x0a", Answer::Taken, u64::MAX),
-    // Join of house 1 in epoch 7
-    (b"\x01\x07\0\0\0\x01\x01\0\0\0\0\0\0\0\x07\0\0\0\0\0\0\0\0\
-    \x02\x01\0\0\0\0\0\0\0\x01\x01\x02\0\0\0\0\0\0\0\x01\x02\0\0\0\0\0\0\0\0\0", Answer::Taken, u64::MAX),
-];
-
-// The answer of a house to a message, and its floor then.
-fn answered(
-    alloc: Global,
-    house: &mut Clearinghouse,
-    octets: &[u8],
-) -> Result<(Answer, u64), Fail> {
-    let (message, _used) = decode(alloc, octets)?;
-    let took = house.take(alloc, &message)?;
-    Ok((in_times(took.taken), house.floor()))
-}
-
-#[test]
-fn forged_messages_have_the_answers_of_the_table(rt: HostRuntime) -> Result<(), Fail> {
-    let alloc = rt.alloc();
-    let mut pair = both(alloc)?;
-    for (octets, answer, floor) in FORGED {
-        assert_eq!(rt; answered(alloc, &mut pair.second, octets)?, (answer, floor));
-    }
     Ok(())
 }

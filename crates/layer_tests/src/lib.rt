@@ -1,5 +1,5 @@
 //! Tests of the crates below the cell, of what neither a clause nor a case says: how ends of std fail, that no table is walked, how
-//! far an import searches, answers to messages that no house sends, and calls that take memory and that the program does not make.
+//! far an import searches, and calls that take memory and that the program does not make.
 #![tactic(auto)]
 
 #[cfg(test)]

@@ -1,8 +1,6 @@
-// Messages and images that are copied and written again whole, as the program does in parts; and octets that are no image.
+// Messages and images that are copied and written again whole, as the program does in parts.
 use cds_messages::Image;
-use cds_records::{RecordFault, decode, decode_image, encode, encode_image};
-use cds_stamps::AllocOr;
-use clearinghouse::{Clearinghouse, StartFault};
+use cds_records::{decode, decode_image, encode, encode_image};
 use std::alloc::Global;
 use std::test::Fail;
 
@@ -71,40 +69,4 @@ fn image_again(alloc: Global, octets: &[u8]) -> Result<Vec<u8>, Fail> {
 fn an_image_is_copied_and_written_again(rt: HostRuntime) -> Result<(), Fail> {
     assert!(rt; image_again(rt.alloc(), IMAGE)?.as_slice() == IMAGE);
     Ok(())
-}
-
-// Octets, and why they are no image of a house.
-#[rattlefmt::skip]
-static FAULTY: [(&[u8], RecordFault); 6] = [
-    (b"", RecordFault::Short(1)),
-    (b"\x01\x08", RecordFault::BadTag(2)),
-    // one directory of two; the second one before the first; and neither held nor gone
-    (b"\x01\x09\x01\0\0\0\0\0\x0a\0\0\0\0\0\0\0\0\0\0\0\0\0\0\0\x02\
-    \0\0\0\x02\x02\0\0\0\0\0\0\0\x03", RecordFault::Short(39)),
-    (b"\x01\x09\x01\0\0\0\0\0\x0a\0\0\0\0\0\0\0\0\0\0\0\0\0\0\0\x02\
-    \0\0\0\x02\x02\0\0\0\0\0\0\0\x03\0\0\0\x01\x02\0\0\0\0\0\0\0\x03", RecordFault::OutOfOrder(39)),
-    (b"\x01\x09\x01\0\0\0\0\0\x0a\0\0\0\0\0\0\0\0\0\0\0\0\0\0\0\x01\
-    \0\0\0\x03\x03", RecordFault::BadFlag(30)),
-    (b"\x01\x09\x01\0\0\0\0\0\x0a\0\0\0\0\0\0\0\0\0\0\0\0\0\0\0\0\0", RecordFault::Trailing(26)),
-];
-
-// Why no house starts of the octets.
-fn fault_of(alloc: Global, octets: &[u8]) -> Option<AllocOr<StartFault>> {
-    Clearinghouse::start(alloc, octets).err()
-}
-
-#[test]
-fn no_house_starts_of_a_faulty_image(rt: HostRuntime) {
-    for (octets, fault) in FAULTY {
-        let wanted = AllocOr::Fault(StartFault::BadImage(fault));
-        assert_eq!(rt; fault_of(rt.alloc(), octets), Some(wanted));
-    }
-}
-
-#[test]
-fn an_image_is_cut_at_each_octet(rt: HostRuntime) {
-    for length in 0..IMAGE.len() {
-        let wanted = AllocOr::Fault(StartFault::BadImage(RecordFault::Short(length + 1)));
-        assert_eq!(rt; fault_of(rt.alloc(), &IMAGE[..length]), Some(wanted));
-    }
 }

@@ -1,9 +1,8 @@
-// Groups and profiles of values in any order, as they are read where a reader keeps no values; and values that are no elements.
+// Groups and profiles of values in any order, as they are read where a reader keeps no values.
 use attr_sets::Value;
-use cds_stamps::AllocOr;
 use cell_names::FullName;
 use ns_groups::{member_of, members};
-use ns_profiles::{Element, ProfileFault, elements_for};
+use ns_profiles::{Element, elements_for};
 use std::alloc::Global;
 use std::test::Fail;
 
@@ -67,44 +66,5 @@ fn searches_go_by_priority(rt: HostRuntime) -> Result<(), Fail> {
         spelled(alloc, &found)?.as_slice(),
         b" /.:/c /.:/b /.:/d".as_slice()
     );
-    Ok(())
-}
-
-#[test]
-fn elements_have_their_fields(rt: HostRuntime) -> Result<(), Fail> {
-    let octets = b"\x03AAAAAAAAAAAAAAAA\x00\x01\x01\x02\x00\x05/.:/anote";
-    let value = Value::new(rt.alloc(), octets)?;
-    let element = Element::read(rt.alloc(), &value)?;
-    let is_so = element.priority == 3
-        && (element.interface.major, element.interface.minor) == (1, 258)
-        && element.member.is_spelled(b"/.:/a")
-        && element.annotation.octets() == b"note".as_slice();
-    assert!(rt; is_so);
-    Ok(())
-}
-
-// Octets, and the place at which they are no element.
-#[rattlefmt::skip]
-static FAULTY: [(&[u8], usize); 6] = [
-    (b"\x09AAAAAAAAAAAAAAAA\x00\x01\x00\x02\x00\x05/.:/a", 1),
-    (b"\x08AAA", 5),
-    (b"\x08\0\0\0\0\0\0\0\0\0\0\0\0\0\0\0\0\0\x01\0\0\x00\x05/.:/a", 18),
-    (b"\x03AAAAAAAAAAAAAAAA\x00\x01\x00\x02\x00\x05/.:/", 28),
-    (b"\x03AAAAAAAAAAAAAAAA\x00\x01\x00\x02\x00\x05/.:/ ", 24),
-    (b"\x03AAAAAAAAAAAAAAAA\x00\x01\x00\x02\x00\x05/.:/aok\x1F", 29),
-];
-
-// Why octets are no element.
-fn fault_of(alloc: Global, octets: &[u8]) -> Result<Option<AllocOr<ProfileFault>>, Fail> {
-    let value = Value::new(alloc, octets)?;
-    Ok(Element::read(alloc, &value).err())
-}
-
-#[test]
-fn faults_stand_at_their_fields(rt: HostRuntime) -> Result<(), Fail> {
-    for (octets, place) in FAULTY {
-        let fault = AllocOr::Fault(ProfileFault::BadElement(place));
-        assert_eq!(rt; fault_of(rt.alloc(), octets)?, Some(fault));
-    }
     Ok(())
 }
