@@ -5,9 +5,9 @@ use Rattle.std.proofs.Math.ListN.{get_or}
 use Rattle.std.proofs.lemmas.Option.{slice_get_read}
 use Rattle.cds_stamps.specs.declared.alloc_or.AllocOr.{AllocOr}
 use Rattle.cds_stamps.specs.declared.alloc_or.AllocOr.TheVariants.{Fault}
-use Rattle.cds_records.specs.Decoding.{Decodes}
+use Rattle.record_fields.specs.Decoding.{Decodes}
 use Rattle.cds_records.specs.Records as records
-use Rattle.cds_records.specs.declared.fault.RecordFault.{RecordFault}
+use Rattle.record_fields.specs.declared.fault.RecordFault.{RecordFault}
 use Rattle.cds_messages.specs.declared.message.Message.{Message}
 use Rattle.std.specs.Prelude.{length, Option, Some, None, Result, Ok, Err, not, is_some, option_copied, if◌then◌else◌, ◌||◌, ◌==◌, ◌-◌, slice_get}
 use Rattle.cds_stamps.specs.declared.stamp.Stamp.{Stamp}

@@ -15,11 +15,11 @@ use Rattle.directory.specs.Entries.{IsValidEntry, IsValidTable}
 use Rattle.directory.proofs.TableLaws.{entry_of-valid}
 use Rattle.directory.proofs.PurgeLaws.{purged-valid}
 use Rattle.purge_rule.specs.declared.replica.Replica.{Replica}
-use Rattle.cds_records.specs.Decoding.{Decodes, IsWhole}
+use Rattle.record_fields.specs.Decoding.{Decodes, IsWhole}
 use Rattle.cds_records.specs.Octets.{message_octets}
 use Rattle.cds_records.specs.Records as records
 use Rattle.cds_messages.specs.Validity.{IsValidBody, IsValidMessage}
-use Rattle.cds_records.specs.declared.fault.RecordFault.{RecordFault}
+use Rattle.record_fields.specs.declared.fault.RecordFault.{RecordFault}
 use Rattle.cds_messages.specs.declared.message.Message.{Message}
 use Rattle.cds_messages.specs.declared.message.Body.{Body}
 use Rattle.cds_messages.specs.declared.message.Body.TheVariants as body

@@ -19,11 +19,11 @@ use Rattle.directory.specs.Histories.{Mark, entry_of}
 use Rattle.directory.specs.declared.entry.Fragment.{Fragment}
 use Rattle.purge_rule.specs.Replicas.{IsFragmentOf}
 use Rattle.purge_rule.specs.declared.replica.Replica.{Replica}
-use Rattle.cds_records.specs.Decoding.{Decodes, IsWhole, decoding, with_memory}
+use Rattle.record_fields.specs.Decoding.{Decodes, IsWhole, decoding, with_memory}
 use Rattle.cds_messages.specs.Dirs.{dir_cmp, dir_exact, dir_total}
 use Rattle.cds_records.specs.Octets.{image_octets, message_octets}
 use Rattle.cds_records.specs.Records.{message}
-use Rattle.cds_records.specs.declared.fault.RecordFault.{RecordFault}
+use Rattle.record_fields.specs.declared.fault.RecordFault.{RecordFault}
 use Rattle.cds_messages.specs.declared.image.ImageDir.{ImageDir}
 use Rattle.cds_messages.specs.declared.image.ImageDir.TheVariants as kept
 use Rattle.cds_messages.specs.declared.message.Body.{Body}

@@ -2,7 +2,7 @@
 use Rattle.std.specs.Prelude.{◌≡◌, ◌<◌, ℕ, false, nat_eq, length, Option, Some, None}
 use Rattle.std.specs.Rc.{rc_slice_items}
 use Rattle.indexmap.specs.IndexMap.{get}
-use Rattle.cds_records.specs.Decoding.{IsWhole}
+use Rattle.record_fields.specs.Decoding.{IsWhole}
 use Rattle.cds_records.specs.Octets.{message_octets}
 use Rattle.cds_records.specs.Records.{message}
 use Rattle.cds_messages.specs.Validity.{IsValidMessage}

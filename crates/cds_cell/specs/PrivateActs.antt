@@ -3,7 +3,7 @@ use Rattle.std.specs.Prelude.{◌≡◌, ℕ, ◌+◌, ◌≤◌, ◌<◌, max, 
 use Rattle.std.specs.Rc.{rc_slice_items}
 use Rattle.cds_stamps.specs.Members.{Member, master_of}
 use Rattle.directory.specs.Updates.{Change}
-use Rattle.cds_records.specs.Decoding.{IsWhole}
+use Rattle.record_fields.specs.Decoding.{IsWhole}
 use Rattle.cds_records.specs.Octets.{message_octets}
 use Rattle.cds_records.specs.Records as records
 use Rattle.cds_messages.specs.Validity.{IsValidMessage}

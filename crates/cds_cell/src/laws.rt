@@ -7,7 +7,7 @@ ghost use Rattle.cds_stamps.specs.Members.{master_of};
 ghost use Rattle.directory.specs.EntryChanges.{AreAccepted};
 ghost use Rattle.directory.specs.Updates.{Change};
 ghost use Rattle.directory.specs.declared.update.UpdateRefusal.TheVariants as why;
-ghost use Rattle.cds_records.specs.Decoding.{decoding};
+ghost use Rattle.record_fields.specs.Decoding.{decoding};
 ghost use Rattle.cds_records.specs.Octets.{image_octets};
 ghost use Rattle.cds_records.specs.Records.{message};
 ghost use Rattle.cds_messages.specs.declared.message.Message.{Message};

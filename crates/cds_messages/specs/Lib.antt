@@ -1,4 +1,3 @@
-pub mod Added
 pub mod Dirs
 pub mod Kinds
 pub mod PrivateDirCodes

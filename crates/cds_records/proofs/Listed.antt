@@ -7,13 +7,13 @@ use Rattle.std.proofs.lemmas.List.Sums.{sum_by-cons}
 use Rattle.cds_stamps.specs.declared.members.Member.{Member}
 use Rattle.cds_stamps.specs.Members.{Member as listed_member}
 use Rattle.cds_stamps.specs.Members.{is_master, member_of, members_of, members_fault, first_unordered, masters_in, most_members}
-use Rattle.cds_records.specs.declared.fault.Broken.{Broken}
-use Rattle.cds_records.specs.Layouts.{next, done}
-use Rattle.cds_records.specs.Reading.{◌>>=◌, read}
-use Rattle.cds_records.specs.Fields.{number_order, octet}
+use Rattle.record_fields.specs.declared.fault.Broken.{Broken}
+use Rattle.record_fields.specs.Layouts.{next, done}
+use Rattle.record_fields.specs.Reading.{◌>>=◌, read}
+use Rattle.record_fields.specs.Fields.{number_order, octet}
 use Rattle.cds_messages.specs.Kinds.{kind_in}
 use Rattle.cds_records.specs.Records.{kind_rule, member_kind, member, listed}
-use Rattle.cds_records.proofs.LayoutLaws.{ok_is, bind_ok, read_stands}
+use Rattle.record_fields.proofs.LayoutLaws.{ok_is, bind_ok, read_stands}
 
 -- the members before, and those that are still to be read
 abbrev pub behind : List Member → Result (List Member × List ℕ) Broken → Result (List Member × List ℕ) Broken

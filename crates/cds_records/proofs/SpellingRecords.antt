@@ -1,24 +1,20 @@
 -- Messages and images spell each value in one way.
-use Rattle.std.proofs.Common.{◌≡◌, ℕ, zero, suc, ◌+◌, ◌-◌, Bool, true, false, cond, List, [], length, Option, Some, None, refl, sym, ap, ◌∙◌, arith}
-use Rattle.std.specs.Prelude.{◌||◌, ◌==◌, if◌then◌else◌}
-use Rattle.std.specs.declared.cmp.Ordering.{Ordering}
-use Rattle.std.specs.declared.cmp.Ordering.TheVariants.{Less, Equal, Greater}
+use Rattle.std.proofs.Common.{◌≡◌, ℕ, zero, suc, ◌+◌, ◌-◌, Bool, true, false, List, [], length, Option, Some, None, refl, sym, ap, ◌∙◌, arith}
+use Rattle.std.specs.Prelude.{◌||◌, ◌==◌}
+use Rattle.std.specs.declared.cmp.Ordering.TheVariants.{Less}
 use Rattle.std.specs.Cmp.{nat_cmp_is}
 use Rattle.std.specs.Cmp.Lexicographic.{nat_list_cmp_total}
-use Rattle.std.specs.Ordering.{is_lt, nat_cmp}
+use Rattle.std.specs.Ordering.{nat_cmp}
 use Rattle.cds_stamps.specs.declared.numbers.DirId.{DirId}
 use Rattle.cds_stamps.specs.declared.stamp.Stamp.{Stamp}
 use Rattle.cds_stamps.specs.declared.members.Member.{Member}
 use Rattle.cds_stamps.specs.Members.{is_master}
-use Rattle.cds_stamps.specs.Octets.{octets_cmp}
-use Rattle.attr_sets.specs.declared.mark.ValueMark.{ValueMark}
-use Rattle.attr_sets.specs.declared.cell.AttrCell.{AttrCell}
 use Rattle.directory.specs.declared.entry.EntryCell.{EntryCell}
 use Rattle.directory.specs.declared.entry.Fragment.{Fragment}
 use Rattle.directory.specs.Kinds.{rank, kind_of_rank}
 use Rattle.purge_rule.specs.declared.replica.Replica.{Replica}
-use Rattle.cds_records.specs.declared.fault.Rule.{Rule}
-use Rattle.cds_records.specs.declared.fault.Rule.TheVariants.{BadTag, BadName, OutOfOrder, BadFlag}
+use Rattle.record_fields.specs.declared.fault.Rule.{Rule}
+use Rattle.record_fields.specs.declared.fault.Rule.TheVariants.{BadTag, BadFlag}
 use Rattle.cds_messages.specs.declared.image.ImageDir.{ImageDir}
 use Rattle.cds_messages.specs.declared.image.ImageDir.TheVariants.{Held, Gone}
 use Rattle.cds_messages.specs.declared.image.Image.{Image}
@@ -27,87 +23,18 @@ use Rattle.cds_messages.specs.declared.message.Body.{Body}
 use Rattle.cds_messages.specs.declared.message.Body.TheVariants.{Update, Gather, Gathered, Spread, SpreadAck, Advance, Join, Leave}
 use Rattle.cds_messages.specs.Dirs.{dir_cmp, dir_total}
 use Rattle.cds_messages.specs.Kinds.{kind_in, kind_number}
-use Rattle.cds_records.specs.Layouts.{done, choose, Stands}
-use Rattle.cds_records.specs.Fields.{free, outside, number_order, octets_order, stamp_order, octet, number, stamp_if, optional_stamp, octets_of, simple_name}
-use Rattle.cds_records.specs.Fields.{attr_name, value}
-use Rattle.cds_records.specs.Records.{mark, cell, kind, entry, replica, kind_rule, member_kind, member, listed, members, fragment, copied, joined, body}
+use Rattle.record_fields.specs.Layouts.{done, choose, Stands}
+use Rattle.record_fields.specs.Fields.{free, outside, number_order, octet, number, simple_name, attr_name}
+use Rattle.record_fields.specs.Records.{cell}
+use Rattle.cds_records.specs.Records.{kind, entry, replica, kind_rule, member_kind, member, listed, members, fragment, copied, joined, body, message}
+use Rattle.cds_records.specs.Records.{message_in}
 use Rattle.cds_messages.specs.Messages.{tag_of}
-use Rattle.cds_records.specs.Records.{message, message_in}
 use Rattle.cds_records.specs.Images.{dir_number, held, dir_state, image, image_in}
-use Rattle.cds_records.proofs.Spelling.{OneSpelling, tells, spell_next, spell_done, spell_last, spell_choose, spell_cons, spell_octet, spell_16, spell_32}
-use Rattle.cds_records.proofs.Spelling.{spell_64, spell_node, spell_stamp, spell_sized, spell_counted}
-
--- ---- names and values
-
-spell_simple_name : (before : Option (List ℕ)) → OneSpelling (simple_name before)
-unfolding simple_name
-spell_simple_name before = spell_sized _ (spell_octet _)
-
-spell_attr_name : (before : Option (List ℕ)) → OneSpelling (attr_name before)
-unfolding attr_name
-spell_attr_name before = spell_sized _ (spell_octet _)
-
-spell_value : (before : Option (List ℕ)) → OneSpelling (value before)
-unfolding value
-spell_value before = spell_sized _ (spell_16 _)
-
-in_order : (r : Ordering) → (if is_lt r then None else Some OutOfOrder) ≡ None → r ≡ Less
-in_order Less e = refl
-in_order Equal e = absurd cc
-in_order Greater e = absurd cc
-
-name_in_order : (named : Bool) (b o : List ℕ) → (if named then octets_order (Some b) o else Some BadName) ≡ None → octets_cmp b o ≡ Less
-name_in_order true b o e = in_order (octets_cmp b o) e
-name_in_order false b o e = absurd cc
-
-simple_names_rise : (b o x y : List ℕ) → Stands (simple_name (Some b)) x o y → octets_cmp b o ≡ Less
-unfolding simple_name octets_of
-simple_names_rise b o x y h = name_in_order _ b o h.3.4
-
-attr_names_rise : (b o x y : List ℕ) → Stands (attr_name (Some b)) x o y → octets_cmp b o ≡ Less
-unfolding attr_name octets_of
-attr_names_rise b o x y h = name_in_order _ b o h.3.4
-
-values_rise : (b o x y : List ℕ) → Stands (value (Some b)) x o y → octets_cmp b o ≡ Less
-unfolding value octets_of
-values_rise b o x y h = in_order (octets_cmp b o) h.3.4
+use Rattle.record_fields.proofs.Spelling.{OneSpelling, tells, spell_next, spell_done, spell_last, spell_choose, spell_cons, spell_octet, spell_32, spell_64}
+use Rattle.record_fields.proofs.Spelling.{spell_node, spell_stamp, spell_counted}
+use Rattle.record_fields.proofs.SpellingCells.{spell_simple_name, spell_attr_name, simple_names_rise, attr_names_rise, spell_optional_stamp, spell_cell}
 
 -- ---- replicas
-
-flag_of : Option Stamp → ℕ
-flag_of None = 0
-flag_of (Some s) = 1
-
-stamp_flag : (flag : ℕ) (s : Option Stamp) (x y : List ℕ) → outside BadFlag 0 1 flag ≡ None → Stands (stamp_if flag) x s y → flag_of s ≡ flag
-unfolding flag_of
-stamp_flag zero s x y e h = ap flag_of (sym h.0)
-stamp_flag (suc zero) s x y e h = ap flag_of (sym h.3.0)
-stamp_flag (suc (suc n)) s x y e h = absurd (grind (arith, e))
-
-spell_optional_stamp : OneSpelling optional_stamp
-unfolding optional_stamp octet
-spell_optional_stamp =
-    spell_next (tells flag_of (λ flag s w x g h. stamp_flag flag s x [] g.4 h)) (spell_octet _) (λ flag.
-    spell_choose (flag == 0) (spell_done None) (spell_last (λ s. Some s) (λ s t e. cc) (spell_stamp free)))
-
-present_flag : (n : ℕ) → outside BadFlag 0 1 n ≡ None → cond (n == 1) 1 0 ≡ n
-present_flag zero e = refl
-present_flag (suc zero) e = refl
-present_flag (suc (suc n)) e = absurd (grind (arith, e))
-
-spell_mark : (cleared : Option Stamp) → OneSpelling (mark cleared)
-unfolding mark octet
-spell_mark cleared =
-    spell_next (tells (λ m. cond m.present 1 0) (λ n m w x g h. ap (λ (m : ValueMark). cond m.present 1 0) (sym h.3.0) ∙ present_flag n g.4)) (spell_octet _)
-    (λ n.
-    spell_last (λ s. record { present = n == 1; stamp = s }) (λ s t e. ap (λ (m : ValueMark). m.stamp) e) (spell_stamp (stamp_order cleared)))
-
-spell_cell : OneSpelling cell
-unfolding cell
-spell_cell =
-    spell_next (tells (λ c. c.cleared) (λ t c w x g h. ap (λ (c : AttrCell). c.cleared) (sym h.3.3.0))) spell_optional_stamp (λ t.
-    spell_counted nat_list_cmp_total value (mark t) values_rise spell_value (spell_mark t) (λ marks. record { cleared = t; values = marks }) (λ c. c.values)
-    (λ m. refl) (spell_64 _))
 
 kind_flag : (n : ℕ) → outside BadFlag 1 3 n ≡ None → rank (kind_of_rank (n - 1)) + 1 ≡ n
 kind_flag zero e = absurd (grind (arith, e))

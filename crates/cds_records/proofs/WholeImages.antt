@@ -1,24 +1,52 @@
 -- The octets of images are the whole of them.
-use Rattle.std.proofs.Common.{◌≡◌, ℕ, ◌^◌, ◌<◌, List, [], ◌∷◌, ◌++◌, Option, None, refl, append_assoc, arith}
+use Rattle.std.proofs.Common.{◌≡◌, ℕ, ◌^◌, ◌<◌, List, [], ◌∷◌, ◌++◌, Option, None, refl, append_assoc, arith, T, Some}
 use Rattle.std.specs.Prelude.{◌==◌}
 use Rattle.std.specs.FinMap.{len}
 use Rattle.cds_stamps.specs.declared.numbers.DirId.{DirId}
-use Rattle.cds_records.specs.declared.fault.Rule.TheVariants.{BadTag, BadFlag}
+use Rattle.record_fields.specs.declared.fault.Rule.TheVariants.{BadTag, BadFlag}
 use Rattle.cds_messages.specs.declared.image.Image.{Image}
 use Rattle.cds_messages.specs.declared.image.ImageDir.{ImageDir}
 use Rattle.cds_messages.specs.declared.image.ImageDir.TheVariants.{Held, Gone}
-use Rattle.cds_records.specs.Layouts.{done, next, choose}
-use Rattle.cds_records.specs.Decoding.{IsWhole}
-use Rattle.cds_records.specs.Fields.{free, outside, number, node_octets}
+use Rattle.record_fields.specs.Layouts.{done, next, choose}
+use Rattle.record_fields.specs.Decoding.{IsWhole}
+use Rattle.record_fields.specs.Fields.{free, outside, number, node_octets, number_order}
 use Rattle.cds_records.specs.Images.{dir_number, held, dir_state, image, image_in}
 use Rattle.std.specs.Int.{w64, to_be_bytes}
-use Rattle.cds_records.specs.Octets.{members_octets, replica_octets, each_octets, dir_octets, kept_octets, image_head, image_octets_in, image_octets}
+use Rattle.cds_records.specs.Octets.{members_octets, replica_octets, dir_octets, kept_octets, image_head, image_octets_in, image_octets}
+use Rattle.record_fields.specs.Octets.{each_octets}
 use Rattle.cds_records.specs.Ranges.{FitsDir, FitsImage}
 use Rattle.cds_messages.specs.Validity.{IsValidDir, IsValidImage}
-use Rattle.cds_records.proofs.WholeFields.{Whole, Keyed, dir_keys, dir_order, whole_next, whole_last, whole_as, within_lawful, octet_whole}
-use Rattle.cds_records.proofs.WholeFields.{u32_whole, u64_whole, node_whole, map_whole}
+use Rattle.record_fields.proofs.WholeFields.{Whole, Keyed, whole_next, whole_last, whole_as, within_lawful, octet_whole, u32_whole, u64_whole, node_whole}
+use Rattle.record_fields.proofs.WholeFields.{map_whole, KeyOrder}
 use Rattle.cds_records.proofs.WholeReplicas.{replica_whole}
 use Rattle.cds_records.proofs.WholeMessages.{members_whole}
+use Rattle.std.specs.Ordering.{is_lt, nat_cmp}
+use Rattle.std.specs.Option.{option_map}
+use Rattle.record_fields.specs.declared.fault.Rule.{Rule}
+use Rattle.cds_messages.specs.Dirs.{dir_cmp, dir_total, dir_exact}
+
+-- ---- directories as keys
+
+-- the rule of directories, by their numbers
+abbrev dir_order : Option DirId → DirId → Option Rule
+dir_order before d = number_order (option_map (λ d. d.0) before) d.0
+
+-- a number above the one before it breaks no rule
+dir_above : (b k : ℕ) → T (is_lt (nat_cmp b k)) → number_order (Some b) k ≡ None
+dir_above b k p = grind (arith, p)
+
+-- directories as keys: the number of each is to be above that of the one before it
+abbrev dir_keys : KeyOrder DirId
+dir_keys = record {
+  cmp = dir_cmp;
+  rule = dir_order;
+  total = dir_total;
+  exact = dir_exact;
+  first = λ k. refl;
+  above = λ b k p. dir_above b.0 k.0 p;
+}
+
+-- ---- images
 
 number_whole : (before : Option DirId) (d : DirId) → d.0 < 2 ^ 32 → dir_order before d ≡ None → Whole (dir_number before) d (dir_octets d)
 unfolding dir_number dir_octets

@@ -12,21 +12,21 @@ use Rattle.cds_stamps.specs.declared.members.MemberKind.TheVariants.{Master, Rea
 use Rattle.cds_stamps.specs.Members.{Member as listed_member}
 use Rattle.cds_stamps.specs.Members.{is_master, member_of, members_of, members_fault, first_unordered, masters_in, most_members}
 use Rattle.cds_stamps.proofs.MemberLaws.{no_members_fault}
-use Rattle.cds_records.specs.declared.fault.Rule.TheVariants.{BadTag, BadLength}
+use Rattle.record_fields.specs.declared.fault.Rule.TheVariants.{BadTag, BadLength}
 use Rattle.cds_messages.specs.declared.message.Head.{Head}
 use Rattle.cds_messages.specs.declared.message.Message.{Message}
 use Rattle.cds_messages.specs.declared.message.Body.{Body}
 use Rattle.cds_messages.specs.declared.message.Body.TheVariants.{Update, Gather, Gathered, Spread, SpreadAck, Advance, Join, Leave}
-use Rattle.cds_records.specs.Decoding.{IsWhole}
-use Rattle.cds_records.specs.Fields.{free, outside, number_order}
+use Rattle.record_fields.specs.Decoding.{IsWhole}
+use Rattle.record_fields.specs.Fields.{free, outside, number_order}
 use Rattle.cds_messages.specs.Kinds.{kind_in, kind_number, kind_back}
 use Rattle.cds_messages.specs.Messages.{tag_of}
 use Rattle.cds_records.specs.Records.{kind_rule, member_kind, member, listed, members, fragment, copied, joined, body, message, message_in}
 use Rattle.cds_records.specs.Octets.{member_octets, members_octets, body_octets, message_head, message_octets_in, message_octets, message_with}
 use Rattle.cds_records.specs.Ranges.{FitsMembers, FitsBody, FitsHead, FitsMessage}
 use Rattle.cds_messages.specs.Validity.{IsValidBody, IsValidMessage}
-use Rattle.cds_records.proofs.WholeFields.{Whole, whole_next, whole_done, whole_last, whole_as, within_lawful, octet_whole, u32_whole, u64_whole}
-use Rattle.cds_records.proofs.WholeFields.{stamp_whole, simple_name_whole}
+use Rattle.record_fields.proofs.WholeFields.{Whole, whole_next, whole_done, whole_last, whole_as, within_lawful, octet_whole, u32_whole, u64_whole}
+use Rattle.record_fields.proofs.WholeFields.{stamp_whole, simple_name_whole}
 use Rattle.cds_records.proofs.WholeReplicas.{entry_whole, replica_whole}
 
 -- ---- a member list keeps the rules of its fields
@@ -163,7 +163,8 @@ message_whole format m valid fits =
     (whole_next (octet_whole free m.from.0 refl)
     (whole_next (u64_whole free m.epoch.0 fits.head.epoch refl)
     (whole_next (u64_whole free m.floor fits.head.floor refl) (whole_last (body_whole m.body valid fits.body) refl)))))))
-    (seven (format ∷ []) (tag_of m.body ∷ []) (to_be_bytes w32 m.dir.0) (m.from.0 ∷ []) (to_be_bytes w64 m.epoch.0) (to_be_bytes w64 m.floor) (body_octets m.body))
+    (seven (format ∷ []) (tag_of m.body ∷ []) (to_be_bytes w32 m.dir.0) (m.from.0 ∷ []) (to_be_bytes w64 m.epoch.0) (to_be_bytes w64 m.floor)
+    (body_octets m.body))
 
 -- a message of format 1
 pub the_message_whole : (m : Message) → IsValidMessage m → FitsMessage m → IsWhole message m (message_octets m)

@@ -1,54 +1,30 @@
--- The octets of marks, cells, entries and replicas are the whole of them.
-use Rattle.std.proofs.Common.{◌≡◌, ℕ, zero, suc, ◌+◌, Bool, true, false, cond, List, [], ◌∷◌, ◌++◌, Option, Some, None, refl, sym, append_assoc, arith}
-use Rattle.std.specs.Prelude.{◌==◌, ◌-◌, IfSome, if◌then◌else◌}
+-- The octets of cells, entries and replicas are the whole of them.
+use Rattle.std.proofs.Common.{◌≡◌, ℕ, zero, suc, ◌+◌, false, List, [], ◌∷◌, ◌++◌, Option, Some, None, refl, sym, append_assoc, arith}
+use Rattle.std.specs.Prelude.{◌==◌, ◌-◌}
 use Rattle.std.specs.FinMap.{get, len, empty_of_len}
 use Rattle.cds_stamps.specs.declared.stamp.Stamp.{Stamp}
 use Rattle.cds_stamps.specs.Names.{simple_name_fault, attr_fault}
-use Rattle.cds_stamps.specs.Stamps.{is_earlier}
-use Rattle.attr_sets.specs.declared.mark.ValueMark.{ValueMark}
 use Rattle.attr_sets.specs.declared.cell.AttrCell.{AttrCell}
-use Rattle.attr_sets.specs.Marks.{kept}
-use Rattle.attr_sets.specs.Values.{value_fault}
 use Rattle.directory.specs.declared.entry.Kind.{Kind}
 use Rattle.directory.specs.declared.entry.Kind.TheVariants.{Object, Link, Child}
 use Rattle.directory.specs.declared.entry.EntryCell.{EntryCell}
 use Rattle.directory.specs.Kinds.{rank, kind_of_rank}
 use Rattle.directory.specs.Entries.{IsHeldCell, IsValidEntry, IsValidTable}
 use Rattle.purge_rule.specs.declared.replica.Replica.{Replica}
-use Rattle.cds_records.specs.declared.fault.Rule.TheVariants.{BadFlag}
-use Rattle.cds_records.specs.Layouts.{done, next}
-use Rattle.cds_records.specs.Fields.{free, outside, stamp_order, stamp, attr_name, simple_name, value}
-use Rattle.cds_records.specs.Records.{mark, empty_cell, cell, kind, entry, replica}
+use Rattle.record_fields.specs.declared.fault.Rule.TheVariants.{BadFlag}
+use Rattle.record_fields.specs.Fields.{free, outside, attr_name, simple_name}
+use Rattle.record_fields.specs.Records.{empty_cell, cell}
+use Rattle.cds_records.specs.Records.{kind, entry, replica}
 use Rattle.std.specs.Int.{w64, to_be_bytes}
-use Rattle.cds_records.specs.Octets.{stamp_octets, optional_stamp_octets, each_octets, name_octets, value_octets}
-use Rattle.cds_records.specs.Octets.{mark_octets, cell_octets, entry_octets, replica_octets}
-use Rattle.cds_records.specs.Ranges.{FitsStamp, FitsCell, FitsEntry, FitsReplica}
-use Rattle.cds_records.proofs.WholeFields.{Whole, Keyed, octets_keys, whole_next, whole_last, whole_as, octet_whole, u64_whole, stamp_whole}
-use Rattle.cds_records.proofs.WholeFields.{optional_stamp_whole, simple_name_whole, attr_name_whole, value_whole, map_whole}
+use Rattle.record_fields.specs.Octets.{stamp_octets, optional_stamp_octets, each_octets, name_octets, value_octets, mark_octets, cell_octets}
+use Rattle.cds_records.specs.Octets.{entry_octets, replica_octets}
+use Rattle.record_fields.specs.Ranges.{FitsCell}
+use Rattle.cds_records.specs.Ranges.{FitsEntry, FitsReplica}
+use Rattle.record_fields.proofs.WholeFields.{Whole, Keyed, octets_keys, whole_next, whole_last, whole_as, octet_whole, u64_whole, stamp_whole}
+use Rattle.record_fields.proofs.WholeFields.{optional_stamp_whole, simple_name_whole, attr_name_whole, map_whole}
+use Rattle.record_fields.proofs.WholeMarks.{marks, mark_in_order}
 
--- ---- marks
-
-flag_back : (b : Bool) → (outside BadFlag 0 1 (if b then 1 else 0) ≡ None) × (((if b then 1 else 0) == 1) ≡ b)
-flag_back true = (refl, refl)
-flag_back false = (refl, refl)
-
-mark_whole : (cleared : Option Stamp) (m : ValueMark) → stamp_order cleared m.stamp ≡ None → FitsStamp m.stamp → Whole (mark cleared) m (mark_octets m)
-unfolding mark mark_octets
-mark_whole cleared m lawful fits =
-    let back = flag_back m.present in
-    whole_next {second = λ present. next (stamp (stamp_order cleared)) (λ s. done (record { present = present == 1; stamp = s }))}
-    (octet_whole (outside BadFlag 0 1) (if m.present then 1 else 0) back.0)
-    (whole_last {f = λ s. record { present = (if m.present then 1 else 0) == 1; stamp = s }} (stamp_whole (stamp_order cleared) m.stamp fits lawful)
-    (λ i. record { present = back.1 i; stamp = m.stamp }))
-
-mark_in_order : (cleared : Option Stamp) (o : Option ValueMark) → kept cleared o ≡ o → IfSome o (λ m. stamp_order cleared m.stamp ≡ None)
-mark_in_order cleared None e = tt
-mark_in_order None (Some m) e = refl
-mark_in_order (Some c) (Some m) e = at (is_earlier m.stamp c) refl e
-  where
-    at : (b : Bool) → is_earlier m.stamp c ≡ b → cond b None (Some m) ≡ Some m → stamp_order (Some c) m.stamp ≡ None
-    at true t e = absurd cc
-    at false t e = rw t refl
+-- ---- cells, entries and replicas
 
 some_mark : (c : AttrCell) → IsHeldCell c → empty_cell c.cleared (len c.values) ≡ None
 some_mark c valid = at c.cleared (len c.values) refl refl
@@ -58,18 +34,11 @@ some_mark c valid = at c.cleared (len c.values) refl refl
     at None (suc n) e f = (let some : (suc n == 0) ≡ false = grind arith in rw some refl)
     at (Some s) n e f = refl
 
--- ---- cells, entries and replicas
-
 three : (a b c : List ℕ) → a ++ (b ++ c) ≡ a ++ b ++ c
 three a b c = sym (append_assoc a b c)
 
 five : (a b c d e : List ℕ) → a ++ (b ++ (c ++ (d ++ e))) ≡ a ++ b ++ c ++ d ++ e
 five a b c d e = simp append_assoc refl
-
-marks : (cleared : Option Stamp)
-    → Keyed octets_keys (λ (m : ValueMark). stamp_order cleared m.stamp ≡ None) value (mark cleared) (λ v. value_fault v ≡ None) (λ m. FitsStamp m.stamp)
-    value_octets mark_octets
-marks cleared = record { keys = λ before v fits above. value_whole before v fits above; contents = mark_whole cleared }
 
 cell_whole : (c : AttrCell) → IsHeldCell c → FitsCell c → Whole cell c (cell_octets c)
 unfolding cell cell_octets

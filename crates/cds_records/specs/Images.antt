@@ -3,14 +3,15 @@ use Rattle.std.specs.Prelude.{ℕ, ◌==◌, Option}
 use Rattle.std.specs.Int.{w32, w64}
 use Rattle.std.specs.Option.{option_map}
 use Rattle.cds_stamps.specs.declared.numbers.DirId.{DirId}
-use Rattle.cds_records.specs.declared.fault.Rule.TheVariants.{BadTag, BadFlag}
+use Rattle.record_fields.specs.declared.fault.Rule.TheVariants.{BadTag, BadFlag}
 use Rattle.cds_messages.specs.declared.image.ImageDir.{ImageDir}
 use Rattle.cds_messages.specs.declared.image.ImageDir.TheVariants.{Held, Gone}
 use Rattle.cds_messages.specs.declared.image.Image.{Image}
 use Rattle.cds_messages.specs.Dirs.{dir_cmp}
-use Rattle.cds_records.specs.Layouts.{Layout, done, next, choose}
-use Rattle.cds_records.specs.Fields.{free, outside, number_order, octet, number, node}
-use Rattle.cds_records.specs.Records.{map_of, members, replica}
+use Rattle.record_fields.specs.Layouts.{Layout, done, next, choose}
+use Rattle.record_fields.specs.Fields.{free, outside, number_order, octet, number, node}
+use Rattle.record_fields.specs.Records.{map_of}
+use Rattle.cds_records.specs.Records.{members, replica}
 
 -- a directory above the one before it (own)
 unfoldable pub dir_number : Option DirId → Layout DirId

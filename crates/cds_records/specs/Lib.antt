@@ -1,9 +1,4 @@
-pub mod Layouts
-pub mod Reading
-pub mod PrivateReading
-pub mod Fields
 pub mod Records
-pub mod Decoding
 pub mod Wanting
 pub mod Images
 pub mod Octets

@@ -1,60 +1,26 @@
 -- The records of messages and images (own). Each keyed list ascends strictly by its key.
 use Rattle.std.specs.Prelude.{ℕ, zero, suc, ◌-◌, Bool, false, ◌&&◌, ◌||◌, not, ◌==◌, List, [], ◌∷◌, Option, Some, None, if◌then◌else◌}
-use Rattle.std.specs.FinMap.{FinMap, empty}
 use Rattle.std.specs.Int.{w32, w64}
-use Rattle.std.specs.declared.cmp.Ordering.{Ordering}
 use Rattle.cds_stamps.specs.declared.stamp.Stamp.{Stamp}
 use Rattle.cds_stamps.specs.declared.members.Member.{Member}
 use Rattle.cds_stamps.specs.declared.members.MemberKind.{MemberKind}
 use Rattle.cds_stamps.specs.Members.{is_master, most_members}
-use Rattle.attr_sets.specs.declared.mark.ValueMark.{ValueMark}
-use Rattle.attr_sets.specs.declared.cell.AttrCell.{AttrCell}
 use Rattle.directory.specs.declared.entry.Kind.{Kind}
 use Rattle.directory.specs.declared.entry.EntryCell.{EntryCell}
 use Rattle.directory.specs.declared.entry.Fragment.{Fragment}
 use Rattle.directory.specs.Kinds.{kind_of_rank}
 use Rattle.purge_rule.specs.declared.replica.Replica.{Replica}
-use Rattle.cds_records.specs.declared.fault.Rule.{Rule}
-use Rattle.cds_records.specs.declared.fault.Rule.TheVariants.{BadTag, BadLength, BadFlag}
+use Rattle.record_fields.specs.declared.fault.Rule.{Rule}
+use Rattle.record_fields.specs.declared.fault.Rule.TheVariants.{BadTag, BadLength, BadFlag}
 use Rattle.cds_messages.specs.declared.message.Message.{Message}
 use Rattle.cds_messages.specs.declared.message.Body.{Body}
 use Rattle.cds_messages.specs.declared.message.Body.TheVariants.{Update, Gather, Gathered, Spread, SpreadAck, Advance, Join, Leave}
 use Rattle.cds_messages.specs.Kinds.{kind_in}
-use Rattle.cds_messages.specs.Added.{add_all}
-use Rattle.cds_records.specs.Layouts.{Layout, done, next, choose}
-use Rattle.cds_records.specs.Fields.{free, outside, number_order, stamp_order, octet, number, stamp, optional_stamp, simple_name, attr_name, value}
-
--- ---- keyed lists
-
--- an item: its key, which is read knowing the one before it, and what is said of it (own)
-unfoldable pub item : {K X : Type 0} → (Option K → Layout K) → Layout X → Option K → Layout (K × X)
-item key content before = next (key before) (λ k. next content (λ x. done (k, x)))
-
--- so many items (own)
-unfoldable pub ascending : {K X : Type 0} → (Option K → Layout K) → Layout X → ℕ → Option K → Layout (List (K × X))
-ascending key content zero before = done []
-ascending key content (suc n) before = next (item key content before) (λ e. next (ascending key content n (Some e.0)) (λ es. done (e ∷ es)))
-
--- the map of so many items (own)
-unfoldable pub map_of : {K X : Type 0} {R : K → K → Ordering} → (Option K → Layout K) → Layout X → ℕ → Layout (FinMap R X)
-map_of key content n = next (ascending key content n None) (λ es. done (add_all empty es))
+use Rattle.record_fields.specs.Layouts.{Layout, done, next, choose}
+use Rattle.record_fields.specs.Fields.{free, outside, number_order, octet, number, stamp, optional_stamp, simple_name, attr_name}
+use Rattle.record_fields.specs.Records.{cell, map_of}
 
 -- ---- replicas
-
--- the mark of a value, which is not earlier than the clear (own)
-unfoldable pub mark : Option Stamp → Layout ValueMark
-mark cleared = next (octet (outside BadFlag 0 1)) (λ present. next (stamp (stamp_order cleared)) (λ s. done (record { present = present == 1; stamp = s })))
-
--- where there is no clear, there is a mark (own)
-abbrev pub empty_cell : Option Stamp → ℕ → Option Rule
-empty_cell None n = if n == 0 then Some BadLength else None
-empty_cell (Some cleared) n = None
-
--- the clear of an attribute, and the marks of its values (own)
-unfoldable pub cell : Layout AttrCell
-cell =
-    next optional_stamp (λ cleared. next (number w64 (empty_cell cleared)) (λ n. next (map_of value (mark cleared) n) (λ marks.
-    done (record { cleared = cleared; values = marks }))))
 
 -- an object is 1, a link 2, a child 3 (own)
 unfoldable pub kind : Layout Kind

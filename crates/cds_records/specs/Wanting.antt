@@ -1,11 +1,9 @@
 -- Which octets no memory is wanted for, so that they are never told as want of memory (own).
-use Rattle.std.specs.Prelude.{◌≡◌, ℕ, Bool, true, ◌||◌, ◌==◌, List, Result, Ok, Err}
+use Rattle.std.specs.Prelude.{◌≡◌, ℕ, Bool, true, ◌||◌, ◌==◌, List}
 use Rattle.std.specs.Int.{w32, w64}
-use Rattle.cds_stamps.specs.declared.alloc_or.AllocOr.{AllocOr}
-use Rattle.cds_stamps.specs.declared.alloc_or.AllocOr.TheVariants.{Fault, OutOfMemory}
-use Rattle.cds_records.specs.declared.fault.Rule.TheVariants.{BadTag}
-use Rattle.cds_records.specs.Layouts.{Layout, done, next, Stands}
-use Rattle.cds_records.specs.Fields.{free, outside, octet, number, node}
+use Rattle.record_fields.specs.declared.fault.Rule.TheVariants.{BadTag}
+use Rattle.record_fields.specs.Layouts.{Layout, done, next, Stands}
+use Rattle.record_fields.specs.Fields.{free, outside, octet, number, node}
 
 -- the head of a message, which says its tag (own)
 unfoldable pub message_head : Layout ℕ
@@ -24,12 +22,6 @@ image_head =
     next (octet (outside BadTag 1 1))
     (λ _. next (octet (outside BadTag 9 9))
     (λ _. next (octet free) (λ _. next node (λ _. next (number w64 free) (λ _. next (number w64 free) (λ n. done n))))))
-
--- this holds where the result is want of memory (own)
-abbrev pub IfWant : {T E : Type 0} → Type 0 → Result T (AllocOr E) → Type 0
-IfWant P (Ok x) = Unit {0}
-IfWant P (Err (Fault fault)) = Unit {0}
-IfWant P (Err OutOfMemory) = P
 
 -- a whole head stands in front, of a message that takes memory (own)
 abbrev pub WantsForMessage : List ℕ → Type 0

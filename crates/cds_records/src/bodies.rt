@@ -1,111 +1,111 @@
 // Readers of messages.
 ghost use Rattle.std.specs.Prelude.{◌≡◌, ◌≤◌, true};
-ghost use Rattle.cds_records.specs.PrivateReading.{Reads};
-ghost use Rattle.cds_records.specs.Wanting.{takes_memory, IfWant, WantsForMessage};
+ghost use Rattle.record_fields.specs.Readers.{Reads};
+ghost use Rattle.cds_records.specs.Wanting.{takes_memory, WantsForMessage};
+ghost use Rattle.record_fields.specs.Wanting.{IfWant};
 ghost use Rattle.cds_records.specs.Records.{fragment, copied, joined, body, message, message_in};
 
-use crate::fault::{ReadError, Rule};
-use crate::fields::Reader;
 use crate::format::FORMAT;
+use crate::members::read_members;
+use crate::tables::{read_entry, read_replica};
 use cds_messages::{
     ADVANCE, Body, GATHER, GATHERED, JOIN, LEAVE, Message, SPREAD, SPREAD_ACK, UPDATE,
 };
 use cds_stamps::{DirId, EpochNo, HouseNo, Members, SimpleName, Stamp};
 use directory::Fragment;
 use purge_rule::Replica;
+use record_fields::{ReadError, Reader, Rule};
 use std::alloc::Global;
 
-impl<'a> Reader<'a> {
-    /// The marks of an update.
-    #[tactic(auto, unfolding(crate::specs::Records::fragment))]
-    fn fragment(&mut self, alloc: Global) -> Result<Fragment, ReadError>
-        ensures { Reads (λ x. x) fragment self.old self.new result }
-    {
-        let own = self.simple_name(None)?;
-        let entry = self.entry(alloc)?;
-        let name = SimpleName::known(alloc, own)?;
-        Ok(Fragment { name, entry })
-    }
+/// The marks of an update.
+#[tactic(auto, unfolding(crate::specs::Records::fragment))]
+fn read_fragment(reader: &mut Reader<'_>, alloc: Global) -> Result<Fragment, ReadError>
+    ensures { Reads (λ x. x) fragment reader.old reader.new result }
+{
+    let own = reader.simple_name(None)?;
+    let entry = read_entry(reader, alloc)?;
+    let name = SimpleName::known(alloc, own)?;
+    Ok(Fragment { name, entry })
+}
 
-    /// The stamp of a skulk, and a replica.
-    #[tactic(auto, unfolding(crate::specs::Records::copied))]
-    fn copied(&mut self, alloc: Global) -> Result<(Stamp, Replica), ReadError>
-        ensures { Reads (λ x. x) copied self.old self.new result }
-    {
-        let stamp = self.stamp()?;
-        let replica = self.replica(alloc)?;
-        Ok((stamp, replica))
-    }
+/// The stamp of a skulk, and a replica.
+#[tactic(auto, unfolding(crate::specs::Records::copied))]
+fn read_copied(reader: &mut Reader<'_>, alloc: Global) -> Result<(Stamp, Replica), ReadError>
+    ensures { Reads (λ x. x) copied reader.old reader.new result }
+{
+    let stamp = reader.stamp()?;
+    let replica = read_replica(reader, alloc)?;
+    Ok((stamp, replica))
+}
 
-    /// The members of an epoch, and the master's replica.
-    #[tactic(auto, unfolding(crate::specs::Records::joined))]
-    fn joined(&mut self, alloc: Global) -> Result<(Members, Replica), ReadError>
-        ensures { Reads (λ x. x) joined self.old self.new result }
-    {
-        let members = self.members(alloc)?;
-        let replica = self.replica(alloc)?;
-        Ok((members, replica))
-    }
+/// The members of an epoch, and the master's replica.
+#[tactic(auto, unfolding(crate::specs::Records::joined))]
+fn read_joined(reader: &mut Reader<'_>, alloc: Global) -> Result<(Members, Replica), ReadError>
+    ensures { Reads (λ x. x) joined reader.old reader.new result }
+{
+    let members = read_members(reader, alloc)?;
+    let replica = read_replica(reader, alloc)?;
+    Ok((members, replica))
+}
 
-    /// What a message of this tag carries.
-    #[tactic(auto, unfolding(crate::specs::Records::body))]
-    fn body(&mut self, alloc: Global, tag: u8) -> Result<Body, ReadError>
-        requires { tag ≤ 8 }
-        ensures read { Reads (λ x. x) (body tag) self.old self.new result }
-        ensures wanting { IfWant (takes_memory tag ≡ true) result }
-    {
-        match tag {
-            UPDATE => {
-                let fragment = self.fragment(alloc)?;
-                Ok(Body::Update(fragment))
-            }
-            GATHER => {
-                let stamp = self.stamp()?;
-                Ok(Body::Gather(stamp))
-            }
-            GATHERED => {
-                let (stamp, replica) = self.copied(alloc)?;
-                Ok(Body::Gathered(stamp, replica))
-            }
-            SPREAD => {
-                let (stamp, replica) = self.copied(alloc)?;
-                Ok(Body::Spread(stamp, replica))
-            }
-            SPREAD_ACK => {
-                let stamp = self.stamp()?;
-                Ok(Body::SpreadAck(stamp))
-            }
-            ADVANCE => {
-                let stamp = self.stamp()?;
-                Ok(Body::Advance(stamp))
-            }
-            JOIN => {
-                let (members, replica) = self.joined(alloc)?;
-                Ok(Body::Join(members, replica))
-            }
-            _ => Ok(Body::Leave),
+/// What a message of this tag carries.
+#[tactic(auto, unfolding(crate::specs::Records::body))]
+fn read_body(reader: &mut Reader<'_>, alloc: Global, tag: u8) -> Result<Body, ReadError>
+    requires { tag ≤ 8 }
+    ensures read { Reads (λ x. x) (body tag) reader.old reader.new result }
+    ensures wanting { IfWant (takes_memory tag ≡ true) result }
+{
+    match tag {
+        UPDATE => {
+            let fragment = read_fragment(reader, alloc)?;
+            Ok(Body::Update(fragment))
         }
+        GATHER => {
+            let stamp = reader.stamp()?;
+            Ok(Body::Gather(stamp))
+        }
+        GATHERED => {
+            let (stamp, replica) = read_copied(reader, alloc)?;
+            Ok(Body::Gathered(stamp, replica))
+        }
+        SPREAD => {
+            let (stamp, replica) = read_copied(reader, alloc)?;
+            Ok(Body::Spread(stamp, replica))
+        }
+        SPREAD_ACK => {
+            let stamp = reader.stamp()?;
+            Ok(Body::SpreadAck(stamp))
+        }
+        ADVANCE => {
+            let stamp = reader.stamp()?;
+            Ok(Body::Advance(stamp))
+        }
+        JOIN => {
+            let (members, replica) = read_joined(reader, alloc)?;
+            Ok(Body::Join(members, replica))
+        }
+        _ => Ok(Body::Leave),
     }
+}
 
-    /// A message.
-    #[tactic(auto, unfolding(crate::specs::Records::message, crate::specs::Records::message_in))]
-    pub(crate) fn message(&mut self, alloc: Global) -> Result<Message, ReadError>
-        ensures read { Reads (λ x. x) message self.old self.new result }
-        ensures wanting { IfWant (WantsForMessage self.old) result }
-    {
-        let _format = self.octet_within(Rule::BadTag, FORMAT, FORMAT)?;
-        let tag = self.octet_within(Rule::BadTag, UPDATE, LEAVE)?;
-        let dir = self.u32()?;
-        let from = self.octet()?;
-        let epoch = self.u64()?;
-        let floor = self.u64()?;
-        let body = self.body(alloc, tag)?;
-        Ok(Message {
-            dir: DirId(dir),
-            from: HouseNo(from),
-            epoch: EpochNo(epoch),
-            floor,
-            body,
-        })
-    }
+/// A message.
+#[tactic(auto, unfolding(crate::specs::Records::message, crate::specs::Records::message_in))]
+pub(crate) fn read_message(reader: &mut Reader<'_>, alloc: Global) -> Result<Message, ReadError>
+    ensures read { Reads (λ x. x) message reader.old reader.new result }
+    ensures wanting { IfWant (WantsForMessage reader.old) result }
+{
+    let _format = reader.octet_within(Rule::BadTag, FORMAT, FORMAT)?;
+    let tag = reader.octet_within(Rule::BadTag, UPDATE, LEAVE)?;
+    let dir = reader.u32()?;
+    let from = reader.octet()?;
+    let epoch = reader.u64()?;
+    let floor = reader.u64()?;
+    let body = read_body(reader, alloc, tag)?;
+    Ok(Message {
+        dir: DirId(dir),
+        from: HouseNo(from),
+        epoch: EpochNo(epoch),
+        floor,
+        body,
+    })
 }

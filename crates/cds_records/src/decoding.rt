@@ -2,14 +2,16 @@
 ghost use Rattle.std.specs.Prelude.{◌≡◌, length, IfOk};
 ghost use Rattle.cds_records.specs.Images.{image};
 ghost use Rattle.cds_records.specs.Records.{message};
-ghost use Rattle.cds_records.specs.Decoding.{fault_at, error_of, IsLeftWithin, Decodes};
-ghost use Rattle.cds_records.specs.Wanting.{IfWant, WantsForMessage, WantsForImage};
+ghost use Rattle.record_fields.specs.Decoding.{fault_at, error_of, IsLeftWithin, Decodes};
+ghost use Rattle.record_fields.specs.Wanting.{IfWant};
+ghost use Rattle.cds_records.specs.Wanting.{WantsForMessage, WantsForImage};
 ghost use Rattle.cds_messages.specs.Validity.{IsValidImage, IsValidMessage};
 
-use crate::fault::{ReadError, RecordFault, Rule};
-use crate::fields::Reader;
+use crate::bodies::read_message;
+use crate::images::read_image;
 use cds_messages::{Image, Message};
 use cds_stamps::AllocOr;
+use record_fields::{ReadError, Reader, RecordFault, Rule};
 use std::alloc::Global;
 
 /// The message at the front of the octets, and how many octets it has; other octets may follow it. Else the first fault.
@@ -19,7 +21,7 @@ pub fn decode(alloc: Global, octets: &[u8]) -> Result<(Message, usize), AllocOr<
     ensures wanting { IfWant (WantsForMessage octets.now) result }
 {
     let mut reader = Reader::new(octets);
-    match reader.message(alloc) {
+    match read_message(&mut reader, alloc) {
         Ok(message) => Ok((message, octets.len() - reader.left())),
         Err(error) => Err(fault_from(error, octets)),
     }
@@ -32,7 +34,7 @@ pub fn decode_image(alloc: Global, octets: &[u8]) -> Result<(Image, usize), Allo
     ensures wanting { IfWant (WantsForImage octets.now) result }
 {
     let mut reader = Reader::new(octets);
-    match reader.image(alloc) {
+    match read_image(&mut reader, alloc) {
         Ok(image) => Ok((image, octets.len() - reader.left())),
         Err(error) => Err(fault_from(error, octets)),
     }

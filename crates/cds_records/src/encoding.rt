@@ -3,23 +3,24 @@ ghost use Rattle.std.specs.Prelude.{◌≡◌, ◌++◌, ◌<◌, ◌^◌, None,
 ghost use Rattle.cds_stamps.specs.Members.{members_of, members_fault};
 ghost use Rattle.cds_stamps.specs.Names.{simple_name_fault};
 ghost use Rattle.directory.specs.Entries.{IsValidEntry, IsValidTable};
-ghost use Rattle.cds_records.specs.Decoding.{IsWhole};
+ghost use Rattle.record_fields.specs.Decoding.{IsWhole};
 ghost use Rattle.cds_messages.specs.Kinds as kinds;
-ghost use Rattle.cds_records.specs.Octets.{name_octets, stamp_octets, entry_octets, replica_octets, member_octets, members_octets};
+ghost use Rattle.record_fields.specs.Octets.{name_octets, stamp_octets};
+ghost use Rattle.cds_records.specs.Octets.{entry_octets, replica_octets, member_octets, members_octets};
 ghost use Rattle.cds_records.specs.Octets.{body_octets, message_head, message_octets, message_with};
-ghost use Rattle.cds_records.specs.Ranges.{FitsStamp, FitsEntry, FitsReplica, FitsMembers, FitsBody, FitsHead};
+ghost use Rattle.record_fields.specs.Ranges.{FitsStamp};
+ghost use Rattle.cds_records.specs.Ranges.{FitsEntry, FitsReplica, FitsMembers, FitsBody, FitsHead};
 ghost use Rattle.cds_records.specs.Records as records;
 ghost use Rattle.cds_messages.specs.Validity.{IsValidMessage};
 ghost use Rattle.cds_messages.specs.declared.message.Body.TheVariants as bodies;
 
 use crate::format::FORMAT;
-use crate::writing::{
-    put_entry, put_octet, put_replica, put_simple_name, put_stamp, put_u32, put_u64,
-};
+use crate::writing::{put_entry, put_replica};
 use cds_messages::{Body, GATHERED, Head, JOIN, Message, SPREAD, UPDATE};
 use cds_stamps::{Member, MemberKind, Members, Stamp};
 use directory::Fragment;
 use purge_rule::Replica;
+use record_fields::{put_octet, put_simple_name, put_stamp, put_u32, put_u64};
 use std::alloc::{AllocError, Global};
 
 /// Octets for which there is room at once: most messages of one mark have no more.

@@ -2,19 +2,22 @@
 ghost use Rattle.std.specs.Prelude.{◌≡◌, ◌++◌, ◌<◌, ◌^◌, IfOk, OnOk};
 ghost use Rattle.std.specs.FinMap.{entries};
 ghost use Rattle.cds_stamps.specs.declared.numbers.DirId as number;
-ghost use Rattle.cds_records.specs.Decoding.{IsWhole};
+ghost use Rattle.record_fields.specs.Decoding.{IsWhole};
 ghost use Rattle.cds_records.specs.Images as images;
-ghost use Rattle.cds_records.specs.Octets.{each_octets, dir_octets, kept_octets, image_head, image_octets};
-ghost use Rattle.cds_records.specs.Ranges.{ItemsFit, FitsDir};
+ghost use Rattle.record_fields.specs.Octets.{each_octets};
+ghost use Rattle.cds_records.specs.Octets.{dir_octets, kept_octets, image_head, image_octets};
+ghost use Rattle.record_fields.specs.Ranges.{ItemsFit};
+ghost use Rattle.cds_records.specs.Ranges.{FitsDir};
 ghost use Rattle.cds_messages.specs.Validity.{IsValidImage};
 ghost use Rattle.cds_messages.specs.declared.image.ImageDir.TheVariants as states;
 
 use crate::encoding::put_members;
 use crate::format::{FORMAT, GONE, HELD, IMAGE};
-use crate::writing::{put_node, put_octet, put_replica, put_u32, put_u64};
+use crate::writing::put_replica;
 use cds_messages::{Image, ImageDir, ImageDirs};
 use cds_stamps::{DirId, EpochNo, HouseNo, Members, Node};
 use purge_rule::Replica;
+use record_fields::{put_node, put_octet, put_u32, put_u64};
 use std::alloc::{AllocError, Global};
 use std::marker::Model;
 

@@ -2,7 +2,7 @@
 ghost use Rattle.std.specs.Prelude.{◌≡◌, ◌++◌, ◌<◌, ℕ, List};
 ghost use Rattle.std.specs.List.{All};
 ghost use Rattle.cds_messages.specs.declared.message.Message.{Message};
-ghost use Rattle.cds_records.specs.Decoding.{IsWhole, Decodes, decoding, with_memory};
+ghost use Rattle.record_fields.specs.Decoding.{IsWhole, Decodes, decoding, with_memory};
 ghost use Rattle.cds_messages.specs.declared.image.Image.{Image};
 ghost use Rattle.cds_records.specs.Images.{image};
 ghost use Rattle.cds_records.specs.Octets.{message_octets, image_octets};

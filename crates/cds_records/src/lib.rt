@@ -4,8 +4,6 @@
 mod bodies;
 mod decoding;
 mod encoding;
-mod fault;
-mod fields;
 mod format;
 mod image_encoding;
 mod images;
@@ -16,5 +14,5 @@ mod writing;
 
 pub use decoding::{decode, decode_image};
 pub use encoding::{encode, encode_gathered, encode_join, encode_spread, encode_update};
-pub use fault::RecordFault;
 pub use image_encoding::{ImageWriter, encode_image};
+pub use record_fields::RecordFault;

@@ -1,85 +1,91 @@
 // Readers of member lists.
 ghost use Rattle.std.specs.Prelude.{◌≡◌, ◌-◌, ◌||◌, Some, None, MatchOption, false, if◌then◌else◌};
 ghost use Rattle.cds_stamps.specs.Members.{is_master, members_of, members_fault};
-ghost use Rattle.cds_records.specs.PrivateReading.{Reads, ReadsSurely};
-ghost use Rattle.cds_records.specs.Fields.{number_order, octet};
+ghost use Rattle.record_fields.specs.Readers.{Reads, ReadsSurely};
+ghost use Rattle.record_fields.specs.Fields.{number_order, octet};
 ghost use Rattle.cds_messages.specs.Kinds.{kind_in};
 ghost use Rattle.cds_records.specs.Records.{kind_rule, member_kind, member, listed, members};
-ghost use Rattle.cds_records.specs.declared.fault.Rule.TheVariants.{OutOfOrder, BadFlag};
+ghost use Rattle.record_fields.specs.declared.fault.Rule.TheVariants.{OutOfOrder, BadFlag};
 
-use crate::fault::{Broken, ReadError, Rule};
-use crate::fields::{Reader, broken};
 use cds_stamps::{EpochNo, HouseNo, MOST_MEMBERS, Member, MemberKind, Members};
+use record_fields::{Broken, ReadError, Reader, Rule, broken};
 use std::alloc::Global;
 
-impl<'a> Reader<'a> {
-    /// A house that is above the one before it.
-    #[tactic(auto, unfolding(crate::specs::Fields::octet))]
-    fn house_above(&mut self, before: Option<u8>) -> Result<u8, Broken>
-        ensures { ReadsSurely (λ x. x) (octet (number_order before)) self.old self.new result }
-    {
-        let left = self.left();
-        let house = self.octet()?;
-        if is_unordered_house(house, before) {
-            return Err(broken(Rule::OutOfOrder, left));
-        }
-        Ok(house)
+/// A house that is above the one before it.
+#[tactic(auto, unfolding(record_fields::specs::Fields::octet))]
+fn house_above(reader: &mut Reader<'_>, before: Option<u8>) -> Result<u8, Broken>
+    ensures { ReadsSurely (λ x. x) (octet (number_order before)) reader.old reader.new result }
+{
+    let left = reader.left();
+    let house = reader.octet()?;
+    if is_unordered_house(house, before) {
+        return Err(broken(Rule::OutOfOrder, left));
     }
+    Ok(house)
+}
 
-    /// The kind of a member, before so many members, with or without a master before it.
-    #[tactic(auto, unfolding(crate::specs::Records::member_kind, crate::specs::Fields::octet))]
-    fn member_kind(&mut self, following: u8, master: bool) -> Result<MemberKind, Broken>
-        ensures { ReadsSurely (λ x. x) (member_kind following master) self.old self.new result }
-    {
-        let left = self.left();
-        let number = self.octet()?;
-        match kind_of(number, following, master) {
-            Some(kind) => Ok(kind),
-            None => Err(broken(Rule::BadFlag, left)),
-        }
+/// The kind of a member, before so many members, with or without a master before it.
+#[tactic(auto, unfolding(crate::specs::Records::member_kind, record_fields::specs::Fields::octet))]
+fn read_member_kind(
+    reader: &mut Reader<'_>,
+    following: u8,
+    master: bool,
+) -> Result<MemberKind, Broken>
+    ensures { ReadsSurely (λ x. x) (member_kind following master) reader.old reader.new result }
+{
+    let left = reader.left();
+    let number = reader.octet()?;
+    match kind_of(number, following, master) {
+        Some(kind) => Ok(kind),
+        None => Err(broken(Rule::BadFlag, left)),
     }
+}
 
-    /// A member, before so many members, behind a house, with or without a master before it.
-    #[tactic(auto, unfolding(crate::specs::Records::member))]
-    fn member(&mut self, following: u8, before: Option<u8>, master: bool) -> Result<Member, Broken>
-        ensures { ReadsSurely (λ x. x) (member following before master) self.old self.new result }
-    {
-        let house = self.house_above(before)?;
-        let since = self.u64()?;
-        let kind = self.member_kind(following, master)?;
-        Ok(Member {
-            house: HouseNo(house),
-            since: EpochNo(since),
-            kind,
-        })
-    }
+/// A member, before so many members, behind a house, with or without a master before it.
+#[tactic(auto, unfolding(crate::specs::Records::member))]
+fn read_member(
+    reader: &mut Reader<'_>,
+    following: u8,
+    before: Option<u8>,
+    master: bool,
+) -> Result<Member, Broken>
+    ensures { ReadsSurely (λ x. x) (member following before master) reader.old reader.new result }
+{
+    let house = house_above(reader, before)?;
+    let since = reader.u64()?;
+    let kind = read_member_kind(reader, following, master)?;
+    Ok(Member {
+        house: HouseNo(house),
+        since: EpochNo(since),
+        kind,
+    })
+}
 
-    /// So many members.
-    fn listed(&mut self, alloc: Global, count: u8) -> Result<Vec<Member>, ReadError>
-        ensures { Reads (λ v. v.items) (listed count None false) self.old self.new result }
-    {
-        let mut list = Vec::new(alloc);
-        let mut before = None;
-        let mut master = false;
-        for i in 0..count {
-            let member = self.member(count - i - 1, before, master)?;
-            list.push(member)?;
-            before = Some(member.house.0);
-            master = has_master(master, member.kind);
-        }
-        Ok(list)
+/// So many members.
+fn read_listed(reader: &mut Reader<'_>, alloc: Global, count: u8) -> Result<Vec<Member>, ReadError>
+    ensures { Reads (λ v. v.items) (listed count None false) reader.old reader.new result }
+{
+    let mut list = Vec::new(alloc);
+    let mut before = None;
+    let mut master = false;
+    for i in 0..count {
+        let member = read_member(reader, count - i - 1, before, master)?;
+        list.push(member)?;
+        before = Some(member.house.0);
+        master = has_master(master, member.kind);
     }
+    Ok(list)
+}
 
-    /// A member list.
-    #[tactic(auto, unfolding(crate::specs::Records::members))]
-    pub(crate) fn members(&mut self, alloc: Global) -> Result<Members, ReadError>
-        ensures { Reads (λ x. x) members self.old self.new result }
-    {
-        let count = self.octet_within(Rule::BadLength, 1, MOST_MEMBERS as u8)?;
-        let list = self.listed(alloc, count)?;
-        let members = Members::known(alloc, list.as_slice())?;
-        Ok(members)
-    }
+/// A member list.
+#[tactic(auto, unfolding(crate::specs::Records::members))]
+pub(crate) fn read_members(reader: &mut Reader<'_>, alloc: Global) -> Result<Members, ReadError>
+    ensures { Reads (λ x. x) members reader.old reader.new result }
+{
+    let count = reader.octet_within(Rule::BadLength, 1, MOST_MEMBERS as u8)?;
+    let list = read_listed(reader, alloc, count)?;
+    let members = Members::known(alloc, list.as_slice())?;
+    Ok(members)
 }
 
 /// Whether a house is not above the one before it.

@@ -44,10 +44,10 @@ use Rattle.cds_cell.specs.Accepting.{Accepting, accepting}
 use Rattle.cds_cell.specs.Readings.{objects_of, reading}
 use Rattle.cds_cell.specs.Recorded.{image_at, octets_of}
 use Rattle.cds_cell.specs.Scripted.{answer_of, step_of}
-use Rattle.cds_records.specs.Decoding.{decoding}
+use Rattle.record_fields.specs.Decoding.{decoding}
 use Rattle.cds_records.specs.Octets.{image_octets}
 use Rattle.cds_records.specs.Records.{message}
-use Rattle.cds_records.specs.declared.fault.RecordFault.{RecordFault}
+use Rattle.record_fields.specs.declared.fault.RecordFault.{RecordFault}
 use Rattle.cds_messages.specs.declared.message.Message as recorded
 use Rattle.cell_replay.specs.Headline.{Converges, Finds, Settled, cell_behind, commands_from, commands_of, import_line, line_place}
 use Rattle.cell_replay.specs.Replies.{Numbered, Said, asked_of, does, dump_told, first_target, message_told}

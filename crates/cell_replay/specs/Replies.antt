@@ -36,11 +36,11 @@ use Rattle.ns_commands.specs.Asks.{Asks, add_element, add_member, delete_element
 use Rattle.ns_commands.specs.Imported.{import_answer}
 use Rattle.cds_messages.specs.declared.message.Message as recorded
 use Rattle.cds_records.specs.Octets.{image_octets}
-use Rattle.cds_records.specs.declared.fault.RecordFault.{RecordFault}
-use Rattle.cds_records.specs.declared.fault.RecordFault.TheVariants as fault
+use Rattle.record_fields.specs.declared.fault.RecordFault.{RecordFault}
+use Rattle.record_fields.specs.declared.fault.RecordFault.TheVariants as fault
 use Rattle.cds_messages.specs.Messages.{tag_of}
 use Rattle.cds_records.specs.Records.{message}
-use Rattle.cds_records.specs.Decoding.{decoding}
+use Rattle.record_fields.specs.Decoding.{decoding}
 
 -- the values of an attribute of the entry that is found (own)
 abbrev pub values_read : Reader → (attr : List ℕ) → Result Found Refusal → Answer

@@ -5,7 +5,7 @@ ghost use Rattle.cell_model.specs.Cells as model;
 ghost use Rattle.cell_model.specs.Steps.{message_at};
 ghost use Rattle.cds_cell.specs.Recorded.{image_at, octets_of};
 ghost use Rattle.cds_cell.specs.Standing.{Stands};
-ghost use Rattle.cds_records.specs.Decoding.{decoding};
+ghost use Rattle.record_fields.specs.Decoding.{decoding};
 ghost use Rattle.cds_records.specs.Octets.{image_octets};
 ghost use Rattle.cds_records.specs.Records.{message};
 ghost use Rattle.cell_replay.specs.Replies.{asked_of, dump_told, message_told, octets_told, refusal_of_octets};

@@ -19,7 +19,8 @@ use Rattle.skulk_core.specs.declared.skulk.Skulk.{Skulk}
 use Rattle.skulk_core.specs.declared.skulk.Skulk.TheVariants as skulk
 use Rattle.skulk_core.specs.Rounds.{IsRound, running}
 use Rattle.cds_messages.specs.Dirs.{dir_total, dir_exact}
-use Rattle.cds_records.specs.Ranges.{FitsDir, FitsImage, ItemsFit}
+use Rattle.cds_records.specs.Ranges.{FitsDir, FitsImage}
+use Rattle.record_fields.specs.Ranges.{ItemsFit}
 use Rattle.cds_messages.specs.declared.message.Message.{Message}
 use Rattle.cds_messages.specs.declared.message.Body.{Body}
 use Rattle.cds_messages.specs.declared.message.Body.TheVariants as body

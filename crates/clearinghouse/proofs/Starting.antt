@@ -12,20 +12,20 @@ use Rattle.cds_stamps.specs.Outcomes.{Answers}
 use Rattle.cds_stamps.proofs.Masks.{same_place, other_place}
 use Rattle.purge_rule.specs.Latest.{greatest_of, latest_time}
 use Rattle.purge_rule.proofs.Times.{latest_time-≤}
-use Rattle.cds_records.specs.Decoding.{Decodes, IsWhole, decoding, with_memory}
+use Rattle.record_fields.specs.Decoding.{Decodes, IsWhole, decoding, with_memory}
 use Rattle.cds_messages.specs.Dirs.{dir_cmp, dir_total, dir_exact}
 use Rattle.cds_records.specs.Images.{image}
 use Rattle.cds_messages.specs.Validity.{IsValidDir, IsValidImage}
-use Rattle.cds_records.specs.declared.fault.RecordFault.{RecordFault}
-use Rattle.cds_records.specs.declared.fault.RecordFault.TheVariants.{Trailing}
+use Rattle.record_fields.specs.declared.fault.RecordFault.{RecordFault}
+use Rattle.record_fields.specs.declared.fault.RecordFault.TheVariants.{Trailing}
 use Rattle.cds_messages.specs.declared.image.Image.{Image}
 use Rattle.cds_messages.specs.declared.image.ImageDir.{ImageDir}
 use Rattle.cds_messages.specs.declared.image.ImageDir.TheVariants as kept
-use Rattle.cds_records.proofs.Mapped.{entries_mapped}
+use Rattle.record_fields.proofs.Mapped.{entries_mapped}
 use Rattle.std.proofs.Common.{append-nil}
 use Rattle.cds_records.specs.Octets.{image_octets}
 use Rattle.cds_records.specs.Ranges.{FitsImage}
-use Rattle.cds_records.proofs.OneDecoding.{answers_decoding, decoding_decodes}
+use Rattle.record_fields.proofs.OneDecoding.{answers_decoding, decoding_decodes}
 use Rattle.cds_records.proofs.WholeImages.{the_image_whole}
 use Rattle.clearinghouse.specs.declared.house.Clearinghouse.{Clearinghouse}
 use Rattle.clearinghouse.specs.declared.images.StartFault.TheVariants.{BadImage}

@@ -1,10 +1,10 @@
 -- What a clearinghouse keeps over a crash, and which one starts of that (own, after C705, clearinghouses).
 use Rattle.std.specs.Prelude.{ℕ, ◌+◌, ◌==◌, if◌then◌else◌, false, length, List, map, Result, Ok, Err}
 use Rattle.std.specs.FinMap.{entries, from_entries}
-use Rattle.cds_records.specs.Decoding.{decoding}
+use Rattle.record_fields.specs.Decoding.{decoding}
 use Rattle.cds_records.specs.Images.{image}
-use Rattle.cds_records.specs.declared.fault.RecordFault.{RecordFault}
-use Rattle.cds_records.specs.declared.fault.RecordFault.TheVariants.{Trailing}
+use Rattle.record_fields.specs.declared.fault.RecordFault.{RecordFault}
+use Rattle.record_fields.specs.declared.fault.RecordFault.TheVariants.{Trailing}
 use Rattle.cds_messages.specs.declared.image.Image.{Image}
 use Rattle.cds_messages.specs.declared.image.ImageDir.{ImageDir}
 use Rattle.cds_messages.specs.declared.image.ImageDir.TheVariants as kept

@@ -5,7 +5,7 @@ use Rattle.cds_stamps.specs.declared.numbers.DirId.{DirId}
 use Rattle.cds_stamps.specs.declared.numbers.EpochNo.{EpochNo}
 use Rattle.cds_stamps.specs.declared.numbers.HouseNo.{HouseNo}
 use Rattle.cds_stamps.specs.Members.{members_of, others_of}
-use Rattle.cds_records.specs.Decoding.{IsWhole}
+use Rattle.record_fields.specs.Decoding.{IsWhole}
 use Rattle.cds_records.specs.Octets.{message_octets}
 use Rattle.cds_records.specs.Records as records
 use Rattle.cds_messages.specs.Validity.{IsValidMessage}

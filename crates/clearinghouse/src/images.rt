@@ -3,8 +3,10 @@ ghost use Rattle.std.specs.Prelude.{◌≡◌, ◌++◌, ◌<◌, ◌^◌, false
 ghost use Rattle.std.specs.FinMap as map;
 ghost use Rattle.cds_stamps.specs.Outcomes.{Answers};
 ghost use Rattle.cds_stamps.specs.declared.numbers.DirId as number;
-ghost use Rattle.cds_records.specs.Octets.{dir_octets, image_octets, items_octets, kept_octets};
-ghost use Rattle.cds_records.specs.Ranges.{FitsDir, FitsImage, ItemsFit};
+ghost use Rattle.cds_records.specs.Octets.{dir_octets, image_octets, kept_octets};
+ghost use Rattle.record_fields.specs.Octets.{items_octets};
+ghost use Rattle.cds_records.specs.Ranges.{FitsDir, FitsImage};
+ghost use Rattle.record_fields.specs.Ranges.{ItemsFit};
 ghost use Rattle.clearinghouse.specs.Imaging.{image_of, kept_of, restarted, started, started_from, started_of};
 ghost use Rattle.clearinghouse.specs.Lawful.{IsLawful};
 

@@ -1,6 +1,6 @@
 // Messages as octets, encoded from what a house holds. Nothing is copied for them.
 ghost use Rattle.std.specs.Prelude.{◌≡◌, ◌<◌, ◌≤◌, ◌∷◌, [], false, Some, IfOk, IfSome, MatchOption, length};
-ghost use Rattle.cds_records.specs.Decoding.{IsWhole};
+ghost use Rattle.record_fields.specs.Decoding.{IsWhole};
 ghost use Rattle.cds_records.specs.Octets.{message_octets, message_with};
 ghost use Rattle.cds_records.specs.Records as records;
 ghost use Rattle.cds_messages.specs.Validity.{IsValidMessage};

@@ -1,4 +1,4 @@
-use Rattle.cds_records.proofs.WritingLoops.{behind}
+use Rattle.record_fields.proofs.WritingLoops.{behind}
 use Rattle.cds_records.proofs.encoding.put_copied.Goals as goal
 
 pub returns-clause-octets : goal.returns-clause-octets

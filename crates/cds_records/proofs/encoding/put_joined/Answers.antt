@@ -1,7 +1,7 @@
 use Rattle.std.proofs.Common.{◌++◌, ◌∙◌, ap, subst}
 use Rattle.cds_records.specs.Octets.{members_octets}
 use Rattle.cds_records.specs.Ranges.{FitsMembers}
-use Rattle.cds_records.proofs.WritingLoops.{behind}
+use Rattle.record_fields.proofs.WritingLoops.{behind}
 use Rattle.cds_records.proofs.encoding.put_joined.Goals as goal
 
 pub returns-clause-octets : goal.returns-clause-octets

@@ -2,7 +2,8 @@ use Rattle.std.proofs.Common.{◌+◌, drop, arith}
 use Rattle.std.proofs.lemmas.List.{drop_more, drop_all}
 use Rattle.cds_records.specs.Octets.{members_octets}
 use Rattle.cds_records.proofs.WholeMessages.{members_lawful}
-use Rattle.cds_records.proofs.WritingLoops.{behind, list_begins, list_goes_on, list_ends}
+use Rattle.record_fields.proofs.WritingLoops.{behind}
+use Rattle.cds_records.proofs.WritingMembers.{list_begins, list_goes_on, list_ends}
 use Rattle.cds_records.proofs.encoding.put_members.Goals as goal
 
 pub overflow_cast-list : goal.overflow_cast-list

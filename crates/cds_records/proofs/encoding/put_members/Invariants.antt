@@ -1,5 +1,5 @@
 use Rattle.std.proofs.Common.{drop}
-use Rattle.cds_records.proofs.WritingLoops.{ListWritten}
+use Rattle.cds_records.proofs.WritingMembers.{ListWritten}
 use Rattle.cds_records.proofs.encoding.put_members.Given as goal
 
 abbrev pub invariant-loop-member : goal.invariant-loop-member

@@ -4,7 +4,7 @@ use Rattle.std.specs.FinMap.{entries}
 use Rattle.cds_stamps.specs.declared.numbers.DirId.{DirId}
 use Rattle.cds_records.specs.Octets.{dir_octets, kept_octets}
 use Rattle.cds_records.specs.Ranges.{FitsDir}
-use Rattle.cds_records.proofs.WritingLoops.{writing_begins, writing_goes_on, writing_ends}
+use Rattle.record_fields.proofs.WritingLoops.{writing_begins, writing_goes_on, writing_ends}
 use Rattle.cds_records.proofs.image_encoding.put_dirs.Goals as goal
 
 pub loop-dir-init : goal.loop-dir-init

@@ -2,7 +2,7 @@ use Rattle.std.proofs.Common.{◌++◌, ◌∷◌, [], ◌∙◌, ap, subst, ari
 use Rattle.std.specs.Int.{w32, w64, to_be_bytes}
 use Rattle.cds_records.specs.Octets.{dir_octets, kept_octets, members_octets, replica_octets}
 use Rattle.cds_records.specs.Ranges.{FitsMembers}
-use Rattle.cds_records.proofs.WritingLoops.{behind_5}
+use Rattle.record_fields.proofs.WritingLoops.{behind_5}
 use Rattle.cds_records.proofs.image_encoding.put_held.Goals as goal
 
 pub returns-clause-octets : goal.returns-clause-octets

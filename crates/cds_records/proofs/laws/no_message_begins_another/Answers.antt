@@ -1,5 +1,5 @@
 use Rattle.cds_records.specs.Records.{message}
-use Rattle.cds_records.proofs.LayoutLaws.{one_front}
+use Rattle.record_fields.proofs.LayoutLaws.{one_front}
 use Rattle.cds_records.proofs.laws.no_message_begins_another.Goals as goal
 
 pub returns : goal.returns

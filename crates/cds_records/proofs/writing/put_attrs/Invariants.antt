@@ -1,9 +1,9 @@
 use Rattle.std.proofs.Common.{◌≡◌, None}
 use Rattle.std.specs.FinMap.{entries}
 use Rattle.cds_stamps.specs.Names.{attr_fault}
-use Rattle.cds_records.specs.Octets.{name_octets, cell_octets}
-use Rattle.cds_records.specs.Ranges.{FitsCell}
-use Rattle.cds_records.proofs.WritingLoops.{Written}
+use Rattle.record_fields.specs.Octets.{name_octets, cell_octets}
+use Rattle.record_fields.specs.Ranges.{FitsCell}
+use Rattle.record_fields.proofs.WritingLoops.{Written}
 use Rattle.cds_records.proofs.writing.put_attrs.Given as goal
 
 abbrev pub invariant-loop-name : goal.invariant-loop-name

@@ -1,4 +1,4 @@
-use Rattle.cds_records.proofs.WritingLoops.{behind}
+use Rattle.record_fields.proofs.WritingLoops.{behind}
 use Rattle.cds_records.proofs.writing.put_named.Goals as goal
 
 pub returns-clause-octets : goal.returns-clause-octets

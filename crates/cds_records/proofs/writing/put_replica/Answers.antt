@@ -1,8 +1,9 @@
 use Rattle.std.proofs.Common.{◌≡◌, ◌++◌, ◌∙◌, ap, arith}
 use Rattle.std.specs.Int.{w64, to_be_bytes}
 use Rattle.std.specs.FinMap.{len}
-use Rattle.cds_records.specs.Octets.{optional_stamp_octets, name_octets, entry_octets, each_octets, replica_octets}
-use Rattle.cds_records.proofs.WritingLoops.{behind_3}
+use Rattle.record_fields.specs.Octets.{optional_stamp_octets, name_octets, each_octets}
+use Rattle.cds_records.specs.Octets.{entry_octets, replica_octets}
+use Rattle.record_fields.proofs.WritingLoops.{behind_3}
 use Rattle.cds_records.proofs.writing.put_replica.Goals as goal
 
 pub returns-clause-octets : goal.returns-clause-octets

@@ -1,10 +1,12 @@
 use Rattle.std.proofs.Common.{◌≡◌, None}
 use Rattle.std.specs.FinMap.{entries}
 use Rattle.cds_stamps.specs.Names.{simple_name_fault}
-use Rattle.cds_records.specs.Octets.{name_octets, entry_octets}
+use Rattle.record_fields.specs.Octets.{name_octets}
+use Rattle.cds_records.specs.Octets.{entry_octets}
 use Rattle.cds_records.specs.Ranges.{FitsEntry}
-use Rattle.cds_records.proofs.WritingLoops.{Written}
+use Rattle.record_fields.proofs.WritingLoops.{Written}
 use Rattle.cds_records.proofs.writing.put_table.Given as goal
 
 abbrev pub invariant-loop-name : goal.invariant-loop-name
-invariant-loop-name l = Written name_octets entry_octets (λ n. simple_name_fault n ≡ None) FitsEntry (entries l.table) l.name-iterator l.fn.out.items l.out.items
+invariant-loop-name l =
+    Written name_octets entry_octets (λ n. simple_name_fault n ≡ None) FitsEntry (entries l.table) l.name-iterator l.fn.out.items l.out.items

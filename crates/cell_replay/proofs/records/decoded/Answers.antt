@@ -1,8 +1,8 @@
 use Rattle.std.proofs.Common.{◌≡◌, ap, ℕ, Ok, Err}
 use Rattle.cds_stamps.specs.declared.alloc_or.AllocOr.TheVariants.{Fault}
 use Rattle.cds_records.specs.Records.{message}
-use Rattle.cds_records.specs.Decoding.{Decodes, decoding}
-use Rattle.cds_records.proofs.OneDecoding.{answers_decoding}
+use Rattle.record_fields.specs.Decoding.{Decodes, decoding}
+use Rattle.record_fields.proofs.OneDecoding.{answers_decoding}
 use Rattle.cell_script.specs.declared.answer.Answer.TheVariants as answer
 use Rattle.cell_replay.proofs.records.decoded.Goals as goal
 

@@ -3,8 +3,8 @@ use Rattle.std.specs.Prelude.{map}
 use Rattle.cds_stamps.specs.declared.numbers.DirId.{DirId}
 use Rattle.cds_messages.specs.declared.image.ImageDir.{ImageDir}
 use Rattle.cds_messages.specs.Dirs.{dir_total, dir_exact}
-use Rattle.cds_messages.specs.Added.{add_all}
-use Rattle.cds_records.proofs.Mapped.{mapped_made}
+use Rattle.record_fields.specs.Added.{add_all}
+use Rattle.record_fields.proofs.Mapped.{mapped_made}
 use Rattle.clearinghouse.specs.Imaging.{started_of}
 use Rattle.clearinghouse.proofs.images.started_dirs.Goals as goal
 

@@ -2,7 +2,7 @@ use Rattle.std.proofs.Common.{◌≡◌}
 use Rattle.std.specs.Prelude.{map}
 use Rattle.std.specs.FinMap.{empty, entries}
 use Rattle.cds_messages.specs.Dirs.{dir_cmp}
-use Rattle.cds_messages.specs.Added.{add_all}
+use Rattle.record_fields.specs.Added.{add_all}
 use Rattle.clearinghouse.specs.Imaging.{started_of}
 use Rattle.clearinghouse.proofs.images.started_dirs.Given as goal
 

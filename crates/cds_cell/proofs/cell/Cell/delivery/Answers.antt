@@ -1,7 +1,7 @@
 use Rattle.std.proofs.Common.{arith, refl, subst}
 use Rattle.std.specs.Prelude.{Ok, Err}
 use Rattle.cds_stamps.specs.declared.alloc_or.AllocOr.TheVariants.{Fault}
-use Rattle.cds_records.specs.Decoding.{Decodes}
+use Rattle.record_fields.specs.Decoding.{Decodes}
 use Rattle.cds_records.specs.Records as records
 use Rattle.cds_cell.proofs.ActSteps.{letter_comes, letter_down, letter_sound, letter_unmade}
 use Rattle.cds_cell.proofs.Houses.{place_within}

@@ -1,6 +1,6 @@
 use Rattle.std.proofs.Common.{◌∙◌}
 use Rattle.cds_messages.specs.Dirs.{dir_total}
-use Rattle.cds_messages.proofs.Ascending.{entries_make}
+use Rattle.record_fields.proofs.Ascending.{entries_make}
 use Rattle.cds_messages.proofs.image.ImageDirs.copy.Goals as goal
 
 pub loop-dir-init : goal.loop-dir-init

@@ -1,5 +1,5 @@
 use Rattle.std.proofs.Common.{◌≡◌}
-use Rattle.cds_messages.specs.Added.{add_all}
+use Rattle.record_fields.specs.Added.{add_all}
 use Rattle.cds_messages.proofs.image.ImageDirs.copy.Given as goal
 
 -- with the rest of the directories it is the whole

@@ -1,6 +1,7 @@
 use Rattle.std.proofs.Common.{◌++◌, ◌∙◌, sym, ap, arith}
 use Rattle.std.specs.FinMap.{entries}
-use Rattle.cds_records.specs.Octets.{dir_octets, image_head, items_octets, kept_octets}
+use Rattle.cds_records.specs.Octets.{dir_octets, image_head, kept_octets}
+use Rattle.record_fields.specs.Octets.{items_octets}
 use Rattle.cds_records.proofs.Mapped.{parts_fit, parts_written}
 use Rattle.clearinghouse.specs.Imaging.{kept_of, started}
 use Rattle.clearinghouse.proofs.Starting.{image_starts}

@@ -1,5 +1,5 @@
 use Rattle.std.proofs.Common.{◌≡◌}
-use Rattle.cds_messages.specs.Added.{add_all}
+use Rattle.record_fields.specs.Added.{add_all}
 use Rattle.clearinghouse.proofs.states.DirStates.copy.Given as goal
 
 -- with the rest of the directories it is the whole

@@ -3,7 +3,7 @@ use Rattle.std.specs.FinMap.{entries}
 use Rattle.cds_stamps.specs.declared.numbers.DirId.{DirId}
 use Rattle.cds_records.specs.Octets.{dir_octets, kept_octets}
 use Rattle.cds_records.specs.Ranges.{FitsDir}
-use Rattle.cds_records.proofs.WritingLoops.{writing_begins, writing_goes_on, writing_ends}
+use Rattle.record_fields.proofs.WritingLoops.{writing_begins, writing_goes_on, writing_ends}
 use Rattle.clearinghouse.specs.Imaging.{kept_of}
 use Rattle.clearinghouse.specs.declared.states.DirState.{DirState}
 use Rattle.clearinghouse.proofs.states.DirStates.write.Goals as goal

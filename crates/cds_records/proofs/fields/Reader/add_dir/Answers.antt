@@ -1,7 +1,0 @@
-use Rattle.std.proofs.Common.{refl}
-use Rattle.cds_records.specs.Records.{item}
-use Rattle.cds_records.proofs.fields.Reader.add_dir.Goals as goal
-
-pub returns : goal.returns
-unfolding item
-returns c = (c.in_ok-state.state, rw (c.in_ok-own.ensures, c.in_ok-state.ensures) refl, c.in_ok-insert_dir.ensures)

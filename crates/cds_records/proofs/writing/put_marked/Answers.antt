@@ -1,5 +1,0 @@
-use Rattle.cds_records.proofs.WritingLoops.{behind}
-use Rattle.cds_records.proofs.writing.put_marked.Goals as goal
-
-pub returns-clause-octets : goal.returns-clause-octets
-returns-clause-octets c = behind _ _ _ _ _ c.in_ok-put_value.ensures.octets c.in_ok-put_mark.ensures.octets

@@ -1,0 +1,15 @@
+pub mod Ascending
+pub mod LayoutLaws
+pub mod NameLaws
+pub mod MapLoops
+pub mod ListLoops
+pub mod Valid
+pub mod DecodingLaws
+pub mod WantingLaws
+pub mod WholeFields
+pub mod WholeMarks
+pub mod WritingLoops
+pub mod Mapped
+pub mod Spelling
+pub mod SpellingCells
+pub mod OneDecoding

@@ -1,0 +1,10 @@
+pub mod Layouts
+pub mod Reading
+pub mod Readers
+pub mod Fields
+pub mod Added
+pub mod Records
+pub mod Decoding
+pub mod Wanting
+pub mod Octets
+pub mod Ranges

@@ -1,0 +1,56 @@
+// Why octets are no record.
+use cds_stamps::AllocOr;
+use thiserror::Error;
+
+/// Why octets begin with no message or no image, and where: the place of the first octet of the field that breaks its
+/// rule, counted from 1; of Short the number of octets and one more. Trailing is told by callers that want an image and nothing behind
+/// it: the readers here leave what follows.
+#[derive(Clone, Copy, Debug, PartialEq, Eq, Drop, Error)]
+pub enum RecordFault {
+    #[error("the octets end in a field, at {0}")]
+    Short(usize),
+    #[error("no format or tag that is known, at {0}")]
+    BadTag(usize),
+    #[error("a length or a count out of its range, at {0}")]
+    BadLength(usize),
+    #[error("octets that no name has, at {0}")]
+    BadName(usize),
+    #[error("a key or a stamp out of order, at {0}")]
+    OutOfOrder(usize),
+    #[error("a flag or a kind that is not known, at {0}")]
+    BadFlag(usize),
+    #[error("octets behind the image, at {0}")]
+    Trailing(usize),
+}
+
+/// A rule that a field of a record breaks: that it stands there whole, or what its value is to be.
+#[derive(Clone, Copy, Debug, PartialEq, Eq)]
+pub enum Rule {
+    Short,
+    BadTag,
+    BadLength,
+    BadName,
+    OutOfOrder,
+    BadFlag,
+}
+
+/// A field that breaks a rule, by the number of octets that are left from its first one on; none, where it is not whole.
+#[derive(Clone, Copy, Debug, PartialEq, Eq, Drop)]
+pub struct Broken {
+    pub rule: Rule,
+    pub left: usize,
+}
+
+impl From<Broken> for AllocOr<Broken> {
+    ghost use Rattle.std.specs.Prelude.{◌≡◌};
+    ghost use Rattle.cds_stamps.specs.declared.alloc_or.AllocOr.TheVariants.{Fault};
+
+    ghost from_gives = { λ b e. e ≡ Fault b };
+
+    fn from(broken: Broken) -> AllocOr<Broken> {
+        AllocOr::Fault(broken)
+    }
+}
+
+/// Why a reader that takes memory gives no value.
+pub type ReadError = AllocOr<Broken>;
