@@ -32,11 +32,11 @@ use Rattle.cell_script.specs.declared.answer.Answer.{Answer}
 use Rattle.cell_script.specs.declared.answer.Answer.TheVariants as answer
 use Rattle.cell_script.specs.declared.answer.ScriptRefusal.{ScriptRefusal}
 use Rattle.cell_script.specs.declared.answer.ScriptRefusal.TheVariants as why
-use Rattle.clearinghouse.specs.declared.skulks.Begun.{Begun}
-use Rattle.clearinghouse.specs.declared.taking.Taken.{Taken}
-use Rattle.clearinghouse.specs.Stepping.{IsBegunAnswer, IsStampAnswer, IsTakeAnswer}
+use Rattle.held_directories.specs.declared.skulks.Begun.{Begun}
+use Rattle.held_directories.specs.declared.taking.Taken.{Taken}
+use Rattle.held_directories.specs.Stepping.{IsBegunAnswer, IsStampAnswer, IsTakeAnswer}
 use Rattle.clearinghouse.specs.declared.house.Clearinghouse.{Clearinghouse}
-use Rattle.clearinghouse.specs.Posting.{StandsMessage}
+use Rattle.held_directories.specs.Posting.{StandsMessage}
 use Rattle.cds_cell.specs.declared.bag.Letter.{Letter}
 use Rattle.cds_cell.specs.declared.cell.Cell.{Cell}
 use Rattle.cds_cell.specs.declared.house.CellHouse.{CellHouse}

@@ -27,8 +27,9 @@ use Rattle.cell_model.specs.Cells as model
 use Rattle.cell_model.specs.Sets.{has}
 use Rattle.cell_model.specs.Steps.{message_at, serials}
 use Rattle.clearinghouse.specs.declared.letters.Letters.{Letters}
-use Rattle.clearinghouse.specs.declared.posted.Posted.{Posted}
-use Rattle.clearinghouse.specs.Posting.{AreLetters, StandEach, StandsBody, StandsCopy, StandsMessage, numbers_of, posts_to}
+use Rattle.held_directories.specs.declared.posted.Posted.{Posted}
+use Rattle.held_directories.specs.Posting.{StandEach, StandsBody, StandsCopy, StandsMessage, numbers_of, posts_to}
+use Rattle.clearinghouse.specs.Posting.{AreLetters}
 use Rattle.cds_cell.specs.declared.bag.Bag.{Bag}
 use Rattle.cds_cell.specs.declared.bag.Letter.{Letter}
 use Rattle.cds_cell.specs.Bags.{MaybeStandsLetter, StandsBag, StandsLetter, letter_at}

@@ -24,7 +24,7 @@ use Rattle.cell_model.proofs.Terms.{master_new}
 use Rattle.cell_model.proofs.Views.{put_other}
 use Rattle.cell_script.specs.declared.answer.Answer.TheVariants as answer
 use Rattle.cell_script.specs.declared.answer.ScriptRefusal.{ScriptRefusal}
-use Rattle.clearinghouse.specs.Stepping.{IsStampAnswer}
+use Rattle.held_directories.specs.Stepping.{IsStampAnswer}
 use Rattle.cds_cell.specs.declared.cell.Cell.{Cell}
 use Rattle.cds_cell.specs.declared.console.Listing.{Listing}
 use Rattle.cds_cell.specs.PrivateActs.{ActsAt, CanFound, Founds, GrowsByOne, KeepsRest, Tells, child_outcome}

@@ -20,9 +20,9 @@ use Rattle.cell_model.proofs.Standing.{on_reached}
 use Rattle.cell_model.proofs.Terms.{master_new}
 use Rattle.cell_script.specs.declared.answer.Answer.TheVariants as answer
 use Rattle.cell_script.specs.declared.answer.ScriptRefusal.{ScriptRefusal}
-use Rattle.clearinghouse.specs.declared.epochs.EpochRefusal.{EpochRefusal}
-use Rattle.clearinghouse.specs.declared.epochs.EpochRefusal.TheVariants as why
-use Rattle.clearinghouse.specs.Stepping.{IsEpochAnswer}
+use Rattle.held_directories.specs.declared.epochs.EpochRefusal.{EpochRefusal}
+use Rattle.held_directories.specs.declared.epochs.EpochRefusal.TheVariants as why
+use Rattle.held_directories.specs.Stepping.{IsEpochAnswer}
 use Rattle.cds_cell.specs.declared.bag.Bag.{Bag}
 use Rattle.cds_cell.specs.declared.cell.Cell.{Cell}
 use Rattle.cds_cell.specs.declared.console.Listing.{Listing}

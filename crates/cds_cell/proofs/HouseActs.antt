@@ -17,14 +17,14 @@ use Rattle.cell_model.specs.Turns.{HouseStep, Stays, Turns}
 use Rattle.cell_model.proofs.AtHouses.{Rest, at_house-bag, at_house-here, at_house-rest, at_house-there, house_after, posts_of}
 use Rattle.cell_model.proofs.Lists.{append_nil}
 use Rattle.cell_model.proofs.Views.{put_other, put_same}
-use Rattle.clearinghouse.specs.declared.epochs.EpochRefusal.{EpochRefusal}
-use Rattle.clearinghouse.specs.declared.outgoing.Outgoing.{Outgoing}
-use Rattle.clearinghouse.specs.declared.outgoing.Outgoing.TheVariants as out
-use Rattle.clearinghouse.specs.declared.posted.Posted.{Posted}
-use Rattle.clearinghouse.specs.declared.taking.Taken.{Taken}
-use Rattle.clearinghouse.specs.declared.taking.Taken.TheVariants as taken
-use Rattle.clearinghouse.specs.Posting.{StandEach}
-use Rattle.clearinghouse.specs.Stepping.{UnlessTaken}
+use Rattle.held_directories.specs.declared.epochs.EpochRefusal.{EpochRefusal}
+use Rattle.held_directories.specs.declared.outgoing.Outgoing.{Outgoing}
+use Rattle.held_directories.specs.declared.outgoing.Outgoing.TheVariants as out
+use Rattle.held_directories.specs.declared.posted.Posted.{Posted}
+use Rattle.held_directories.specs.declared.taking.Taken.{Taken}
+use Rattle.held_directories.specs.declared.taking.Taken.TheVariants as taken
+use Rattle.held_directories.specs.Posting.{StandEach}
+use Rattle.held_directories.specs.Stepping.{UnlessTaken}
 use Rattle.cds_cell.specs.declared.bag.Bag.{Bag}
 use Rattle.cds_cell.specs.declared.cell.Cell.{Cell}
 use Rattle.cds_cell.specs.declared.console.Listing.{Listing}

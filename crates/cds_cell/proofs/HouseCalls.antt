@@ -7,13 +7,14 @@ use Rattle.cell_model.specs.Cells as model
 use Rattle.cell_model.specs.Commands as command
 use Rattle.cell_model.specs.Turns.{Turn, HouseStep, Stays, Turns, crashed_house}
 use Rattle.clearinghouse.specs.declared.house.Clearinghouse.{Clearinghouse}
-use Rattle.clearinghouse.specs.declared.posted.Posted.{Posted}
-use Rattle.clearinghouse.specs.declared.states.DirState.{DirState}
-use Rattle.clearinghouse.specs.declared.states.DirState.TheVariants as dir_state
+use Rattle.held_directories.specs.declared.posted.Posted.{Posted}
+use Rattle.held_directories.specs.declared.states.DirState.{DirState}
+use Rattle.held_directories.specs.declared.states.DirState.TheVariants as dir_state
 use Rattle.clearinghouse.specs.Imaging.{restarted}
 use Rattle.clearinghouse.specs.Lawful.{IsLawful}
-use Rattle.clearinghouse.specs.Refusing.{IsLater}
-use Rattle.clearinghouse.specs.Standing.{StandsHouse, StandsSlot}
+use Rattle.held_directories.specs.Refusing.{IsLater}
+use Rattle.held_directories.specs.Standing.{StandsSlot}
+use Rattle.clearinghouse.specs.Standing.{StandsHouse}
 use Rattle.clearinghouse.specs.Stepping.{IsCall, IsStep, IsTurn}
 use Rattle.cds_cell.specs.declared.house.CellHouse.{CellHouse}
 use Rattle.cds_cell.specs.declared.house.HouseState.TheVariants as state

@@ -14,10 +14,11 @@ use Rattle.cell_model.specs.Steps.{effect, is_taken, new_house, set_clock}
 use Rattle.cell_model.proofs.Views.{put_other, put_same}
 use Rattle.cell_script.specs.declared.answer.Answer.TheVariants as answer
 use Rattle.clearinghouse.specs.declared.house.Clearinghouse.{Clearinghouse}
-use Rattle.clearinghouse.specs.declared.states.DirState.TheVariants as state
-use Rattle.clearinghouse.specs.declared.states.Held.{Held}
+use Rattle.held_directories.specs.declared.states.DirState.TheVariants as state
+use Rattle.held_directories.specs.declared.states.Held.{Held}
 use Rattle.clearinghouse.specs.Lawful.{IsLawful}
-use Rattle.clearinghouse.specs.Standing.{StandsHouse, StandsSlot}
+use Rattle.held_directories.specs.Standing.{StandsSlot}
+use Rattle.clearinghouse.specs.Standing.{StandsHouse}
 use Rattle.cds_cell.specs.declared.cell.Cell.{Cell}
 use Rattle.cds_cell.specs.declared.console.Listing.{Listing}
 use Rattle.cds_cell.specs.declared.house.CellHouse.{CellHouse}

@@ -15,7 +15,7 @@ use Rattle.cell_model.specs.Turns as turns
 use Rattle.cell_model.specs.Turns.{HouseStep, accept_at}
 use Rattle.cell_model.proofs.AtHouses.{posts_of}
 use Rattle.cell_model.proofs.Lists.{append_nil}
-use Rattle.clearinghouse.specs.Stepping.{IsStampAnswer}
+use Rattle.held_directories.specs.Stepping.{IsStampAnswer}
 use Rattle.cds_cell.specs.declared.cell.Cell.{Cell}
 use Rattle.cds_cell.specs.declared.house.CellHouse.{CellHouse}
 use Rattle.cds_cell.specs.declared.updating.AcceptedAll.{AcceptedAll}

@@ -13,7 +13,7 @@ use Rattle.cds_stamps.specs.declared.numbers.HouseNo.{HouseNo}
 use Rattle.cds_stamps.specs.Members.{Member, is_master, is_listed, since_in, members_of, masters_in, most_members, first_unordered, members_fault}
 use Rattle.cell_model.specs.Sets.{has}
 use Rattle.cell_model.specs.Steps.{ascending, is_bad_list, kind_among, leaving, listing, stands_twice}
-use Rattle.clearinghouse.specs.Posting.{numbers_of}
+use Rattle.held_directories.specs.Posting.{numbers_of}
 use Rattle.cds_cell.proofs.Ascending.{Rises, above_all, all_from_zero, ascending_rises, ascending_times, length_ascending, one_if, times, twice_ascending}
 
 -- ---- tests

@@ -36,12 +36,12 @@ use Rattle.cell_model.specs.Steps.{message_at}
 use Rattle.cell_model.proofs.Numbers.{numbers_lem}
 use Rattle.cell_model.proofs.Standing.{on_reached}
 use Rattle.clearinghouse.specs.Imaging.{image_of, kept_of, started}
-use Rattle.clearinghouse.specs.Posting.{StandsBody, StandsMessage}
-use Rattle.clearinghouse.specs.Standing.{StandsHeld, StandsSlot}
+use Rattle.held_directories.specs.Posting.{StandsBody, StandsMessage}
+use Rattle.held_directories.specs.Standing.{StandsHeld, StandsSlot}
 use Rattle.clearinghouse.specs.declared.house.Clearinghouse.{Clearinghouse}
-use Rattle.clearinghouse.specs.declared.states.DirState.{DirState}
-use Rattle.clearinghouse.specs.declared.states.DirState.TheVariants as state
-use Rattle.clearinghouse.specs.declared.states.Held.{Held}
+use Rattle.held_directories.specs.declared.states.DirState.{DirState}
+use Rattle.held_directories.specs.declared.states.DirState.TheVariants as state
+use Rattle.held_directories.specs.declared.states.Held.{Held}
 use Rattle.clearinghouse.proofs.Starting.{got_kept}
 use Rattle.cds_cell.specs.Bags.{MaybeStandsLetter, StandsLetter, letter_at}
 use Rattle.cds_cell.specs.Houses.{StandsState, StandsUp}

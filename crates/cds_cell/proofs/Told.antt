@@ -6,10 +6,10 @@ use Rattle.std.specs.Option.{option_map, option_and_then}
 use Rattle.std.proofs.lemmas.Bool.Decides.{nat_tests}
 use Rattle.cds_stamps.specs.declared.stamp.Stamp.{Stamp}
 use Rattle.cds_stamps.specs.Numbers.{root_dir}
-use Rattle.clearinghouse.specs.declared.states.DirState.{DirState}
-use Rattle.clearinghouse.specs.declared.states.DirState.TheVariants as dir
-use Rattle.clearinghouse.specs.declared.states.Held.{Held}
-use Rattle.clearinghouse.specs.Standing.{StandsHeld, StandsSlot}
+use Rattle.held_directories.specs.declared.states.DirState.{DirState}
+use Rattle.held_directories.specs.declared.states.DirState.TheVariants as dir
+use Rattle.held_directories.specs.declared.states.Held.{Held}
+use Rattle.held_directories.specs.Standing.{StandsHeld, StandsSlot}
 use Rattle.directory.specs.Histories.{Mark}
 use Rattle.directory.specs.Shown.{shown, shown_in}
 use Rattle.purge_rule.specs.declared.replica.Replica as declared

@@ -10,7 +10,7 @@ use Rattle.cds_messages.specs.declared.message.Message.{Message}
 use Rattle.cell_model.specs.Cells as model
 use Rattle.cell_model.specs.Sets.{has}
 use Rattle.cell_model.specs.Steps.{message_at}
-use Rattle.clearinghouse.specs.Posting.{StandsMessage}
+use Rattle.held_directories.specs.Posting.{StandsMessage}
 use Rattle.cds_cell.specs.declared.bag.Bag.{Bag}
 use Rattle.cds_cell.specs.declared.bag.Letter.{Letter}
 

@@ -13,8 +13,8 @@ use Rattle.cell_model.specs.Commands as command
 use Rattle.cell_model.specs.Sets.{has}
 use Rattle.cell_model.specs.Steps.{Outcome, at_house, founded, message_at, serials_of, with_directory}
 use Rattle.cell_model.specs.Turns.{HouseStep, Turns, accept, first_joins, found}
-use Rattle.clearinghouse.specs.declared.posted.Posted.{Posted}
-use Rattle.clearinghouse.specs.Posting.{StandsMessage}
+use Rattle.held_directories.specs.declared.posted.Posted.{Posted}
+use Rattle.held_directories.specs.Posting.{StandsMessage}
 use Rattle.cds_cell.specs.declared.bag.Bag.{Bag}
 use Rattle.cds_cell.specs.declared.bag.Letter.{Letter}
 use Rattle.cds_cell.specs.declared.cell.Cell.{Cell}

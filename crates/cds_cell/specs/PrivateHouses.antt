@@ -6,10 +6,11 @@ use Rattle.cds_stamps.specs.declared.numbers.HouseNo.{HouseNo}
 use Rattle.cell_model.specs.Cells as model
 use Rattle.cell_model.specs.Commands as command
 use Rattle.cell_model.specs.Turns.{Turn, HouseStep, Stays, Turns}
-use Rattle.clearinghouse.specs.declared.epochs.EpochRefusal.{EpochRefusal}
-use Rattle.clearinghouse.specs.declared.outgoing.Outgoing.{Outgoing}
-use Rattle.clearinghouse.specs.declared.posted.Posted.{Posted}
-use Rattle.clearinghouse.specs.Posting.{StandEach, posts_at, posts_to, epoch_posts_at, leave_of, numbers_of, sender_of}
+use Rattle.held_directories.specs.declared.epochs.EpochRefusal.{EpochRefusal}
+use Rattle.held_directories.specs.declared.outgoing.Outgoing.{Outgoing}
+use Rattle.held_directories.specs.declared.posted.Posted.{Posted}
+use Rattle.held_directories.specs.Posting.{StandEach, posts_to, leave_of, numbers_of}
+use Rattle.clearinghouse.specs.Posting.{posts_at, epoch_posts_at, sender_of}
 use Rattle.cds_cell.specs.declared.house.CellHouse.{CellHouse}
 use Rattle.cds_cell.specs.declared.house.HouseState.{HouseState}
 use Rattle.cds_cell.specs.declared.house.HouseState.TheVariants as state

@@ -10,7 +10,7 @@ use Rattle.cell_script.specs.declared.answer.Answer.{Answer}
 use Rattle.cell_script.specs.declared.answer.Answer.TheVariants as answer
 use Rattle.cell_script.specs.declared.answer.ScriptRefusal.{ScriptRefusal}
 use Rattle.cell_script.specs.declared.answer.ScriptRefusal.TheVariants as why
-use Rattle.clearinghouse.specs.Posting.{numbers_of}
+use Rattle.held_directories.specs.Posting.{numbers_of}
 
 -- the step of the cell that a command is (own)
 abbrev pub step_of : Command → model.Command

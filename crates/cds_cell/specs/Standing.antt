@@ -9,7 +9,7 @@ use Rattle.cell_model.specs.Reached.{IsReached}
 use Rattle.cell_model.specs.Steps.{Outcome, is_unknown, stands_twice}
 use Rattle.cell_script.specs.declared.answer.Answer.{Answer}
 use Rattle.cell_script.specs.declared.answer.Answer.TheVariants as answer
-use Rattle.clearinghouse.specs.Posting.{numbers_of}
+use Rattle.held_directories.specs.Posting.{numbers_of}
 use Rattle.cds_cell.specs.declared.cell.Cell.{Cell}
 use Rattle.cds_cell.specs.declared.console.Listing.{Listing}
 use Rattle.cds_cell.specs.declared.house.CellHouse.{CellHouse}

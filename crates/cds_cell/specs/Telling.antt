@@ -7,9 +7,9 @@ use Rattle.cds_stamps.specs.declared.numbers.DirId.{DirId}
 use Rattle.cds_stamps.specs.Members.{members_of}
 use Rattle.cds_stamps.specs.Numbers.{root_dir}
 use Rattle.cell_names.specs.ChildPointers.{Pointer}
-use Rattle.clearinghouse.specs.declared.states.Held.{Held}
-use Rattle.clearinghouse.specs.declared.states.DirState.{DirState}
-use Rattle.clearinghouse.specs.declared.states.DirState.TheVariants as dir
+use Rattle.held_directories.specs.declared.states.Held.{Held}
+use Rattle.held_directories.specs.declared.states.DirState.{DirState}
+use Rattle.held_directories.specs.declared.states.DirState.TheVariants as dir
 use Rattle.directory.specs.Shown.{shown_in}
 use Rattle.resolver.specs.declared.seen.Found.{Found}
 use Rattle.resolver.specs.Readers.{Reader, object_found}

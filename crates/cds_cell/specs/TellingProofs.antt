@@ -18,8 +18,8 @@ use Rattle.cds_stamps.proofs.ListMembers.{Contains-head, Contains-tail, Contains
 use Rattle.cds_stamps.specs.declared.numbers.DirId.{DirId}
 use Rattle.cds_stamps.specs.Keyed.{tied}
 use Rattle.cds_stamps.specs.Octets.{octets_cmp, octets_exact}
-use Rattle.clearinghouse.specs.declared.states.DirState.{DirState}
-use Rattle.clearinghouse.specs.declared.states.DirState.TheVariants as dir
+use Rattle.held_directories.specs.declared.states.DirState.{DirState}
+use Rattle.held_directories.specs.declared.states.DirState.TheVariants as dir
 use Rattle.directory.specs.declared.entry.EntryCell.{EntryCell}
 use Rattle.directory.specs.Entries.{Entries}
 use Rattle.directory.specs.Shown.{Shown, shown_entry, shown_in, entry_values, face_of, leads}

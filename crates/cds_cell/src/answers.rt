@@ -1,7 +1,7 @@
 // The answers of the script.
 ghost use Rattle.std.specs.Prelude.{◌≡◌, ◌≢◌, ℕ, Some, OnErr};
 ghost use Rattle.cell_model.specs.Commands as command;
-ghost use Rattle.clearinghouse.specs.Stepping.{IsBegunAnswer, IsEpochAnswer, IsTakeAnswer, UnlessTaken};
+ghost use Rattle.held_directories.specs.Stepping.{IsBegunAnswer, IsEpochAnswer, IsTakeAnswer, UnlessTaken};
 ghost use Rattle.cell_script.specs.declared.answer.Answer.TheVariants as answer;
 ghost use Rattle.cds_cell.specs.declared.cell.Cell.{Cell};
 ghost use Rattle.cds_cell.specs.PrivateActs.{Tells};

@@ -9,8 +9,9 @@ ghost use Rattle.directory.specs.Updates.{change_of};
 ghost use Rattle.cell_model.specs.Cells as model;
 ghost use Rattle.cell_model.specs.Taking.{CanTake};
 ghost use Rattle.cell_model.specs.Turns as turns;
-ghost use Rattle.clearinghouse.specs.Posting.{AreLetters, StandsMessage, numbers_of};
-ghost use Rattle.clearinghouse.specs.Stepping.{IsStampAnswer, IsBegunAnswer, IsEpochAnswer, IsTakeAnswer, UnlessTaken};
+ghost use Rattle.held_directories.specs.Posting.{StandsMessage, numbers_of};
+ghost use Rattle.clearinghouse.specs.Posting.{AreLetters};
+ghost use Rattle.held_directories.specs.Stepping.{IsStampAnswer, IsBegunAnswer, IsEpochAnswer, IsTakeAnswer, UnlessTaken};
 ghost use Rattle.cds_cell.specs.Houses.{StandsAtHouse};
 ghost use Rattle.cds_cell.specs.PrivateHouses.{Asks, IsNewEpoch, IsSameHouse, IsTurnAt, epoch_posted_by, leaves_by, posted_at};
 

@@ -6,7 +6,7 @@ ghost use Rattle.directory.specs.Updates.{change_of};
 ghost use Rattle.cell_model.specs.Cells as model;
 ghost use Rattle.cell_model.specs.Commands as command;
 ghost use Rattle.cell_model.specs.Steps.{ascending, effect, first_refusal, is_bad_list, refusals_of};
-ghost use Rattle.clearinghouse.specs.Posting.{numbers_of};
+ghost use Rattle.held_directories.specs.Posting.{numbers_of};
 ghost use Rattle.cds_cell.specs.PrivateActs.{CanFound, Founds, GrowsByOne, KeepsRest, MasterFounds, child_outcome};
 ghost use Rattle.cds_cell.specs.PrivateSteps.{ComesTo, IsPlaceOf, IsStepAs, Leaves};
 ghost use Rattle.cds_cell.specs.Standing.{HasRoom, Stands, StandsAs};

@@ -3,7 +3,7 @@ ghost use Rattle.std.specs.Prelude.{◌≡◌, ◌∷◌, ◌≤◌, length, tru
 ghost use Rattle.cds_stamps.specs.Members as members;
 ghost use Rattle.cds_stamps.specs.Members.{members_of};
 ghost use Rattle.cell_model.specs.Steps as model;
-ghost use Rattle.clearinghouse.specs.Posting.{numbers_of};
+ghost use Rattle.held_directories.specs.Posting.{numbers_of};
 
 use cds_stamps::{EpochNo, HouseNo, MOST_MEMBERS, Member, MemberKind, Members};
 use std::alloc::{AllocError, Global};

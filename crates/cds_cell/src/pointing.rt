@@ -1,7 +1,7 @@
 // The houses of a child pointer, as a command names them: in any order.
 ghost use Rattle.std.specs.Prelude.{◌≡◌, ◌∷◌, [], true, false, IfOk, MatchOption};
 ghost use Rattle.cell_model.specs.Steps.{ascending, is_bad_list};
-ghost use Rattle.clearinghouse.specs.Posting.{numbers_of};
+ghost use Rattle.held_directories.specs.Posting.{numbers_of};
 
 use crate::members::in_order;
 use cds_stamps::{AllocOr, HouseNo};

@@ -6,7 +6,7 @@ ghost use Rattle.cell_names.specs.ChildPointers.{pointer_of};
 ghost use Rattle.directory.specs.Shown.{shown_entry, shown_in};
 ghost use Rattle.cell_model.specs.Sets.{has};
 ghost use Rattle.resolver.specs.Readers.{sight_of};
-ghost use Rattle.clearinghouse.specs.Posting.{numbers_of};
+ghost use Rattle.held_directories.specs.Posting.{numbers_of};
 ghost use Rattle.cds_cell.specs.Asking.{answering, asked, first_some};
 ghost use Rattle.cds_cell.specs.PrivateTelling.{asked_of};
 ghost use Rattle.cds_cell.specs.Readings.{child_sight, led_sight, link_sight, shown_sight, values_of};

@@ -13,10 +13,10 @@ use Rattle.cell_script.specs.declared.answer.Answer.{Answer}
 use Rattle.cell_script.specs.declared.answer.Answer.TheVariants as answer
 use Rattle.cell_script.specs.declared.answer.ScriptRefusal.TheVariants as why
 use Rattle.clearinghouse.specs.Imaging.{image_of, kept_of}
-use Rattle.clearinghouse.specs.Standing.{StandsSlot}
+use Rattle.held_directories.specs.Standing.{StandsSlot}
 use Rattle.clearinghouse.specs.declared.house.Clearinghouse.{Clearinghouse}
-use Rattle.clearinghouse.specs.declared.states.DirState.{DirState}
-use Rattle.clearinghouse.specs.declared.states.DirState.TheVariants as state
+use Rattle.held_directories.specs.declared.states.DirState.{DirState}
+use Rattle.held_directories.specs.declared.states.DirState.TheVariants as state
 use Rattle.cds_cell.specs.Recorded.{image_at, kept_in}
 use Rattle.cds_cell.specs.Standing.{Stands, house_of}
 use Rattle.cds_cell.specs.declared.cell.Cell.{Cell}

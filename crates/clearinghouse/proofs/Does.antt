@@ -23,27 +23,32 @@ use Rattle.cell_model.specs.Taking.{CanTake}
 use Rattle.cell_model.specs.Turns.{take}
 use Rattle.cell_model.proofs.Rows as rows
 use Rattle.clearinghouse.specs.declared.house.Clearinghouse.{Clearinghouse}
-use Rattle.clearinghouse.specs.declared.states.Held.{Held}
-use Rattle.clearinghouse.specs.declared.states.DirState.{DirState}
-use Rattle.clearinghouse.specs.declared.states.DirState.TheVariants as state
-use Rattle.clearinghouse.specs.declared.outgoing.Outgoing.{Outgoing}
-use Rattle.clearinghouse.specs.declared.outgoing.Turn.{Turn}
-use Rattle.clearinghouse.specs.declared.taking.Taken.{Taken}
-use Rattle.clearinghouse.specs.declared.taking.Taken.TheVariants as answers
+use Rattle.held_directories.specs.declared.states.Held.{Held}
+use Rattle.held_directories.specs.declared.states.DirState.{DirState}
+use Rattle.held_directories.specs.declared.states.DirState.TheVariants as state
+use Rattle.held_directories.specs.declared.outgoing.Outgoing.{Outgoing}
+use Rattle.held_directories.specs.declared.outgoing.Turn.{Turn}
+use Rattle.held_directories.specs.declared.taking.Taken.{Taken}
+use Rattle.held_directories.specs.declared.taking.Taken.TheVariants as answers
 use Rattle.clearinghouse.specs.Lawful.{IsLawful}
-use Rattle.clearinghouse.specs.Posting.{LooksBody, LooksMessage, StandsMessage, posts_at}
+use Rattle.held_directories.specs.Posting.{LooksBody, LooksMessage, StandsMessage}
+use Rattle.clearinghouse.specs.Posting.{posts_at}
 use Rattle.clearinghouse.specs.Standing.{LooksHouse, StandsHouse}
-use Rattle.clearinghouse.specs.Stepping.{IsStep, IsTakeAnswer, LooksStep, UnlessTaken, is_taken}
+use Rattle.held_directories.specs.Stepping.{IsTakeAnswer, UnlessTaken, is_taken}
+use Rattle.clearinghouse.specs.Stepping.{IsStep, LooksStep}
 use Rattle.clearinghouse.specs.Taking.{Takes, TakesBody}
-use Rattle.clearinghouse.specs.Times.{latest_in_message}
+use Rattle.held_directories.specs.Times.{latest_in_message}
 use Rattle.clearinghouse.specs.PrivateTurns.{Heeds, SameHouse}
-use Rattle.clearinghouse.specs.Taking.{AfterGathered, AfterSpread, Answers, Copies, HasCopy, HasJoined, HasLeft, Merges, TakesAt, TakesFirst}
-use Rattle.clearinghouse.specs.Taking.{TakesHere, TakesJoin, TakesLeave, TakesOther, TakesOwn, TakesSecond, copy_of, held_in, holding, join_bar}
-use Rattle.clearinghouse.specs.Taking.{leave_passed}
+use Rattle.held_directories.specs.Taking.{AfterGathered, AfterSpread, Answers, TakesFirst}
+use Rattle.clearinghouse.specs.Taking.{Copies, HasCopy, HasJoined, HasLeft, Merges, TakesAt}
+use Rattle.held_directories.specs.Taking.{TakesHere, TakesOwn, TakesSecond, copy_of, held_in, join_bar}
+use Rattle.clearinghouse.specs.Taking.{TakesJoin, TakesLeave, TakesOther, holding}
+use Rattle.held_directories.specs.Taking.{leave_passed}
 use Rattle.clearinghouse.proofs.Houses.{got_there, same_house}
-use Rattle.clearinghouse.proofs.Keeping.{other_kept, join_kept, leave_kept, stale_phase}
-use Rattle.clearinghouse.proofs.Maps.{if_ok_map}
-use Rattle.clearinghouse.proofs.TakeSteps.{body_looks}
+use Rattle.held_directories.proofs.Keeping.{stale_phase}
+use Rattle.clearinghouse.proofs.Keeping.{other_kept, join_kept, leave_kept}
+use Rattle.held_directories.proofs.Maps.{if_ok_map}
+use Rattle.held_directories.proofs.TakeSteps.{body_looks}
 use Rattle.clearinghouse.proofs.JoinSteps.{message_step, message_looks, join_step, join_looks, leave_step, leave_looks}
 
 -- what the call makes of the clearinghouse, what it answers, and what is to be posted

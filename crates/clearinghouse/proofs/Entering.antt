@@ -19,24 +19,29 @@ use Rattle.cell_model.specs.Cells as model
 use Rattle.cell_model.specs.Commands as command
 use Rattle.cell_model.specs.Turns as turn
 use Rattle.cell_model.specs.Turns.{copy_of, epoch_posts, epoch_replica, first_replica, found, holding, new_epoch, new_epoch_in, to_each}
-use Rattle.clearinghouse.specs.declared.epochs.EpochRefusal.{EpochRefusal}
-use Rattle.clearinghouse.specs.declared.epochs.EpochRefusal.TheVariants as refusal
+use Rattle.held_directories.specs.declared.epochs.EpochRefusal.{EpochRefusal}
+use Rattle.held_directories.specs.declared.epochs.EpochRefusal.TheVariants as refusal
 use Rattle.clearinghouse.specs.declared.house.Clearinghouse.{Clearinghouse}
-use Rattle.clearinghouse.specs.declared.outgoing.Outgoing.{Outgoing}
-use Rattle.clearinghouse.specs.declared.outgoing.Outgoing.TheVariants as out
-use Rattle.clearinghouse.specs.declared.states.DirState.{DirState}
-use Rattle.clearinghouse.specs.declared.states.DirState.TheVariants as state
-use Rattle.clearinghouse.specs.declared.states.Held.{Held}
-use Rattle.clearinghouse.specs.Lawful.{IsLawful, IsLawfulHeld}
-use Rattle.clearinghouse.specs.Posting.{StandEach, epoch_posts_at, leave_of, numbers_of, posts_at, posts_if, posts_to}
-use Rattle.clearinghouse.specs.Refusing.{IsLater, epoch_refused}
-use Rattle.clearinghouse.specs.Standing.{StandsHeld, StandsHouse}
-use Rattle.clearinghouse.specs.Stepping.{Enters, IsEpochAnswer, IsStep, IsTurn}
+use Rattle.held_directories.specs.declared.outgoing.Outgoing.{Outgoing}
+use Rattle.held_directories.specs.declared.outgoing.Outgoing.TheVariants as out
+use Rattle.held_directories.specs.declared.states.DirState.{DirState}
+use Rattle.held_directories.specs.declared.states.DirState.TheVariants as state
+use Rattle.held_directories.specs.declared.states.Held.{Held}
+use Rattle.held_directories.specs.Lawful.{IsLawfulHeld}
+use Rattle.clearinghouse.specs.Lawful.{IsLawful}
+use Rattle.held_directories.specs.Posting.{StandEach, leave_of, numbers_of, posts_if, posts_to}
+use Rattle.clearinghouse.specs.Posting.{epoch_posts_at, posts_at}
+use Rattle.held_directories.specs.Refusing.{IsLater, epoch_refused}
+use Rattle.held_directories.specs.Standing.{StandsHeld}
+use Rattle.clearinghouse.specs.Standing.{StandsHouse}
+use Rattle.held_directories.specs.Stepping.{IsEpochAnswer}
+use Rattle.clearinghouse.specs.Stepping.{Enters, IsStep, IsTurn}
 use Rattle.clearinghouse.specs.PrivateTurns.{SameHouse}
-use Rattle.clearinghouse.specs.Stepping.{first_held, founded}
-use Rattle.clearinghouse.specs.Taking.{held_in}
+use Rattle.held_directories.specs.Stepping.{first_held}
+use Rattle.clearinghouse.specs.Stepping.{founded}
+use Rattle.held_directories.specs.Taking.{held_in}
 use Rattle.clearinghouse.proofs.Houses.{by_slot, got_here, house_holds, house_lawful, turn_of}
-use Rattle.clearinghouse.proofs.Posts.{each_append, each_stands, posts_stand}
+use Rattle.held_directories.proofs.Posts.{each_append, each_stands, posts_stand}
 
 -- ---- a new directory
 

@@ -14,20 +14,24 @@ use Rattle.cell_model.specs.Commands as command
 use Rattle.cell_model.specs.Turns.{Turn, HouseStep, Stays, Turns, holding}
 use Rattle.cell_model.proofs.Fine.{below_later}
 use Rattle.clearinghouse.specs.declared.house.Clearinghouse.{Clearinghouse}
-use Rattle.clearinghouse.specs.declared.outgoing.Outgoing.{Outgoing}
-use Rattle.clearinghouse.specs.declared.posted.Posted.{Posted}
-use Rattle.clearinghouse.specs.declared.states.DirState.{DirState}
-use Rattle.clearinghouse.specs.declared.states.DirState.TheVariants as state
-use Rattle.clearinghouse.specs.declared.states.Held.{Held}
-use Rattle.clearinghouse.specs.Lawful.{IsLawful, IsLawfulHeld}
-use Rattle.clearinghouse.specs.Posting.{StandEach, posts_if, posts_at, sender_of}
-use Rattle.clearinghouse.specs.Standing.{LooksSlot, StandsHeld, StandsHouse, StandsSlot}
+use Rattle.held_directories.specs.declared.outgoing.Outgoing.{Outgoing}
+use Rattle.held_directories.specs.declared.posted.Posted.{Posted}
+use Rattle.held_directories.specs.declared.states.DirState.{DirState}
+use Rattle.held_directories.specs.declared.states.DirState.TheVariants as state
+use Rattle.held_directories.specs.declared.states.Held.{Held}
+use Rattle.held_directories.specs.Lawful.{IsLawfulHeld}
+use Rattle.clearinghouse.specs.Lawful.{IsLawful}
+use Rattle.held_directories.specs.Posting.{StandEach, posts_if}
+use Rattle.clearinghouse.specs.Posting.{posts_at, sender_of}
+use Rattle.held_directories.specs.Standing.{LooksSlot, StandsHeld, StandsSlot}
+use Rattle.clearinghouse.specs.Standing.{StandsHouse}
 use Rattle.clearinghouse.specs.Stepping.{IsCall, IsStep, IsTurn}
-use Rattle.clearinghouse.specs.PrivateTurns.{Heeds, HeldStep, HeldTurn, SameHouse}
-use Rattle.clearinghouse.specs.Taking.{held_in}
-use Rattle.clearinghouse.proofs.Lawfulness.{lawful_later}
-use Rattle.clearinghouse.proofs.Maps.{if_ok_map, unchanged}
-use Rattle.clearinghouse.proofs.Posts.{posts_none}
+use Rattle.held_directories.specs.Turns.{HeldStep, HeldTurn}
+use Rattle.clearinghouse.specs.PrivateTurns.{Heeds, SameHouse}
+use Rattle.held_directories.specs.Taking.{held_in}
+use Rattle.held_directories.proofs.Lawfulness.{lawful_later}
+use Rattle.held_directories.proofs.Maps.{if_ok_map, unchanged}
+use Rattle.held_directories.proofs.Posts.{posts_none}
 
 -- ---- what stands for a slot
 

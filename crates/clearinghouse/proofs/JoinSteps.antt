@@ -25,22 +25,26 @@ use Rattle.cell_model.proofs.Rows.{le_from}
 use Rattle.cell_model.proofs.Views.{put_same}
 use Rattle.cell_model.proofs.Fine.{Fine, FineAfter, FineSlot, take_fine}
 use Rattle.clearinghouse.specs.declared.house.Clearinghouse.{Clearinghouse}
-use Rattle.clearinghouse.specs.declared.states.Held.{Held}
-use Rattle.clearinghouse.specs.declared.states.DirState.{DirState}
-use Rattle.clearinghouse.specs.declared.states.DirState.TheVariants as state
-use Rattle.clearinghouse.specs.declared.outgoing.Outgoing.{Outgoing}
-use Rattle.clearinghouse.specs.declared.taking.Taken.{Taken}
-use Rattle.clearinghouse.specs.declared.taking.Taken.TheVariants as answers
-use Rattle.clearinghouse.specs.Posting.{StandsBody, StandsMessage, LooksBody, LooksMessage, StandEach, posts_at, sender_of}
-use Rattle.clearinghouse.specs.Standing.{LooksHeld, LooksSlot, LooksHouse, StandsHeld, StandsSlot, StandsHouse}
-use Rattle.clearinghouse.specs.Stepping.{IsTakeAnswer, IsStep, LooksStep, is_taken}
-use Rattle.clearinghouse.specs.Times.{latest_in_message}
-use Rattle.clearinghouse.specs.PrivateTurns.{HeldStep, LooksAfter, floor_taken}
-use Rattle.clearinghouse.specs.Taking.{Answers, Copies, HasJoined, HasLeft, Merges, TakesAt, TakesJoin, TakesLeave, TakesOther, copy_of, held_in}
-use Rattle.clearinghouse.specs.Taking.{join_foreign, join_passed, leave_passed}
+use Rattle.held_directories.specs.declared.states.Held.{Held}
+use Rattle.held_directories.specs.declared.states.DirState.{DirState}
+use Rattle.held_directories.specs.declared.states.DirState.TheVariants as state
+use Rattle.held_directories.specs.declared.outgoing.Outgoing.{Outgoing}
+use Rattle.held_directories.specs.declared.taking.Taken.{Taken}
+use Rattle.held_directories.specs.declared.taking.Taken.TheVariants as answers
+use Rattle.held_directories.specs.Posting.{StandsBody, StandsMessage, LooksBody, LooksMessage, StandEach}
+use Rattle.clearinghouse.specs.Posting.{posts_at, sender_of}
+use Rattle.held_directories.specs.Standing.{LooksHeld, LooksSlot, StandsHeld, StandsSlot}
+use Rattle.clearinghouse.specs.Standing.{LooksHouse, StandsHouse}
+use Rattle.held_directories.specs.Stepping.{IsTakeAnswer, is_taken}
+use Rattle.clearinghouse.specs.Stepping.{IsStep, LooksStep}
+use Rattle.held_directories.specs.Times.{latest_in_message}
+use Rattle.held_directories.specs.Turns.{HeldStep, LooksAfter, floor_taken}
+use Rattle.held_directories.specs.Taking.{Answers, copy_of, held_in}
+use Rattle.clearinghouse.specs.Taking.{Copies, HasJoined, HasLeft, Merges, TakesAt, TakesJoin, TakesLeave, TakesOther}
+use Rattle.held_directories.specs.Taking.{join_foreign, join_passed, leave_passed}
 use Rattle.clearinghouse.proofs.Houses.{house_holds, got_here, slot_looks, step_of}
-use Rattle.clearinghouse.proofs.Posts.{posts_none}
-use Rattle.clearinghouse.proofs.TakeSteps.{replica_taken, message_is, latest_is, other_step, other_looks}
+use Rattle.held_directories.proofs.Posts.{posts_none}
+use Rattle.held_directories.proofs.TakeSteps.{replica_taken, message_is, latest_is, other_step, other_looks}
 
 -- what a house has of a directory stands for a slot, where it looks like it, and its replica is the one of the history
 slot_stands : (me floor : ℕ) (s : DirState) (slot : model.Slot) → LooksSlot me (Some s) slot

@@ -1,13 +1,6 @@
-mod MemberLists
-mod Maps
 mod Posts
 mod Encoding
-mod Phases
-mod TakeSteps
 mod JoinSteps
-mod Accepting
-mod Beginning
-mod Lawfulness
 mod Houses
 mod Takings
 mod Entering

@@ -28,14 +28,16 @@ use Rattle.cell_model.specs.Cells as model
 use Rattle.cell_model.specs.Sets.{has}
 use Rattle.cell_model.proofs.Lists.{eq_from}
 use Rattle.clearinghouse.specs.declared.house.Clearinghouse.{Clearinghouse}
-use Rattle.clearinghouse.specs.declared.states.DirState.{DirState}
-use Rattle.clearinghouse.specs.declared.states.DirState.TheVariants as state
-use Rattle.clearinghouse.specs.declared.states.Held.{Held}
+use Rattle.held_directories.specs.declared.states.DirState.{DirState}
+use Rattle.held_directories.specs.declared.states.DirState.TheVariants as state
+use Rattle.held_directories.specs.declared.states.Held.{Held}
 use Rattle.clearinghouse.specs.Imaging.{image_of, kept_of}
-use Rattle.clearinghouse.specs.Lawful.{IsLawful, RunsSkulk}
-use Rattle.clearinghouse.specs.Posting.{LooksBody, LooksMessage}
-use Rattle.clearinghouse.specs.Standing.{LooksHouse, LooksSlot, StandsPhase, StandsRound}
-use Rattle.clearinghouse.proofs.Phases.{above, at_place, ordered, placed, rest_ordered, rest_unlisted}
+use Rattle.held_directories.specs.Lawful.{RunsSkulk}
+use Rattle.clearinghouse.specs.Lawful.{IsLawful}
+use Rattle.held_directories.specs.Posting.{LooksBody, LooksMessage}
+use Rattle.held_directories.specs.Standing.{LooksSlot, StandsPhase, StandsRound}
+use Rattle.clearinghouse.specs.Standing.{LooksHouse}
+use Rattle.held_directories.proofs.Phases.{above, at_place, ordered, placed, rest_ordered, rest_unlisted}
 use Rattle.clearinghouse.proofs.Starting.{got_kept}
 
 -- ---- who has answered

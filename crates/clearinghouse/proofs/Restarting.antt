@@ -15,14 +15,15 @@ use Rattle.cell_model.specs.Cells as model
 use Rattle.cell_model.specs.Turns.{crashed, crashed_house, started_house}
 use Rattle.cell_model.proofs.Fine.{idle_below}
 use Rattle.clearinghouse.specs.declared.house.Clearinghouse.{Clearinghouse}
-use Rattle.clearinghouse.specs.declared.states.DirState.{DirState}
-use Rattle.clearinghouse.specs.declared.states.DirState.TheVariants as state
-use Rattle.clearinghouse.specs.declared.states.Held.{Held}
+use Rattle.held_directories.specs.declared.states.DirState.{DirState}
+use Rattle.held_directories.specs.declared.states.DirState.TheVariants as state
+use Rattle.held_directories.specs.declared.states.Held.{Held}
 use Rattle.clearinghouse.specs.Imaging.{image_of, kept_of, restarted, started_of}
 use Rattle.clearinghouse.specs.Lawful.{IsLawful}
-use Rattle.clearinghouse.specs.Standing.{StandsHeld, StandsHouse, StandsSlot}
-use Rattle.clearinghouse.specs.Times.{latest_in_image, latest_in_kept}
-use Rattle.clearinghouse.proofs.Lawfulness.{each_mark}
+use Rattle.held_directories.specs.Standing.{StandsHeld, StandsSlot}
+use Rattle.clearinghouse.specs.Standing.{StandsHouse}
+use Rattle.held_directories.specs.Times.{latest_in_image, latest_in_kept}
+use Rattle.held_directories.proofs.Lawfulness.{each_mark}
 use Rattle.clearinghouse.proofs.Starting.{got_kept, got_started, image_valid, started_lawful}
 
 -- ---- what it has

@@ -29,11 +29,12 @@ use Rattle.record_fields.proofs.OneDecoding.{answers_decoding, decoding_decodes}
 use Rattle.cds_records.proofs.WholeImages.{the_image_whole}
 use Rattle.clearinghouse.specs.declared.house.Clearinghouse.{Clearinghouse}
 use Rattle.clearinghouse.specs.declared.images.StartFault.TheVariants.{BadImage}
-use Rattle.clearinghouse.specs.declared.states.DirState.{DirState}
-use Rattle.clearinghouse.specs.declared.states.DirState.TheVariants as state
+use Rattle.held_directories.specs.declared.states.DirState.{DirState}
+use Rattle.held_directories.specs.declared.states.DirState.TheVariants as state
 use Rattle.clearinghouse.specs.Imaging.{image_of, kept_of, restarted, started, started_from, started_of, starting}
-use Rattle.clearinghouse.specs.Lawful.{IsLawful, IsLawfulHeld}
-use Rattle.clearinghouse.specs.Times.{latest_in_image, latest_in_kept}
+use Rattle.held_directories.specs.Lawful.{IsLawfulHeld}
+use Rattle.clearinghouse.specs.Lawful.{IsLawful}
+use Rattle.held_directories.specs.Times.{latest_in_image, latest_in_kept}
 
 -- ---- answers
 

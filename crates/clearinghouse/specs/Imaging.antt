@@ -11,9 +11,9 @@ use Rattle.cds_messages.specs.declared.image.ImageDir.TheVariants as kept
 use Rattle.skulk_core.specs.declared.skulk.Skulk.TheVariants as skulk
 use Rattle.clearinghouse.specs.declared.images.StartFault.{StartFault}
 use Rattle.clearinghouse.specs.declared.images.StartFault.TheVariants.{BadImage}
-use Rattle.clearinghouse.specs.declared.states.DirState.{DirState}
-use Rattle.clearinghouse.specs.declared.states.DirState.TheVariants as state
-use Rattle.clearinghouse.specs.Times.{latest_in_image}
+use Rattle.held_directories.specs.declared.states.DirState.{DirState}
+use Rattle.held_directories.specs.declared.states.DirState.TheVariants as state
+use Rattle.held_directories.specs.Times.{latest_in_image}
 use Rattle.clearinghouse.specs.declared.house.Clearinghouse.{Clearinghouse}
 
 -- what is kept of what a house has of a directory: all but its skulk (own)

@@ -1,31 +1,12 @@
 -- Clearinghouses whose tables are valid, whose floor is above all their times, and whose skulks are their own (own, after C705, timestamps and skulks).
-use Rattle.std.specs.Prelude.{◌≡◌, ℕ, ◌≤◌, length, List, Some}
+use Rattle.std.specs.Prelude.{◌≡◌, Some}
 use Rattle.std.specs.FinMap.{get}
-use Rattle.cds_stamps.specs.declared.members.Member.{Member}
 use Rattle.cds_stamps.specs.declared.numbers.DirId.{DirId}
-use Rattle.cds_stamps.specs.declared.stamp.Stamp.{Stamp}
-use Rattle.cds_stamps.specs.Members.{members_of, place_of}
-use Rattle.directory.specs.Entries.{IsValidTable}
-use Rattle.purge_rule.specs.Latest.{ReplicaUpTo}
-use Rattle.skulk_core.specs.declared.skulk.Skulk.{Skulk}
-use Rattle.skulk_core.specs.Rounds.{IsPhaseOf, running}
-use Rattle.clearinghouse.specs.declared.states.Held.{Held}
-use Rattle.clearinghouse.specs.declared.states.DirState.TheVariants as state
+use Rattle.held_directories.specs.declared.states.Held.{Held}
+use Rattle.held_directories.specs.declared.states.DirState.TheVariants as state
 use Rattle.clearinghouse.specs.declared.house.Clearinghouse.{Clearinghouse}
+use Rattle.held_directories.specs.Lawful.{IsLawfulHeld}
 
--- the skulk of t at the house `me`: its time is not later than this, and the house is a member and has answered in it (own)
-pub record RunsSkulk (me floor : ℕ) (ms : List Member) (s : Skulk) (t : Stamp) : Type 0 where
-  pub time : t.time ≤ floor
-  pub place : ℕ
-  pub member : place_of me (members_of ms) ≡ Some place
-  pub round : IsPhaseOf (length ms) place s
-
--- what the house `me` holds is valid, no time of its replica is later than this, and a skulk that runs is its own (own)
-pub record IsLawfulHeld (me floor : ℕ) (h : Held) : Type 0 where
-  pub valid : IsValidTable h.replica.table
-  pub replica : ReplicaUpTo floor h.replica
-  pub skulk : (t : Stamp) → running h.skulk ≡ Some t → RunsSkulk me floor h.members h.skulk t
-
--- so is all that a clearinghouse holds, and no time of it is above its floor (own)
+-- all that a clearinghouse holds is lawful, and no time of it is above its floor (own)
 abbrev pub IsLawful : Clearinghouse → Type 0
 IsLawful c = (dir : DirId) (h : Held) → get c.dirs dir ≡ Some (state.Held h) → IsLawfulHeld c.house.0 c.floor.time h

@@ -9,25 +9,24 @@ ghost use Rattle.directory.specs.Updates.{change_of};
 ghost use Rattle.cell_model.specs.Cells as model;
 ghost use Rattle.cell_model.specs.Turns.{found, accept, skulk, new_epoch};
 ghost use Rattle.clearinghouse.specs.Lawful.{IsLawful};
-ghost use Rattle.clearinghouse.specs.Posting.{epoch_posts_at, numbers_of, posts_at, sender_of};
+ghost use Rattle.held_directories.specs.Posting.{numbers_of};
+ghost use Rattle.clearinghouse.specs.Posting.{epoch_posts_at, posts_at, sender_of};
 ghost use Rattle.clearinghouse.specs.PrivateTurns.{Heeds, SameHouse};
-ghost use Rattle.clearinghouse.specs.Stepping.{first_held, founded};
-ghost use Rattle.clearinghouse.specs.declared.outgoing.Outgoing.TheVariants as out;
-ghost use Rattle.clearinghouse.specs.declared.states.DirState.TheVariants as state;
-ghost use Rattle.clearinghouse.specs.Refusing.{accept_answer, skulk_answer, epoch_refused, IsLater};
+ghost use Rattle.held_directories.specs.declared.outgoing.Outgoing.TheVariants as out;
+ghost use Rattle.held_directories.specs.declared.states.DirState.TheVariants as state;
+ghost use Rattle.held_directories.specs.Refusing.{accept_answer, skulk_answer, epoch_refused, IsLater};
 ghost use Rattle.clearinghouse.specs.Standing.{StandsHouse};
 ghost use Rattle.clearinghouse.specs.Updating.{BeginsSkulk, PostsUpdate, TakesUpdate};
-ghost use Rattle.clearinghouse.specs.Stepping.{IsCall, IsTurn, IsStep, IsStampAnswer, IsAcceptAnswer, IsBegunAnswer, IsSkulkAnswer, Enters, begun_outgoing};
-ghost use Rattle.clearinghouse.specs.Stepping.{IsEpochAnswer, accept_result, accept_posts, skulk_result, skulk_posts, epoch_result, epoch_posts};
+ghost use Rattle.held_directories.specs.Stepping.{IsStampAnswer, IsAcceptAnswer, IsBegunAnswer, IsSkulkAnswer, begun_outgoing, first_held};
+ghost use Rattle.clearinghouse.specs.Stepping.{IsCall, IsTurn, IsStep, Enters, founded};
+ghost use Rattle.held_directories.specs.Stepping.{IsEpochAnswer, accept_result, accept_posts, skulk_result, skulk_posts, epoch_result, epoch_posts};
 
-use crate::epochs::{EpochRefusal, EpochSet, post_leaves};
-use crate::outgoing::{Outgoing, Sender, Turn};
-use crate::posted::PostedList;
-use crate::skulks::{Begun, Skulked};
-use crate::states::{DirState, DirStates, Held};
-use crate::updates::{Accepted, Issuer, refused};
 use cds_stamps::{DirId, EpochNo, Floor, HouseNo, Members, Node, Stamp};
 use directory::{Update, UpdateRefusal};
+use held_directories::{
+    Accepted, Begun, DirState, DirStates, EpochRefusal, EpochSet, Held, Issuer, Outgoing,
+    PostedList, Sender, Skulked, Turn, post_leaves, refused,
+};
 use std::alloc::{AllocError, Global};
 
 /// A clearinghouse: who it is, the floor of its stamps, what it has of directories, and whether it is spent.

@@ -11,11 +11,10 @@ ghost use Rattle.clearinghouse.specs.Imaging.{image_of, kept_of, restarted, star
 ghost use Rattle.clearinghouse.specs.Lawful.{IsLawful};
 
 use crate::house::Clearinghouse;
-use crate::states::{DirState, DirStates, Held};
-use crate::times::latest_in_image;
 use cds_messages::{Image, ImageDir, ImageDirs};
 use cds_records::{ImageWriter, RecordFault, decode_image};
 use cds_stamps::{AllocOr, DirId, Floor};
+use held_directories::{DirState, DirStates, Held, latest_in_image};
 use skulk_core::Skulk;
 use std::alloc::{AllocError, Global};
 use thiserror::Error;
@@ -53,30 +52,26 @@ fn started_dirs(alloc: Global, kept: ImageDirs) -> Result<DirStates, AllocError>
     Ok(dirs)
 }
 
-impl DirState {
-    /// Writes what is kept of the directory of this number behind the others of an image.
-    fn write(&self, image: &mut ImageWriter, dir: DirId) -> Result<(), AllocError>
-        ensures octets { OnOk result (image.new ≡ image.old ++ (dir_octets dir ++ kept_octets (kept_of self.now))) }
-        ensures fits { OnOk result ((dir.0 < 2 ^ 32) × FitsDir (kept_of self.now)) }
-    {
-        match self {
-            DirState::Held(held) => image.held(dir, held.epoch, &held.members, &held.replica),
-            DirState::Gone(epoch) => image.gone(dir, *epoch),
-        }
+/// Writes what is kept of the directory of this number behind the others of an image.
+fn write_state(state: &DirState, image: &mut ImageWriter, dir: DirId) -> Result<(), AllocError>
+    ensures octets { OnOk result (image.new ≡ image.old ++ (dir_octets dir ++ kept_octets (kept_of state.now))) }
+    ensures fits { OnOk result ((dir.0 < 2 ^ 32) × FitsDir (kept_of state.now)) }
+{
+    match state {
+        DirState::Held(held) => image.held(dir, held.epoch, &held.members, &held.replica),
+        DirState::Gone(epoch) => image.gone(dir, *epoch),
     }
 }
 
-impl DirStates {
-    /// Writes what is kept of the directories behind the head of an image.
-    fn write(&self, image: &mut ImageWriter) -> Result<(), AllocError>
-        ensures octets { OnOk result (image.new ≡ image.old ++ items_octets dir_octets (λ s. kept_octets (kept_of s)) (map.entries self.now)) }
-        ensures fits { OnOk result (ItemsFit (λ (d : number.DirId). d.0 < 2 ^ 32) (λ s. FitsDir (kept_of s)) (map.entries self.now)) }
-    {
-        for (dir, state) in self.iter() {
-            state.write(image, *dir)?;
-        }
-        Ok(())
+/// Writes what is kept of the directories behind the head of an image.
+fn write_states(states: &DirStates, image: &mut ImageWriter) -> Result<(), AllocError>
+    ensures octets { OnOk result (image.new ≡ image.old ++ items_octets dir_octets (λ s. kept_octets (kept_of s)) (map.entries states.now)) }
+    ensures fits { OnOk result (ItemsFit (λ (d : number.DirId). d.0 < 2 ^ 32) (λ s. FitsDir (kept_of s)) (map.entries states.now)) }
+{
+    for (dir, state) in states.iter() {
+        write_state(state, image, *dir)?;
     }
+    Ok(())
 }
 
 impl Clearinghouse {
@@ -90,7 +85,7 @@ impl Clearinghouse {
         self.usable()?;
         let count = self.dirs.len() as u64;
         let mut image = ImageWriter::new(alloc, self.house, self.node, self.floor.time, count)?;
-        self.dirs.write(&mut image)?;
+        write_states(&self.dirs, &mut image)?;
         Ok(image.octets())
     }
 

@@ -9,7 +9,7 @@ ghost use Rattle.cell_model.specs.Cells as model;
 ghost use Rattle.cell_model.specs.Turns.{crashed_house, started_house};
 ghost use Rattle.clearinghouse.specs.Imaging.{image_of, restarted, started};
 ghost use Rattle.clearinghouse.specs.Lawful.{IsLawful};
-ghost use Rattle.clearinghouse.specs.Posting.{LooksMessage};
+ghost use Rattle.held_directories.specs.Posting.{LooksMessage};
 ghost use Rattle.clearinghouse.specs.Standing.{LooksHouse, StandsHouse};
 ghost use Rattle.clearinghouse.specs.declared.house.Clearinghouse.{Clearinghouse};
 

@@ -1,19 +1,18 @@
 // Messages as octets, encoded from what a house holds. Nothing is copied for them.
-ghost use Rattle.std.specs.Prelude.{◌≡◌, ◌<◌, ◌≤◌, ◌∷◌, [], false, Some, IfOk, IfSome, MatchOption, length};
+ghost use Rattle.std.specs.Prelude.{◌≡◌, ◌<◌, ◌≤◌, [], false, Some, IfOk, IfSome, MatchOption, length};
 ghost use Rattle.record_fields.specs.Decoding.{IsWhole};
 ghost use Rattle.cds_records.specs.Octets.{message_octets, message_with};
 ghost use Rattle.cds_records.specs.Records as records;
 ghost use Rattle.cds_messages.specs.Validity.{IsValidMessage};
-ghost use Rattle.cds_stamps.specs.Members.{members_of, most_members, others_of};
-ghost use Rattle.clearinghouse.specs.Posting.{AreLetters, body_of, head_from, leave_of, numbers_of, posts_at, posts_of, posts_to};
-ghost use Rattle.clearinghouse.specs.Posting.{receiver_of, receivers_of, sender_of};
+ghost use Rattle.cds_stamps.specs.Members.{most_members};
+ghost use Rattle.held_directories.specs.Posting.{body_of, leave_of, numbers_of, posts_of, posts_to};
+ghost use Rattle.clearinghouse.specs.Posting.{AreLetters, posts_at, sender_of};
 
 use crate::house::Clearinghouse;
-use crate::outgoing::{Outgoing, Sender};
-use crate::states::Held;
 use cds_messages::{Body, Head, Message};
 use cds_records::{encode, encode_gathered, encode_join, encode_spread, encode_update};
 use cds_stamps::{DirId, EpochNo, HouseNo};
+use held_directories::{Held, Outgoing, Sender};
 use std::alloc::{AllocError, Global};
 
 /// A message as octets, and the houses that it goes to, in ascending order: all get the same octets.
@@ -39,7 +38,7 @@ impl Clearinghouse {
     {
         self.usable()?;
         match self.dirs.held(&dir) {
-            Some(held) => held.letters(alloc, self.sender(dir), outgoing),
+            Some(held) => letters_of(held, alloc, self.sender(dir), outgoing),
             None => Ok(None),
         }
     }
@@ -65,20 +64,6 @@ impl Clearinghouse {
     }
 }
 
-impl Sender {
-    /// What stands before what its message of an epoch carries.
-    fn head(&self, epoch: EpochNo) -> Head
-        ensures { result ≡ head_from self.now epoch }
-    {
-        Head {
-            dir: self.dir,
-            from: self.house,
-            epoch,
-            floor: self.floor,
-        }
-    }
-}
-
 /// The octets of a message with this head that carries this.
 fn encoded_with(alloc: Global, head: &Head, body: Body) -> Result<Vec<u8>, AllocError>
     ensures octets { IfOk result (λ v. v.items ≡ message_octets (message_with head.now body)) }
@@ -95,76 +80,44 @@ fn encoded_with(alloc: Global, head: &Head, body: Body) -> Result<Vec<u8>, Alloc
     encode(alloc, &message)
 }
 
-impl Held {
-    /// The message that says this, and its receivers, if there are any.
-    fn letters(
-        &self,
-        alloc: Global,
-        sender: Sender,
-        outgoing: &Outgoing,
-    ) -> Result<Option<Letters>, AllocError>
-        ensures some { IfOk result (λ o. IfSome o (λ l. 0 < length l.receivers.items)) }
-        ensures few { IfOk result (λ o. IfSome o (λ l. length l.receivers.items ≤ most_members)) }
-        ensures posts { IfOk result (λ o. MatchOption o (posts_of sender self.now outgoing.now ≡ [])
-            (λ l. AreLetters l (posts_of sender self.now outgoing.now))) }
-    {
-        let receivers = self.receivers(alloc, sender.house, outgoing)?;
-        if receivers.is_empty() {
-            return Ok(None);
-        }
-        let octets = self.encoded(alloc, &sender.head(self.epoch), outgoing)?;
-        Ok(Some(Letters { receivers, octets }))
+/// The message that says this, and its receivers, if there are any.
+fn letters_of(
+    held: &Held,
+    alloc: Global,
+    sender: Sender,
+    outgoing: &Outgoing,
+) -> Result<Option<Letters>, AllocError>
+    ensures some { IfOk result (λ o. IfSome o (λ l. 0 < length l.receivers.items)) }
+    ensures few { IfOk result (λ o. IfSome o (λ l. length l.receivers.items ≤ most_members)) }
+    ensures posts { IfOk result (λ o. MatchOption o (posts_of sender held.now outgoing.now ≡ [])
+        (λ l. AreLetters l (posts_of sender held.now outgoing.now))) }
+{
+    let receivers = held.receivers(alloc, sender.house, outgoing)?;
+    if receivers.is_empty() {
+        return Ok(None);
     }
+    let octets = encoded_of(held, alloc, &sender.head(held.epoch), outgoing)?;
+    Ok(Some(Letters { receivers, octets }))
+}
 
-    /// The houses to which this is said by a house.
-    fn receivers(
-        &self,
-        alloc: Global,
-        house: HouseNo,
-        outgoing: &Outgoing,
-    ) -> Result<Vec<HouseNo>, AllocError>
-        ensures houses { IfOk result (λ v. numbers_of v.items ≡ receivers_of (receiver_of outgoing.now) (others_of house.0 (members_of self.now.members))) }
-        ensures few { IfOk result (λ v. length v.items ≤ most_members) }
-    {
-        match outgoing.receiver() {
-            Some(to) => Vec::from_slice(alloc, &[to]),
-            None => self.others(alloc, house),
-        }
-    }
-
-    /// The members but this house.
-    fn others(&self, alloc: Global, house: HouseNo) -> Result<Vec<HouseNo>, AllocError>
-        ensures houses { IfOk result (λ v. numbers_of v.items ≡ others_of house.0 (members_of self.now.members)) }
-        ensures few { IfOk result (λ v. length v.items ≤ most_members) }
-    {
-        let mut others = Vec::new(alloc);
-        for member in self.members.list() {
-            if member.house != house {
-                others.push(member.house)?;
-            }
-        }
-        Ok(others)
-    }
-
-    /// The octets of a message with this head that says this.
-    fn encoded(
-        &self,
-        alloc: Global,
-        head: &Head,
-        outgoing: &Outgoing,
-    ) -> Result<Vec<u8>, AllocError>
-        ensures octets { IfOk result (λ v. v.items ≡ message_octets (message_with head.now (body_of self.now outgoing.now))) }
-        ensures whole { IfOk result (λ v. IsValidMessage (message_with head.now (body_of self.now outgoing.now))
-            → IsWhole records.message (message_with head.now (body_of self.now outgoing.now)) v.items) }
-    {
-        match outgoing {
-            Outgoing::Update(fragment) => encode_update(alloc, head, fragment),
-            Outgoing::Gather(t) => encoded_with(alloc, head, Body::Gather(*t)),
-            Outgoing::Gathered(t, _) => encode_gathered(alloc, head, t, &self.replica),
-            Outgoing::Spread(t) => encode_spread(alloc, head, t, &self.replica),
-            Outgoing::SpreadAck(t, _) => encoded_with(alloc, head, Body::SpreadAck(*t)),
-            Outgoing::Advance(t) => encoded_with(alloc, head, Body::Advance(*t)),
-            Outgoing::Join => encode_join(alloc, head, &self.members, &self.replica),
-        }
+/// The octets of a message with this head that says this.
+fn encoded_of(
+    held: &Held,
+    alloc: Global,
+    head: &Head,
+    outgoing: &Outgoing,
+) -> Result<Vec<u8>, AllocError>
+    ensures octets { IfOk result (λ v. v.items ≡ message_octets (message_with head.now (body_of held.now outgoing.now))) }
+    ensures whole { IfOk result (λ v. IsValidMessage (message_with head.now (body_of held.now outgoing.now))
+        → IsWhole records.message (message_with head.now (body_of held.now outgoing.now)) v.items) }
+{
+    match outgoing {
+        Outgoing::Update(fragment) => encode_update(alloc, head, fragment),
+        Outgoing::Gather(t) => encoded_with(alloc, head, Body::Gather(*t)),
+        Outgoing::Gathered(t, _) => encode_gathered(alloc, head, t, &held.replica),
+        Outgoing::Spread(t) => encode_spread(alloc, head, t, &held.replica),
+        Outgoing::SpreadAck(t, _) => encoded_with(alloc, head, Body::SpreadAck(*t)),
+        Outgoing::Advance(t) => encoded_with(alloc, head, Body::Advance(*t)),
+        Outgoing::Join => encode_join(alloc, head, &held.members, &held.replica),
     }
 }

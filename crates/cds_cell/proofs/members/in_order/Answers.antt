@@ -2,7 +2,7 @@ use Rattle.std.proofs.Common.{◌∙◌, sym, List}
 use Rattle.std.proofs.lemmas.List.Sorted.{IsNonDecreasingBy-from_sort}
 use Rattle.cds_stamps.specs.declared.numbers.HouseNo.{HouseNo}
 use Rattle.cell_model.specs.Steps.{ascending}
-use Rattle.clearinghouse.specs.Posting.{numbers_of}
+use Rattle.held_directories.specs.Posting.{numbers_of}
 use Rattle.cds_cell.proofs.Ascending.{one_order, ascending_rises, ascending_times}
 use Rattle.cds_cell.proofs.Sorting.{sorted_rises, sorted_times}
 use Rattle.cds_cell.proofs.members.in_order.Goals as goal

@@ -1,7 +1,7 @@
 use Rattle.std.proofs.Common.{◌∙◌, sym, ap}
 use Rattle.std.proofs.lemmas.List.{drop_all}
 use Rattle.cds_stamps.specs.Members.{members_of, members_fault}
-use Rattle.clearinghouse.specs.Posting.{numbers_of}
+use Rattle.held_directories.specs.Posting.{numbers_of}
 use Rattle.cds_cell.proofs.MemberLists.{good_listing, lists_end}
 use Rattle.cds_cell.proofs.members.listing.Goals as goal
 

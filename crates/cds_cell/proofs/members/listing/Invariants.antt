@@ -1,6 +1,6 @@
 use Rattle.std.proofs.Common.{drop}
 use Rattle.cds_stamps.specs.Members.{members_of}
-use Rattle.clearinghouse.specs.Posting.{numbers_of}
+use Rattle.held_directories.specs.Posting.{numbers_of}
 use Rattle.cds_cell.proofs.MemberLists.{ListsRest}
 use Rattle.cds_cell.proofs.members.listing.Given as goal
 

@@ -1,7 +1,7 @@
 use Rattle.std.proofs.Common.{◌≡◌, ◌∙◌, sym, ap, ℕ, List}
 use Rattle.cell_names.specs.Houses.{list_fault}
 use Rattle.cell_model.specs.Steps.{ascending}
-use Rattle.clearinghouse.specs.Posting.{numbers_of}
+use Rattle.held_directories.specs.Posting.{numbers_of}
 use Rattle.cds_cell.proofs.Ascending.{good_where_none, bad_where_fault, made_houses, refused_houses}
 use Rattle.cds_cell.proofs.pointing.house_list.Goals as goal
 

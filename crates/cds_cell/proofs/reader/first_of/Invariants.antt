@@ -1,5 +1,5 @@
 use Rattle.std.proofs.Common.{◌≡◌, drop}
-use Rattle.clearinghouse.specs.Posting.{numbers_of}
+use Rattle.held_directories.specs.Posting.{numbers_of}
 use Rattle.cds_cell.specs.Asking.{answering, first_some}
 use Rattle.cds_cell.specs.Telling.{told_views}
 use Rattle.cds_cell.proofs.reader.first_of.Given as goal

@@ -6,7 +6,7 @@ use Rattle.directory.specs.Updates as updates
 use Rattle.directory.specs.Updates.{change_of}
 use Rattle.cell_model.specs.Steps.{Outcome, ascending, is_bad_list, listing}
 use Rattle.cell_model.proofs.Terms.{master_new}
-use Rattle.clearinghouse.specs.Posting.{numbers_of}
+use Rattle.held_directories.specs.Posting.{numbers_of}
 use Rattle.cds_cell.proofs.Children.{child_apart, child_can, child_next, mkdir_is, mkdir_listed, mkdir_placed, mkdir_up}
 use Rattle.cds_cell.proofs.Houses.{place_within}
 use Rattle.cds_cell.specs.PrivateSteps.{ComesTo}

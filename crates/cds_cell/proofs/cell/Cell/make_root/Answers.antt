@@ -2,7 +2,7 @@ use Rattle.std.proofs.Common.{[], ◌≡◌, ◌∷◌, true, false, subst}
 use Rattle.std.specs.Prelude.{MatchOption}
 use Rattle.cds_stamps.specs.Members.{members_of}
 use Rattle.cell_model.specs.Steps.{is_bad_list, listing}
-use Rattle.clearinghouse.specs.Posting.{numbers_of}
+use Rattle.held_directories.specs.Posting.{numbers_of}
 use Rattle.cds_cell.proofs.NewDirectories.{root_comes}
 use Rattle.cds_cell.proofs.cell.Cell.make_root.Goals as goal
 

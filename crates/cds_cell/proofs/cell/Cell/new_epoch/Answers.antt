@@ -4,7 +4,7 @@ use Rattle.std.proofs.lemmas.Option.{slice_get_read}
 use Rattle.cds_stamps.specs.declared.numbers.EpochNo.{EpochNo}
 use Rattle.cds_stamps.specs.Members.{members_of}
 use Rattle.cell_model.specs.Steps.{is_bad_list, listing}
-use Rattle.clearinghouse.specs.Posting.{numbers_of}
+use Rattle.held_directories.specs.Posting.{numbers_of}
 use Rattle.cds_cell.specs.declared.console.Listing.{Listing}
 use Rattle.cds_cell.proofs.EpochSteps.{epoch_call, epoch_leaves, epoch_placed, epoch_refused, epoch_taken, greatest_at}
 use Rattle.cds_cell.proofs.Houses.{place_within}

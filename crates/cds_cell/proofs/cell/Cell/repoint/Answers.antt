@@ -3,7 +3,7 @@ use Rattle.std.specs.Prelude.{MatchOption}
 use Rattle.std.proofs.lemmas.Bool.{false≢true}
 use Rattle.cell_model.specs.Commands as command
 use Rattle.cell_model.specs.Steps.{ascending, is_bad_list, refusals_of}
-use Rattle.clearinghouse.specs.Posting.{numbers_of}
+use Rattle.held_directories.specs.Posting.{numbers_of}
 use Rattle.cds_cell.proofs.ActSteps.{passed}
 use Rattle.cds_cell.proofs.cell.Cell.repoint.Goals as goal
 

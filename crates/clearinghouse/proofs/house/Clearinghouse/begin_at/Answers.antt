@@ -3,13 +3,13 @@ use Rattle.std.specs.FinMap as map
 use Rattle.std.proofs.lemmas.Result.{on_err_weaker}
 use Rattle.cell_model.specs.Cells as model
 use Rattle.cell_model.specs.Turns.{skulk_in}
-use Rattle.clearinghouse.specs.Lawful.{IsLawfulHeld}
-use Rattle.clearinghouse.specs.PrivateTurns.{HeldStep, IssuesAt}
-use Rattle.clearinghouse.specs.Stepping.{IsBegunAnswer}
-use Rattle.clearinghouse.specs.declared.updates.Issuer.{Issuer}
-use Rattle.clearinghouse.specs.declared.states.DirState.TheVariants as state
-use Rattle.clearinghouse.specs.Updating.{HeldBegins}
-use Rattle.clearinghouse.proofs.Maps.{if_ok_map}
+use Rattle.held_directories.specs.Lawful.{IsLawfulHeld}
+use Rattle.held_directories.specs.Turns.{HeldStep, IssuesAt}
+use Rattle.held_directories.specs.Stepping.{IsBegunAnswer}
+use Rattle.held_directories.specs.declared.updates.Issuer.{Issuer}
+use Rattle.held_directories.specs.declared.states.DirState.TheVariants as state
+use Rattle.held_directories.specs.Updating.{HeldBegins}
+use Rattle.held_directories.proofs.Maps.{if_ok_map}
 use Rattle.clearinghouse.proofs.Houses.{at_held_always, have_held, kept_at, same_house}
 use Rattle.clearinghouse.proofs.house.Clearinghouse.begin_at.Goals as goal
 

@@ -1,8 +1,10 @@
 use Rattle.std.specs.Result.{result_err}
 use Rattle.cds_stamps.specs.Members.{members_of}
 use Rattle.cell_model.specs.Turns.{new_epoch}
-use Rattle.clearinghouse.specs.Posting.{epoch_posts_at, numbers_of}
-use Rattle.clearinghouse.specs.Stepping.{IsEpochAnswer, IsStep}
+use Rattle.held_directories.specs.Posting.{numbers_of}
+use Rattle.clearinghouse.specs.Posting.{epoch_posts_at}
+use Rattle.held_directories.specs.Stepping.{IsEpochAnswer}
+use Rattle.clearinghouse.specs.Stepping.{IsStep}
 use Rattle.clearinghouse.proofs.Entering.{enters_lawful, enters_steps}
 use Rattle.clearinghouse.proofs.Houses.{heed_lawful, heed_ok}
 use Rattle.clearinghouse.proofs.house.Clearinghouse.enter_epoch.Goals as goal

@@ -14,7 +14,7 @@ pub returns-clause-octets : goal.returns-clause-octets
 returns-clause-octets c =
     let s = c.args.self.now in
     parts_written kept_of s.dirs s.house s.node s.floor.time c.octets.result.items
-    (c.octets.ensures ∙ c.in_ok-write.ensures.octets
+    (c.octets.ensures ∙ c.in_ok-write_states.ensures.octets
     ∙ ap (λ h. h ++ items_octets dir_octets (λ x. kept_octets (kept_of x)) (entries s.dirs))
     (c.in_ok-image.ensures.octets ∙ ap (image_head 1 s.house.0 s.node s.floor.time) c.len-count.ensures))
 
@@ -22,7 +22,7 @@ pub returns-clause-fits : goal.returns-clause-fits
 returns-clause-fits c =
     let s = c.args.self.now in
     parts_fit kept_of s.dirs s.house s.node s.floor.time c.in_ok-image.ensures.node c.in_ok-image.ensures.floor (omega (arith, c.len-count.ensures))
-    c.in_ok-write.ensures.fits
+    c.in_ok-write_states.ensures.fits
 
 pub returns-clause-starts : goal.returns-clause-starts
 returns-clause-starts c = λ lawful. ap started (returns-clause-octets c) ∙ image_starts c.args.self.now lawful (returns-clause-fits c)

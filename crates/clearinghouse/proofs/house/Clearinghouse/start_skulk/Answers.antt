@@ -2,7 +2,8 @@ use Rattle.std.proofs.Common.{[], Ok, refl, ap, sym, ◌∙◌}
 use Rattle.clearinghouse.proofs.Houses.{heed_lawful, posted_step}
 use Rattle.std.specs.FinMap as map
 use Rattle.clearinghouse.specs.Posting.{sender_of}
-use Rattle.clearinghouse.proofs.Posts.{completed_posts, posts_none}
+use Rattle.held_directories.proofs.Posts.{posts_none}
+use Rattle.clearinghouse.proofs.Posts.{completed_posts}
 use Rattle.clearinghouse.proofs.house.Clearinghouse.start_skulk.Goals as goal
 
 pub returns-in_err-posted-clause-kept : goal.returns-in_err-posted-clause-kept

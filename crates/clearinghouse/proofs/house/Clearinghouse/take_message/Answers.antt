@@ -1,10 +1,11 @@
 use Rattle.std.proofs.Common.{◌≡◌, None, sym}
 use Rattle.clearinghouse.specs.declared.house.Clearinghouse.{Clearinghouse}
-use Rattle.clearinghouse.specs.declared.outgoing.Turn.{Turn}
-use Rattle.clearinghouse.specs.declared.taking.Taken.{Taken}
+use Rattle.held_directories.specs.declared.outgoing.Turn.{Turn}
+use Rattle.held_directories.specs.declared.taking.Taken.{Taken}
 use Rattle.clearinghouse.specs.Posting.{posts_at}
 use Rattle.clearinghouse.specs.Taking.{Takes}
-use Rattle.clearinghouse.specs.Stepping.{IsStep, IsTakeAnswer, LooksStep, UnlessTaken}
+use Rattle.held_directories.specs.Stepping.{IsTakeAnswer, UnlessTaken}
+use Rattle.clearinghouse.specs.Stepping.{IsStep, LooksStep}
 use Rattle.cell_model.specs.Turns.{take}
 use Rattle.clearinghouse.proofs.Does.{DoesOr, done_other, done_join, done_leave, or_kept, or_others, or_told, or_who}
 use Rattle.clearinghouse.proofs.Houses.{heed_ok, heed_lawful, heed_call}

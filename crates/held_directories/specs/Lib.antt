@@ -1,0 +1,11 @@
+pub mod PrivateCodes
+pub mod Posting
+pub mod Standing
+pub mod Stepping
+pub mod Taking
+pub mod Updating
+pub mod Refusing
+pub mod Times
+pub mod Lawful
+pub mod Turns
+pub mod Lending
