@@ -11,7 +11,6 @@ use Rattle.cell_model.specs.Agreement.{Agrees}
 use Rattle.cell_model.specs.Cells.{Cell, Replica, Slot, IsHeld, empty_cell}
 use Rattle.cell_model.specs.Cells as slot
 use Rattle.cell_model.specs.Commands as model
-use Rattle.cell_model.specs.Reached.{IsReached}
 use Rattle.cell_model.specs.Sets.{has}
 use Rattle.cell_model.specs.Steps.{accepted, is_down, is_unknown, message_at, outcome, replay, replay_from}
 use Rattle.cell_model.proofs.Agreeing.{converges_lem}
@@ -19,7 +18,7 @@ use Rattle.cell_model.proofs.Runs.{replay-append}
 use Rattle.cell_model.proofs.Stamping.{raises_lem}
 use Rattle.resolver.specs.declared.refusal.Refusal.{Refusal}
 use Rattle.resolver.specs.declared.seen.Found.{Found}
-use Rattle.resolver.specs.Readers.{Reader, ShowsOnly}
+use Rattle.resolver.specs.Readers.{Reader}
 use Rattle.resolver.specs.WalkEnds.{walked}
 use Rattle.cell_script.specs.declared.answer.Answer.{Answer}
 use Rattle.cell_script.specs.declared.answer.Answer.TheVariants as answer
@@ -50,9 +49,9 @@ use Rattle.cds_records.specs.Records.{message}
 use Rattle.record_fields.specs.declared.fault.RecordFault.{RecordFault}
 use Rattle.cds_messages.specs.declared.message.Message as recorded
 use Rattle.cell_replay.specs.Headline.{Converges, Finds, Settled, cell_behind, commands_from, commands_of, import_line, line_place}
-use Rattle.cell_replay.specs.Replies.{Numbered, Said, asked_of, does, dump_told, first_target, message_told}
-use Rattle.cell_replay.specs.Replies.{octets_told, question_said, refusal_behind, reply_to, says}
-use Rattle.cell_replay.specs.Replies.{refusal_of_octets, slot_told, steps_of, target_of, target_read, trusted, updates_told, values_read, wanted_by}
+use Rattle.line_replies.specs.Replies.{Numbered, Said, asked_of, does, dump_told, first_target, message_told}
+use Rattle.line_replies.specs.Replies.{octets_told, question_said, refusal_behind, reply_to, says}
+use Rattle.line_replies.specs.Replies.{refusal_of_octets, slot_told, steps_of, target_of, target_read, trusted, updates_told, values_read, wanted_by}
 
 -- ---- what questions never answer
 
@@ -270,11 +269,6 @@ asked_only : (b : Bool) (a : Answer) (bs : List StringBinding)
     → Some (if b then a else answer.Refused why.NoHouse) ≡ Some (answer.Bindings bs) → a ≡ answer.Bindings bs
 asked_only true a bs is = cc
 asked_only false a bs is = cc
-
--- each object that a cell shows to which commands lead is listed
-pub reached_shows_only : (g : Cell) → IsReached g → (prefer : Option ℕ) (high : Bool) → ShowsOnly (reading g prefer high) (objects_of g)
-reached_shows_only g reached prefer high =
-    subst (λ (g : Cell). ShowsOnly (reading g prefer high) (objects_of g)) reached.leads (reading_shows_only reached.commands prefer high)
 
 -- wherever a line imports and is answered with bindings, they are those that the search reaches
 pub finds : (said : List Numbered) → Finds said

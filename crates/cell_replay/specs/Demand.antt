@@ -1,21 +1,13 @@
 -- What a whole input demands of a form of the program that reads lines (own).
-use Rattle.std.specs.Prelude.{ℕ, ◌+◌, ◌==◌, List, [], ◌∷◌, ◌++◌, length, codes, Some, None, Option, Ok, Err, Result}
+use Rattle.std.specs.Prelude.{ℕ, ◌+◌, ◌==◌, List, [], ◌∷◌, ◌++◌, length, codes, Some, None, Option}
 use Rattle.std.specs.List.{slice_split}
 use Rattle.std.specs.Option.{option_or}
 use Rattle.std.specs.Fmt.{decimal}
 use Rattle.cds_base.specs.declared.scan.LineFault.{LineFault}
 use Rattle.cds_base.specs.declared.scan.LineFault.TheVariants.{NoLineEnd}
 use Rattle.cds_base.specs.LineFaults.{fault_at}
-use Rattle.cell_model.specs.Cells.{Cell}
-use Rattle.tower_codec.specs.Spelling.{tower_octets}
-use Rattle.cell_script.specs.declared.command.ScriptLine.{ScriptLine}
-use Rattle.cell_script.specs.declared.fault.ParseFault.{ParseFault}
-use Rattle.cell_script.specs.Words.{words_of}
-use Rattle.cell_script.specs.Commands.{said_in}
-use Rattle.cell_replay.specs.Texts.{line_fault_text}
-use Rattle.cell_script.specs.Texts.{parse_fault_text}
-use Rattle.cell_replay.specs.Replies.{reply_text, cell_after}
-use Rattle.cell_replay.specs.TowerTexts.{TowerLine, SaysNothing, SaysTower, NoTower, tower_said}
+use Rattle.line_replies.specs.Texts.{line_fault_text}
+use Rattle.line_replies.specs.Responses.{LineState, Replaying, Checking, Spelling, Response, GoesOn, Stops, response}
 
 -- the text that is due whatever follows, the further text where nothing follows, and whether anything is faulty: nothing;
 -- the octets show a fault, whatever follows; or it is a fault that they end here (own)
@@ -49,42 +41,6 @@ cut_short_with text = record { body = []; end = text; verdict = CutShort }
 -- a text is due in front (own)
 abbrev pub with_front : List ℕ → Demand → Demand
 with_front text rest = record { body = text ++ rest.body; end = rest.end; verdict = rest.verdict }
-
--- the state of a form that reads lines, between two of them: `run` replays a cell, `check` has seen this many lines and
--- commands, and `untowers` keeps nothing (own)
-pub data LineState : Type 0 where
-  Replaying : (g : Cell) → LineState
-  Checking : (lines commands : ℕ) → LineState
-  Spelling : LineState
-
--- what a form makes of a whole line: a text, and what it is at then; or the text of a fault, which ends it (own)
-pub data Response : Type 0 where
-  GoesOn : (text : List ℕ) → (next : LineState) → Response
-  Stops : (text : List ℕ) → Response
-
--- what `run` makes of what a line says (own)
-abbrev pub replayed : ℕ → Cell → Result (Option ScriptLine) ParseFault → Response
-replayed number g (Ok None) = GoesOn [] (Replaying g)
-replayed number g (Ok (Some l)) = GoesOn (reply_text number g l) (Replaying (cell_after g l))
-replayed number g (Err fault) = Stops (parse_fault_text number fault)
-
--- a line is counted, and a command too (own)
-abbrev pub checked : ℕ → (commands : ℕ) → Result (Option ScriptLine) ParseFault → Response
-checked number commands (Ok None) = GoesOn [] (Checking number commands)
-checked number commands (Ok (Some l)) = GoesOn [] (Checking number (commands + 1))
-checked number commands (Err fault) = Stops (parse_fault_text number fault)
-
--- the octets of the tower that a line says; a line at fault has no text (own)
-abbrev pub spelled : TowerLine → Response
-spelled SaysNothing = GoesOn [] Spelling
-spelled (SaysTower floors) = GoesOn (tower_octets floors) Spelling
-spelled NoTower = Stops []
-
--- what a form makes of a line (own)
-abbrev pub response : ℕ → LineState → List ℕ → Response
-response number (Replaying g) line = replayed number g (said_in (words_of line))
-response number (Checking lines commands) line = checked number commands (said_in (words_of line))
-response number Spelling line = spelled (tower_said (words_of line))
 
 -- the line of a fault of octets; `untowers` writes none (own)
 abbrev pub told_fault : LineState → LineFault → List ℕ

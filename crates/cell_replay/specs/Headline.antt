@@ -16,7 +16,7 @@ use Rattle.server_entries.specs.declared.client.Wanted.{Wanted}
 use Rattle.ns_import.specs.Imports.{IsImport}
 use Rattle.cds_cell.specs.Readings.{reading}
 use Rattle.cds_cell.specs.Scripted.{step_of}
-use Rattle.cell_replay.specs.Replies.{Numbered, reply_to, steps_of}
+use Rattle.line_replies.specs.Replies.{Numbered, reply_to, steps_of}
 
 -- the commands of the model that lines make from a cell on, of whichever form the lines are (own)
 abbrev pub commands_from : (steps : Cell → ScriptLine → List Command) → Cell → List Numbered → List Command

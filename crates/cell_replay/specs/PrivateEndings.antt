@@ -6,7 +6,7 @@ use Rattle.cell_replay.specs.declared.endings.Status.{Status}
 use Rattle.cell_replay.specs.declared.endings.Status.TheVariants.{Ok as AllRead, Usage, BadInput, ReadFault, WriteFault, OutOfMemory}
 use Rattle.cell_replay.specs.Demand.{Demand}
 use Rattle.cell_replay.specs.Forms.{FormState, Task, Reading, Loading}
-use Rattle.cell_replay.specs.Loading.{load_text}
+use Rattle.line_replies.specs.Loading.{load_text}
 use Rattle.cell_replay.specs.Runs.{LoadEnds, Wrote, WroteAllBefore, WroteSoon, WroteAnswers, IsWhole, IsFaulty, IsPart, IsCutShort}
 
 -- a source or a sink: the octets that it has left or that it took, where it tells them, and how often it failed

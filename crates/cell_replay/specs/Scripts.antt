@@ -8,7 +8,7 @@ use Rattle.cell_script.specs.declared.fault.ParseFault.{ParseFault}
 use Rattle.cell_script.specs.Words.{words_of}
 use Rattle.cell_script.specs.Commands.{said_in}
 use Rattle.cell_replay.specs.Headline.{Converges, Finds}
-use Rattle.cell_replay.specs.Replies.{Numbered, transcript}
+use Rattle.line_replies.specs.Replies.{Numbered, transcript}
 
 -- lines, each with its end (own)
 abbrev pub text_of : List (List ℕ) → List ℕ

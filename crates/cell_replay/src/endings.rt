@@ -3,8 +3,8 @@ ghost use Rattle.std.specs.Prelude.{◌≡◌, ◌++◌, ℕ, List, OnOk, OnErr,
 ghost use Rattle.cell_replay.specs.Runs.{code_of};
 ghost use Rattle.cell_replay.specs.PrivateEndings.{Finishes, IsQueued, StopsWith, side_of};
 
-use crate::replies::Waiting;
 use cds_base::Sink;
+use line_replies::Waiting;
 use std::alloc::AllocError;
 
 /// How a run ends.

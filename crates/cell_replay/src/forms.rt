@@ -4,19 +4,17 @@ ghost use Rattle.cell_script.specs.Words.{words_of};
 ghost use Rattle.cell_script.specs.Commands.{said_in};
 ghost use Rattle.cds_base.specs.declared.scan.TheConstants.{MOST_LINES};
 ghost use Rattle.std.specs.Option.{option_map};
-ghost use Rattle.cell_replay.specs.Demand.{LineState, response, checked, end_text, told_fault};
+ghost use Rattle.line_replies.specs.Responses.{LineState, response, checked};
+ghost use Rattle.cell_replay.specs.Demand.{end_text, told_fault};
 ghost use Rattle.cell_replay.specs.Forms.{Reading, form_named, load_named, task_of};
 ghost use Rattle.cell_replay.specs.PrivateStanding.{IsAt, IsForm, Replies, Counts, counted, start_of};
 
-use crate::answers::{print_line_fault, reply_to_fault};
 use crate::check::Tally;
 use crate::limits::MOST_ROUNDS;
-use crate::replayer::Replayer;
-use crate::replies::{LineEnd, Waiting};
-use crate::untowers::Speller;
 use cds_base::LineFault;
 use cds_stamps::AllocOr;
 use cell_script::{number_up_to, parse_line};
+use line_replies::{LineEnd, Replayer, Speller, Waiting, print_line_fault, reply_to_fault};
 use std::alloc::{AllocError, Global};
 
 /// A form of the program.

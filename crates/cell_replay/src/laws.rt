@@ -6,17 +6,17 @@ ghost use Rattle.cell_model.specs.Reached.{IsReached};
 ghost use Rattle.tower_codec.specs.declared.binding.StringBinding.{StringBinding};
 ghost use Rattle.tower_codec.specs.declared.rpc.Interface.{Interface};
 ghost use Rattle.ns_commands.specs.Asks.{add_element, add_member, delete_element, delete_member, export, unexport};
-ghost use Rattle.cell_replay.specs.Replies.{LacksStampsAlone, Numbered, transcript, trusted};
-ghost use Rattle.cell_replay.specs.Demand.{Demand, Sound, Faulty, Replaying, Spelling, demanded, whole};
+ghost use Rattle.line_replies.specs.Replies.{LacksStampsAlone, Numbered, transcript, trusted};
+ghost use Rattle.cell_replay.specs.Demand.{Demand, Sound, Faulty, demanded, whole};
+ghost use Rattle.line_replies.specs.Responses.{Replaying, Spelling};
 ghost use Rattle.cell_replay.specs.Forms.{FormState, ByLines, ByTowers, Demands};
 ghost use Rattle.cell_replay.specs.Runs.{IsFront};
 ghost use Rattle.cell_replay.specs.Scripts.{IsScript, text_of};
 
-use crate::limits::{
-    LONGEST_TOWER, MOST_ROUNDS, MOST_TOWERS, MOST_UPDATES, MOST_WAITING, TOWER_SIGHT,
-};
+use crate::limits::{MOST_ROUNDS, MOST_TOWERS, TOWER_SIGHT};
 use cds_cell::laws::{asked_houses_accept, masters_refuse_for_stamps_alone};
 use cell_model::holdings;
+use line_replies::{LONGEST_TOWER, MOST_UPDATES, MOST_WAITING};
 use ns_groups::laws::group_updates_are_accepted;
 use ns_profiles::laws::profile_updates_are_accepted;
 use server_entries::laws::server_updates_are_accepted;

@@ -1,20 +1,10 @@
-//! The limits of towers, of updates, of the replies that wait, and of the rounds of `load`.
-
-/// How many octets a tower has at most.
-pub const LONGEST_TOWER: usize = 1024;
+//! The limits of the octets of towers, and of the rounds of `load`.
 
 /// The octets that are looked at for one tower: one more than it may have.
 pub const TOWER_SIGHT: usize = 1025;
 
 /// How many towers there are at most.
 pub const MOST_TOWERS: u32 = 16_777_216;
-
-/// Replies are written at the latest when this many octets wait.
-pub const MOST_WAITING: usize = 65_536;
-
-/// How many updates one command of the name service makes at most. A longer list would count as want of memory, but none comes to
-/// it: a line of 4,096 octets gives an entry at most 170 values, and a script has at most 16,777,216 lines.
-pub const MOST_UPDATES: usize = 3_221_225_472;
 
 /// How many rounds the script of `load` has at most.
 pub const MOST_ROUNDS: u32 = 20_000;

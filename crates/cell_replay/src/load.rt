@@ -1,14 +1,13 @@
 // The form `load`: a cell replays a script that is made and not read.
 ghost use Rattle.std.specs.Prelude.{◌≡◌, ◌≤◌, IfOk};
-ghost use Rattle.cell_replay.specs.Loading.{load_text};
+ghost use Rattle.line_replies.specs.Loading.{load_text};
 ghost use Rattle.cell_replay.specs.PrivateEndings.{Loaded, side_of};
 ghost use Rattle.cell_replay.specs.declared.limits.TheConstants.{MOST_ROUNDS};
 
 use crate::endings::{Status, stop_with};
-use crate::loader::Loader;
-use crate::replies::Waiting;
 use cds_base::Sink;
 use cell_script::script_of;
+use line_replies::{Loader, Waiting};
 use std::alloc::{AllocError, Global};
 
 /// The line of the script with so many rounds.

@@ -4,9 +4,10 @@ ghost use Rattle.std.specs.Io.KnownBytes.{IsAtEnd};
 ghost use Rattle.cds_base.specs.Counts.{Rose};
 ghost use Rattle.cds_base.specs.Lines.{IsFresh};
 ghost use Rattle.cell_model.specs.Cells as model;
-ghost use Rattle.cell_replay.specs.Demand.{LineState, Replaying, end_text, told_fault};
+ghost use Rattle.line_replies.specs.Responses.{LineState, Replaying};
+ghost use Rattle.cell_replay.specs.Demand.{end_text, told_fault};
 ghost use Rattle.cell_replay.specs.Forms.{FormState, ByLines, Loading, Reading, task_of};
-ghost use Rattle.cell_replay.specs.Loading.{load_text};
+ghost use Rattle.line_replies.specs.Loading.{load_text};
 ghost use Rattle.cell_replay.specs.Scripts.{IsReplay};
 ghost use Rattle.cell_replay.specs.PrivateStanding.{IsAt, IsForm, counted, start_of};
 ghost use Rattle.cell_replay.specs.Runs.{LoadEnds, Wrote, WroteSoon, WroteAnswers, IsWhole, IsFaulty, WroteAllBefore, IsPart, IsCutShort};
@@ -17,11 +18,9 @@ use crate::check::Tally;
 use crate::endings::{Status, finish, stop_with};
 use crate::forms::{Form, LineForm, form_in};
 use crate::load::load;
-use crate::replayer::Replayer;
-use crate::replies::{LineEnd, Waiting};
 use crate::towers::print_towers;
-use crate::untowers::Speller;
 use cds_base::{LineFault, Lines, Sink, Source};
+use line_replies::{LineEnd, Replayer, Speller, Waiting};
 use std::alloc::{AllocError, Global};
 
 // Ends a run at the end of the input.

@@ -8,7 +8,7 @@ use Rattle.cell_model.specs.Commands.{Command, Answer, Deliver}
 use Rattle.cell_model.specs.Steps.{Outcome, outcome, replay_from, answers_from}
 use Rattle.cell_model.specs.Mending.{HasWorked}
 use Rattle.cell_model.proofs.Deliveries.{Run, run_none, run_first, run_append, run_map}
-use Rattle.cell_replay.specs.Loading.{is_completion}
+use Rattle.line_replies.specs.Loading.{is_completion}
 
 -- how many of these answers tell that a skulk is complete
 abbrev pub completions : List Answer → ℕ

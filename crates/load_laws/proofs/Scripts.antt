@@ -20,7 +20,7 @@ use Rattle.cell_model.proofs.Runs.{replay-append}
 use Rattle.cell_script.specs.Generated.{Part, laid_out, opening, entry, entry_name, draws, next_draw, rounds_behind, script}
 use Rattle.cds_cell.specs.Scripted.{step_of}
 use Rattle.load_laws.specs.Unrefused.{IsNeverRefused, IsInFull, AllWork, is_skulk, AllComplete, IsLoaded, Loads}
-use Rattle.cell_replay.specs.Loading.{is_completion}
+use Rattle.line_replies.specs.Loading.{is_completion}
 use Rattle.load_laws.proofs.Goings.{Goes, completions, deliveries, count_append, answers-append, deliveries_append}
 use Rattle.load_laws.proofs.Trios.{trio, replica, Seated}
 use Rattle.load_laws.proofs.Shows.{same_shown}

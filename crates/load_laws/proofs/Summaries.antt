@@ -16,8 +16,8 @@ use Rattle.cell_script.specs.declared.answer.ScriptRefusal.TheVariants as why
 use Rattle.cell_script.specs.declared.command.Command.{Command}
 use Rattle.cell_script.specs.declared.command.Command.TheVariants as command
 use Rattle.cell_script.specs.Generated.{script}
-use Rattle.cell_replay.specs.Replies.{slot_told}
-use Rattle.cell_replay.specs.Loading.{answered_from, is_change, is_delivery, is_refusal, is_accepted, is_completion, completes, table_told, first_table}
+use Rattle.line_replies.specs.Replies.{slot_told}
+use Rattle.line_replies.specs.Loading.{answered_from, is_change, is_delivery, is_refusal, is_accepted, is_completion, completes, table_told, first_table}
 use Rattle.cds_cell.specs.Scripted.{step_of}
 use Rattle.load_laws.specs.Unrefused.{IsInFull}
 use Rattle.load_laws.specs.Summaries.{CountsAll}

@@ -2,7 +2,7 @@
 use Rattle.std.specs.Prelude.{◌≡◌, List, map, count_by}
 use Rattle.cell_script.specs.declared.command.Command.{Command}
 use Rattle.cds_cell.specs.Scripted.{step_of}
-use Rattle.cell_replay.specs.Loading.{is_change, summary_of}
+use Rattle.line_replies.specs.Loading.{is_change, summary_of}
 use Rattle.load_laws.specs.Unrefused.{is_skulk}
 
 -- the summary of these commands counts each of their changes, each of their skulks, and the sixteen entries (own)

@@ -11,7 +11,7 @@ use Rattle.cell_model.specs.Steps.{answers, replay}
 use Rattle.cell_script.specs.declared.command.Command.{Command}
 use Rattle.cell_script.specs.Generated.{entry_name}
 use Rattle.cds_cell.specs.Scripted.{step_of}
-use Rattle.cell_replay.specs.Loading.{is_completion}
+use Rattle.line_replies.specs.Loading.{is_completion}
 
 -- no answer to these commands, from the empty cell on, is a refusal (own)
 abbrev pub IsNeverRefused : List Command → Type 0

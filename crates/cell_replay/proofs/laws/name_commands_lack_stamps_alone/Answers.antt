@@ -5,8 +5,8 @@ use Rattle.resolver.specs.WalkEnds.{placed, walked}
 use Rattle.server_entries.specs.Exports.{exported}
 use Rattle.ns_groups.specs.Groups as groups
 use Rattle.ns_profiles.specs.Profiles as profiles
-use Rattle.cell_replay.specs.Replies.{trusted}
-use Rattle.cell_replay.proofs.UpdateLaws.{found_lacks, place_lacks, unless_lacks}
+use Rattle.line_replies.specs.Replies.{trusted}
+use Rattle.line_replies.proofs.UpdateLaws.{found_lacks, place_lacks, unless_lacks}
 use Rattle.cell_replay.proofs.laws.name_commands_lack_stamps_alone.Goals as goal
 
 pub returns-clause-exports : goal.returns-clause-exports

@@ -1,5 +1,5 @@
 use Rattle.cell_replay.proofs.Tasks.{loads}
-use Rattle.cell_replay.specs.Loading.{load_text}
+use Rattle.line_replies.specs.Loading.{load_text}
 use Rattle.cell_replay.proofs.load.load.Goals as goal
 
 pub returns : goal.returns

@@ -1,0 +1,174 @@
+// The form `run`: each line is replayed on a cell.
+ghost use Rattle.line_replies.specs.Steps.{HasSteps};
+
+use crate::answers::reply_to_fault;
+use crate::limits::MOST_UPDATES;
+use crate::questions::reply_to_question;
+use crate::replies::{LineEnd, Waiting};
+use crate::said::{Reply, answer_to_updates};
+use cds_cell::Cell;
+use cds_cell::laws::accepted_updates_are_commands;
+use cds_stamps::AllocOr;
+use cell_script::{Answer, Command, Question, ScriptLine, parse_line};
+use ns_commands::Updates;
+use std::alloc::{AllocError, Global};
+
+/// A cell, how many steps and lists of updates it took, and how many updates stood in these lists: so many that there is room for
+/// each further line of a script.
+#[derive(Drop)]
+pub struct Replayer {
+    cell: Cell,
+    steps: u32,
+    updates: u64,
+    ghost few: { HasSteps steps updates cell },
+}
+
+impl Replayer {
+    ghost use Rattle.std.specs.Prelude.{◌≡◌, ◌++◌, ◌+◌, ◌<◌, ◌≤◌, true, Some, Ok, IfOk, OnOk, OnErr};
+    ghost use Rattle.std.specs.Option.{option_map};
+    ghost use Rattle.cds_base.specs.declared.scan.TheConstants.{MOST_LINES};
+    ghost use Rattle.cell_model.specs.Cells as model;
+    ghost use Rattle.cell_model.specs.Steps.{outcome};
+    ghost use Rattle.cell_script.specs.Words.{words_of};
+    ghost use Rattle.cell_script.specs.Commands.{said_in};
+    ghost use Rattle.cell_script.specs.declared.command.ScriptLine.TheVariants as line;
+    ghost use Rattle.cds_cell.specs.Houses.{is_up_state};
+    ghost use Rattle.cds_cell.specs.Scripted.{step_of};
+    ghost use Rattle.cds_cell.specs.Standing.{IsStep, Stands, house_of};
+    ghost use Rattle.ns_commands.specs.Asks.{changes_in};
+    ghost use Rattle.line_replies.specs.Responses.{replayed};
+    ghost use Rattle.line_replies.specs.Replies.{does, reply_text, cell_after};
+    ghost use Rattle.line_replies.specs.PrivateReplies.{IsDone, IsReply};
+    ghost use Rattle.line_replies.specs.LineEnds.{Replays};
+
+    /// Over a cell without houses. Takes no memory.
+    pub fn new(alloc: Global) -> Replayer
+        ensures cell { Stands result.cell model.empty_cell }
+        ensures steps { result.steps ≡ 0 }
+    {
+        Replayer {
+            cell: Cell::new(alloc),
+            steps: 0,
+            updates: 0,
+        }
+    }
+
+    pub(crate) fn cell(&self) -> &Cell
+        ensures { result.now ≡ self.now.cell }
+    {
+        &self.cell
+    }
+
+    /// Replays a line: its reply waits behind the others.
+    pub fn replay_line(
+        &mut self,
+        alloc: Global,
+        number: u32,
+        line: &[u8],
+        waiting: &mut Waiting,
+    ) -> LineEnd
+        requires fewer { self.old.steps < number }
+        requires most { number ≤ MOST_LINES }
+        ensures reply { (g : model.Cell) → Stands self.old.cell g
+            → Replays result (replayed number g (said_in (words_of line.now))) waiting.old waiting.new self.new }
+        ensures steps { self.new.steps ≤ number }
+    {
+        match parse_line(alloc, line) {
+            Ok(Some(line)) => self.reply_to_line(alloc, number, line, waiting),
+            Ok(None) => LineEnd::GoesOn,
+            Err(AllocOr::Fault(fault)) => reply_to_fault(alloc, number, fault, waiting),
+            Err(AllocOr::OutOfMemory) => LineEnd::NoMemory,
+        }
+    }
+
+    fn reply_to_line(
+        &mut self,
+        alloc: Global,
+        number: u32,
+        line: ScriptLine,
+        waiting: &mut Waiting,
+    ) -> LineEnd
+        requires few { self.old.steps < MOST_LINES }
+        ensures reply { (g : model.Cell) → Stands self.old.cell g → Replays result (replayed number g (Ok (Some line))) waiting.old waiting.new self.new }
+        ensures steps { self.new.steps ≤ self.old.steps + 1 }
+    {
+        match self.answer(alloc, number, line, waiting) {
+            Ok(()) => LineEnd::GoesOn,
+            Err(AllocError) => LineEnd::NoMemory,
+        }
+    }
+
+    // The reply to a line waits behind the others.
+    fn answer(
+        &mut self,
+        alloc: Global,
+        number: u32,
+        line: ScriptLine,
+        waiting: &mut Waiting,
+    ) -> Result<(), AllocError>
+        requires few { self.old.steps < MOST_LINES }
+        ensures ok { (g : model.Cell) → Stands self.old.cell g → OnOk result ((waiting.new ≡ waiting.old ++ reply_text number g line)
+            × Stands self.new.cell (cell_after g line)) }
+        ensures err { OnErr result (waiting.new ≡ waiting.old) }
+        ensures steps { self.new.steps ≤ self.old.steps + 1 }
+    {
+        let answer = self.reply(alloc, line)?;
+        waiting.add_answer(alloc, number, &answer)
+    }
+
+    /// What the cell replies to a line.
+    pub(crate) fn reply(&mut self, alloc: Global, line: ScriptLine) -> Result<Answer, AllocError>
+        requires few { self.old.steps < MOST_LINES }
+        ensures reply { (g : model.Cell) → Stands self.old.cell g → IfOk result (λ a. IsReply a self.new.cell g line) }
+        ensures steps { self.new.steps ≤ self.old.steps + 1 }
+    {
+        match line {
+            ScriptLine::Cell(command) => self.step(alloc, command),
+            ScriptLine::Question(question) => self.answer_question(alloc, &question),
+        }
+    }
+
+    // A step of the cell, unless memory ran out before.
+    fn step(&mut self, alloc: Global, command: Command) -> Result<Answer, AllocError>
+        requires few { self.old.steps < MOST_LINES }
+        ensures step { (g : model.Cell) → Stands self.old.cell g → IfOk result (λ a. IsStep a self.new.cell (outcome g (step_of command))) }
+        ensures steps { self.new.steps ≤ self.old.steps + 1 }
+    {
+        if self.cell.is_spent() {
+            return Err(AllocError);
+        }
+        self.steps += 1;
+        self.cell.step(alloc, command)
+    }
+
+    // The answer to a question, behind the updates that it asks for.
+    fn answer_question(&mut self, alloc: Global, question: &Question) -> Result<Answer, AllocError>
+        requires few { self.old.steps < MOST_LINES }
+        ensures reply { (g : model.Cell) → Stands self.old.cell g → IfOk result (λ a. IsReply a self.new.cell g (line.Question question.now)) }
+        ensures steps { self.new.steps ≤ self.old.steps + 1 }
+    {
+        match reply_to_question(alloc, &self.cell, question)? {
+            Reply::Answer(answer) => Ok(answer),
+            Reply::Updates(updates) => self.accept(alloc, &updates),
+        }
+    }
+
+    // Updates at a house that is up, unless memory ran out before. A list of more than MOST_UPDATES counts as that.
+    fn accept(&mut self, alloc: Global, updates: &Updates) -> Result<Answer, AllocError>
+        requires few { self.old.steps < MOST_LINES }
+        requires up { is_up_state (option_map (λ h. h.state) (house_of self.old.cell.houses.items updates.now.house.0)) ≡ true }
+        ensures done { (g : model.Cell) → Stands self.old.cell g → IfOk result (λ a. IsDone a self.new.cell g (does g (Ok (changes_in updates.now)))) }
+        ensures steps { self.new.steps ≤ self.old.steps + 1 }
+    {
+        accepted_updates_are_commands();
+        if self.cell.is_spent() || updates.list.len() > MOST_UPDATES {
+            return Err(AllocError);
+        }
+        self.steps += 1;
+        self.updates += updates.list.len() as u64;
+        let done = self
+            .cell
+            .accept_all(alloc, updates.house, updates.dir, &updates.list)?;
+        Ok(answer_to_updates(alloc, done))
+    }
+}
