@@ -33,6 +33,7 @@ impl Model for PostedList {
 }
 
 impl PostedList {
+    /// No messages yet.
     pub fn new(alloc: Global) -> Self
         ensures { result ≡ [] }
     {
@@ -50,6 +51,7 @@ impl PostedList {
         Ok(())
     }
 
+    /// The messages, in the order in which they were posted.
     pub fn list(&self) -> &[Posted]
         ensures { result.now ≡ self.now }
     {

@@ -57,6 +57,7 @@ impl DirStates {
     ghost use Rattle.std.specs.Borrow.{sem};
     ghost use Rattle.held_directories.specs.Lending.{LendsHeldIn};
 
+    /// No directory yet.
     pub fn new(alloc: Global) -> Self
         ensures { result ≡ map.empty }
     {
@@ -79,6 +80,7 @@ impl DirStates {
         self.states.iter()
     }
 
+    /// What the house has of a directory.
     pub fn get(&self, dir: &DirId) -> Option<&DirState>
         ensures { option_copied result ≡ map.get self.now dir.now }
     {
@@ -152,6 +154,7 @@ impl DirState {
         }
     }
 
+    /// The same, with memory of its own.
     pub fn copy(&self, alloc: Global) -> Result<DirState, AllocError>
         ensures { IfOk result (λ d. d ≡ self.now) }
     {
@@ -163,6 +166,7 @@ impl DirState {
 }
 
 impl Held {
+    /// The same, with memory of its own.
     pub fn copy(&self, alloc: Global) -> Result<Held, AllocError>
         ensures { IfOk result (λ h. h ≡ self.now) }
     {

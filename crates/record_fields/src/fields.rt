@@ -55,6 +55,7 @@ fn node_from(octets: [u8; 6]) -> Node
 }
 
 impl<'a> Reader<'a> {
+    /// At the front of the octets.
     pub fn new(octets: &'a [u8]) -> Reader<'a>
         ensures { result ≡ octets.now }
     {
