@@ -28,10 +28,10 @@ use Rattle.cell_model.proofs.Completing.{answers_lem}
 use Rattle.cell_model.proofs.Lists.{In-from_get, not_true, or_left}
 use Rattle.cell_model.proofs.Numbers.{numbers_lem}
 use Rattle.cell_model.proofs.Standing.{can_take_lem, on_reached}
-use Rattle.cell_script.specs.declared.answer.Answer.{Answer}
-use Rattle.cell_script.specs.declared.answer.Answer.TheVariants as answer
-use Rattle.cell_script.specs.declared.answer.ScriptRefusal.{ScriptRefusal}
-use Rattle.cell_script.specs.declared.answer.ScriptRefusal.TheVariants as why
+use Rattle.script_answers.specs.declared.answer.Answer.{Answer}
+use Rattle.script_answers.specs.declared.answer.Answer.TheVariants as answer
+use Rattle.script_answers.specs.declared.answer.ScriptRefusal.{ScriptRefusal}
+use Rattle.script_answers.specs.declared.answer.ScriptRefusal.TheVariants as why
 use Rattle.held_directories.specs.declared.skulks.Begun.{Begun}
 use Rattle.held_directories.specs.declared.taking.Taken.{Taken}
 use Rattle.held_directories.specs.Stepping.{IsBegunAnswer, IsStampAnswer, IsTakeAnswer}

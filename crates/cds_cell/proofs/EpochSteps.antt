@@ -18,8 +18,8 @@ use Rattle.cell_model.specs.Turns as turns
 use Rattle.cell_model.proofs.NeverComes.{nevers_lem}
 use Rattle.cell_model.proofs.Standing.{on_reached}
 use Rattle.cell_model.proofs.Terms.{master_new}
-use Rattle.cell_script.specs.declared.answer.Answer.TheVariants as answer
-use Rattle.cell_script.specs.declared.answer.ScriptRefusal.{ScriptRefusal}
+use Rattle.script_answers.specs.declared.answer.Answer.TheVariants as answer
+use Rattle.script_answers.specs.declared.answer.ScriptRefusal.{ScriptRefusal}
 use Rattle.held_directories.specs.declared.epochs.EpochRefusal.{EpochRefusal}
 use Rattle.held_directories.specs.declared.epochs.EpochRefusal.TheVariants as why
 use Rattle.held_directories.specs.Stepping.{IsEpochAnswer}

@@ -12,7 +12,7 @@ use Rattle.cell_model.specs.Commands as command
 use Rattle.cell_model.specs.Sets.{has}
 use Rattle.cell_model.specs.Steps.{effect, is_taken, new_house, set_clock}
 use Rattle.cell_model.proofs.Views.{put_other, put_same}
-use Rattle.cell_script.specs.declared.answer.Answer.TheVariants as answer
+use Rattle.script_answers.specs.declared.answer.Answer.TheVariants as answer
 use Rattle.clearinghouse.specs.declared.house.Clearinghouse.{Clearinghouse}
 use Rattle.held_directories.specs.declared.states.DirState.TheVariants as state
 use Rattle.held_directories.specs.declared.states.Held.{Held}

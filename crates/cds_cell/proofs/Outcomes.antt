@@ -8,8 +8,8 @@ use Rattle.cell_model.specs.Commands as command
 use Rattle.cell_model.specs.Reached.{IsReached}
 use Rattle.cell_model.specs.Steps.{Outcome, effect, first_refusal, outcome, refusals_of}
 use Rattle.cell_model.proofs.Standing.{reached_lem}
-use Rattle.cell_script.specs.declared.answer.Answer.{Answer}
-use Rattle.cell_script.specs.declared.answer.ScriptRefusal.{ScriptRefusal}
+use Rattle.script_answers.specs.declared.answer.Answer.{Answer}
+use Rattle.script_answers.specs.declared.answer.ScriptRefusal.{ScriptRefusal}
 use Rattle.cds_cell.specs.declared.cell.Cell.{Cell}
 use Rattle.cds_cell.specs.PrivateSteps.{ComesTo}
 use Rattle.cds_cell.specs.Scripted as script

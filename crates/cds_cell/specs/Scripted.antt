@@ -6,10 +6,10 @@ use Rattle.directory.specs.Updates as updates
 use Rattle.cell_model.specs.Commands as model
 use Rattle.cell_script.specs.declared.command.Command.{Command}
 use Rattle.cell_script.specs.declared.command.Command.TheVariants as command
-use Rattle.cell_script.specs.declared.answer.Answer.{Answer}
-use Rattle.cell_script.specs.declared.answer.Answer.TheVariants as answer
-use Rattle.cell_script.specs.declared.answer.ScriptRefusal.{ScriptRefusal}
-use Rattle.cell_script.specs.declared.answer.ScriptRefusal.TheVariants as why
+use Rattle.script_answers.specs.declared.answer.Answer.{Answer}
+use Rattle.script_answers.specs.declared.answer.Answer.TheVariants as answer
+use Rattle.script_answers.specs.declared.answer.ScriptRefusal.{ScriptRefusal}
+use Rattle.script_answers.specs.declared.answer.ScriptRefusal.TheVariants as why
 use Rattle.held_directories.specs.Posting.{numbers_of}
 
 -- the step of the cell that a command is (own)

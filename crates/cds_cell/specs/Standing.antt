@@ -7,8 +7,8 @@ use Rattle.cds_stamps.specs.Numbers.{root_dir}
 use Rattle.cell_model.specs.Cells as model
 use Rattle.cell_model.specs.Reached.{IsReached}
 use Rattle.cell_model.specs.Steps.{Outcome, is_unknown, stands_twice}
-use Rattle.cell_script.specs.declared.answer.Answer.{Answer}
-use Rattle.cell_script.specs.declared.answer.Answer.TheVariants as answer
+use Rattle.script_answers.specs.declared.answer.Answer.{Answer}
+use Rattle.script_answers.specs.declared.answer.Answer.TheVariants as answer
 use Rattle.held_directories.specs.Posting.{numbers_of}
 use Rattle.cds_cell.specs.declared.cell.Cell.{Cell}
 use Rattle.cds_cell.specs.declared.console.Listing.{Listing}

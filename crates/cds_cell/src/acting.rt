@@ -21,9 +21,9 @@ use crate::console::Listing;
 use crate::members::{leaving, listing};
 use crate::step::Step;
 use cds_stamps::{DirId, EpochNo, HouseNo, Members, Stamp};
-use cell_script::{Answer, ScriptRefusal, Serials};
 use clearinghouse::{Begun, EpochRefusal, Outgoing};
 use directory::{Update, UpdateRefusal};
+use script_answers::{Answer, ScriptRefusal, Serials};
 use std::alloc::{AllocError, Global};
 
 impl Cell {

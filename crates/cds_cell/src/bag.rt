@@ -8,9 +8,9 @@ ghost use Rattle.cds_cell.specs.PrivateActs.{Posts};
 ghost use Rattle.cds_cell.specs.PrivateBags.{IsEmptyBag, PostsOne};
 
 use cds_stamps::HouseNo;
-use cell_script::Serials;
 use clearinghouse::Letters;
 use indexmap::IndexMap;
+use script_answers::Serials;
 use std::alloc::{AllocError, Global};
 use std::rc::RcSlice;
 

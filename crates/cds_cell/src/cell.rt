@@ -21,8 +21,9 @@ use crate::house::{CellHouse, HouseState};
 use crate::step::{Step, step_in};
 use crate::updating::AcceptedAll;
 use cds_stamps::{DirId, HouseNo};
-use cell_script::{Answer, Command};
+use cell_script::Command;
 use directory::Update;
+use script_answers::Answer;
 use std::alloc::{AllocError, Global};
 
 /// A cell: its houses in the order in which they were made, what its console knows of the directories 1, 2, 3 and so on, and

@@ -19,9 +19,9 @@ use crate::members::listing;
 use crate::pointing::house_list;
 use cds_stamps::{DirId, EpochNo, HouseNo, Members, Node, SimpleName};
 use cell_names::ChildPointer;
-use cell_script::{Answer, ScriptRefusal, Serials};
 use clearinghouse::Clearinghouse;
 use directory::Update;
+use script_answers::{Answer, ScriptRefusal, Serials};
 use std::alloc::{AllocError, Global};
 
 // The update that makes a child whose directory has this number and these houses; none, where they are no good list.

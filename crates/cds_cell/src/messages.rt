@@ -8,7 +8,7 @@ ghost use Rattle.cell_model.specs.Taking.{CanTake};
 ghost use Rattle.cell_model.specs.Turns as turns;
 ghost use Rattle.held_directories.specs.Posting.{StandsMessage};
 ghost use Rattle.held_directories.specs.Stepping.{IsTakeAnswer, UnlessTaken};
-ghost use Rattle.cell_script.specs.declared.answer.Answer.TheVariants as answer;
+ghost use Rattle.script_answers.specs.declared.answer.Answer.TheVariants as answer;
 ghost use Rattle.cds_cell.specs.PrivateActs.{ActsAt, Delivers, KeepsRest};
 ghost use Rattle.cds_cell.specs.PrivateSteps.{ComesTo, IsPlaceOf, IsStepAs, Leaves};
 ghost use Rattle.cds_cell.specs.Standing.{HasRoom, Stands};
@@ -19,8 +19,8 @@ use crate::house::HouseState;
 use cds_messages::Message;
 use cds_records::decode;
 use cds_stamps::{AllocOr, HouseNo};
-use cell_script::{Answer, ScriptRefusal, Serials};
 use clearinghouse::Taken;
+use script_answers::{Answer, ScriptRefusal, Serials};
 use std::alloc::{AllocError, Global};
 
 /// A message that comes to the house at a place of the list.

@@ -16,7 +16,7 @@ use crate::house::HouseState;
 use crate::members::is_bad_list;
 use crate::step::Step;
 use cds_stamps::{DirId, HouseNo, Node};
-use cell_script::ScriptRefusal;
+use script_answers::ScriptRefusal;
 
 impl Cell {
     /// That a step is allowed, or the first reason against it.

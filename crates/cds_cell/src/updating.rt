@@ -9,8 +9,8 @@ ghost use Rattle.cds_cell.specs.Standing.{Stands};
 
 use crate::cell::Cell;
 use cds_stamps::DirId;
-use cell_script::Serials;
 use directory::{Update, UpdateRefusal};
+use script_answers::Serials;
 use std::alloc::{AllocError, Global};
 
 /// Updates of a directory at a house, in order up to the first that is refused.

@@ -20,10 +20,10 @@ use Rattle.resolver.specs.declared.refusal.Refusal.{Refusal}
 use Rattle.resolver.specs.declared.seen.Found.{Found}
 use Rattle.resolver.specs.Readers.{Reader}
 use Rattle.resolver.specs.WalkEnds.{walked}
-use Rattle.cell_script.specs.declared.answer.Answer.{Answer}
-use Rattle.cell_script.specs.declared.answer.Answer.TheVariants as answer
-use Rattle.cell_script.specs.declared.answer.ScriptRefusal.{ScriptRefusal}
-use Rattle.cell_script.specs.declared.answer.ScriptRefusal.TheVariants as why
+use Rattle.script_answers.specs.declared.answer.Answer.{Answer}
+use Rattle.script_answers.specs.declared.answer.Answer.TheVariants as answer
+use Rattle.script_answers.specs.declared.answer.ScriptRefusal.{ScriptRefusal}
+use Rattle.script_answers.specs.declared.answer.ScriptRefusal.TheVariants as why
 use Rattle.cell_script.specs.declared.command.Command.{Command}
 use Rattle.cell_script.specs.declared.command.Question.{Question}
 use Rattle.cell_script.specs.declared.command.Question.TheVariants as question

@@ -7,7 +7,7 @@ use Rattle.cell_model.specs.Agreement.{Agrees, place_of}
 use Rattle.cell_model.specs.Cells.{Cell, Replica, IsHeld, empty_cell}
 use Rattle.cell_model.specs.Commands.{Accepted, Command}
 use Rattle.cell_model.specs.Steps.{accepted, replay, replay_from}
-use Rattle.cell_script.specs.declared.answer.Answer.TheVariants as answer
+use Rattle.script_answers.specs.declared.answer.Answer.TheVariants as answer
 use Rattle.cell_script.specs.declared.command.Question.TheVariants as question
 use Rattle.cell_script.specs.declared.command.ScriptLine.{ScriptLine}
 use Rattle.cell_script.specs.declared.command.ScriptLine.TheVariants as line

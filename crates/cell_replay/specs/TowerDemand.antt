@@ -7,7 +7,7 @@ use Rattle.line_replies.specs.declared.limits.TheConstants.{LONGEST_TOWER}
 use Rattle.cell_replay.specs.declared.limits.TheConstants.{MOST_TOWERS, TOWER_SIGHT}
 use Rattle.cell_replay.specs.declared.towers.StreamFault.{StreamFault}
 use Rattle.cell_replay.specs.declared.towers.StreamFault.TheVariants as stream
-use Rattle.cell_script.specs.Texts.{fault_text}
+use Rattle.script_answers.specs.Texts.{fault_text}
 use Rattle.line_replies.specs.TowerTexts.{tower_text}
 use Rattle.cell_replay.specs.Demand.{Demand, faulty_with, ends_with, cut_short_with, with_front}
 

@@ -12,8 +12,8 @@ ghost use Rattle.cell_replay.specs.PrivateSights.{Sees, seen_fault};
 use crate::endings::{Status, finish, stop_with};
 use crate::limits::{MOST_TOWERS, TOWER_SIGHT};
 use cds_base::{Failed, Sink, Source, Window};
-use cell_script::print_fault;
 use line_replies::{LONGEST_TOWER, Waiting};
+use script_answers::print_fault;
 use std::alloc::{AllocError, Global};
 use tower_codec::{TowerFault, TowerView};
 

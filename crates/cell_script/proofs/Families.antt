@@ -1,14 +1,67 @@
 -- The commands family by family are the commands of the one table.
-use Rattle.std.proofs.Common.{◌≡◌, ℕ, List, refl}
-use Rattle.cell_script.specs.Forms.{Words}
-use Rattle.cell_script.specs.Commands.{said_by, early_by}
-use Rattle.cell_script.specs.RowWords.{served_by, asked_by, befallen_by, replicated_by, changed_by, updated_by, made_by}
-use Rattle.cell_script.specs.RowWords.{served_early, asked_early, befallen_early, replicated_early, changed_early, updated_early, made_early}
+use Rattle.std.proofs.Common.{◌≡◌, ℕ, Bool, true, false, List, [], ◌∷◌, refl, sym, ◌∙◌, if◌then◌else◌}
+use Rattle.std.specs.Prelude.{Option, Some, None, Result, Ok, Err, IfSome}
+use Rattle.std.specs.Result.{result_err}
+use Rattle.std.specs.Str.{bytes_eq}
+use Rattle.cds_stamps.specs.declared.alloc_or.AllocOr.{AllocOr}
+use Rattle.cds_stamps.specs.declared.alloc_or.AllocOr.TheVariants.{Fault, OutOfMemory}
+use Rattle.cds_stamps.specs.Outcomes.{Answers}
+use Rattle.cell_script.specs.declared.command.ScriptLine.{ScriptLine}
+use Rattle.cell_script.specs.declared.fault.ParseFault.{ParseFault}
+use Rattle.cell_script.specs.declared.fault.ParseFault.TheVariants.{UnknownCommand}
+use Rattle.cell_script.specs.Forms.{◌>>=◌, Words, counted, is_open, least_of, read_as}
+use Rattle.cell_script.specs.Commands.{Row, said_among, early_among, no_command, said_by, early_by, rows}
+use Rattle.cell_script.specs.PrivateRows.{Says, served, asked, befallen, replicated, changed, updated, made}
 
-pub made_by_is : (word : List ℕ) (s : Words) → made_by word s ≡ said_by word s
-unfolding said_by made_by updated_by changed_by replicated_by befallen_by asked_by served_by
-made_by_is word s = refl
+pub made_said : (word : List ℕ) (s : Words) → (made word s).said ≡ said_by word s
+unfolding said_by made updated changed replicated befallen asked served
+made_said word s = refl
 
-pub made_early_is : (word : List ℕ) (s : Words) → made_early word s ≡ early_by word s
-unfolding early_by made_early updated_early changed_early replicated_early befallen_early asked_early served_early
-made_early_is word s = refl
+pub made_early : (word : List ℕ) (s : Words) → (made word s).early ≡ early_by word s
+unfolding early_by made updated changed replicated befallen asked served
+made_early word s = refl
+
+-- a fault of the first step is that of the whole
+first_fails : {A B : Type 0} (r : Result A ParseFault) (next : A → Result B ParseFault) (fault : ParseFault)
+    → result_err r ≡ Some fault → (r >>= next) ≡ Err fault
+first_fails (Ok x) next fault is = cc
+first_fails (Err e) next fault is = cc
+
+-- the fault that shows early is what the line says
+early_is_said : (rows : List Row) (fault : ParseFault) (word : List ℕ) (s : Words)
+    → early_among rows (Some (UnknownCommand 1)) word s ≡ Some fault → said_among rows no_command word s ≡ Err fault
+early_is_said [] fault word s is = cc
+early_is_said (row ∷ rows) fault word s is = by_word (bytes_eq word row.word) (early_is_said rows fault word s) is
+  where
+    by_word : (same : Bool)
+        → (early_among rows (Some (UnknownCommand 1)) word s ≡ Some fault → said_among rows no_command word s ≡ Err fault)
+        → (if same then result_err (counted (is_open row.forms) (least_of row.forms) s) else early_among rows (Some (UnknownCommand 1)) word s) ≡ Some fault
+        → (if same then read_as row.forms row.says s else said_among rows no_command word s) ≡ Err fault
+    by_word true others is = first_fails (counted (is_open row.forms) (least_of row.forms) s) _ fault is
+    by_word false others is = others is
+
+-- a reader that answers what a line says
+pub says_answers : (r : Result ScriptLine (AllocOr ParseFault)) (word : List ℕ) (s : Words)
+    → Says r (made word s) → Answers r (said_by word s)
+says_answers (Ok line) word s says = sym (made_said word s) ∙ says
+says_answers (Err (Fault fault)) word s says = sym (made_said word s) ∙ says
+says_answers (Err OutOfMemory) word s says = tt
+
+-- a reader that answers what a line says tells a fault that shows early
+pub says_early : (r : Result ScriptLine (AllocOr ParseFault)) (word : List ℕ) (s : Words)
+    → Says r (made word s) → IfSome (early_by word s) (λ fault. r ≡ Err (Fault fault))
+unfolding said_by early_by
+says_early r word s says = by_early (early_by word s) refl
+  where
+    told : (fault : ParseFault) → early_by word s ≡ Some fault → said_by word s ≡ Err fault
+    told fault is = early_is_said rows fault word s is
+
+    by_answer : (r : Result ScriptLine (AllocOr ParseFault)) (fault : ParseFault) → early_by word s ≡ Some fault
+        → Says r (made word s) → r ≡ Err (Fault fault)
+    by_answer (Ok line) fault is says = let e : Err fault ≡ Ok line = sym (told fault is) ∙ (sym (made_said word s) ∙ says) in cc
+    by_answer (Err (Fault other)) fault is says = let e : Err fault ≡ Err other = sym (told fault is) ∙ (sym (made_said word s) ∙ says) in cc
+    by_answer (Err OutOfMemory) fault is says = let e : Some fault ≡ None = sym is ∙ (sym (made_early word s) ∙ says) in cc
+
+    by_early : (early : Option ParseFault) → early_by word s ≡ early → IfSome early (λ fault. r ≡ Err (Fault fault))
+    by_early None is = tt
+    by_early (Some fault) is = by_answer r fault is says

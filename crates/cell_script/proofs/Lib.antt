@@ -2,8 +2,6 @@ pub mod Numbers
 pub mod Splitting
 pub mod Reading
 pub mod Families
-pub mod Printing
-pub mod DumpLoops
 pub mod Listed
 pub mod Rounds
 pub mod ScriptLengths

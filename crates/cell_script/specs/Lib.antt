@@ -4,8 +4,7 @@ pub mod Notes
 pub mod NameService
 pub mod Forms
 pub mod Commands
-pub mod RowWords
-pub mod Texts
+pub mod PrivateRows
 pub mod Generated
 pub mod PrivateWorks
 pub mod PrivateGenerated

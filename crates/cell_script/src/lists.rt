@@ -1,9 +1,8 @@
-// Lists inside commands and answers.
+// Lists inside commands.
 ghost use Rattle.std.specs.Prelude.{◌≡◌, [], ◌∷◌, ◌++◌, None, Ok, IsTrue, IfOk, OnOk, OnErr};
 ghost use Rattle.std.specs.List.{list_all};
 ghost use Rattle.cell_script.specs.Notes.{is_note_octet, note_in};
 
-use attr_sets::Value;
 use cds_stamps::HouseNo;
 use std::alloc::{AllocError, Global};
 use std::marker::Model;
@@ -45,93 +44,6 @@ impl HouseNos {
 
     /// The numbers, in their order.
     pub fn list(&self) -> &[HouseNo]
-        ensures { result.now ≡ self.now }
-    {
-        self.items.as_slice()
-    }
-}
-
-/// Serial numbers of messages.
-#[derive(Drop)]
-pub struct Serials {
-    items: Vec<u64>,
-}
-
-impl Model for Serials {
-    ghost use Rattle.std.specs.Prelude.{ℕ, List};
-
-    ghost Value = { List ℕ };
-
-    ghost view = { λ v. v.items.items };
-}
-
-impl Serials {
-    /// No number. Takes no memory.
-    pub fn new(alloc: Global) -> Serials
-        ensures { result ≡ [] }
-    {
-        Serials {
-            items: Vec::new(alloc),
-        }
-    }
-
-    /// Puts a number behind the others.
-    pub fn push(&mut self, serial: u64) -> Result<(), AllocError>
-        ensures ok { OnOk result (self.new ≡ self.old ++ serial ∷ []) }
-        ensures err { OnErr result (self.new ≡ self.old) }
-    {
-        Ok(self.items.push(serial)?)
-    }
-
-    /// The numbers, in their order.
-    pub fn list(&self) -> &[u64]
-        ensures { result.now ≡ self.now }
-    {
-        self.items.as_slice()
-    }
-}
-
-/// Values of an attribute.
-#[derive(Drop)]
-pub struct Values {
-    items: Vec<Value>,
-}
-
-impl Model for Values {
-    ghost use Rattle.std.specs.Prelude.{ℕ, List};
-
-    ghost Value = { List (List ℕ) };
-
-    ghost view = { λ v. v.items.items };
-}
-
-impl Values {
-    /// No value. Takes no memory.
-    pub fn new(alloc: Global) -> Values
-        ensures { result ≡ [] }
-    {
-        Values {
-            items: Vec::new(alloc),
-        }
-    }
-
-    /// The values of a vector, in its order.
-    pub fn of(items: Vec<Value>) -> Values
-        ensures { result ≡ items.items }
-    {
-        Values { items }
-    }
-
-    /// Puts a value behind the others.
-    pub fn push(&mut self, value: Value) -> Result<(), AllocError>
-        ensures ok { OnOk result (self.new ≡ self.old ++ value ∷ []) }
-        ensures err { OnErr result (self.new ≡ self.old) }
-    {
-        Ok(self.items.push(value)?)
-    }
-
-    /// The values, in their order.
-    pub fn list(&self) -> &[Value]
         ensures { result.now ≡ self.now }
     {
         self.items.as_slice()

@@ -4,8 +4,7 @@ ghost use Rattle.cds_stamps.specs.Outcomes.{Answers};
 ghost use Rattle.cds_stamps.specs.declared.alloc_or.AllocOr.TheVariants.{Fault};
 ghost use Rattle.cell_script.specs.Words.{words_of};
 ghost use Rattle.cell_script.specs.Commands.{said_in, early_fault};
-ghost use Rattle.cell_script.specs.RowWords.{made_by, updated_by, changed_by, replicated_by, befallen_by, asked_by, served_by};
-ghost use Rattle.cell_script.specs.RowWords.{made_early, updated_early, changed_early, replicated_early, befallen_early, asked_early, served_early};
+ghost use Rattle.cell_script.specs.PrivateRows.{Says, made, updated, changed, replicated, befallen, asked, served};
 
 use crate::command::ScriptLine;
 use crate::fault::ParseFault;
@@ -15,10 +14,9 @@ use cds_stamps::AllocOr;
 use std::alloc::Global;
 
 // What the words behind the first one say: of a command that makes houses or directories, or of another.
-#[tactic(auto, unfolding(crate::specs::RowWords::made_by, crate::specs::RowWords::made_early))]
+#[tactic(auto, unfolding(crate::specs::PrivateRows::made))]
 fn said(alloc: Global, word: &[u8], words: &mut Words<'_>) -> Parsed<ScriptLine>
-    ensures answer { Answers result (made_by word.now words.old) }
-    ensures early { IfSome (made_early word.now words.old) (λ fault. result ≡ Err (Fault fault)) }
+    ensures { Says result (made word.now words.old) }
 {
     if word == b"house".as_slice() {
         return commands::house(words);
@@ -39,10 +37,9 @@ fn said(alloc: Global, word: &[u8], words: &mut Words<'_>) -> Parsed<ScriptLine>
 }
 
 // The same of an update of an entry, or of another.
-#[tactic(auto, unfolding(crate::specs::RowWords::updated_by, crate::specs::RowWords::updated_early))]
+#[tactic(auto, unfolding(crate::specs::PrivateRows::updated))]
 fn updated(alloc: Global, word: &[u8], words: &mut Words<'_>) -> Parsed<ScriptLine>
-    ensures answer { Answers result (updated_by word.now words.old) }
-    ensures early { IfSome (updated_early word.now words.old) (λ fault. result ≡ Err (Fault fault)) }
+    ensures { Says result (updated word.now words.old) }
 {
     if word == b"create".as_slice() {
         return updates::create(alloc, words);
@@ -57,10 +54,9 @@ fn updated(alloc: Global, word: &[u8], words: &mut Words<'_>) -> Parsed<ScriptLi
 }
 
 // The same of a change of an entry's values, or of another.
-#[tactic(auto, unfolding(crate::specs::RowWords::changed_by, crate::specs::RowWords::changed_early))]
+#[tactic(auto, unfolding(crate::specs::PrivateRows::changed))]
 fn changed(alloc: Global, word: &[u8], words: &mut Words<'_>) -> Parsed<ScriptLine>
-    ensures answer { Answers result (changed_by word.now words.old) }
-    ensures early { IfSome (changed_early word.now words.old) (λ fault. result ≡ Err (Fault fault)) }
+    ensures { Says result (changed word.now words.old) }
 {
     if word == b"add".as_slice() {
         return updates::add(alloc, words);
@@ -78,10 +74,9 @@ fn changed(alloc: Global, word: &[u8], words: &mut Words<'_>) -> Parsed<ScriptLi
 }
 
 // The same of a command about all replicas of a directory, or of another.
-#[tactic(auto, unfolding(crate::specs::RowWords::replicated_by, crate::specs::RowWords::replicated_early))]
+#[tactic(auto, unfolding(crate::specs::PrivateRows::replicated))]
 fn replicated(alloc: Global, word: &[u8], words: &mut Words<'_>) -> Parsed<ScriptLine>
-    ensures answer { Answers result (replicated_by word.now words.old) }
-    ensures early { IfSome (replicated_early word.now words.old) (λ fault. result ≡ Err (Fault fault)) }
+    ensures { Says result (replicated word.now words.old) }
 {
     if word == b"epoch".as_slice() {
         return replicas::epoch(alloc, words);
@@ -93,10 +88,9 @@ fn replicated(alloc: Global, word: &[u8], words: &mut Words<'_>) -> Parsed<Scrip
 }
 
 // The same of what befalls a message or a house, or of a question.
-#[tactic(auto, unfolding(crate::specs::RowWords::befallen_by, crate::specs::RowWords::befallen_early))]
+#[tactic(auto, unfolding(crate::specs::PrivateRows::befallen))]
 fn befallen(alloc: Global, word: &[u8], words: &mut Words<'_>) -> Parsed<ScriptLine>
-    ensures answer { Answers result (befallen_by word.now words.old) }
-    ensures early { IfSome (befallen_early word.now words.old) (λ fault. result ≡ Err (Fault fault)) }
+    ensures { Says result (befallen word.now words.old) }
 {
     if word == b"deliver".as_slice() {
         return replicas::deliver(words);
@@ -114,10 +108,9 @@ fn befallen(alloc: Global, word: &[u8], words: &mut Words<'_>) -> Parsed<ScriptL
 }
 
 // The same of a question, or of a command of the name service.
-#[tactic(auto, unfolding(crate::specs::RowWords::asked_by, crate::specs::RowWords::asked_early))]
+#[tactic(auto, unfolding(crate::specs::PrivateRows::asked))]
 fn asked(alloc: Global, word: &[u8], words: &mut Words<'_>) -> Parsed<ScriptLine>
-    ensures answer { Answers result (asked_by word.now words.old) }
-    ensures early { IfSome (asked_early word.now words.old) (λ fault. result ≡ Err (Fault fault)) }
+    ensures { Says result (asked word.now words.old) }
 {
     if word == b"read".as_slice() {
         return questions::read(alloc, words);
@@ -139,10 +132,9 @@ fn asked(alloc: Global, word: &[u8], words: &mut Words<'_>) -> Parsed<ScriptLine
 
 // The same of a command that finds or changes what servers export, of groups and of profiles, or the fault of a word of no
 // command.
-#[tactic(auto, unfolding(crate::specs::RowWords::served_by, crate::specs::RowWords::served_early))]
+#[tactic(auto, unfolding(crate::specs::PrivateRows::served))]
 fn served(alloc: Global, word: &[u8], words: &mut Words<'_>) -> Parsed<ScriptLine>
-    ensures answer { Answers result (served_by word.now words.old) }
-    ensures early { IfSome (served_early word.now words.old) (λ fault. result ≡ Err (Fault fault)) }
+    ensures { Says result (served word.now words.old) }
 {
     if word == b"export".as_slice() {
         return service::export(alloc, words);
@@ -184,7 +176,7 @@ pub fn parse_line(alloc: Global, line: &[u8]) -> Result<Option<ScriptLine>, Allo
 }
 
 // What a line of this first word says.
-#[tactic(auto, using(crate::proofs::Families::made_by_is, crate::proofs::Families::made_early_is, crate::proofs::Reading::some_line_says))]
+#[tactic(auto, using(crate::proofs::Families::says_answers, crate::proofs::Families::says_early, crate::proofs::Reading::some_line_says))]
 fn said_behind(alloc: Global, word: &[u8], words: &mut Words<'_>) -> Parsed<Option<ScriptLine>>
     requires { words.old.read ≡ 1 }
     ensures answer { Answers result (said_in (word.now ∷ words.old.rest)) }

@@ -1,19 +1,15 @@
 // The questions.
-#![tactic(auto, unfolding(crate::specs::RowWords::asked_by, crate::specs::RowWords::asked_early))]
+#![tactic(auto, unfolding(crate::specs::PrivateRows::asked))]
 
-ghost use Rattle.std.specs.Prelude.{◌≡◌, Err, IfSome, codes};
-ghost use Rattle.cds_stamps.specs.Outcomes.{Answers};
-ghost use Rattle.cds_stamps.specs.declared.alloc_or.AllocOr.TheVariants.{Fault};
-ghost use Rattle.cell_script.specs.RowWords.{asked_by};
-ghost use Rattle.cell_script.specs.RowWords.{asked_early};
+ghost use Rattle.std.specs.Prelude.{codes};
+ghost use Rattle.cell_script.specs.PrivateRows.{Says, asked};
 
 use crate::command::{Question, ScriptLine};
 use crate::words::{Parsed, Words};
 use std::alloc::Global;
 
 pub(crate) fn read(alloc: Global, words: &mut Words<'_>) -> Parsed<ScriptLine>
-    ensures answer { Answers result (asked_by (codes "read") words.old) }
-    ensures early { IfSome (asked_early (codes "read") words.old) (λ fault. result ≡ Err (Fault fault)) }
+    ensures { Says result (asked (codes "read") words.old) }
 {
     words.exactly(4)?;
     Ok(ScriptLine::Question(Question::Read(
@@ -25,8 +21,7 @@ pub(crate) fn read(alloc: Global, words: &mut Words<'_>) -> Parsed<ScriptLine>
 }
 
 pub(crate) fn readlink(alloc: Global, words: &mut Words<'_>) -> Parsed<ScriptLine>
-    ensures answer { Answers result (asked_by (codes "readlink") words.old) }
-    ensures early { IfSome (asked_early (codes "readlink") words.old) (λ fault. result ≡ Err (Fault fault)) }
+    ensures { Says result (asked (codes "readlink") words.old) }
 {
     words.exactly(3)?;
     Ok(ScriptLine::Question(Question::Readlink(
@@ -37,24 +32,21 @@ pub(crate) fn readlink(alloc: Global, words: &mut Words<'_>) -> Parsed<ScriptLin
 }
 
 pub(crate) fn dump(words: &mut Words<'_>) -> Parsed<ScriptLine>
-    ensures answer { Answers result (asked_by (codes "dump") words.old) }
-    ensures early { IfSome (asked_early (codes "dump") words.old) (λ fault. result ≡ Err (Fault fault)) }
+    ensures { Says result (asked (codes "dump") words.old) }
 {
     words.exactly(2)?;
     Ok(ScriptLine::Question(Question::Dump(words.house()?, words.directory()?)))
 }
 
 pub(crate) fn octets(words: &mut Words<'_>) -> Parsed<ScriptLine>
-    ensures answer { Answers result (asked_by (codes "octets") words.old) }
-    ensures early { IfSome (asked_early (codes "octets") words.old) (λ fault. result ≡ Err (Fault fault)) }
+    ensures { Says result (asked (codes "octets") words.old) }
 {
     words.exactly(2)?;
     Ok(ScriptLine::Question(words.encoded()?))
 }
 
 pub(crate) fn decode(alloc: Global, words: &mut Words<'_>) -> Parsed<ScriptLine>
-    ensures answer { Answers result (asked_by (codes "decode") words.old) }
-    ensures early { IfSome (asked_early (codes "decode") words.old) (λ fault. result ≡ Err (Fault fault)) }
+    ensures { Says result (asked (codes "decode") words.old) }
 {
     words.exactly(1)?;
     Ok(ScriptLine::Question(Question::Decode(words.octets(alloc)?)))

@@ -1,63 +1,54 @@
 // The commands about all replicas of a directory, and those that tell what befalls messages and houses.
-#![tactic(auto, unfolding(crate::specs::RowWords::replicated_by, crate::specs::RowWords::replicated_early))]
+#![tactic(auto, unfolding(crate::specs::PrivateRows::replicated))]
 
-ghost use Rattle.std.specs.Prelude.{◌≡◌, Err, IfSome, codes};
-ghost use Rattle.cds_stamps.specs.Outcomes.{Answers};
-ghost use Rattle.cds_stamps.specs.declared.alloc_or.AllocOr.TheVariants.{Fault};
-ghost use Rattle.cell_script.specs.RowWords.{replicated_by, befallen_by};
-ghost use Rattle.cell_script.specs.RowWords.{replicated_early, befallen_early};
+ghost use Rattle.std.specs.Prelude.{codes};
+ghost use Rattle.cell_script.specs.PrivateRows.{Says, replicated, befallen};
 
 use crate::command::{Command, ScriptLine};
 use crate::words::{Parsed, Words};
 use std::alloc::Global;
 
 pub(crate) fn epoch(alloc: Global, words: &mut Words<'_>) -> Parsed<ScriptLine>
-    ensures answer { Answers result (replicated_by (codes "epoch") words.old) }
-    ensures early { IfSome (replicated_early (codes "epoch") words.old) (λ fault. result ≡ Err (Fault fault)) }
+    ensures { Says result (replicated (codes "epoch") words.old) }
 {
     words.at_least(2)?;
     Ok(ScriptLine::Cell(Command::Epoch(words.directory()?, words.house()?, words.houses(alloc)?)))
 }
 
 pub(crate) fn skulk(words: &mut Words<'_>) -> Parsed<ScriptLine>
-    ensures answer { Answers result (replicated_by (codes "skulk") words.old) }
-    ensures early { IfSome (replicated_early (codes "skulk") words.old) (λ fault. result ≡ Err (Fault fault)) }
+    ensures { Says result (replicated (codes "skulk") words.old) }
 {
     words.exactly(2)?;
     Ok(ScriptLine::Cell(Command::Skulk(words.house()?, words.directory()?)))
 }
 
-#[tactic(auto, unfolding(crate::specs::RowWords::befallen_by, crate::specs::RowWords::befallen_early))]
+#[tactic(auto, unfolding(crate::specs::PrivateRows::befallen))]
 pub(crate) fn deliver(words: &mut Words<'_>) -> Parsed<ScriptLine>
-    ensures answer { Answers result (befallen_by (codes "deliver") words.old) }
-    ensures early { IfSome (befallen_early (codes "deliver") words.old) (λ fault. result ≡ Err (Fault fault)) }
+    ensures { Says result (befallen (codes "deliver") words.old) }
 {
     words.exactly(1)?;
     Ok(ScriptLine::Cell(Command::Deliver(words.serial()?)))
 }
 
-#[tactic(auto, unfolding(crate::specs::RowWords::befallen_by, crate::specs::RowWords::befallen_early))]
+#[tactic(auto, unfolding(crate::specs::PrivateRows::befallen))]
 pub(crate) fn lose(words: &mut Words<'_>) -> Parsed<ScriptLine>
-    ensures answer { Answers result (befallen_by (codes "lose") words.old) }
-    ensures early { IfSome (befallen_early (codes "lose") words.old) (λ fault. result ≡ Err (Fault fault)) }
+    ensures { Says result (befallen (codes "lose") words.old) }
 {
     words.exactly(1)?;
     Ok(ScriptLine::Cell(Command::Lose(words.serial()?)))
 }
 
-#[tactic(auto, unfolding(crate::specs::RowWords::befallen_by, crate::specs::RowWords::befallen_early))]
+#[tactic(auto, unfolding(crate::specs::PrivateRows::befallen))]
 pub(crate) fn crash(words: &mut Words<'_>) -> Parsed<ScriptLine>
-    ensures answer { Answers result (befallen_by (codes "crash") words.old) }
-    ensures early { IfSome (befallen_early (codes "crash") words.old) (λ fault. result ≡ Err (Fault fault)) }
+    ensures { Says result (befallen (codes "crash") words.old) }
 {
     words.exactly(1)?;
     Ok(ScriptLine::Cell(Command::Crash(words.house()?)))
 }
 
-#[tactic(auto, unfolding(crate::specs::RowWords::befallen_by, crate::specs::RowWords::befallen_early))]
+#[tactic(auto, unfolding(crate::specs::PrivateRows::befallen))]
 pub(crate) fn start(words: &mut Words<'_>) -> Parsed<ScriptLine>
-    ensures answer { Answers result (befallen_by (codes "start") words.old) }
-    ensures early { IfSome (befallen_early (codes "start") words.old) (λ fault. result ≡ Err (Fault fault)) }
+    ensures { Says result (befallen (codes "start") words.old) }
 {
     words.exactly(1)?;
     Ok(ScriptLine::Cell(Command::Start(words.house()?)))

@@ -1,19 +1,15 @@
 // The commands of the name service.
-#![tactic(auto, unfolding(crate::specs::RowWords::served_by, crate::specs::RowWords::served_early))]
+#![tactic(auto, unfolding(crate::specs::PrivateRows::served))]
 
-ghost use Rattle.std.specs.Prelude.{◌≡◌, Err, IfSome, codes};
-ghost use Rattle.cds_stamps.specs.Outcomes.{Answers};
-ghost use Rattle.cds_stamps.specs.declared.alloc_or.AllocOr.TheVariants.{Fault};
-ghost use Rattle.cell_script.specs.RowWords.{served_by};
-ghost use Rattle.cell_script.specs.RowWords.{served_early};
+ghost use Rattle.std.specs.Prelude.{codes};
+ghost use Rattle.cell_script.specs.PrivateRows.{Says, served};
 
 use crate::command::{Question, ScriptLine};
 use crate::words::{Parsed, Words};
 use std::alloc::Global;
 
 pub(crate) fn export(alloc: Global, words: &mut Words<'_>) -> Parsed<ScriptLine>
-    ensures answer { Answers result (served_by (codes "export") words.old) }
-    ensures early { IfSome (served_early (codes "export") words.old) (λ fault. result ≡ Err (Fault fault)) }
+    ensures { Says result (served (codes "export") words.old) }
 {
     words.exactly(4)?;
     Ok(ScriptLine::Question(Question::Export(
@@ -25,8 +21,7 @@ pub(crate) fn export(alloc: Global, words: &mut Words<'_>) -> Parsed<ScriptLine>
 }
 
 pub(crate) fn unexport(alloc: Global, words: &mut Words<'_>) -> Parsed<ScriptLine>
-    ensures answer { Answers result (served_by (codes "unexport") words.old) }
-    ensures early { IfSome (served_early (codes "unexport") words.old) (λ fault. result ≡ Err (Fault fault)) }
+    ensures { Says result (served (codes "unexport") words.old) }
 {
     words.exactly(3)?;
     Ok(ScriptLine::Question(Question::Unexport(
@@ -37,24 +32,21 @@ pub(crate) fn unexport(alloc: Global, words: &mut Words<'_>) -> Parsed<ScriptLin
 }
 
 pub(crate) fn groupadd(alloc: Global, words: &mut Words<'_>) -> Parsed<ScriptLine>
-    ensures answer { Answers result (served_by (codes "groupadd") words.old) }
-    ensures early { IfSome (served_early (codes "groupadd") words.old) (λ fault. result ≡ Err (Fault fault)) }
+    ensures { Says result (served (codes "groupadd") words.old) }
 {
     words.exactly(2)?;
     Ok(ScriptLine::Question(Question::Groupadd(words.full_name(alloc)?, words.full_name(alloc)?)))
 }
 
 pub(crate) fn groupdel(alloc: Global, words: &mut Words<'_>) -> Parsed<ScriptLine>
-    ensures answer { Answers result (served_by (codes "groupdel") words.old) }
-    ensures early { IfSome (served_early (codes "groupdel") words.old) (λ fault. result ≡ Err (Fault fault)) }
+    ensures { Says result (served (codes "groupdel") words.old) }
 {
     words.exactly(2)?;
     Ok(ScriptLine::Question(Question::Groupdel(words.full_name(alloc)?, words.full_name(alloc)?)))
 }
 
 pub(crate) fn profadd(alloc: Global, words: &mut Words<'_>) -> Parsed<ScriptLine>
-    ensures answer { Answers result (served_by (codes "profadd") words.old) }
-    ensures early { IfSome (served_early (codes "profadd") words.old) (λ fault. result ≡ Err (Fault fault)) }
+    ensures { Says result (served (codes "profadd") words.old) }
 {
     words.exactly(5)?;
     Ok(ScriptLine::Question(Question::Profadd(
@@ -67,8 +59,7 @@ pub(crate) fn profadd(alloc: Global, words: &mut Words<'_>) -> Parsed<ScriptLine
 }
 
 pub(crate) fn profdel(alloc: Global, words: &mut Words<'_>) -> Parsed<ScriptLine>
-    ensures answer { Answers result (served_by (codes "profdel") words.old) }
-    ensures early { IfSome (served_early (codes "profdel") words.old) (λ fault. result ≡ Err (Fault fault)) }
+    ensures { Says result (served (codes "profdel") words.old) }
 {
     words.exactly(3)?;
     Ok(ScriptLine::Question(Question::Profdel(
@@ -79,8 +70,7 @@ pub(crate) fn profdel(alloc: Global, words: &mut Words<'_>) -> Parsed<ScriptLine
 }
 
 pub(crate) fn import(alloc: Global, words: &mut Words<'_>) -> Parsed<ScriptLine>
-    ensures answer { Answers result (served_by (codes "import") words.old) }
-    ensures early { IfSome (served_early (codes "import") words.old) (λ fault. result ≡ Err (Fault fault)) }
+    ensures { Says result (served (codes "import") words.old) }
 {
     words.exactly(6)?;
     let house = words.house()?;

@@ -1,19 +1,15 @@
 // The updates of an entry, and of its values.
-#![tactic(auto, unfolding(crate::specs::RowWords::updated_by, crate::specs::RowWords::updated_early))]
+#![tactic(auto, unfolding(crate::specs::PrivateRows::updated))]
 
-ghost use Rattle.std.specs.Prelude.{◌≡◌, Err, IfSome, codes};
-ghost use Rattle.cds_stamps.specs.Outcomes.{Answers};
-ghost use Rattle.cds_stamps.specs.declared.alloc_or.AllocOr.TheVariants.{Fault};
-ghost use Rattle.cell_script.specs.RowWords.{updated_by, changed_by};
-ghost use Rattle.cell_script.specs.RowWords.{updated_early, changed_early};
+ghost use Rattle.std.specs.Prelude.{codes};
+ghost use Rattle.cell_script.specs.PrivateRows.{Says, updated, changed};
 
 use crate::command::{Command, ScriptLine};
 use crate::words::{Parsed, Words};
 use std::alloc::Global;
 
 pub(crate) fn create(alloc: Global, words: &mut Words<'_>) -> Parsed<ScriptLine>
-    ensures answer { Answers result (updated_by (codes "create") words.old) }
-    ensures early { IfSome (updated_early (codes "create") words.old) (λ fault. result ≡ Err (Fault fault)) }
+    ensures { Says result (updated (codes "create") words.old) }
 {
     words.exactly(3)?;
     Ok(ScriptLine::Cell(Command::Create(
@@ -24,8 +20,7 @@ pub(crate) fn create(alloc: Global, words: &mut Words<'_>) -> Parsed<ScriptLine>
 }
 
 pub(crate) fn link(alloc: Global, words: &mut Words<'_>) -> Parsed<ScriptLine>
-    ensures answer { Answers result (updated_by (codes "link") words.old) }
-    ensures early { IfSome (updated_early (codes "link") words.old) (λ fault. result ≡ Err (Fault fault)) }
+    ensures { Says result (updated (codes "link") words.old) }
 {
     words.exactly(4)?;
     Ok(ScriptLine::Cell(Command::Link(
@@ -37,8 +32,7 @@ pub(crate) fn link(alloc: Global, words: &mut Words<'_>) -> Parsed<ScriptLine>
 }
 
 pub(crate) fn delete(alloc: Global, words: &mut Words<'_>) -> Parsed<ScriptLine>
-    ensures answer { Answers result (updated_by (codes "delete") words.old) }
-    ensures early { IfSome (updated_early (codes "delete") words.old) (λ fault. result ≡ Err (Fault fault)) }
+    ensures { Says result (updated (codes "delete") words.old) }
 {
     words.exactly(3)?;
     Ok(ScriptLine::Cell(Command::Delete(
@@ -48,10 +42,9 @@ pub(crate) fn delete(alloc: Global, words: &mut Words<'_>) -> Parsed<ScriptLine>
     )))
 }
 
-#[tactic(auto, unfolding(crate::specs::RowWords::changed_by, crate::specs::RowWords::changed_early))]
+#[tactic(auto, unfolding(crate::specs::PrivateRows::changed))]
 pub(crate) fn add(alloc: Global, words: &mut Words<'_>) -> Parsed<ScriptLine>
-    ensures answer { Answers result (changed_by (codes "add") words.old) }
-    ensures early { IfSome (changed_early (codes "add") words.old) (λ fault. result ≡ Err (Fault fault)) }
+    ensures { Says result (changed (codes "add") words.old) }
 {
     words.exactly(5)?;
     Ok(ScriptLine::Cell(Command::Add(
@@ -63,10 +56,9 @@ pub(crate) fn add(alloc: Global, words: &mut Words<'_>) -> Parsed<ScriptLine>
     )))
 }
 
-#[tactic(auto, unfolding(crate::specs::RowWords::changed_by, crate::specs::RowWords::changed_early))]
+#[tactic(auto, unfolding(crate::specs::PrivateRows::changed))]
 pub(crate) fn remove(alloc: Global, words: &mut Words<'_>) -> Parsed<ScriptLine>
-    ensures answer { Answers result (changed_by (codes "remove") words.old) }
-    ensures early { IfSome (changed_early (codes "remove") words.old) (λ fault. result ≡ Err (Fault fault)) }
+    ensures { Says result (changed (codes "remove") words.old) }
 {
     words.exactly(5)?;
     Ok(ScriptLine::Cell(Command::Remove(
@@ -78,10 +70,9 @@ pub(crate) fn remove(alloc: Global, words: &mut Words<'_>) -> Parsed<ScriptLine>
     )))
 }
 
-#[tactic(auto, unfolding(crate::specs::RowWords::changed_by, crate::specs::RowWords::changed_early))]
+#[tactic(auto, unfolding(crate::specs::PrivateRows::changed))]
 pub(crate) fn put(alloc: Global, words: &mut Words<'_>) -> Parsed<ScriptLine>
-    ensures answer { Answers result (changed_by (codes "put") words.old) }
-    ensures early { IfSome (changed_early (codes "put") words.old) (λ fault. result ≡ Err (Fault fault)) }
+    ensures { Says result (changed (codes "put") words.old) }
 {
     words.exactly(5)?;
     Ok(ScriptLine::Cell(Command::Put(
@@ -93,10 +84,9 @@ pub(crate) fn put(alloc: Global, words: &mut Words<'_>) -> Parsed<ScriptLine>
     )))
 }
 
-#[tactic(auto, unfolding(crate::specs::RowWords::changed_by, crate::specs::RowWords::changed_early))]
+#[tactic(auto, unfolding(crate::specs::PrivateRows::changed))]
 pub(crate) fn clear(alloc: Global, words: &mut Words<'_>) -> Parsed<ScriptLine>
-    ensures answer { Answers result (changed_by (codes "clear") words.old) }
-    ensures early { IfSome (changed_early (codes "clear") words.old) (λ fault. result ≡ Err (Fault fault)) }
+    ensures { Says result (changed (codes "clear") words.old) }
 {
     words.exactly(4)?;
     Ok(ScriptLine::Cell(Command::Clear(

@@ -11,7 +11,7 @@ use Rattle.directory.specs.Shown.{live_count}
 use Rattle.cell_model.specs.Cells.{Cell, empty_cell}
 use Rattle.cell_model.specs.Commands as model
 use Rattle.cell_model.specs.Steps.{Outcome, outcome, replay, replay_from}
-use Rattle.cell_script.specs.declared.answer.Answer.{Answer}
+use Rattle.script_answers.specs.declared.answer.Answer.{Answer}
 use Rattle.cell_script.specs.declared.command.Command.{Command}
 use Rattle.cell_script.specs.declared.command.ScriptLine.{ScriptLine}
 use Rattle.cell_script.specs.declared.command.ScriptLine.TheVariants as line

@@ -9,9 +9,9 @@ use Rattle.cds_messages.specs.declared.image.ImageDir.TheVariants as kept
 use Rattle.cds_stamps.specs.declared.numbers.DirId.{DirId}
 use Rattle.cell_model.specs.Cells as model
 use Rattle.cell_model.specs.Steps.{is_unknown}
-use Rattle.cell_script.specs.declared.answer.Answer.{Answer}
-use Rattle.cell_script.specs.declared.answer.Answer.TheVariants as answer
-use Rattle.cell_script.specs.declared.answer.ScriptRefusal.TheVariants as why
+use Rattle.script_answers.specs.declared.answer.Answer.{Answer}
+use Rattle.script_answers.specs.declared.answer.Answer.TheVariants as answer
+use Rattle.script_answers.specs.declared.answer.ScriptRefusal.TheVariants as why
 use Rattle.clearinghouse.specs.Imaging.{image_of, kept_of}
 use Rattle.held_directories.specs.Standing.{StandsSlot}
 use Rattle.clearinghouse.specs.declared.house.Clearinghouse.{Clearinghouse}

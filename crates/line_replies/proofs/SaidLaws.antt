@@ -13,8 +13,8 @@ use Rattle.directory.specs.Updates.{Change}
 use Rattle.cell_model.specs.Cells as model
 use Rattle.resolver.specs.declared.refusal.Refusal.{Refusal}
 use Rattle.resolver.specs.declared.seen.Place.{Place}
-use Rattle.cell_script.specs.declared.answer.Answer.{Answer}
-use Rattle.cell_script.specs.declared.answer.ScriptRefusal.{ScriptRefusal}
+use Rattle.script_answers.specs.declared.answer.Answer.{Answer}
+use Rattle.script_answers.specs.declared.answer.ScriptRefusal.{ScriptRefusal}
 use Rattle.cds_cell.specs.declared.cell.Cell.{Cell}
 use Rattle.cds_cell.specs.Houses.{is_up_state}
 use Rattle.cds_cell.specs.Standing.{house_of}

@@ -16,7 +16,7 @@ use Rattle.cell_model.specs.Reached.{IsReached}
 use Rattle.resolver.specs.declared.refusal.Refusal.{Refusal}
 use Rattle.resolver.specs.declared.seen.Found.{Found}
 use Rattle.resolver.specs.declared.seen.Place.{Place}
-use Rattle.cell_script.specs.declared.answer.ScriptRefusal.{ScriptRefusal}
+use Rattle.script_answers.specs.declared.answer.ScriptRefusal.{ScriptRefusal}
 use Rattle.cds_cell.specs.declared.cell.Cell.{Cell}
 use Rattle.cds_cell.specs.declared.house.CellHouse.{CellHouse}
 use Rattle.cds_cell.specs.declared.house.HouseState.TheVariants as state

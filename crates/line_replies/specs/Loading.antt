@@ -12,8 +12,8 @@ use Rattle.directory.specs.declared.entry.EntryCell.{EntryCell}
 use Rattle.cell_model.specs.Cells.{Cell, empty_cell}
 use Rattle.cell_model.specs.Commands as model
 use Rattle.cell_model.specs.Steps.{answers_from, replay}
-use Rattle.cell_script.specs.declared.answer.Answer.{Answer}
-use Rattle.cell_script.specs.declared.answer.Answer.TheVariants as answer
+use Rattle.script_answers.specs.declared.answer.Answer.{Answer}
+use Rattle.script_answers.specs.declared.answer.Answer.TheVariants as answer
 use Rattle.cell_script.specs.declared.command.Command.{Command}
 use Rattle.cell_script.specs.declared.command.Command.TheVariants as command
 use Rattle.cell_script.specs.Generated.{script}

@@ -1,7 +1,7 @@
 -- Words of private contracts: what is counted of a command and its answer (own).
 use Rattle.std.specs.Prelude.{Bool, true, false}
-use Rattle.cell_script.specs.declared.answer.Answer.{Answer}
-use Rattle.cell_script.specs.declared.answer.Answer.TheVariants as answer
+use Rattle.script_answers.specs.declared.answer.Answer.{Answer}
+use Rattle.script_answers.specs.declared.answer.Answer.TheVariants as answer
 use Rattle.cell_script.specs.declared.command.ScriptLine.{ScriptLine}
 use Rattle.cell_script.specs.declared.command.ScriptLine.TheVariants as line
 use Rattle.line_replies.specs.Loading.{is_change, is_delivery}

@@ -1,8 +1,8 @@
 -- Words of private contracts: what a house has of a directory, told whole (own).
 use Rattle.std.specs.Prelude.{Option, Some, None}
-use Rattle.cell_script.specs.declared.answer.Answer.{Answer}
-use Rattle.cell_script.specs.declared.answer.Answer.TheVariants as answer
-use Rattle.cell_script.specs.declared.answer.ScriptRefusal.TheVariants as why
+use Rattle.script_answers.specs.declared.answer.Answer.{Answer}
+use Rattle.script_answers.specs.declared.answer.Answer.TheVariants as answer
+use Rattle.script_answers.specs.declared.answer.ScriptRefusal.TheVariants as why
 use Rattle.held_directories.specs.declared.states.DirState.{DirState}
 use Rattle.held_directories.specs.declared.states.DirState.TheVariants as state
 use Rattle.held_directories.specs.declared.states.Held.{Held}

@@ -2,7 +2,7 @@
 use Rattle.std.specs.Prelude.{◌≡◌, Some}
 use Rattle.cell_model.specs.Cells as model
 use Rattle.cell_model.specs.Steps.{replay_from}
-use Rattle.cell_script.specs.declared.answer.Answer.{Answer}
+use Rattle.script_answers.specs.declared.answer.Answer.{Answer}
 use Rattle.cell_script.specs.declared.command.ScriptLine.{ScriptLine}
 use Rattle.cds_cell.specs.declared.cell.Cell.{Cell}
 use Rattle.cds_cell.specs.Standing.{Stands}

@@ -21,11 +21,11 @@ use Rattle.cell_script.specs.declared.command.Question.{Question}
 use Rattle.cell_script.specs.declared.command.Question.TheVariants as question
 use Rattle.cell_script.specs.declared.command.ScriptLine.{ScriptLine}
 use Rattle.cell_script.specs.declared.command.ScriptLine.TheVariants as line
-use Rattle.cell_script.specs.declared.answer.Answer.{Answer}
-use Rattle.cell_script.specs.declared.answer.Answer.TheVariants as answer
-use Rattle.cell_script.specs.declared.answer.ScriptRefusal.{ScriptRefusal}
-use Rattle.cell_script.specs.declared.answer.ScriptRefusal.TheVariants as why
-use Rattle.cell_script.specs.Texts.{answer_text}
+use Rattle.script_answers.specs.declared.answer.Answer.{Answer}
+use Rattle.script_answers.specs.declared.answer.Answer.TheVariants as answer
+use Rattle.script_answers.specs.declared.answer.ScriptRefusal.{ScriptRefusal}
+use Rattle.script_answers.specs.declared.answer.ScriptRefusal.TheVariants as why
+use Rattle.script_answers.specs.Texts.{answer_text}
 use Rattle.cds_cell.specs.Accepting.{Accepting, accepting}
 use Rattle.cds_cell.specs.Readings.{reading, objects_of}
 use Rattle.cds_cell.specs.Recorded.{declared_members, image_at, octets_of}

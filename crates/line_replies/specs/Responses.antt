@@ -6,7 +6,7 @@ use Rattle.cell_script.specs.declared.command.ScriptLine.{ScriptLine}
 use Rattle.cell_script.specs.declared.fault.ParseFault.{ParseFault}
 use Rattle.cell_script.specs.Words.{words_of}
 use Rattle.cell_script.specs.Commands.{said_in}
-use Rattle.cell_script.specs.Texts.{parse_fault_text}
+use Rattle.script_answers.specs.Texts.{parse_fault_text}
 use Rattle.line_replies.specs.Replies.{reply_text, cell_after}
 use Rattle.line_replies.specs.TowerTexts.{TowerLine, SaysNothing, SaysTower, NoTower, tower_said}
 

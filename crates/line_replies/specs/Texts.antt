@@ -2,7 +2,7 @@
 use Rattle.std.specs.Prelude.{ℕ, List, [], codes}
 use Rattle.cds_base.specs.declared.scan.LineFault.{LineFault}
 use Rattle.cds_base.specs.declared.scan.LineFault.TheVariants as line
-use Rattle.cell_script.specs.Texts.{fault_text}
+use Rattle.script_answers.specs.Texts.{fault_text}
 
 -- its name and its place; a failed read has no line and no place, and no text (own)
 abbrev pub line_fault_text : LineFault → List ℕ

@@ -1,12 +1,13 @@
 // The lines of faults, of octets and of words.
 ghost use Rattle.std.specs.Prelude.{◌≡◌, ◌++◌, IfOk, OnOk, OnErr};
-ghost use Rattle.cell_script.specs.Texts.{parse_fault_text};
+ghost use Rattle.script_answers.specs.Texts.{parse_fault_text};
 ghost use Rattle.line_replies.specs.Texts.{line_fault_text};
 ghost use Rattle.line_replies.specs.LineEnds.{Faults};
 
 use crate::replies::{LineEnd, Waiting};
 use cds_base::LineFault;
-use cell_script::{ParseFault, print_fault, print_parse_fault};
+use cell_script::ParseFault;
+use script_answers::{print_fault, print_parse_fault};
 use std::alloc::{AllocError, Global};
 
 /// The line of a fault of octets; of a failed read nothing is told.

@@ -2,7 +2,8 @@
 ghost use Rattle.std.specs.Prelude.{◌≡◌, ◌&&◌, not};
 ghost use Rattle.line_replies.specs.PrivateKinds.{is_complete, line_changes, line_delivers, refuses};
 
-use cell_script::{Answer, Command, ScriptLine};
+use cell_script::{Command, ScriptLine};
+use script_answers::Answer;
 
 /// Whether a line changes an entry: one of four commands of the script.
 pub(crate) fn is_change(line: &ScriptLine) -> bool

@@ -22,13 +22,14 @@ use cds_cell::laws::{asked_houses_accept, cells_show_finitely_many_objects, cell
 use cds_cell::{Cell, CellReader};
 use cds_stamps::{AllocOr, AttrName, HouseNo};
 use cell_names::FullName;
-use cell_script::{Answer, Note, Question, ScriptRefusal, StringBindings, Uuids, Values};
+use cell_script::{Note, Question, StringBindings, Uuids};
 use directory::{Kind, LINK_TARGET};
 use ns_commands::{
     add_element, add_member, delete_element, delete_member, export, import, refusal_of_walk,
     unexport,
 };
 use resolver::{EntryReader, Found, resolve};
+use script_answers::{Answer, ScriptRefusal, Values};
 use server_entries::Wanted;
 use std::alloc::{AllocError, Global};
 use tower_codec::Interface;

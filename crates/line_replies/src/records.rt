@@ -10,13 +10,14 @@ ghost use Rattle.cds_records.specs.Octets.{image_octets};
 ghost use Rattle.cds_records.specs.Records.{message};
 ghost use Rattle.line_replies.specs.Replies.{asked_of, dump_told, message_told, octets_told, refusal_of_octets};
 ghost use Rattle.line_replies.specs.PrivateRecords.{held_told, state_told};
-ghost use Rattle.cell_script.specs.declared.answer.Answer.TheVariants as answer;
+ghost use Rattle.script_answers.specs.declared.answer.Answer.TheVariants as answer;
 
 use cds_cell::{Cell, HouseState};
 use cds_records::RecordFault;
 use cds_stamps::{AllocOr, DirId, HouseNo};
-use cell_script::{Answer, Octets, ScriptRefusal};
+use cell_script::Octets;
 use clearinghouse::{DirState, Held};
+use script_answers::{Answer, ScriptRefusal};
 use std::alloc::{AllocError, Global};
 
 /// What a house has of a directory, told whole.

@@ -9,8 +9,9 @@ use crate::said::{Reply, answer_to_updates};
 use cds_cell::Cell;
 use cds_cell::laws::accepted_updates_are_commands;
 use cds_stamps::AllocOr;
-use cell_script::{Answer, Command, Question, ScriptLine, parse_line};
+use cell_script::{Command, Question, ScriptLine, parse_line};
 use ns_commands::Updates;
+use script_answers::Answer;
 use std::alloc::{AllocError, Global};
 
 /// A cell, how many steps and lists of updates it took, and how many updates stood in these lists: so many that there is room for

@@ -3,7 +3,7 @@ ghost use Rattle.std.specs.Prelude.{◌≡◌, ◌++◌, ◌<◌, ◌≤◌, [],
 ghost use Rattle.std.specs.Io.KnownBytes.{Appends};
 ghost use Rattle.cds_base.specs.Counts.{HasCause};
 ghost use Rattle.tower_codec.specs.Spelling.{tower_octets};
-ghost use Rattle.cell_script.specs.Texts.{answer_text};
+ghost use Rattle.script_answers.specs.Texts.{answer_text};
 ghost use Rattle.line_replies.specs.TowerTexts.{tower_text};
 ghost use Rattle.line_replies.specs.Waiting.{Flushes};
 ghost use Rattle.line_replies.specs.declared.limits.TheConstants.{LONGEST_TOWER};
@@ -11,7 +11,7 @@ ghost use Rattle.line_replies.specs.declared.limits.TheConstants.{LONGEST_TOWER}
 use crate::limits::MOST_WAITING;
 use crate::tower_text::append_tower;
 use cds_base::{PutFault, Sink, put_all};
-use cell_script::{Answer, append_answer};
+use script_answers::{Answer, append_answer};
 use std::alloc::{AllocError, Global};
 use std::marker::Model;
 use tower_codec::TowerView;

@@ -7,9 +7,9 @@ ghost use Rattle.line_replies.specs.Replies.{refusal_behind, updates_told};
 
 use cds_cell::{AcceptedAll, refusal_in_script};
 use cds_stamps::AllocOr;
-use cell_script::{Answer, ScriptRefusal, Serials};
 use directory::UpdateRefusal;
 use ns_commands::Updates;
+use script_answers::{Answer, ScriptRefusal, Serials};
 use std::alloc::{AllocError, Global};
 
 /// What is said to a question: the answer, or which updates it asks for, to which the answer is then given.

@@ -11,8 +11,8 @@ use Rattle.cell_model.specs.Commands as model
 use Rattle.cell_model.specs.Commands.{Answer, Done, Posted, Made, Stamped, NewEpoch, Taken, Late, Early, Stale, NoReplica, Foreign, Complete, Refused}
 use Rattle.cell_model.specs.Sets.{In, has}
 use Rattle.cell_model.specs.Steps.{is_down, is_unknown, outcome, replay, answers_from}
-use Rattle.cell_script.specs.declared.answer.Answer.TheVariants as answer
-use Rattle.cell_script.specs.declared.answer.ScriptRefusal.TheVariants as why
+use Rattle.script_answers.specs.declared.answer.Answer.TheVariants as answer
+use Rattle.script_answers.specs.declared.answer.ScriptRefusal.TheVariants as why
 use Rattle.cell_script.specs.declared.command.Command.{Command}
 use Rattle.cell_script.specs.declared.command.Command.TheVariants as command
 use Rattle.cell_script.specs.Generated.{script}

@@ -23,8 +23,8 @@ use Rattle.ns_groups.specs.Groups as groups_of
 use Rattle.ns_profiles.specs.declared.fault.ProfileFault.{ProfileFault}
 use Rattle.ns_profiles.specs.declared.fault.ProfileFault.TheVariants as profiles
 use Rattle.ns_profiles.specs.Profiles as profiles_of
-use Rattle.cell_script.specs.declared.answer.ScriptRefusal.{ScriptRefusal}
-use Rattle.cell_script.specs.declared.answer.ScriptRefusal.TheVariants as why
+use Rattle.script_answers.specs.declared.answer.ScriptRefusal.{ScriptRefusal}
+use Rattle.script_answers.specs.declared.answer.ScriptRefusal.TheVariants as why
 use Rattle.ns_commands.specs.declared.updates.Updates.{Updates}
 
 -- changes of a directory at a house, one after the other (own)

@@ -7,9 +7,9 @@ use Rattle.server_entries.specs.declared.client.Wanted.{Wanted}
 use Rattle.ns_import.specs.declared.fault.ImportFault.{ImportFault}
 use Rattle.ns_import.specs.declared.fault.ImportFault.TheVariants as fault
 use Rattle.ns_import.specs.Imports.{imported}
-use Rattle.cell_script.specs.declared.answer.Answer.{Answer}
-use Rattle.cell_script.specs.declared.answer.Answer.TheVariants as answer
-use Rattle.cell_script.specs.declared.answer.ScriptRefusal.TheVariants as why
+use Rattle.script_answers.specs.declared.answer.Answer.{Answer}
+use Rattle.script_answers.specs.declared.answer.Answer.TheVariants as answer
+use Rattle.script_answers.specs.declared.answer.ScriptRefusal.TheVariants as why
 use Rattle.ns_commands.specs.Asks.{refusal_of_walk}
 
 -- the bindings that were found, or why there are none (own)

@@ -9,9 +9,9 @@ use crate::refusals::refusal_of_walk;
 use attr_sets::Value;
 use cds_stamps::{AllocOr, AttrName};
 use cell_names::FullName;
-use cell_script::ScriptRefusal;
 use directory::Kind;
 use resolver::{EntryReader, Found, Place, place, resolve};
+use script_answers::ScriptRefusal;
 use std::alloc::{AllocError, Global};
 
 /// The place of an entry that is absent or an object, and so can be given values.

@@ -8,9 +8,9 @@ use crate::refusals::refusal_of_group;
 use crate::updates::Updates;
 use cds_stamps::AllocOr;
 use cell_names::FullName;
-use cell_script::ScriptRefusal;
 use ns_groups::{GROUP, add, delete};
 use resolver::EntryReader;
+use script_answers::ScriptRefusal;
 use std::alloc::Global;
 
 /// The updates that add a member to the group of a name, which is made where it is absent.

@@ -8,9 +8,10 @@ ghost use Rattle.ns_commands.specs.Imported.{import_answer};
 use crate::refusals::refusal_of_walk;
 use cds_stamps::AllocOr;
 use cell_names::FullName;
-use cell_script::{Answer, ScriptRefusal, StringBindings};
+use cell_script::StringBindings;
 use ns_import::{ImportFault, Importer};
 use resolver::EntryReader;
+use script_answers::{Answer, ScriptRefusal};
 use server_entries::Wanted;
 use std::alloc::{AllocError, Global};
 

@@ -14,9 +14,9 @@ use crate::updates::Updates;
 use attr_sets::Value;
 use cds_stamps::AllocOr;
 use cell_names::FullName;
-use cell_script::ScriptRefusal;
 use ns_profiles::{PROFILE, add, check_new, delete};
 use resolver::{EntryReader, Found};
+use script_answers::ScriptRefusal;
 use std::alloc::Global;
 use tower_codec::Interface;
 

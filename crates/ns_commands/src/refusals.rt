@@ -2,10 +2,10 @@
 ghost use Rattle.std.specs.Prelude.{◌≡◌};
 ghost use Rattle.ns_commands.specs.Asks.{refusal_of_export, refusal_of_group, refusal_of_profile, refusal_of_walk};
 
-use cell_script::ScriptRefusal;
 use ns_groups::GroupFault;
 use ns_profiles::ProfileFault;
 use resolver::Refusal;
+use script_answers::ScriptRefusal;
 use server_entries::ExportFault;
 
 /// Why a walk finds nothing.

@@ -3,9 +3,9 @@ use Rattle.std.proofs.lemmas.Result.{IfOk-weaker}
 use Rattle.cds_cell.specs.Telling.{told}
 use Rattle.cds_cell.specs.Readings.{objects_of, reading}
 use Rattle.resolver.specs.Readers.{Reader, ShowsOnly}
-use Rattle.cell_script.specs.declared.answer.Answer.{Answer}
-use Rattle.cell_script.specs.declared.answer.Answer.TheVariants as answer
-use Rattle.cell_script.specs.declared.answer.ScriptRefusal.TheVariants as why
+use Rattle.script_answers.specs.declared.answer.Answer.{Answer}
+use Rattle.script_answers.specs.declared.answer.Answer.TheVariants as answer
+use Rattle.script_answers.specs.declared.answer.ScriptRefusal.TheVariants as why
 use Rattle.ns_commands.specs.Imported.{import_answer}
 use Rattle.line_replies.specs.Replies.{asked_of}
 use Rattle.line_replies.proofs.ReachedReadings.{reached_shows_only}

@@ -4,7 +4,7 @@ use Rattle.cds_cell.specs.Telling.{told}
 use Rattle.cds_cell.specs.Readings.{reading}
 use Rattle.resolver.specs.Readers.{Reader}
 use Rattle.resolver.specs.WalkEnds.{walked}
-use Rattle.cell_script.specs.declared.answer.Answer.{Answer}
+use Rattle.script_answers.specs.declared.answer.Answer.{Answer}
 use Rattle.line_replies.specs.Replies.{asked_of, target_read, values_read}
 use Rattle.line_replies.proofs.SaidLaws.{told_said}
 use Rattle.line_replies.proofs.questions.reply_to_question.Goals as goal

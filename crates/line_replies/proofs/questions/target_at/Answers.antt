@@ -1,6 +1,6 @@
 use Rattle.std.proofs.Common.{◌≡◌, ap, false, Ok, Err}
 use Rattle.resolver.specs.WalkEnds.{walked}
-use Rattle.cell_script.specs.declared.answer.Answer.TheVariants as answer
+use Rattle.script_answers.specs.declared.answer.Answer.TheVariants as answer
 use Rattle.line_replies.proofs.questions.target_at.Goals as goal
 
 pub returns-in-Ok : goal.returns-in-Ok

@@ -1,5 +1,5 @@
 use Rattle.std.proofs.Common.{◌≡◌, ◌∙◌, ap, true, Ok, Err}
-use Rattle.cell_script.specs.declared.answer.Answer.TheVariants as answer
+use Rattle.script_answers.specs.declared.answer.Answer.TheVariants as answer
 use Rattle.resolver.specs.WalkEnds.{walked}
 use Rattle.line_replies.proofs.questions.values_at.Goals as goal
 

@@ -3,7 +3,7 @@ use Rattle.cds_stamps.specs.declared.alloc_or.AllocOr.TheVariants.{Fault}
 use Rattle.cds_records.specs.Records.{message}
 use Rattle.record_fields.specs.Decoding.{Decodes, decoding}
 use Rattle.record_fields.proofs.OneDecoding.{answers_decoding}
-use Rattle.cell_script.specs.declared.answer.Answer.TheVariants as answer
+use Rattle.script_answers.specs.declared.answer.Answer.TheVariants as answer
 use Rattle.line_replies.proofs.records.decoded.Goals as goal
 
 pub returns-in-Ok : goal.returns-in-Ok

@@ -1,7 +1,7 @@
 use Rattle.std.proofs.Common.{◌≡◌, Some, None, sym, ◌∙◌, ap}
 use Rattle.std.proofs.lemmas.Result.{IfOk-weaker}
 use Rattle.cds_records.specs.Octets.{image_octets}
-use Rattle.cell_script.specs.declared.answer.Answer.TheVariants as answer
+use Rattle.script_answers.specs.declared.answer.Answer.TheVariants as answer
 use Rattle.cds_cell.specs.Recorded.{image_at}
 use Rattle.cds_cell.specs.declared.house.HouseState.TheVariants as house_state
 use Rattle.line_replies.specs.Replies.{asked_of}

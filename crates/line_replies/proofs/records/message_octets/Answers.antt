@@ -2,7 +2,7 @@ use Rattle.std.proofs.Common.{◌≡◌, Some, None, ◌∙◌, ap}
 use Rattle.std.specs.Option.{option_and_then}
 use Rattle.std.proofs.lemmas.Result.{IfOk-weaker}
 use Rattle.cell_model.specs.Steps.{message_at}
-use Rattle.cell_script.specs.declared.answer.Answer.TheVariants as answer
+use Rattle.script_answers.specs.declared.answer.Answer.TheVariants as answer
 use Rattle.cds_cell.specs.Recorded.{octets_of}
 use Rattle.line_replies.specs.Replies.{octets_told}
 use Rattle.line_replies.proofs.records.message_octets.Goals as goal

@@ -4,7 +4,7 @@ use Rattle.std.specs.Result.{result_map_both}
 use Rattle.cds_stamps.specs.Outcomes.{Answers}
 use Rattle.resolver.specs.declared.seen.Found.{Found}
 use Rattle.resolver.specs.WalkEnds.{walked}
-use Rattle.cell_script.specs.declared.answer.ScriptRefusal.{ScriptRefusal}
+use Rattle.script_answers.specs.declared.answer.ScriptRefusal.{ScriptRefusal}
 use Rattle.server_entries.specs.Exports.{object_attribute, tower_attribute, unexported}
 use Rattle.ns_commands.specs.Asks.{Asks, changes_in, object_in, of_entry, unless_none}
 use Rattle.ns_commands.proofs.exports.unexport.Goals as goal

@@ -4,7 +4,7 @@ use Rattle.std.specs.Result.{result_map_both}
 use Rattle.cds_stamps.specs.Outcomes.{Answers}
 use Rattle.resolver.specs.declared.seen.Found.{Found}
 use Rattle.resolver.specs.WalkEnds.{walked}
-use Rattle.cell_script.specs.declared.answer.ScriptRefusal.{ScriptRefusal}
+use Rattle.script_answers.specs.declared.answer.ScriptRefusal.{ScriptRefusal}
 use Rattle.ns_profiles.specs.Profiles.{profile}
 use Rattle.ns_commands.specs.Asks.{Asks, changes_in, deleted_from, object_in, of_entry}
 use Rattle.ns_commands.proofs.profiles.delete_element.Goals as goal

@@ -2,7 +2,7 @@ use Rattle.std.proofs.Common.{[], ◌∷◌, length, arith, inl, refl, subst, sy
 use Rattle.std.proofs.lemmas.Option.{slice_get_read}
 use Rattle.cell_model.specs.Commands as command
 use Rattle.cell_model.specs.Steps.{effect, is_missing, refusals_of}
-use Rattle.cell_script.specs.declared.answer.Answer.TheVariants as answer
+use Rattle.script_answers.specs.declared.answer.Answer.TheVariants as answer
 use Rattle.cds_cell.specs.declared.cell.Cell.{Cell}
 use Rattle.cds_cell.specs.declared.house.CellHouse.{CellHouse}
 use Rattle.cds_cell.specs.PrivateSteps.{IsStepAs}

@@ -1,7 +1,0 @@
-use Rattle.std.specs.FinMap.{entries}
-use Rattle.cell_script.specs.Texts.{attr_lines}
-use Rattle.cell_script.proofs.DumpLoops.{Written}
-use Rattle.cell_script.proofs.dump.push_attrs.Given as goal
-
-abbrev pub invariant-loop-name : goal.invariant-loop-name
-invariant-loop-name l = Written attr_lines l.number (entries l.attrs) l.name-iterator l.fn.text.items l.text.items

@@ -1,0 +1,57 @@
+-- Words of private functions alone: the commands family by family, as the functions that read them hand a line on.
+use Rattle.std.specs.Prelude.{◌≡◌, ℕ, List, None, Some, Option, Ok, Err, Result}
+use Rattle.cds_stamps.specs.declared.alloc_or.AllocOr.{AllocOr}
+use Rattle.cds_stamps.specs.declared.alloc_or.AllocOr.TheVariants.{Fault, OutOfMemory}
+use Rattle.cell_script.specs.declared.command.ScriptLine.{ScriptLine}
+use Rattle.cell_script.specs.declared.fault.ParseFault.{ParseFault}
+use Rattle.cell_script.specs.declared.fault.ParseFault.TheVariants.{UnknownCommand}
+use Rattle.cell_script.specs.Forms.{Words}
+use Rattle.cell_script.specs.Commands.{Row, said_among, early_among, no_command, making_rows, entry_rows, value_rows, replica_rows}
+use Rattle.cell_script.specs.Commands.{event_rows, question_rows, service_rows}
+
+-- what a line says, or its fault, and the fault of it that shows before a word behind the first one is read (own)
+pub record Saying : Type 0 where
+  pub said : Result ScriptLine ParseFault
+  pub early : Option ParseFault
+
+-- a reader answers what the line says, or its fault; or want of memory, but not where a fault shows early (own)
+abbrev pub Says : Result ScriptLine (AllocOr ParseFault) → Saying → Type 0
+Says (Ok line) saying = saying.said ≡ Ok line
+Says (Err (Fault fault)) saying = saying.said ≡ Err fault
+Says (Err OutOfMemory) saying = saying.early ≡ None
+
+-- a line by the row of its first word, or by the other saying where no row has it (own)
+abbrev pub saying_among : List Row → Saying → List ℕ → Words → Saying
+saying_among rows other word s = record { said = said_among rows other.said word s; early = early_among rows other.early word s }
+
+-- a line of no command (own)
+abbrev pub unknown : Saying
+unknown = record { said = no_command; early = Some (UnknownCommand 1) }
+
+-- a line of no family before: of a command of the name service, or of no command (own)
+unfoldable pub served : List ℕ → Words → Saying
+served = saying_among service_rows unknown
+
+-- such a line, or that of a question (own)
+unfoldable pub asked : List ℕ → Words → Saying
+asked word s = saying_among question_rows (served word s) word s
+
+-- one of these, or that of an event (own)
+unfoldable pub befallen : List ℕ → Words → Saying
+befallen word s = saying_among event_rows (asked word s) word s
+
+-- one of these, or that of a command about all replicas of a directory (own)
+unfoldable pub replicated : List ℕ → Words → Saying
+replicated word s = saying_among replica_rows (befallen word s) word s
+
+-- one of these, or that of a change of an entry's values (own)
+unfoldable pub changed : List ℕ → Words → Saying
+changed word s = saying_among value_rows (replicated word s) word s
+
+-- one of these, or that of an update of an entry (own)
+unfoldable pub updated : List ℕ → Words → Saying
+updated word s = saying_among entry_rows (changed word s) word s
+
+-- one of these, or that of a command that makes houses or directories: so any line (own)
+unfoldable pub made : List ℕ → Words → Saying
+made word s = saying_among making_rows (updated word s) word s

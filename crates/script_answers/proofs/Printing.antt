@@ -1,0 +1,47 @@
+-- Text that grows behind what stood before.
+use Rattle.std.proofs.Common.{◌≡◌, ◌≤◌, ◌<◌, ◌+◌, List, [], ◌∷◌, ℕ, ◌++◌, take, drop, get_or, length, sym, ap, ◌∙◌, append_assoc, append-nil, add-one}
+use Rattle.std.specs.Prelude.{Result, Ok, Err, OnErr}
+use Rattle.std.specs.List.{flat_map}
+use Rattle.std.proofs.lemmas.List.{take-append-drop, take_all}
+use Rattle.std.proofs.lemmas.List.Concat.{flat_map-append}
+use Rattle.std.proofs.Math.Seq.{take-append_seam, take-suc}
+use Rattle.script_answers.specs.Texts.{line_text, lines_text}
+
+-- what a text began with before it grew still begins it, where the grown text does
+pub still_begins : (a x b c : List ℕ) → b ≡ a ++ x → take (length b) c ≡ b → take (length a) c ≡ a
+still_begins a x b c grown begun =
+    let whole : c ≡ a ++ (x ++ drop (length b) c) =
+    sym (take-append-drop (length b) c) ∙ ap (λ (l : List ℕ). l ++ drop (length b) c) (begun ∙ grown) ∙ append_assoc a x (drop (length b) c) in
+    ap (take (length a)) whole ∙ take-append_seam a (x ++ drop (length b) c)
+
+-- what holds holds after an error
+pub on_err : {T E P : Type 0} (r : Result T E) → P → OnErr r P
+on_err (Ok x) p = tt
+on_err (Err e) p = p
+
+-- the text of one line alone
+pub one_line : (number : ℕ) (said : List ℕ) → lines_text number (said ∷ []) ≡ line_text number said
+one_line number said = append-nil (line_text number said)
+
+-- a row of pieces, and one piece more
+row_one : {A : Type 0} (piece : A → List ℕ) (xs : List A) (i : ℕ) (d : A) → i < length xs
+    → flat_map piece (take (i + 1) xs) ≡ flat_map piece (take i xs) ++ piece (get_or xs i d)
+row_one piece xs i d within =
+    rw (add-one, take-suc xs i d within) (flat_map-append piece (take i xs) (get_or xs i d ∷ [])
+    ∙ ap (λ (p : List ℕ). flat_map piece (take i xs) ++ p) (append-nil (piece (get_or xs i d))))
+
+-- a line goes on by one more piece of a row
+pub row_goes_on : {A : Type 0} (piece : A → List ℕ) (xs : List A) (i : ℕ) (d : A) (old front line new : List ℕ) → i < length xs
+    → line ≡ old ++ (front ++ flat_map piece (take i xs)) → new ≡ line ++ piece (get_or xs i d)
+    → new ≡ old ++ (front ++ flat_map piece (take (i + 1) xs))
+row_goes_on piece xs i d old front line new within so_far more =
+    more
+    ∙ ap (λ (l : List ℕ). l ++ piece (get_or xs i d)) so_far
+    ∙ append_assoc old (front ++ flat_map piece (take i xs)) (piece (get_or xs i d))
+    ∙ ap (λ (l : List ℕ). old ++ l) (append_assoc front (flat_map piece (take i xs)) (piece (get_or xs i d))
+    ∙ ap (λ (l : List ℕ). front ++ l) (sym (row_one piece xs i d within)))
+
+-- a line behind the last piece of a row
+pub row_ends : {A : Type 0} (piece : A → List ℕ) (xs : List A) (i : ℕ) (old front line : List ℕ) → length xs ≤ i
+    → line ≡ old ++ (front ++ flat_map piece (take i xs)) → line ≡ old ++ (front ++ flat_map piece xs)
+row_ends piece xs i old front line over so_far = so_far ∙ ap (λ ys. old ++ (front ++ flat_map piece ys)) (take_all i xs over)

@@ -1,0 +1,20 @@
+use Rattle.std.proofs.Common.{◌∙◌}
+use Rattle.std.specs.FinMap.{entries}
+use Rattle.script_answers.specs.Texts.{attr_lines}
+use Rattle.script_answers.proofs.DumpLoops.{writing_begins, writing_goes_on, writing_ends}
+use Rattle.script_answers.proofs.dump.push_attrs.Goals as goal
+
+pub loop-name-init : goal.loop-name-init
+loop-name-init c =
+    writing_begins attr_lines c.args.number (entries c.args.attrs.now) _ c.args.text.now.items
+    (c.into_iter-name-iterator.ensures.into_iter_gives ∙ c.iter-name-items.ensures)
+
+pub loop-name-preserved : goal.loop-name-preserved
+loop-name-preserved c =
+    writing_goes_on attr_lines c.args.number (entries c.args.attrs.now) c.loop-name.name-iterator c.next.new.self c.in-Some.name.now c.in-Some.cell.now
+    c.args.text.now.items c.loop-name.text.items c.push_attr_lines.new.text.items c.in-Some.ensures.steps c.loop-name.invariant c.in_ok-push_attr_lines.ensures
+
+pub returns : goal.returns
+returns c =
+    writing_ends attr_lines c.args.number (entries c.args.attrs.now) c.loop-name.name-iterator c.args.text.now.items c.loop-name.text.items
+    c.in-None.ensures.steps.0 c.loop-name.invariant

@@ -1,0 +1,7 @@
+use Rattle.std.specs.FinMap.{entries}
+use Rattle.script_answers.specs.Texts.{attr_lines}
+use Rattle.script_answers.proofs.DumpLoops.{Written}
+use Rattle.script_answers.proofs.dump.push_attrs.Given as goal
+
+abbrev pub invariant-loop-name : goal.invariant-loop-name
+invariant-loop-name l = Written attr_lines l.number (entries l.attrs) l.name-iterator l.fn.text.items l.text.items
