@@ -11,3 +11,4 @@ mod HeadlineLaws
 pub mod Scripts
 mod Examples
 pub mod Tasks
+pub mod CheckedLines

@@ -1,6 +1,8 @@
 -- Words of private contracts: what a form of the program is at, and what it makes of a line (own).
-use Rattle.std.specs.Prelude.{◌≡◌, ℕ, ◌≤◌, List}
+use Rattle.std.specs.Prelude.{◌≡◌, ℕ, ◌≤◌, Bool, List, Option, Result, Ok, Err, is_some}
 use Rattle.cell_model.specs.Cells as model
+use Rattle.cell_script.specs.declared.command.ScriptLine.{ScriptLine}
+use Rattle.cell_script.specs.declared.fault.ParseFault.{ParseFault}
 use Rattle.line_replies.specs.LineEnds.{Ends, StandsAt}
 use Rattle.line_replies.specs.Responses.{LineState, Replaying, Checking, Spelling, Response}
 use Rattle.line_replies.specs.declared.replies.LineEnd.{LineEnd}
@@ -50,3 +52,8 @@ Replies end r waited waits f = Ends end r waited waits (IsAt f)
 -- the counts of `check` go on with those behind the line
 abbrev pub Counts : LineEnd → Response → (waited waits : List ℕ) → Tally → Type 0
 Counts end r waited waits t = Ends end r waited waits (CountsTo t)
+
+-- whether a line says a command, or its fault
+abbrev pub has_command : Result (Option ScriptLine) ParseFault → Result Bool ParseFault
+has_command (Ok said) = Ok (is_some said)
+has_command (Err fault) = Err fault

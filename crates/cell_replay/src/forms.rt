@@ -4,16 +4,17 @@ ghost use Rattle.cell_script.specs.Words.{words_of};
 ghost use Rattle.cell_script.specs.Commands.{said_in};
 ghost use Rattle.cds_base.specs.declared.scan.TheConstants.{MOST_LINES};
 ghost use Rattle.std.specs.Option.{option_map};
+ghost use Rattle.cds_stamps.specs.Outcomes.{Answers};
 ghost use Rattle.line_replies.specs.Responses.{LineState, response, checked};
 ghost use Rattle.cell_replay.specs.Demand.{end_text, told_fault};
 ghost use Rattle.cell_replay.specs.Forms.{Reading, form_named, load_named, task_of};
-ghost use Rattle.cell_replay.specs.PrivateStanding.{IsAt, IsForm, Replies, Counts, counted, start_of};
+ghost use Rattle.cell_replay.specs.PrivateStanding.{IsAt, IsForm, Replies, Counts, counted, has_command, start_of};
 
 use crate::check::Tally;
 use crate::limits::MOST_ROUNDS;
 use cds_base::LineFault;
 use cds_stamps::AllocOr;
-use cell_script::{number_up_to, parse_line};
+use cell_script::{ParseFault, number_up_to, parse_line};
 use line_replies::{LineEnd, Replayer, Speller, Waiting, print_line_fault, reply_to_fault};
 use std::alloc::{AllocError, Global};
 
@@ -118,7 +119,15 @@ impl LineForm {
     }
 }
 
+// Whether a line says a command. (This stands apart, since the drop of a command is long to prove.)
+fn says_command(alloc: Global, line: &[u8]) -> Result<bool, AllocOr<ParseFault>>
+    ensures { Answers result (has_command (said_in (words_of line.now))) }
+{
+    Ok(parse_line(alloc, line)?.is_some())
+}
+
 // Counts a line, and looks whether it is in order.
+#[tactic(auto, using(crate::proofs::CheckedLines::checked_whether))]
 fn check_line(
     alloc: Global,
     tally: &mut Tally,
@@ -130,9 +139,9 @@ fn check_line(
     ensures reply { Counts result (checked number tally.old.commands (said_in (words_of line.now))) waiting.old waiting.new tally.new }
     ensures counted { tally.new.lines ≤ number }
 {
-    match parse_line(alloc, line) {
-        Ok(said) => {
-            tally.count(number, said.is_some());
+    match says_command(alloc, line) {
+        Ok(has_command) => {
+            tally.count(number, has_command);
             LineEnd::GoesOn
         }
         Err(AllocOr::Fault(fault)) => reply_to_fault(alloc, number, fault, waiting),

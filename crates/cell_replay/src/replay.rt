@@ -62,14 +62,14 @@ fn stop_at<K: Sink>(
 /// Answers each line of the source, up to the first faulty one.
 fn answer_lines<S: Source, K: Sink>(
     alloc: Global,
-    mut form: LineForm,
-    mut lines: Lines,
+    form: &mut LineForm,
+    lines: &mut Lines,
     source: &mut S,
     sink: &mut K,
 ) -> Status
-    requires fresh { IsFresh lines }
-    requires start { counted form ≡ 0 }
-    ensures { (state : LineState) → IsAt form state → Ended (ByLines state) (side_of S.left S.faults source.old) (side_of S.left S.faults source.new)
+    requires fresh { IsFresh lines.old }
+    requires start { counted form.old ≡ 0 }
+    ensures { (state : LineState) → IsAt form.old state → Ended (ByLines state) (side_of S.left S.faults source.old) (side_of S.left S.faults source.new)
         (side_of K.written K.faults sink.old) (side_of K.written K.faults sink.new) result }
 {
     let mut waiting = Waiting::new(alloc);
@@ -84,8 +84,8 @@ fn answer_lines<S: Source, K: Sink>(
                 LineEnd::Stops => return finish(&mut waiting, sink, Status::BadInput),
                 LineEnd::NoMemory => return finish(&mut waiting, sink, Status::OutOfMemory),
             },
-            Ok(None) => return stop_at_end(alloc, &form, &mut waiting, sink),
-            Err(fault) => return stop_at(alloc, &form, fault, &mut waiting, sink),
+            Ok(None) => return stop_at_end(alloc, form, &mut waiting, sink),
+            Err(fault) => return stop_at(alloc, form, fault, &mut waiting, sink),
         }
     }
 }
@@ -93,7 +93,7 @@ fn answer_lines<S: Source, K: Sink>(
 /// Answers the lines of the source from the form's start on.
 fn serve_lines<S: Source, K: Sink>(
     alloc: Global,
-    form: LineForm,
+    mut form: LineForm,
     source: &mut S,
     sink: &mut K,
 ) -> Status
@@ -102,7 +102,7 @@ fn serve_lines<S: Source, K: Sink>(
         (side_of K.written K.faults sink.old) (side_of K.written K.faults sink.new) result }
 {
     match Lines::new(alloc) {
-        Ok(lines) => answer_lines(alloc, form, lines, source, sink),
+        Ok(mut lines) => answer_lines(alloc, &mut form, &mut lines, source, sink),
         Err(AllocError) => Status::OutOfMemory,
     }
 }

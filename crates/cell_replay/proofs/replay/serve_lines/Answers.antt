@@ -1,5 +1,5 @@
 use Rattle.cell_replay.proofs.Turns.{unread_lines}
 use Rattle.cell_replay.proofs.replay.serve_lines.Goals as goal
 
-pub returns-in-Err : goal.returns-in-Err
-returns-in-Err g c state at = unread_lines state _ _ _ _
+pub returns : goal.returns
+returns g c state at = unread_lines state _ _ _ _
