@@ -9,13 +9,13 @@ use Rattle.cell_model.specs.Cells.{empty_cell}
 use Rattle.cell_script.specs.Words.{words_of, number_of}
 use Rattle.cell_script.specs.Commands as lines
 use Rattle.cell_script.specs.Forms as forms
-use Rattle.line_replies.specs.Texts.{line_fault_text}
+use Rattle.waiting_replies.specs.Texts.{line_fault_text}
 use Rattle.tower_codec.specs.BindingReading.{cut}
 use Rattle.tower_codec.specs.declared.fault.TowerFault.TheVariants.{EmptyLeft, ShortCount}
 use Rattle.cell_replay.specs.declared.towers.StreamFault.TheVariants as stream
-use Rattle.line_replies.specs.TowerTexts.{tower_text, floor_said, tower_said, SaysTower, NoTower}
+use Rattle.waiting_replies.specs.TowerTexts.{tower_text, floor_said, tower_said, SaysTower, NoTower}
 use Rattle.cell_replay.specs.TowerDemand.{AtFault, PartOf, TowersDemand}
-use Rattle.line_replies.specs.Responses.{Replaying, Checking, Spelling}
+use Rattle.waiting_replies.specs.Responses.{Replaying, Checking, Spelling}
 use Rattle.cell_replay.specs.Demand.{Faulty, CutShort, ends_with, faulty_with, demand, demanded}
 use Rattle.cell_replay.specs.Forms.{ByLines, Loading, Reading, task_of}
 

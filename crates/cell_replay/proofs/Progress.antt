@@ -11,7 +11,7 @@ use Rattle.cell_replay.specs.Demand.{Demand, Faulty, with_front}
 use Rattle.cell_replay.specs.Forms.{FormState, Demands}
 use Rattle.cell_replay.specs.declared.endings.Status.{Status}
 use Rattle.cell_replay.specs.declared.endings.Status.TheVariants.{Ok as AllRead, Usage, BadInput, ReadFault, WriteFault, OutOfMemory}
-use Rattle.line_replies.specs.Waiting.{Flushes}
+use Rattle.waiting_replies.specs.Waiting.{Flushes}
 use Rattle.cell_replay.specs.Runs.{IsFront, Wrote, IsWhole, IsFaulty, IsBody, CameLate, WroteAllBefore, IsPart, IsCutShort, IsTakenAtOnce, read_ahead}
 use Rattle.cell_replay.specs.Runs.{WroteSoon, AnswersFront}
 use Rattle.cell_replay.specs.PrivateEndings.{IsDue, IsQueued, Finishes, StopsWith, side, Ended}

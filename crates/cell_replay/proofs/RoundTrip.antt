@@ -21,15 +21,15 @@ use Rattle.tower_codec.proofs.Grammar.{IsBytes-rest, IsBytes-tail}
 use Rattle.tower_codec.proofs.SpellingLaws.{tower_spelled}
 use Rattle.tower_codec.proofs.Cuts.{lacks, cut_again}
 use Rattle.cell_script.specs.Words.{words_of}
-use Rattle.line_replies.specs.TowerTexts.{floor_text, floors_text, floor_of_parts, floor_said, floors_said, is_dash, TowerLine, SaysNothing, SaysTower}
-use Rattle.line_replies.specs.TowerTexts.{short_tower, tower_in, tower_said}
+use Rattle.waiting_replies.specs.TowerTexts.{floor_text, floors_text, floor_of_parts, floor_said, floors_said, is_dash, TowerLine, SaysNothing, SaysTower}
+use Rattle.waiting_replies.specs.TowerTexts.{short_tower, tower_in, tower_said}
 use Rattle.cell_replay.specs.Demand.{Demand, Sound, then_rest, with_front, demanded, whole}
-use Rattle.line_replies.specs.Responses.{Spelling, spelled}
+use Rattle.waiting_replies.specs.Responses.{Spelling, spelled}
 use Rattle.cell_replay.specs.TowerDemand.{Rest, Nothing, AtFault, PartOf, AreTowers, towers_demand, TowersDemand}
 use Rattle.cell_replay.proofs.Scanning.{scanned, demanded_scanned}
 use Rattle.cell_replay.proofs.Demands.{demand_line, demand_part}
 use Rattle.cell_replay.proofs.Streams.{IsBytes-front}
-use Rattle.line_replies.proofs.TowerLines.{short}
+use Rattle.waiting_replies.proofs.TowerLines.{short}
 use Rattle.cell_replay.proofs.TowerTurns.{taken_short}
 
 -- ---- octets of hexadecimal text: digits, and the marks between them

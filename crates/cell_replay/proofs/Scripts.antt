@@ -11,7 +11,8 @@ use Rattle.cell_script.specs.declared.fault.ParseFault.{ParseFault}
 use Rattle.cell_script.specs.Words.{words_of}
 use Rattle.cell_script.specs.Commands.{said_in}
 use Rattle.line_replies.specs.Replies.{Numbered, transcript, reply_text, cell_after}
-use Rattle.line_replies.specs.Responses.{LineState, Replaying, Response, GoesOn, Stops, response, replayed}
+use Rattle.waiting_replies.specs.Responses.{LineState, Replaying, Response, GoesOn, Stops}
+use Rattle.line_replies.specs.Answering.{response, replayed}
 use Rattle.cell_replay.specs.Demand.{Demand, Sound, Faulty, demanded, told_fault}
 use Rattle.cell_replay.specs.Demand.{unless_fault, then_rest, with_front, whole}
 use Rattle.cell_replay.specs.Forms.{ByLines}

@@ -14,7 +14,7 @@ use Rattle.tower_codec.proofs.FaultsRead.{fault_read, fault_again}
 use Rattle.tower_codec.proofs.SpellingLaws.{towers_apart}
 use Rattle.cell_replay.specs.declared.towers.StreamFault.TheVariants as stream
 use Rattle.cell_replay.specs.declared.towers.Seen.TheVariants as seen
-use Rattle.line_replies.specs.TowerTexts.{tower_text}
+use Rattle.waiting_replies.specs.TowerTexts.{tower_text}
 use Rattle.cell_replay.specs.TowerDemand.{in_sight, ShowsFault, EndsWithin, Rest, Nothing, AtFault, PartOf, IsRest, rest_demand, TowersDemand}
 use Rattle.cell_replay.specs.Demand.{Demand, with_front}
 use Rattle.cell_replay.specs.PrivateSights.{Sees, part_seen, seen_fault}

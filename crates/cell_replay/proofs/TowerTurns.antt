@@ -16,7 +16,7 @@ use Rattle.cell_replay.specs.declared.towers.StreamFault.{StreamFault}
 use Rattle.cell_replay.specs.declared.towers.StreamFault.TheVariants as stream
 use Rattle.cell_replay.specs.declared.endings.Status.{Status}
 use Rattle.cell_replay.specs.declared.endings.Status.TheVariants.{Ok as AllRead, BadInput, ReadFault, WriteFault, OutOfMemory}
-use Rattle.line_replies.specs.TowerTexts.{tower_text}
+use Rattle.waiting_replies.specs.TowerTexts.{tower_text}
 use Rattle.cell_replay.specs.TowerDemand.{IsTaken, Nothing, AtFault, PartOf, TowersDemand, stream_fault_text}
 use Rattle.cell_replay.specs.Demand.{Demand, Faulty, whole, with_front, faulty_with, ends_with, cut_short_with}
 use Rattle.cell_replay.specs.Forms.{ByTowers}

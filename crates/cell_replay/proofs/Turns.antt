@@ -14,16 +14,17 @@ use Rattle.cds_base.specs.Lines.{given, held, kept, IsReady, IsNext, HasLineCaus
 use Rattle.cds_base.proofs.KnownOctets.{consumes_self, appends_none}
 use Rattle.cds_base.proofs.LineAnswers.{fault_shown}
 use Rattle.cell_replay.specs.declared.forms.LineForm.{LineForm}
-use Rattle.line_replies.specs.declared.replies.LineEnd.TheVariants as line
+use Rattle.waiting_replies.specs.declared.replies.LineEnd.TheVariants as line
 use Rattle.cell_replay.specs.declared.endings.Status.{Status}
 use Rattle.cell_replay.specs.declared.endings.Status.TheVariants.{Ok as AllRead, BadInput, ReadFault, WriteFault, OutOfMemory}
 use Rattle.cell_replay.specs.Demand.{Demand, Faulty, demanded, at_end, end_text, told_fault, then_rest}
-use Rattle.line_replies.specs.Responses.{LineState, Response, GoesOn, Stops, response}
+use Rattle.waiting_replies.specs.Responses.{LineState, Response, GoesOn, Stops}
+use Rattle.line_replies.specs.Answering.{response}
 use Rattle.cell_replay.specs.Demand.{faulty_with, ends_with, cut_short_with, with_front}
 use Rattle.cell_replay.specs.Forms.{ByLines, Demands}
 use Rattle.cell_replay.specs.PrivateStanding.{IsAt}
-use Rattle.line_replies.specs.LineEnds.{Ends}
-use Rattle.line_replies.specs.Waiting.{Flushes}
+use Rattle.waiting_replies.specs.LineEnds.{Ends}
+use Rattle.waiting_replies.specs.Waiting.{Flushes}
 use Rattle.cell_replay.specs.Runs.{AnswersFront, IsBody, IsFaulty, IsPart, IsWhole}
 use Rattle.cell_replay.specs.PrivateEndings.{IsDue, Finishes, StopsWith, side, Ended}
 use Rattle.cell_replay.proofs.Scanning.{scanned, demanded_scanned}

@@ -3,9 +3,10 @@ use Rattle.std.specs.Prelude.{◌≡◌, ℕ, ◌≤◌, Bool, List, Option, Res
 use Rattle.cell_model.specs.Cells as model
 use Rattle.cell_script.specs.declared.command.ScriptLine.{ScriptLine}
 use Rattle.cell_script.specs.declared.fault.ParseFault.{ParseFault}
-use Rattle.line_replies.specs.LineEnds.{Ends, StandsAt}
-use Rattle.line_replies.specs.Responses.{LineState, Replaying, Checking, Spelling, Response}
-use Rattle.line_replies.specs.declared.replies.LineEnd.{LineEnd}
+use Rattle.waiting_replies.specs.LineEnds.{Ends}
+use Rattle.line_replies.specs.Answering.{StandsAt}
+use Rattle.waiting_replies.specs.Responses.{LineState, Replaying, Checking, Spelling, Response}
+use Rattle.waiting_replies.specs.declared.replies.LineEnd.{LineEnd}
 use Rattle.cell_replay.specs.declared.limits.TheConstants.{MOST_ROUNDS}
 use Rattle.cell_replay.specs.Forms.{ByLines, ByTowers, Task, Reading, Loading}
 use Rattle.cell_replay.specs.declared.check.Tally.{Tally}

@@ -4,8 +4,8 @@ ghost use Rattle.cell_replay.specs.Runs.{code_of};
 ghost use Rattle.cell_replay.specs.PrivateEndings.{Finishes, IsQueued, StopsWith, side_of};
 
 use cds_base::Sink;
-use line_replies::Waiting;
 use std::alloc::AllocError;
+use waiting_replies::Waiting;
 
 /// How a run ends.
 #[derive(Clone, Copy, Debug, PartialEq, Eq)]

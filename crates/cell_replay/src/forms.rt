@@ -5,7 +5,8 @@ ghost use Rattle.cell_script.specs.Commands.{said_in};
 ghost use Rattle.cds_base.specs.declared.scan.TheConstants.{MOST_LINES};
 ghost use Rattle.std.specs.Option.{option_map};
 ghost use Rattle.cds_stamps.specs.Outcomes.{Answers};
-ghost use Rattle.line_replies.specs.Responses.{LineState, response, checked};
+ghost use Rattle.waiting_replies.specs.Responses.{LineState, checked};
+ghost use Rattle.line_replies.specs.Answering.{response};
 ghost use Rattle.cell_replay.specs.Demand.{end_text, told_fault};
 ghost use Rattle.cell_replay.specs.Forms.{Reading, form_named, load_named, task_of};
 ghost use Rattle.cell_replay.specs.PrivateStanding.{IsAt, IsForm, Replies, Counts, counted, has_command, start_of};
@@ -15,8 +16,9 @@ use crate::limits::MOST_ROUNDS;
 use cds_base::LineFault;
 use cds_stamps::AllocOr;
 use cell_script::{ParseFault, number_up_to, parse_line};
-use line_replies::{LineEnd, Replayer, Speller, Waiting, print_line_fault, reply_to_fault};
+use line_replies::Replayer;
 use std::alloc::{AllocError, Global};
+use waiting_replies::{LineEnd, Speller, Waiting, print_line_fault, reply_to_fault};
 
 /// A form of the program.
 #[derive(Clone, Copy, Debug, PartialEq, Eq)]

@@ -8,7 +8,7 @@ ghost use Rattle.tower_codec.specs.declared.rpc.Interface.{Interface};
 ghost use Rattle.ns_commands.specs.Asks.{add_element, add_member, delete_element, delete_member, export, unexport};
 ghost use Rattle.line_replies.specs.Replies.{LacksStampsAlone, Numbered, transcript, trusted};
 ghost use Rattle.cell_replay.specs.Demand.{Demand, Sound, Faulty, demanded, whole};
-ghost use Rattle.line_replies.specs.Responses.{Replaying, Spelling};
+ghost use Rattle.waiting_replies.specs.Responses.{Replaying, Spelling};
 ghost use Rattle.cell_replay.specs.Forms.{FormState, ByLines, ByTowers, Demands};
 ghost use Rattle.cell_replay.specs.Runs.{IsFront};
 ghost use Rattle.cell_replay.specs.Scripts.{IsScript, text_of};
@@ -16,10 +16,11 @@ ghost use Rattle.cell_replay.specs.Scripts.{IsScript, text_of};
 use crate::limits::{MOST_ROUNDS, MOST_TOWERS, TOWER_SIGHT};
 use cds_cell::laws::{asked_houses_accept, masters_refuse_for_stamps_alone};
 use cell_model::holdings;
-use line_replies::{LONGEST_TOWER, MOST_UPDATES, MOST_WAITING};
+use line_replies::MOST_UPDATES;
 use ns_groups::laws::group_updates_are_accepted;
 use ns_profiles::laws::profile_updates_are_accepted;
 use server_entries::laws::server_updates_are_accepted;
+use waiting_replies::{LONGEST_TOWER, MOST_WAITING};
 
 /// A script demands its transcript by the model, and nothing else.
 pub fn scripts_demand_transcripts()

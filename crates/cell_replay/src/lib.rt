@@ -12,5 +12,5 @@ mod towers;
 
 pub use endings::Status;
 pub use limits::{MOST_ROUNDS, MOST_TOWERS, TOWER_SIGHT};
-pub use line_replies::{LONGEST_TOWER, MOST_WAITING};
 pub use replay::run;
+pub use waiting_replies::{LONGEST_TOWER, MOST_WAITING};

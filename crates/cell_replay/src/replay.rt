@@ -4,7 +4,7 @@ ghost use Rattle.std.specs.Io.KnownBytes.{IsAtEnd};
 ghost use Rattle.cds_base.specs.Counts.{Rose};
 ghost use Rattle.cds_base.specs.Lines.{IsFresh};
 ghost use Rattle.cell_model.specs.Cells as model;
-ghost use Rattle.line_replies.specs.Responses.{LineState, Replaying};
+ghost use Rattle.waiting_replies.specs.Responses.{LineState, Replaying};
 ghost use Rattle.cell_replay.specs.Demand.{end_text, told_fault};
 ghost use Rattle.cell_replay.specs.Forms.{FormState, ByLines, Loading, Reading, task_of};
 ghost use Rattle.line_replies.specs.Loading.{load_text};
@@ -20,8 +20,9 @@ use crate::forms::{Form, LineForm, form_in};
 use crate::load::load;
 use crate::towers::print_towers;
 use cds_base::{LineFault, Lines, Sink, Source};
-use line_replies::{LineEnd, Replayer, Speller, Waiting};
+use line_replies::Replayer;
 use std::alloc::{AllocError, Global};
+use waiting_replies::{LineEnd, Speller, Waiting};
 
 // Ends a run at the end of the input.
 fn stop_at_end<K: Sink>(

@@ -12,10 +12,10 @@ ghost use Rattle.cell_replay.specs.PrivateSights.{Sees, seen_fault};
 use crate::endings::{Status, finish, stop_with};
 use crate::limits::{MOST_TOWERS, TOWER_SIGHT};
 use cds_base::{Failed, Sink, Source, Window};
-use line_replies::{LONGEST_TOWER, Waiting};
 use script_answers::print_fault;
 use std::alloc::{AllocError, Global};
 use tower_codec::{TowerFault, TowerView};
+use waiting_replies::{LONGEST_TOWER, Waiting};
 
 /// Why there is no further tower.
 #[derive(Clone, Copy, Debug, PartialEq, Eq)]

@@ -1,15 +1,10 @@
-pub mod Texts
 pub mod Replies
-pub mod TowerTexts
-pub mod Responses
+pub mod Answering
 pub mod Loading
 pub mod Steps
-pub mod LineEnds
-pub mod Waiting
 pub mod Counting
 pub mod LoadSteps
 pub mod PrivateSaid
 pub mod PrivateRecords
 pub mod PrivateReplies
-pub mod PrivateTowers
 pub mod PrivateKinds

@@ -1,10 +1,8 @@
 // The form `run`: each line is replayed on a cell.
 ghost use Rattle.line_replies.specs.Steps.{HasSteps};
 
-use crate::answers::reply_to_fault;
 use crate::limits::MOST_UPDATES;
 use crate::questions::reply_to_question;
-use crate::replies::{LineEnd, Waiting};
 use crate::said::{Reply, answer_to_updates};
 use cds_cell::Cell;
 use cds_cell::laws::accepted_updates_are_commands;
@@ -13,6 +11,7 @@ use cell_script::{Command, Question, ScriptLine, parse_line};
 use ns_commands::Updates;
 use script_answers::Answer;
 use std::alloc::{AllocError, Global};
+use waiting_replies::{LineEnd, Waiting, reply_to_fault};
 
 /// A cell, how many steps and lists of updates it took, and how many updates stood in these lists: so many that there is room for
 /// each further line of a script.
@@ -37,10 +36,10 @@ impl Replayer {
     ghost use Rattle.cds_cell.specs.Scripted.{step_of};
     ghost use Rattle.cds_cell.specs.Standing.{IsStep, Stands, house_of};
     ghost use Rattle.ns_commands.specs.Asks.{changes_in};
-    ghost use Rattle.line_replies.specs.Responses.{replayed};
+    ghost use Rattle.line_replies.specs.Answering.{replayed};
     ghost use Rattle.line_replies.specs.Replies.{does, reply_text, cell_after};
     ghost use Rattle.line_replies.specs.PrivateReplies.{IsDone, IsReply};
-    ghost use Rattle.line_replies.specs.LineEnds.{Replays};
+    ghost use Rattle.line_replies.specs.Answering.{Replays};
 
     /// Over a cell without houses. Takes no memory.
     pub fn new(alloc: Global) -> Replayer

@@ -1,5 +1,5 @@
-use Rattle.line_replies.specs.LineEnds.{StandsAt}
-use Rattle.line_replies.proofs.FaultyLines.{faults_end}
+use Rattle.line_replies.specs.Answering.{StandsAt}
+use Rattle.waiting_replies.proofs.FaultyLines.{faults_end}
 use Rattle.line_replies.proofs.replayer.Replayer.replay_line.Goals as goal
 
 pub returns-in-Err-Fault-clause-reply : goal.returns-in-Err-Fault-clause-reply

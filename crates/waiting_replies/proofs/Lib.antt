@@ -1,0 +1,3 @@
+pub mod FaultyLines
+pub mod TowerLines
+pub mod DigitValues

@@ -1,0 +1,15 @@
+//! The text of towers and of faults, the towers that lines of text say, and how replies wait to be written.
+#![tactic(auto)]
+
+mod answers;
+mod digits;
+mod limits;
+mod replies;
+mod tower_text;
+mod untowers;
+mod words;
+
+pub use answers::{print_line_fault, reply_to_fault};
+pub use limits::{LONGEST_TOWER, MOST_WAITING};
+pub use replies::{LineEnd, Waiting};
+pub use untowers::Speller;
