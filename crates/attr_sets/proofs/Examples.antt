@@ -1,13 +1,13 @@
 -- The definitions at single histories, by computing.
 use Rattle.std.proofs.Common.{◌≡◌, ℕ, true, false, List, [], ◌∷◌, refl}
-use Rattle.std.specs.Prelude.{Some, None, replicate}
+use Rattle.std.specs.Prelude.{true, false, Some, None, replicate}
 use Rattle.cds_stamps.specs.declared.stamp.Stamp.{Stamp}
 use Rattle.attr_sets.specs.declared.mark.ValueMark.{ValueMark}
 use Rattle.attr_sets.specs.declared.value.ValueFault.TheVariants.{BadSize}
 use Rattle.attr_sets.specs.Values.{value_fault}
 use Rattle.attr_sets.specs.Marks.{later, kept}
 use Rattle.attr_sets.specs.Cells.{AttrMark, Cleared, Marked, greatest_clear, greatest_mark}
-use Rattle.attr_sets.specs.CellPurges.{mark_left, clear_left, mark_after}
+use Rattle.attr_sets.specs.CellPurges.{is_above, mark_left, clear_left, mark_after}
 
 -- a stamp of one node, and marks with it
 abbrev at : ℕ → Stamp
@@ -77,6 +77,13 @@ clear_dropped = refl
 
 later_clear_stays : clear_left (at 3) (at 4) ≡ Some (at 4)
 later_clear_stays = refl
+
+-- every stamp is above none
+above_none : is_above None (at 0) ≡ true
+above_none = refl
+
+not_above_itself : is_above (Some (at 3)) (at 3) ≡ false
+not_above_itself = refl
 
 -- later than a stamp is without it, of present marks as of absent ones
 mark_at_the_stamp : mark_after (at 3) (present_at 3) ≡ None

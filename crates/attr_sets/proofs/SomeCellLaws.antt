@@ -1,20 +1,24 @@
 -- Cells that have a clear or a value, as entries hold them: the laws of purged cells, where a cell may be missing.
 use Rattle.std.proofs.Common.{◌≡◌, Bool, true, false, List, [], ◌∷◌, ◌++◌, Option, Some, None, refl, sym, ap, subst, ◌∙◌, ◌⊎◌, inl, inr, ⊎_elim}
 use Rattle.std.proofs.Common.{is_eq, arith}
-use Rattle.std.specs.Prelude.{◌≢◌, IfSome, if◌then◌else◌}
-use Rattle.std.specs.FinMap.{get, empty, get-empty}
+use Rattle.std.specs.Prelude.{◌≢◌, not, IfSome, if◌then◌else◌}
+use Rattle.std.specs.FinMap.{FinMap, IsAntisymmetric, get, empty, get-empty}
 use Rattle.std.specs.Option.{option_and_then}
-use Rattle.std.specs.Cmp.{tied_itself}
+use Rattle.std.specs.declared.cmp.Ordering.{Ordering}
+use Rattle.std.specs.Cmp.{IsTotalOrder, tied_itself}
 use Rattle.std.specs.Cmp.Lexicographic.{nat_list_cmp_total}
 use Rattle.cds_stamps.specs.declared.stamp.Stamp.{Stamp}
+use Rattle.cds_stamps.specs.Joins.{EachValue}
+use Rattle.cds_stamps.specs.Keyed.{map_some, get-map_some}
 use Rattle.cds_stamps.specs.Semilattice.{maybe}
-use Rattle.cds_stamps.specs.Stamps.{stamp_total, is_earlier, later_stamp}
-use Rattle.cds_stamps.specs.Octets.{octets_cmp, is_octets}
+use Rattle.cds_stamps.specs.Stamps.{stamp_total, is_earlier, is_up_to, later_stamp}
+use Rattle.cds_stamps.specs.Octets.{octets_cmp, octets_exact, is_octets}
 use Rattle.attr_sets.specs.declared.mark.ValueMark.{ValueMark}
 use Rattle.attr_sets.specs.declared.cell.AttrCell.{AttrCell}
 use Rattle.attr_sets.specs.Marks.{later, kept}
 use Rattle.attr_sets.specs.Cells.{AttrMark, Cleared, Marked, greatest_clear, greatest_mark, cell_of, empty_cell, join_cells, IsValidCell}
-use Rattle.attr_sets.specs.CellPurges.{is_empty_cell, some_cell, cell_left, cell_after, purged_cell, after_cell}
+use Rattle.attr_sets.specs.CellPurges.{is_empty_cell, some_cell, clear_left, mark_after, cell_left, cell_after, purged_cell, after_cell}
+use Rattle.attr_sets.specs.CellPurges.{is_above, IsAboveCell}
 use Rattle.attr_sets.specs.CellLawProofs.{same_cell, get-cell_of, get-join_cells, join_cells-comm, join_held, cell_of-valid}
 use Rattle.attr_sets.proofs.CellUndoing.{is_empty_cell-is, empty_cell-is_empty, new_cell}
 use Rattle.attr_sets.proofs.MarkPurgeLaws.{left, after, not_itself}
@@ -157,6 +161,63 @@ cell_left-held t a valid = some_cell-held (purged_cell t a) (purged_cell-valid t
 -- and so is what of it is later
 pub cell_after-held : (t : Stamp) (a : AttrCell) → IsValidCell a → IfSome (cell_after t a) (λ c. IsValidCell c × (c ≢ empty_cell))
 cell_after-held t a valid = some_cell-held (after_cell t a) (after_cell-valid t a valid)
+
+-- ---- above a stamp
+
+module _ {K X Y : Type 0} {R : K → K → Ordering} (o : IsTotalOrder R) (same : IsAntisymmetric R) where
+  -- what holds of all that f leaves holds of each value of the map
+  pub each_left : (V : Y → Type 0) (f : X → Option Y) → ((x : X) → IfSome (f x) V) → (m : FinMap R X) → EachValue V (map_some f m)
+  each_left V f holds m k = subst (λ x. IfSome x V) (sym (get-map_some o same f m k)) (at (get m k))
+    where
+      at : (x : Option X) → IfSome (option_and_then f x) V
+      at None = tt
+      at (Some x) = holds x
+
+-- what holds of everything holds of what there is
+pub if_any : {X : Type 0} (V : X → Type 0) → ((x : X) → V x) → (x : Option X) → IfSome x V
+if_any V holds None = tt
+if_any V holds (Some x) = holds x
+
+later_or_not : (b : Bool) → not b ≡ false → b ≡ true
+later_or_not true e = refl
+later_or_not false e = cc (e)
+
+-- a clear that is later than t is above t
+pub clear_after-above : (t : Stamp) (s : Option Stamp) → IfSome (option_and_then (clear_left t) s) (λ s. is_above (Some t) s ≡ true)
+clear_after-above t None = tt
+clear_after-above t (Some s) = at (is_up_to t s) refl
+  where
+    at : (b : Bool) → is_up_to t s ≡ b → IfSome (if b then None else Some s) (λ s. is_above (Some t) s ≡ true)
+    at true e = tt
+    at false e = later_or_not (is_earlier t s) e
+
+mark_after-above : (t : Stamp) (m : ValueMark) → IfSome (mark_after t m) (λ m. is_above (Some t) m.stamp ≡ true)
+mark_after-above t m = at (is_up_to t m.stamp) refl
+  where
+    at : (b : Bool) → is_up_to t m.stamp ≡ b → IfSome (if b then None else Some m) (λ (m : ValueMark). is_above (Some t) m.stamp ≡ true)
+    at true e = tt
+    at false e = later_or_not (is_earlier t m.stamp) e
+
+-- what of a cell is later than t is above t
+pub cell_after-above : (t : Stamp) (a : AttrCell) → IfSome (cell_after t a) (IsAboveCell (Some t))
+cell_after-above t a = at (is_empty_cell (after_cell t a))
+  where
+    above : IsAboveCell (Some t) (after_cell t a)
+    above = record {
+      cleared = clear_after-above t a.cleared;
+      values = each_left nat_list_cmp_total octets_exact (λ m. is_above (Some t) m.stamp ≡ true) (mark_after t) (mark_after-above t) a.values;
+    }
+
+    at : (b : Bool) → IfSome (if b then None else Some (after_cell t a)) (IsAboveCell (Some t))
+    at true = tt
+    at false = above
+
+-- and every cell is above no stamp
+pub any_cell-above : (a : AttrCell) → IsAboveCell None a
+any_cell-above a = record {
+  cleared = if_any (λ s. is_above None s ≡ true) (λ s. refl) a.cleared;
+  values = λ v. if_any (λ (m : ValueMark). is_above None m.stamp ≡ true) (λ m. refl) (get a.values v);
+}
 
 -- ---- what is later of one cell, joined to another
 

@@ -144,7 +144,7 @@ dropped_table t m n v w ordered =
     ∙ ap (λ x. take_entry t x (get n q)) (get-map_some nat_list_cmp_total octets_exact (entry_left t) m q)))
 
 -- the purged table of a history is in order
-purged-ordered : (t : Stamp) (h : List Mark) (a : Option Stamp) → IsAfterBirth h → IsOrderedTable t (purged h a)
+pub purged-ordered : (t : Stamp) (h : List Mark) (a : Option Stamp) → IsAfterBirth h → IsOrderedTable t (purged h a)
 purged-ordered t h a after n = subst (λ x. IfSome x (IsOrdered t)) (sym (get-purged h a n)) (by_birth (birth_of h n))
   where
     left : (a : Option Stamp) (e : EntryCell) → IsOrdered t e → IfSome (entry_left_by a e) (IsOrdered t)

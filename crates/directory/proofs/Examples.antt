@@ -1,8 +1,10 @@
 -- The definitions at single marks, by computing.
-use Rattle.std.proofs.Common.{◌≡◌, ℕ, true, false, List, [], ◌∷◌, refl}
-use Rattle.std.specs.Prelude.{Option, Some, None, codes}
-use Rattle.std.specs.FinMap.{empty}
+use Rattle.std.proofs.Common.{◌≡◌, ℕ, true, false, List, [], ◌∷◌, refl, ap}
+use Rattle.std.specs.Prelude.{Option, Some, None, codes, ◌==◌}
+use Rattle.std.specs.FinMap.{empty, len-empty}
 use Rattle.cds_stamps.specs.declared.stamp.Stamp.{Stamp}
+use Rattle.cds_stamps.specs.Octets.{octets_cmp}
+use Rattle.attr_sets.specs.declared.cell.AttrCell.{AttrCell}
 use Rattle.attr_sets.specs.Cells.{Cleared}
 use Rattle.directory.specs.declared.entry.Kind.{Kind}
 use Rattle.directory.specs.declared.entry.Kind.TheVariants.{Object, Link, Child}
@@ -13,7 +15,7 @@ use Rattle.directory.specs.Entries.{join_entries}
 use Rattle.directory.specs.Updates.{Create, Delete, Add, Put, Repoint}
 use Rattle.directory.specs.Histories.{Mark, Birth, Death, Attr, birth_of, death_of, up_to}
 use Rattle.directory.specs.Shown.{Shown, leads, refusal_of, value_mark, marks_of}
-use Rattle.directory.specs.Purges.{entry_left}
+use Rattle.directory.specs.Purges.{entry_left, after_entry, is_bare, delta_entry}
 
 -- the stamp of this time at one node
 abbrev at : ℕ → Stamp
@@ -113,3 +115,13 @@ one_pointer = refl
 -- a death up to the stamp takes the entry away
 left_after_its_death : entry_left (at 3) (bare 1 Object (Some (at 3))) ≡ None
 left_after_its_death = refl
+
+birth_alone : is_bare (bare 1 Object None) ≡ true
+birth_alone = ap (λ n. n == 0) (len-empty octets_cmp AttrCell)
+
+-- an old birth is sent where something later is there, and a later birth always
+old_birth_that_died : delta_entry (at 3) (bare 1 Object (Some (at 4))) ≡ Some (after_entry (at 3) (bare 1 Object (Some (at 4))))
+old_birth_that_died = refl
+
+late_birth_alone : delta_entry (at 3) (bare 4 Object None) ≡ Some (after_entry (at 3) (bare 4 Object None))
+late_birth_alone = refl

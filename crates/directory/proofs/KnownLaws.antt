@@ -28,7 +28,7 @@ abbrev pub Covers : Stamp → List Mark → List Mark → Type 0
 Covers t h g = (m : Mark) → Contains (up_to g (Some t)) m → Contains h m
 
 -- a mark of the other up to t is known
-known : (t : Stamp) (h g : List Mark) → Covers t h g → (m : Mark) → Contains g m → is_up_to t (stamp_in m) ≡ true → Contains h m
+pub known : (t : Stamp) (h g : List Mark) → Covers t h g → (m : Mark) → Contains g m → is_up_to t (stamp_in m) ≡ true → Contains h m
 known t h g covered m has early = covered m (Contains-filter (λ m. is_up_to t (stamp_in m)) g m has early)
 
 -- ---- births

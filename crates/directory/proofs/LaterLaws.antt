@@ -40,7 +40,7 @@ use Rattle.directory.specs.Deletions.{has_lost, is_lost, has_deletion}
 use Rattle.directory.specs.Entries.{Entries, join_entries, join_tables, IsHeldCell, IsValidEntry, IsValidTable}
 use Rattle.directory.specs.EntryLawProofs.{kinds, entry_join, table_join}
 use Rattle.directory.specs.IndexWords.{is_indexed, IsIndexed, Keeps, KnowsAll, inserted}
-use Rattle.directory.specs.Purges.{after_entry, is_passed, taken_entry, take_entry, take_table}
+use Rattle.directory.specs.Purges.{after_entry, is_passed, taken_entry, take_entry, take_table, delta_entry, delta_table}
 use Rattle.directory.proofs.DeletionLaws.{joined_deletion}
 use Rattle.directory.proofs.TakeLaws.{joined_equal, none_right}
 
@@ -289,3 +289,28 @@ module _ (x y : Deletions) (m n : Entries) (indexed : IsIndexed x m) (keeps : Ke
     table_join.keeps m n indexed.valid valid,
     λ d has. ⊎_elim (λ own. keeps d (indexed.all d own)) (λ other. knows d other) (joined_deletion m n d has),
   )
+
+-- ---- the table of what is later
+
+-- a name has in it what is later of its entry
+abbrev pub IsLater : Stamp → Entries → List ℕ → Option EntryCell → Type 0
+IsLater t own q x = x ≡ option_and_then (delta_entry t) (get own q)
+
+-- a table of what is later, where the entries still to come are put
+abbrev pub LeavesPart : Stamp → Entries → Entries → List (List ℕ × EntryCell) → Type 0
+LeavesPart t own = InTurn nat_list_cmp_total octets_exact (IsLater t own) own
+
+-- it is so with one entry fewer to come
+pub delta_step : (t : Stamp) (own old new : Entries) (k : List ℕ) (e : EntryCell) (es rest : List (List ℕ × EntryCell)) → es ≡ (k, e) ∷ rest
+    → (get old k ≡ None → get new k ≡ delta_entry t e) → ((q : List ℕ) → q ≢ k → get new q ≡ get old q) → LeavesPart t own old es → LeavesPart t own new rest
+delta_step t own old new k e es rest first here others =
+    turns_step nat_list_cmp_total octets_exact (IsLater t own) own old new k e es rest first others (λ none found.
+    here none ∙ ap (option_and_then (delta_entry t)) (sym found))
+
+-- once no entry is still to come, it is the whole
+pub delta_end : (t : Stamp) (own new : Entries) (es : List (List ℕ × EntryCell)) → es ≡ [] → LeavesPart t own new es → new ≡ delta_table (Some t) own
+delta_end t own new es none is =
+    same_map nat_list_cmp_total octets_exact new (delta_table (Some t) own) (λ q.
+    turns_end nat_list_cmp_total octets_exact (IsLater t own) own new es none
+    (λ q gone. sym (ap (option_and_then (delta_entry t)) gone)) is q
+    ∙ sym (get-map_some nat_list_cmp_total octets_exact (delta_entry t) own q))

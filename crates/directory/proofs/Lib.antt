@@ -19,6 +19,7 @@ pub mod PurgeLaws
 pub mod TakeLaws
 pub mod Telling
 pub mod DropLaws
+pub mod DeltaLaws
 pub mod AppliedPurges
 pub mod Collected
 pub mod EntryUnchanged

@@ -1,12 +1,14 @@
 -- What is left of entries and tables when deletions up to a stamp are dropped, and what is taken of other tables up to it
 -- (own, after C705, skulks and AllUpTo).
-use Rattle.std.specs.Prelude.{Bool, false, not, ◌&&◌, List, Option, Some, None, if◌then◌else◌}
+use Rattle.std.specs.Prelude.{◌≡◌, Bool, true, false, not, ◌&&◌, ◌==◌, List, Option, Some, None, is_none, IfSome, if◌then◌else◌}
+use Rattle.std.specs.FinMap.{len}
 use Rattle.std.specs.Option.{option_and_then}
 use Rattle.cds_stamps.specs.declared.stamp.Stamp.{Stamp}
+use Rattle.cds_stamps.specs.Joins.{EachValue}
 use Rattle.cds_stamps.specs.Keyed.{map_some, merge}
 use Rattle.cds_stamps.specs.Semilattice.{maybe}
 use Rattle.cds_stamps.specs.Stamps.{is_stamp, is_up_to}
-use Rattle.attr_sets.specs.CellPurges.{clear_left, cell_left, cell_after}
+use Rattle.attr_sets.specs.CellPurges.{clear_left, cell_left, cell_after, is_above, IsAboveCell}
 use Rattle.directory.specs.declared.entry.EntryCell.{EntryCell}
 use Rattle.directory.specs.Entries.{Entries, join_entries}
 use Rattle.directory.specs.Histories.{Mark, table_of}
@@ -57,3 +59,21 @@ take_entry t own e = maybe join_entries own (option_and_then (taken_entry t own)
 -- a table with what is taken up to t of another (own)
 abbrev pub take_table : Stamp → Entries → Entries → Entries
 take_table t = merge (take_entry t)
+
+-- whether an entry has nothing but its birth
+abbrev pub is_bare : EntryCell → Bool
+is_bare e = is_none e.death && (len e.attrs == 0)
+
+-- what of an entry is later than t, with its birth; nothing, where that is a birth up to t alone (own, after C705, skulks and AllUpTo)
+abbrev pub delta_entry : Stamp → EntryCell → Option EntryCell
+delta_entry t e = if is_up_to t e.birth && is_bare (after_entry t e) then None else Some (after_entry t e)
+
+-- what of a table is later than a stamp, if there is one; else the whole table (own, after C705, skulks and AllUpTo)
+abbrev pub delta_table : Option Stamp → Entries → Entries
+delta_table None m = m
+delta_table (Some t) m = map_some (delta_entry t) m
+
+-- the death of an entry, its clears and its marks are later than a stamp, if there is one; its birth need not be
+pub record IsAboveEntry (above : Option Stamp) (e : EntryCell) : Type 0 where
+  pub death : IfSome e.death (λ s. is_above above s ≡ true)
+  pub attrs : EachValue (IsAboveCell above) e.attrs

@@ -12,7 +12,7 @@ ghost use Rattle.directory.specs.EntryUndoWords.{undo_entry};
 ghost use Rattle.attr_sets.specs.Cells.{cell_values};
 ghost use Rattle.attr_sets.specs.CellChanges.{change_marks};
 ghost use Rattle.attr_sets.specs.CellPurges.{clear_left};
-ghost use Rattle.directory.specs.Purges.{is_dead_up_to, after_entry};
+ghost use Rattle.directory.specs.Purges.{is_dead_up_to, after_entry, is_bare};
 ghost use Rattle.directory.specs.Deletions.{has_lost, entry_without};
 ghost use Rattle.directory.specs.Held.{held_in_entry, held_in_cell, most_held};
 ghost use Rattle.directory.specs.Applied.{changed_entry, deleted_entry};
@@ -430,6 +430,13 @@ impl EntryCell {
     {
         let t = &t;
         !self.is_dead_up_to(*t) && self.attrs.is_after(*t)
+    }
+
+    /// Whether it has nothing but its birth: neither a death nor an attribute.
+    pub fn is_bare(&self) -> bool
+        ensures { result ≡ is_bare self.now }
+    {
+        self.death.is_none() && self.attrs.len() == 0
     }
 
     /// Whether each of its cells is valid and not empty, as those of a table are. It takes no memory.

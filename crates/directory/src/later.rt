@@ -1,11 +1,11 @@
-// What of another table is later than a stamp.
+// What of a table is later than a stamp, and what of that another table takes.
 ghost use Rattle.std.specs.Prelude.{◌≡◌, IsTrue, IfSome, IfOk, OnOk, OnErr, Some, None, false, option_copied};
 ghost use Rattle.std.specs.FinMap as map;
 ghost use Rattle.cds_stamps.specs.Semilattice.{maybe};
 ghost use Rattle.directory.specs.Applied.{LeavesOthers};
 ghost use Rattle.directory.specs.Entries.{join_entries, join_tables, IsValidEntry, IsValidTable};
 ghost use Rattle.directory.specs.IndexWords.{IsIndexed, Keeps, KnowsAll, inserted};
-ghost use Rattle.directory.specs.Purges.{holds, is_passed, take_entry, take_table};
+ghost use Rattle.directory.specs.Purges.{delta_entry, delta_table, holds, is_passed, take_entry, take_table};
 
 use crate::deletions::Deletions;
 use crate::entry::EntryCell;
@@ -36,7 +36,7 @@ pub(crate) fn take_later(
 }
 
 /// Adds the deletions of all entries.
-fn add_deletions(
+pub(crate) fn add_deletions(
     deletions: &mut Deletions,
     alloc: Global,
     entries: &EntryMap,
@@ -67,6 +67,41 @@ fn later_part(
         put_later(&mut later, alloc, own, name, entry, *t)?;
     }
     EntryMap::from_pairs(alloc, later)
+}
+
+/// What of each entry is later than t, with its birth: a copy of that, and of nothing else. Entries of which a birth up to t
+/// alone is left are not in it.
+pub(crate) fn later_entries(alloc: Global, own: &EntryMap, t: Stamp) -> Result<EntryMap, AllocError>
+    ensures { IfOk result (λ d. d ≡ delta_table (Some t) own.now) }
+{
+    let t = &t;
+    let mut later = Vec::new(alloc);
+    for (name, entry) in own.iter() {
+        put_delta(&mut later, alloc, name, entry, *t)?;
+    }
+    EntryMap::from_pairs(alloc, later)
+}
+
+/// Puts what is later than t of the entry of a name after that of other names, unless it is a birth up to t alone.
+fn put_delta(
+    later: &mut Vec<(SimpleName, EntryCell)>,
+    alloc: Global,
+    name: &SimpleName,
+    entry: &EntryCell,
+    t: Stamp,
+) -> Result<(), AllocError>
+    ensures here { OnOk result (map.get (inserted later.old.items) name.now ≡ None →
+        map.get (inserted later.new.items) name.now ≡ delta_entry t entry.now) }
+    ensures others { OnOk result (
+        LeavesOthers (inserted later.old.items) (inserted later.new.items) name.now) }
+{
+    let t = &t;
+    let after = entry.after(alloc, *t)?;
+    if !(*t < entry.birth) && after.is_bare() {
+        return Ok(());
+    }
+    later.push((name.copy(alloc)?, after))?;
+    Ok(())
 }
 
 /// Puts what is later than t of the entry of a name behind that of other names, unless it is known.

@@ -17,7 +17,7 @@ ghost use Rattle.directory.specs.EntryLawProofs.{table_join};
 ghost use Rattle.directory.specs.Held.{held_in, most_held};
 ghost use Rattle.directory.specs.Histories.{Mark, entry_of};
 ghost use Rattle.directory.specs.IndexWords.{IsIndexed};
-ghost use Rattle.directory.specs.Purges.{purged_table, purged, take_table};
+ghost use Rattle.directory.specs.Purges.{delta_table, purged_table, purged, take_table};
 ghost use Rattle.directory.specs.Shown.{face_of, shown_in, live_count, refusal_of, marks_of};
 ghost use Rattle.directory.specs.ToldWords.{AcceptsUpdate, TellsUpdate};
 ghost use Rattle.directory.specs.Updates.{change_of, changed_name};
@@ -25,7 +25,7 @@ ghost use Rattle.directory.specs.Updates.{change_of, changed_name};
 use crate::deletions::Deletions;
 use crate::entry::{EntryCell, Fragment};
 use crate::entry_map::EntryMap;
-use crate::later::take_later;
+use crate::later::{add_deletions, later_entries, take_later};
 use crate::update::{Update, UpdateRefusal};
 use attr_sets::Value;
 use cds_stamps::{AttrName, Lattice, SimpleName, Stamp};
@@ -291,6 +291,18 @@ impl Table {
         ensures valid { IsValidTable self.old → IsValidTable self.new }
     {
         drop_deletions_up_to(&mut self.entries, &mut self.deletions, t);
+    }
+
+    /// What of each entry is later than t, with its birth; entries of which a birth up to t alone is left are not in it.
+    /// Nothing is copied but what is later.
+    pub fn later_than(&self, alloc: Global, t: Stamp) -> Result<Table, AllocError>
+        ensures { IfOk result (λ d. d ≡ delta_table (Some t) self.now) }
+    {
+        let entries = later_entries(alloc, &self.entries, t)?;
+        let mut deletions = Deletions::new(alloc);
+        add_deletions(&mut deletions, alloc, &entries)?;
+        deletions.settle(&entries);
+        Ok(Table { entries, deletions })
     }
 
     /// Takes of another table what is later than t, but no entry that was born up to t and is not the one that its name has. Of

@@ -1,6 +1,6 @@
 -- Tables and entries that are merged up to an AllUpTo: valid, with no later time, and those of both histories.
 use Rattle.std.proofs.Common.{◌≡◌, ℕ, ◌≤◌, Bool, true, false, List, ◌++◌, Option, Some, None, Result, Ok, Err, refl, sym, ap, subst, ◌∙◌}
-use Rattle.std.specs.Prelude.{◌||◌, not, IfSome, OnOk, if◌then◌else◌}
+use Rattle.std.specs.Prelude.{◌&&◌, ◌||◌, not, IfSome, OnOk, if◌then◌else◌}
 use Rattle.std.specs.FinMap.{get}
 use Rattle.std.specs.List.{AllByRecursion}
 use Rattle.std.specs.Option.{option_and_then, option_map}
@@ -22,7 +22,9 @@ use Rattle.directory.specs.Entries.{Entries, join_entries, join_tables, IsValidE
 use Rattle.directory.specs.EntryLawProofs.{entry_join, table_join}
 use Rattle.directory.specs.Histories.{Mark, entry_at, entry_of, table_of, CanMerge}
 use Rattle.directory.specs.Purges.{purged_entry, is_dead_up_to, entry_left, purged_table, purged, after_entry, is_passed, taken_entry, take_entry, take_table}
+use Rattle.directory.specs.Purges.{is_bare, delta_entry, delta_table}
 use Rattle.directory.proofs.DropLaws.{dropped-taken}
+use Rattle.directory.proofs.DeltaLaws.{dropped-delta}
 use Rattle.directory.proofs.HistoryLaws.{get-table_of, entries_joined, join_tables-table_of}
 use Rattle.directory.proofs.PurgeLaws.{each_some, after_entry-valid, purged_table-valid}
 use Rattle.directory.proofs.TableLaws.{birth_of-other}
@@ -134,6 +136,18 @@ module _ (n : ℕ) (t : Stamp) where
   pub purged_table-up_to : (m : Entries) → TableUpTo n m → TableUpTo n (purged_table t m)
   purged_table-up_to m p = each_some nat_list_cmp_total octets_exact (EntryUpTo n) (entry_left t) entry_left-up_to m p
 
+-- nor has what is later of a table
+pub delta_table-up_to : (n : ℕ) (t : Option Stamp) (m : Entries) → TableUpTo n m → TableUpTo n (delta_table t m)
+delta_table-up_to n None m p = p
+delta_table-up_to n (Some t) m p = each_some nat_list_cmp_total octets_exact (EntryUpTo n) (delta_entry t) at m p
+  where
+    at : (e : EntryCell) → EntryUpTo n e → IfSome (delta_entry t e) (EntryUpTo n)
+    at e q = by_case (is_up_to t e.birth && is_bare (after_entry t e))
+      where
+        by_case : (b : Bool) → IfSome (if b then None else Some (after_entry t e)) (EntryUpTo n)
+        by_case true = tt
+        by_case false = after_entry-up_to n t e q
+
 -- nor has the purged table of marks
 pub purged-up_to : (n : ℕ) (h : List Mark) (t : Option Stamp) → AllByRecursion (MarkUpTo n) h → TableUpTo n (purged h t)
 purged-up_to n h None all = table_of-up_to n h all
@@ -176,6 +190,14 @@ merged_purged h g a b None e can =
     ap (λ a. join_tables (purged h a) (purged g b)) none.0 ∙ ap (λ b. join_tables (table_of h) (purged g b)) none.1
     ∙ join_tables-table_of h g can.mine.births can.theirs.births
 merged_purged h g a b (Some t) e can = dropped-taken h g a b t (above_left a b (Some t) e) (above_right a b (Some t) e) can
+
+-- and so are the table of one and the delta of the other
+pub merged_delta : (h g : List Mark) (a b t : Option Stamp) → together a b ≡ t → CanMerge h g t
+    → merged_table t (purged h a) (delta_table b (purged g b)) ≡ purged (h ++ g) t
+merged_delta h g a None t e can = merged_purged h g a None t e can
+merged_delta h g a (Some s) None e can = cc ((neither a (Some s) e).1)
+merged_delta h g a (Some s) (Some t) e can =
+    dropped-delta h g a (Some s) t (above_left a (Some s) (Some t) e) (above_right a (Some s) (Some t) e) can
 
 -- the entry of a fragment is that of its marks
 pub fragment_at : (marks : List Mark) (f : Fragment) → IsFragmentOf marks f → (q : List ℕ)

@@ -24,10 +24,11 @@ use Rattle.directory.specs.Entries.{Entries, join_tied, join_entries, join_table
 use Rattle.directory.specs.Histories.{Mark, Birth, Death, Attr, Born, birth_in, death_in, attr_mark_in, birth_cmp}
 use Rattle.directory.specs.Histories.{birth_of, attr_history, cell_of_some, entry_at, entry_of, table_of}
 use Rattle.directory.proofs.HistoryLaws.{get-table_of, get-attrs_of}
+use Rattle.purge_rule.specs.declared.delta.Delta.{Delta}
 use Rattle.purge_rule.specs.declared.replica.Replica.{Replica}
 use Rattle.purge_rule.specs.Replicas.{together}
-use Rattle.purge_rule.specs.Latest.{StampUpTo, CellUpTo, EntryUpTo, TableUpTo, ReplicaUpTo, MarkUpTo}
-use Rattle.purge_rule.specs.Latest.{time_of, latest_in_cell, latest_in_entry, latest_in, latest_time}
+use Rattle.purge_rule.specs.Latest.{StampUpTo, CellUpTo, EntryUpTo, TableUpTo, ReplicaUpTo, DeltaUpTo, MarkUpTo}
+use Rattle.purge_rule.specs.Latest.{time_of, latest_in_cell, latest_in_entry, latest_in, latest_time, latest_in_delta}
 use Rattle.purge_rule.proofs.MapValues.{greatest_value-≤}
 
 -- ---- the greatest time is at most n exactly where no time is later than n
@@ -65,6 +66,15 @@ latest_time-≤ n r =
     let stamp = time_of-≤ n r.all_up_to in (
       λ h. record { table = table.0 (omega (arith, h)); all_up_to = stamp.0 (omega (arith, h)) },
       λ h. let a = table.1 h.table in let b = stamp.1 h.all_up_to in omega (arith, a, b),
+    )
+
+-- so it is with a delta
+pub latest_in_delta-≤ : (n : ℕ) (d : Delta) → (latest_in_delta d ≤ n) ↔ DeltaUpTo n d
+latest_in_delta-≤ n d =
+    let table = latest_in-≤ n d.table in
+    let stamp = time_of-≤ n d.above in (
+      λ h. record { table = table.0 (omega (arith, h)); above = stamp.0 (omega (arith, h)) },
+      λ h. let a = table.1 h.table in let b = stamp.1 h.above in omega (arith, a, b),
     )
 
 -- ---- joins bring no later time

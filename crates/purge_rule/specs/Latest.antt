@@ -7,6 +7,7 @@ use Rattle.attr_sets.specs.declared.cell.AttrCell.{AttrCell}
 use Rattle.directory.specs.declared.entry.EntryCell.{EntryCell}
 use Rattle.directory.specs.Entries.{Entries}
 use Rattle.directory.specs.Histories.{Mark, stamp_in, born_in}
+use Rattle.purge_rule.specs.declared.delta.Delta.{Delta}
 use Rattle.purge_rule.specs.declared.replica.Replica.{Replica}
 
 -- the time of a stamp is not later than n, if there is a stamp (own)
@@ -32,6 +33,11 @@ TableUpTo n = EachValue (EntryUpTo n)
 pub record ReplicaUpTo (n : ℕ) (r : Replica) : Type 0 where
   pub table : TableUpTo n r.table
   pub all_up_to : StampUpTo n r.all_up_to
+
+-- no time of a delta is later than n: neither one of its table nor that of `above`
+pub record DeltaUpTo (n : ℕ) (d : Delta) : Type 0 where
+  pub table : TableUpTo n d.table
+  pub above : StampUpTo n d.above
 
 -- neither the time of a mark nor that of its entry's birth is later than n (own)
 abbrev pub MarkUpTo : ℕ → Mark → Type 0
@@ -62,3 +68,7 @@ latest_in t = greatest_of (λ e. latest_in_entry e.1) (entries t)
 -- the greatest time of a replica: of its table and of its AllUpTo (own)
 abbrev pub latest_time : Replica → ℕ
 latest_time r = max (latest_in r.table) (time_of r.all_up_to)
+
+-- the greatest time of a delta: of its table and of `above`
+abbrev pub latest_in_delta : Delta → ℕ
+latest_in_delta d = max (latest_in d.table) (time_of d.above)

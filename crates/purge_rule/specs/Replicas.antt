@@ -2,18 +2,33 @@
 use Rattle.std.specs.Prelude.{◌≡◌, List, Option, Some, None}
 use Rattle.std.specs.List.{AllByRecursion}
 use Rattle.cds_stamps.specs.declared.stamp.Stamp.{Stamp}
+use Rattle.cds_stamps.specs.Joins.{EachValue}
 use Rattle.cds_stamps.specs.Semilattice.{maybe}
 use Rattle.cds_stamps.specs.Stamps.{later_stamp}
 use Rattle.directory.specs.declared.entry.EntryCell.{EntryCell}
 use Rattle.directory.specs.declared.entry.Fragment.{Fragment}
-use Rattle.directory.specs.Entries.{Entries, join_entries, join_tables}
+use Rattle.directory.specs.Entries.{Entries, join_entries, join_tables, IsValidTable}
 use Rattle.directory.specs.Histories.{Mark, name_in, entry_of}
-use Rattle.directory.specs.Purges.{purged_table, purged, take_entry, take_table}
+use Rattle.directory.specs.Purges.{purged_table, purged, take_entry, take_table, delta_table, IsAboveEntry}
+use Rattle.purge_rule.specs.declared.delta.Delta.{Delta}
 use Rattle.purge_rule.specs.declared.replica.Replica.{Replica}
 
 -- the replica of a history up to an AllUpTo: the table of the history, without the deletions stamped at most that (own)
 abbrev pub replica_of : List Mark → Option Stamp → Replica
 replica_of h t = record { table = purged h t; all_up_to = t }
+
+-- what a replica has that is later than its AllUpTo (own, after C705, skulks and AllUpTo)
+abbrev pub delta_in : Replica → Delta
+delta_in r = record { table = delta_table r.all_up_to r.table; above = r.all_up_to }
+
+-- the delta of a history above an AllUpTo (own, after C705, skulks and AllUpTo)
+abbrev pub delta_of : List Mark → Option Stamp → Delta
+delta_of h t = delta_in (replica_of h t)
+
+-- the table of a delta is valid, and each death, clear and mark of it is later than `above`
+pub record IsDelta (d : Delta) : Type 0 where
+  pub valid : IsValidTable d.table
+  pub above : EachValue (IsAboveEntry d.above) d.table
 
 -- the later of two stamps of which either may be missing (own)
 abbrev pub together : Option Stamp → Option Stamp → Option Stamp

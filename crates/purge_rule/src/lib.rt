@@ -1,6 +1,7 @@
 //! Replicas of a directory, and the rule by which they are merged and purged.
 #![tactic(auto)]
 
+mod delta;
 mod held;
 mod latest;
 pub mod laws;
@@ -8,6 +9,7 @@ mod merging;
 mod replica;
 mod steps;
 
+pub use delta::Delta;
 pub use latest::latest_in_entry;
 pub use replica::Replica;
 pub use steps::Steps;
