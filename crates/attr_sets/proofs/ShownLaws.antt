@@ -180,11 +180,22 @@ present_rise (e ∷ es) h = by_case e.1.present (present_below (λ y. octets_cmp
     by_case true below rest = (below, rest)
     by_case false below rest = rest
 
--- ---- the values that show
+module _ {X : Type 0} where
+  -- the keys of a map ascend
+  pub map_rises : (m : FinMap octets_cmp X) → IsStrictlySortedBy octets_cmp (keys_of (entries m))
+  map_rises m = keys_rise octets_cmp (entries m) (entries_sorted m)
 
--- the values of a map ascend
-pub map_rises : (m : FinMap octets_cmp ValueMark) → IsStrictlySortedBy octets_cmp (keys_of (entries m))
-map_rises m = keys_rise octets_cmp (entries m) (entries_sorted m)
+  -- what an entry has is what the map has at its key
+  pub has_entry : (m : FinMap octets_cmp X) (v : List ℕ) (x : X) → Contains (entries m) (v, x) → get m v ≡ Some x
+  has_entry m v x c =
+      get-entries m v ∙ find_of octets_cmp (entries m) v
+      ∙ lookup-from_Contains (eq_by_cmp_equiv nat_list_cmp_total) v x (entries m) (IsDistinct-from_sorted octets_cmp (keys_of (entries m)) (map_rises m)) c
+
+  -- and what the map has is an entry
+  pub entry_of : (m : FinMap octets_cmp X) (v : List ℕ) (x : X) → get m v ≡ Some x → Contains (entries m) (v, x)
+  entry_of m v x is = Contains-from_lookup (tied octets_exact) v x (entries m) (sym (get-entries m v ∙ find_of octets_cmp (entries m) v) ∙ is)
+
+-- ---- the values that show
 
 -- the values that are present in a cell ascend, each once
 pub cell_values-ascending : (c : AttrCell) → IsStrictlySortedBy octets_cmp (cell_values c)
@@ -193,16 +204,6 @@ cell_values-ascending c = present_rise (entries c.values) (map_rises c.values)
 -- and so do those that a history shows
 pub shown_values-ascending : (h : List AttrMark) → IsStrictlySortedBy octets_cmp (shown_values h)
 shown_values-ascending h = present_rise (entries (marks_kept h)) (map_rises (marks_kept h))
-
--- the map has the entry
-pub has_entry : (m : FinMap octets_cmp ValueMark) (v : List ℕ) (x : ValueMark) → Contains (entries m) (v, x) → get m v ≡ Some x
-has_entry m v x c =
-    get-entries m v ∙ find_of octets_cmp (entries m) v
-    ∙ lookup-from_Contains (eq_by_cmp_equiv nat_list_cmp_total) v x (entries m) (IsDistinct-from_sorted octets_cmp (keys_of (entries m)) (map_rises m)) c
-
--- and what the map has is an entry
-pub entry_of : (m : FinMap octets_cmp ValueMark) (v : List ℕ) (x : ValueMark) → get m v ≡ Some x → Contains (entries m) (v, x)
-entry_of m v x is = Contains-from_lookup (tied octets_exact) v x (entries m) (sym (get-entries m v ∙ find_of octets_cmp (entries m) v) ∙ is)
 
 shown_from : (h : List AttrMark) (v : List ℕ) → Contains (shown_values h) v → IsShown h v
 shown_from h v c =

@@ -10,7 +10,7 @@ use Rattle.directory.specs.declared.entry.Kind.{Kind}
 use Rattle.directory.specs.declared.entry.Kind.TheVariants.{Object, Link, Child}
 use Rattle.directory.specs.declared.entry.EntryCell.{EntryCell}
 use Rattle.directory.specs.declared.update.UpdateRefusal.TheVariants.{NoSuchEntry, EntryExists, WrongKind}
-use Rattle.directory.specs.Kinds.{link_target}
+use Rattle.directory.specs.Kinds.{is_kind, link_target}
 use Rattle.directory.specs.Entries.{join_entries}
 use Rattle.directory.specs.Updates.{Create, Delete, Add, Put, Repoint}
 use Rattle.directory.specs.Histories.{Mark, Birth, Death, Attr, birth_of, death_of, up_to}
@@ -111,6 +111,12 @@ two_targets = refl
 
 one_pointer : leads Child (λ _. (0 ∷ 0 ∷ 0 ∷ 2 ∷ 1 ∷ 1 ∷ []) ∷ []) ≡ true
 one_pointer = refl
+
+one_kind : is_kind Link Link ≡ true
+one_kind = refl
+
+other_kind : is_kind Link Child ≡ false
+other_kind = refl
 
 -- a death up to the stamp takes the entry away
 left_after_its_death : entry_left (at 3) (bare 1 Object (Some (at 3))) ≡ None

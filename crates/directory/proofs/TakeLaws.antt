@@ -49,11 +49,13 @@ attr_taken t x y knows =
     ∙ ap (λ c. maybe join_cells (option_and_then (cell_left t) (some_cell (cell_of x))) (option_and_then (cell_after t) c)) (cell_of_some-is y)
     ∙ merged_some None t x y refl knows ∙ ap (option_and_then (cell_left t)) (sym (cell_of_some-is (x ++ y)))
 
-get-left : (t : Stamp) (h : List Mark) (n : List ℕ) (c : Stamp) (a : List ℕ)
+-- what is left of an attribute of a birth
+pub get-left : (t : Stamp) (h : List Mark) (n : List ℕ) (c : Stamp) (a : List ℕ)
     → get (map_some (cell_left t) (attrs_of h n c)) a ≡ option_and_then (cell_left t) (cell_of_some (attr_history h n c a))
 get-left t h n c a = get-map_some nat_list_cmp_total octets_exact (cell_left t) (attrs_of h n c) a ∙ ap (option_and_then (cell_left t)) (get-attrs_of h n c a)
 
-get-after : (t : Stamp) (h : List Mark) (n : List ℕ) (c : Stamp) (a : List ℕ)
+-- and what of it is later
+pub get-after : (t : Stamp) (h : List Mark) (n : List ℕ) (c : Stamp) (a : List ℕ)
     → get (map_some (cell_after t) (attrs_of h n c)) a ≡ option_and_then (cell_after t) (cell_of_some (attr_history h n c a))
 get-after t h n c a = get-map_some nat_list_cmp_total octets_exact (cell_after t) (attrs_of h n c) a
     ∙ ap (option_and_then (cell_after t)) (get-attrs_of h n c a)

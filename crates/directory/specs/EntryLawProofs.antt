@@ -2,7 +2,7 @@
 use Rattle.std.specs.Prelude.{refl}
 use Rattle.std.proofs.Common.{sym, ◌∙◌, ap}
 use Rattle.std.specs.FinMap.{IsAntisymmetric}
-use Rattle.std.specs.Cmp.{nat_cmp_total}
+use Rattle.std.specs.Cmp.{IsTotalOrder, nat_cmp_total}
 use Rattle.std.specs.Cmp.Lexicographic.{nat_list_cmp_total}
 use Rattle.std.proofs.lemmas.Cmp.{on_total}
 use Rattle.std.proofs.lemmas.Map.Lookups.{exact_unsigned}
@@ -20,9 +20,12 @@ use Rattle.directory.specs.Entries.{join_tied, join_entries, IsHeldCell, IsValid
 pub kind_exact : IsAntisymmetric kind_cmp
 kind_exact a b e = sym (rank_back a) ∙ ap kind_of_rank (exact_unsigned (rank a) (rank b) e) ∙ rank_back b
 
+pub kind_total : IsTotalOrder kind_cmp
+kind_total = on_total rank nat_cmp_total
+
 -- kinds are a semilattice
 pub kinds : IsSemilattice (greater kind_cmp)
-kinds = greater_semilattice (on_total rank nat_cmp_total) kind_exact
+kinds = greater_semilattice kind_total kind_exact
 
 deaths : IsSemilattice (maybe earlier_stamp)
 deaths = maybe_semilattice earlier_stamp_laws

@@ -2,7 +2,7 @@
 use Rattle.std.specs.Prelude.{◌≡◌, ℕ, zero, suc, Bool, ◌==◌, List, codes, refl}
 use Rattle.std.specs.Coded.{Coded, code_by, coded_ℕ}
 use Rattle.std.specs.declared.cmp.Ordering.{Ordering}
-use Rattle.std.specs.Ordering.{nat_cmp, on}
+use Rattle.std.specs.Ordering.{eq_by_cmp, nat_cmp, on}
 use Rattle.directory.specs.declared.entry.Kind.{Kind}
 use Rattle.directory.specs.declared.entry.Kind.TheVariants.{Object, Link, Child}
 
@@ -15,6 +15,10 @@ rank Child = 2
 -- kinds in their order (own)
 abbrev pub kind_cmp : Kind → Kind → Ordering
 kind_cmp = on rank nat_cmp
+
+-- whether two kinds are one
+abbrev pub is_kind : Kind → Kind → Bool
+is_kind = eq_by_cmp kind_cmp
 
 -- the kind is that of a child (own)
 abbrev pub is_child : Kind → Bool
