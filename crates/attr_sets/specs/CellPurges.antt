@@ -1,12 +1,18 @@
 -- What is left of a cell when deletions up to a stamp are dropped, and what of it is later than the stamp (own, after C705, skulks and AllUpTo).
-use Rattle.std.specs.Prelude.{Bool, not, ◌&&◌, ◌||◌, ◌==◌, Option, Some, None, is_none, if◌then◌else◌}
+use Rattle.std.specs.Prelude.{Bool, true, not, ◌&&◌, ◌||◌, ◌==◌, Option, Some, None, is_none, IfSome, if◌then◌else◌, ◌≡◌}
 use Rattle.std.specs.FinMap.{len}
 use Rattle.std.specs.Option.{option_and_then}
 use Rattle.cds_stamps.specs.declared.stamp.Stamp.{Stamp}
+use Rattle.cds_stamps.specs.Joins.{EachValue}
 use Rattle.cds_stamps.specs.Keyed.{map_some}
-use Rattle.cds_stamps.specs.Stamps.{is_up_to}
+use Rattle.cds_stamps.specs.Stamps.{is_earlier, is_up_to}
 use Rattle.attr_sets.specs.declared.mark.ValueMark.{ValueMark}
 use Rattle.attr_sets.specs.declared.cell.AttrCell.{AttrCell}
+
+-- a stamp is later than this one, if there is one (own)
+abbrev pub is_above : Option Stamp → Stamp → Bool
+is_above None s = true
+is_above (Some t) s = is_earlier t s
 
 -- an absent mark up to t is dropped (own)
 abbrev pub mark_left : Stamp → ValueMark → Option ValueMark
@@ -43,3 +49,8 @@ after_cell t a = record { cleared = option_and_then (clear_left t) a.cleared; va
 -- what of a cell is later than t, if anything (own)
 abbrev pub cell_after : Stamp → AttrCell → Option AttrCell
 cell_after t a = some_cell (after_cell t a)
+
+-- the clear of a cell and its marks, present or absent, are later than this stamp, if there is one (own)
+pub record IsAboveCell (above : Option Stamp) (a : AttrCell) : Type 0 where
+  pub cleared : IfSome a.cleared (λ s. is_above above s ≡ true)
+  pub values : EachValue (λ m. is_above above m.stamp ≡ true) a.values
