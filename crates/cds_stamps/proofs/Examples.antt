@@ -1,5 +1,5 @@
 -- The definitions at single values, by computing.
-use Rattle.std.proofs.Common.{◌≡◌, true, false, [], ◌∷◌, refl}
+use Rattle.std.proofs.Common.{◌≡◌, true, false, List, [], ◌∷◌, map, refl}
 use Rattle.std.specs.Prelude.{ℕ, Some, None, Err, codes, replicate, ◌+◌}
 use Rattle.std.specs.Ordering.{nat_cmp}
 use Rattle.std.specs.declared.cmp.Ordering.TheVariants.{Less, Greater}
@@ -15,9 +15,9 @@ use Rattle.cds_stamps.specs.Names.{simple_name_fault, attr_fault}
 use Rattle.cds_stamps.specs.Outcomes.{ok_unless, Answers}
 use Rattle.cds_stamps.specs.Undos.{back_at, put_back}
 use Rattle.cds_stamps.specs.declared.members.MemberKind.{MemberKind}
-use Rattle.cds_stamps.specs.declared.members.MemberKind.TheVariants.{Master, ReadOnly}
+use Rattle.cds_stamps.specs.declared.members.MemberKind.TheVariants.{Master, ReadOnly, Secondary}
 use Rattle.cds_stamps.specs.declared.members.MembersFault.TheVariants.{BadCount, NotAscending, BadMaster}
-use Rattle.cds_stamps.specs.Members.{Member, members_fault, place_of}
+use Rattle.cds_stamps.specs.Members.{Member, is_accepting, master_of, members_fault, place_of, secondaries_of}
 
 -- the stamp of a time and a node
 abbrev at : ℕ → ℕ → Stamp
@@ -129,6 +129,25 @@ house_twice = refl
 
 two_masters : members_fault (listed 1 Master ∷ listed 2 Master ∷ []) ≡ Some BadMaster
 two_masters = refl
+
+-- one list of each kind: who is its master, who is secondary, and who accepts updates
+abbrev each_kind : List Member
+each_kind = listed 1 Secondary ∷ listed 2 ReadOnly ∷ listed 3 Master ∷ listed 4 Secondary ∷ []
+
+lawful_kinds : members_fault each_kind ≡ None
+lawful_kinds = refl
+
+secondaries_alone : members_fault (listed 1 Secondary ∷ listed 2 Secondary ∷ []) ≡ Some BadMaster
+secondaries_alone = refl
+
+master_among : master_of each_kind ≡ 3
+master_among = refl
+
+secondaries_among : secondaries_of each_kind ≡ 1 ∷ 4 ∷ []
+secondaries_among = refl
+
+accepting_among : map (λ x. is_accepting x each_kind) (1 ∷ 2 ∷ 3 ∷ 4 ∷ 5 ∷ []) ≡ true ∷ false ∷ true ∷ true ∷ false ∷ []
+accepting_among = refl
 
 second_place : place_of 2 (listed 1 ReadOnly ∷ listed 2 Master ∷ []) ≡ Some 1
 second_place = refl

@@ -1,9 +1,15 @@
--- First places have the items of the list, each once.
+-- First places have the items of the list, each once; and the first that passes, in lists joined to one.
 use Rattle.std.proofs.Common.{◌≡◌, Bool, true, false, List, [], ◌∷◌, ◌++◌, refl, sym, ap, ◌∙◌, append-nil}
 use Rattle.std.specs.Prelude.{◌||◌, if◌then◌else◌}
-use Rattle.std.specs.List.{AllByRecursion, IsDistinct}
-use Rattle.std.proofs.lemmas.List.Folds.{list_any-append}
-use Rattle.cds_stamps.specs.Firsts.{has, firsts}
+use Rattle.std.specs.List.{AllByRecursion, IsDistinct, find, flat_map}
+use Rattle.std.specs.Option.{option_or}
+use Rattle.std.proofs.lemmas.List.Folds.{find-append, list_any-append}
+use Rattle.cds_stamps.specs.Firsts.{first_some, has, firsts}
+
+-- the first that passes in lists joined to one is the first that passes in one of them
+pub find-flat_map : {A B : Type 0} (p : B → Bool) (f : A → List B) (xs : List A) → find p (flat_map f xs) ≡ first_some (λ x. find p (f x)) xs
+find-flat_map p f [] = refl
+find-flat_map p f (x ∷ xs) = find-append p (f x) (flat_map f xs) ∙ ap (option_or (find p (f x))) (find-flat_map p f xs)
 
 module _ {A : Type 0} (same : A → A → Bool) (exact : (x y : A) → same x y ≡ true → x ≡ y) (itself : (x : A) → same x x ≡ true) where
   -- behind one more that was seen

@@ -1,7 +1,7 @@
 -- What stands in a list: behind a first item, in a list that a function makes of another, and in what passes a test.
 use Rattle.std.proofs.Common.{◌≡◌, Bool, true, false, cond, List, [], ◌∷◌, map, refl, sym, ap, subst, ◌∙◌, ◌⊎◌, inl, inr, ⊎_elim, arith}
 use Rattle.std.specs.Prelude.{filter}
-use Rattle.std.specs.List.{Contains}
+use Rattle.std.specs.List.{Contains, flat_map}
 use Rattle.std.proofs.lemmas.List.Elements.{Contains-append_left, Contains-append_right, Contains-append_cases, Contains-push, Contains-push_cases}
 
 -- the first item stands in a list
@@ -35,6 +35,22 @@ map-Contains {A} f (x ∷ xs) y c =
     ⊎_elim (λ is. (x, Contains-head x xs, is)) (λ rest. later (map-Contains f xs y rest)) (Contains-cases (f x) (map f xs) y c)
   where
     later : ((z : A) × Contains xs z × (f z ≡ y)) → (z : A) × Contains (x ∷ xs) z × (f z ≡ y)
+    later found = (found.0, Contains-tail x xs found.0 found.1, found.2)
+
+-- what stands in what a function makes of an item stands in what it makes of the list
+pub Contains-flat_map : {A B : Type 0} (f : A → List B) (xs : List A) (x : A) (y : B) → Contains xs x → Contains (f x) y → Contains (flat_map f xs) y
+Contains-flat_map f [] x y at there = absurd (Contains-none x at)
+Contains-flat_map f (z ∷ zs) x y at there =
+    ⊎_elim (λ is. Contains-append_left (f z) (flat_map f zs) y (subst (λ w. Contains (f w) y) (sym is) there))
+    (λ later. Contains-append_right (f z) (flat_map f zs) y (Contains-flat_map f zs x y later there)) (Contains-cases z zs x at)
+
+-- and whatever stands there stands in what the function makes of an item
+pub flat_map-Contains : {A B : Type 0} (f : A → List B) (xs : List A) (y : B) → Contains (flat_map f xs) y → (x : A) × Contains xs x × Contains (f x) y
+flat_map-Contains f [] y c = absurd (Contains-none y c)
+flat_map-Contains {A} f (x ∷ xs) y c =
+    ⊎_elim (λ here. (x, Contains-head x xs, here)) (λ rest. later (flat_map-Contains f xs y rest)) (Contains-append_cases (f x) (flat_map f xs) y c)
+  where
+    later : ((z : A) × Contains xs z × Contains (f z) y) → (z : A) × Contains (x ∷ xs) z × Contains (f z) y
     later found = (found.0, Contains-tail x xs found.0 found.1, found.2)
 
 module _ {A : Type 0} (p : A → Bool) where

@@ -1,6 +1,12 @@
--- The items of a list, each where it comes first.
-use Rattle.std.specs.Prelude.{Bool, List, [], ◌∷◌, ◌++◌, if◌then◌else◌}
+-- The items of a list, each where it comes first, and the first that something is made of.
+use Rattle.std.specs.Prelude.{Bool, List, [], ◌∷◌, ◌++◌, if◌then◌else◌, Option, None}
 use Rattle.std.specs.List.{list_any}
+use Rattle.std.specs.Option.{option_or}
+
+-- what is made of the first item of which something is made (own)
+abbrev pub first_some : {A B : Type 0} → (A → Option B) → List A → Option B
+first_some f [] = None
+first_some f (x ∷ xs) = option_or (f x) (first_some f xs)
 
 module _ {A : Type 0} (same : A → A → Bool) where
   -- the item is among these (own)

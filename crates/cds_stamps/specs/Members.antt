@@ -5,7 +5,7 @@ use Rattle.std.specs.List.{position_from, count_by}
 use Rattle.std.specs.List.Sorted.{IsStrictlyIncreasing}
 use Rattle.cds_stamps.specs.declared.members.Member as declared
 use Rattle.cds_stamps.specs.declared.members.MemberKind.{MemberKind}
-use Rattle.cds_stamps.specs.declared.members.MemberKind.TheVariants.{Master, ReadOnly}
+use Rattle.cds_stamps.specs.declared.members.MemberKind.TheVariants.{Master, ReadOnly, Secondary}
 use Rattle.cds_stamps.specs.declared.members.MembersFault.{MembersFault}
 use Rattle.cds_stamps.specs.declared.members.MembersFault.TheVariants.{BadCount, NotAscending, BadMaster}
 
@@ -19,10 +19,24 @@ pub record Member : Type 0 where
 abbrev pub is_master : MemberKind → Bool
 is_master Master = true
 is_master ReadOnly = false
+is_master Secondary = false
 
--- a member of this kind accepts updates: the master alone (own, after C705, read-only replicas)
+-- a member of this kind accepts updates (own, after C705, replica sets)
 abbrev pub accepts_updates : MemberKind → Bool
-accepts_updates = is_master
+accepts_updates Master = true
+accepts_updates ReadOnly = false
+accepts_updates Secondary = true
+
+-- a member of this kind is secondary (own)
+abbrev pub is_secondary : MemberKind → Bool
+is_secondary Master = false
+is_secondary ReadOnly = false
+is_secondary Secondary = true
+
+-- the secondary houses, in the order of the list (own)
+abbrev pub secondaries_of : List Member → List ℕ
+secondaries_of [] = []
+secondaries_of (y ∷ ys) = if is_secondary y.kind then y.house ∷ secondaries_of ys else secondaries_of ys
 
 -- the house of the first master, or 0, which is no house (own)
 abbrev pub master_of : List Member → ℕ

@@ -16,8 +16,12 @@ pub const MOST_MEMBERS: usize = 64;
 /// What a member of a directory's replica set is.
 #[derive(Clone, Copy, Debug, PartialEq, Eq)]
 pub enum MemberKind {
+    /// It accepts updates, and skulks.
     Master,
+    /// It takes what others post.
     ReadOnly,
+    /// It accepts updates, and never skulks.
+    Secondary,
 }
 
 /// A house of a directory's replica set, and the epoch that began its unbroken run of being listed.

@@ -1,5 +1,5 @@
 -- The definitions at single words and lines, by computing.
-use Rattle.std.proofs.Common.{◌≡◌, true, false, [], ◌∷◌, ◌++◌, map, length, take, drop, refl, List, ℕ}
+use Rattle.std.proofs.Common.{◌≡◌, true, false, [], ◌∷◌, ◌++◌, map, length, take, drop, replicate, refl, List, Bool, ℕ}
 use Rattle.std.specs.Prelude.{Some, None, Ok, Err, Result, Option, codes}
 use Rattle.std.specs.Fmt.{digits}
 use Rattle.hex.specs.Hex.{decode_pairs}
@@ -15,6 +15,7 @@ use Rattle.cell_script.specs.declared.command.ScriptLine.TheVariants as line
 use Rattle.cell_script.specs.declared.command.Command.TheVariants as command
 use Rattle.cell_script.specs.declared.command.Question.TheVariants as question
 use Rattle.cell_script.specs.declared.fault.ParseFault.{ParseFault}
+use Rattle.cell_script.specs.declared.lists.Listed.{Listed}
 use Rattle.cell_script.specs.declared.fault.ParseFault.TheVariants.{UnknownCommand, WrongCount, BadWord}
 use Rattle.cell_script.specs.Words.{words_of, number_of, number_to, most_house}
 use Rattle.cell_script.specs.NameService.{interface_of, element_interface_of, interface_or_none_of, all_said, binding_said, bindings_of, object_said}
@@ -81,16 +82,38 @@ bad_house : says (codes "root 1 0") ≡ Err (BadWord 3)
 unfolding said_by counted taken number_of
 bad_house = refl
 
-root_is : says (codes "root 2 1") ≡ Ok (Some (line.Cell (command.Root (record { 0 = 2 }) (record { 0 = 1 } ∷ []))))
+-- a house of a list, by its number
+abbrev listed : ℕ → Bool → Listed
+listed house secondary = record { house = record { 0 = house }; secondary = secondary }
+
+root_is : says (codes "root 2 1") ≡ Ok (Some (line.Cell (command.Root (record { 0 = 2 }) (listed 1 false ∷ []))))
 unfolding said_by counted taken number_of
 root_is = refl
+
+secondary_is : says (codes "root 2 s1 3") ≡ Ok (Some (line.Cell (command.Root (record { 0 = 2 }) (listed 1 true ∷ listed 3 false ∷ []))))
+unfolding said_by counted taken number_of
+secondary_is = refl
+
+-- nothing but one small s stands before the number of a secondary house, and no s before a master's or a pointer's
+no_secondaries : map (λ w. says (codes "root 1 2 " ++ w)) (codes "s" ∷ codes "s0" ∷ codes "S2" ∷ codes "ss2" ∷ codes "s256" ∷ [])
+    ≡ replicate 5 (Err (BadWord 4))
+unfolding said_by counted taken number_of
+no_secondaries = refl
+
+no_secondary_master : says (codes "root s1") ≡ Err (BadWord 2)
+unfolding said_by counted taken number_of
+no_secondary_master = refl
+
+no_secondary_pointer : says (codes "repoint 1 1 e 1 s2") ≡ Err (BadWord 6)
+unfolding said_by counted taken number_of
+no_secondary_pointer = refl
 
 repoint_is : says (codes "repoint 1 2 s 3 4 5") ≡ Ok
     (Some (line.Cell (command.Repoint (record { 0 = 1 }) (record { 0 = 2 }) (codes "s") (record { 0 = 3 }) (record { 0 = 4 } ∷ record { 0 = 5 } ∷ []))))
 unfolding said_by counted taken number_of
 repoint_is = refl
 
-epoch_is : says (codes "epoch 2 3 1") ≡ Ok (Some (line.Cell (command.Epoch (record { 0 = 2 }) (record { 0 = 3 }) (record { 0 = 1 } ∷ []))))
+epoch_is : says (codes "epoch 2 3 1") ≡ Ok (Some (line.Cell (command.Epoch (record { 0 = 2 }) (record { 0 = 3 }) (listed 1 false ∷ []))))
 unfolding said_by counted taken number_of
 epoch_is = refl
 
@@ -299,7 +322,7 @@ the_round = refl
 -- the first commands
 the_opening : take 11 (script 1)
     ≡ command.House (record { 0 = 1 }) 1 ∷ command.House (record { 0 = 2 }) 2 ∷ command.House (record { 0 = 3 }) 3
-    ∷ command.Root (record { 0 = 1 }) (record { 0 = 2 } ∷ record { 0 = 3 } ∷ [])
+    ∷ command.Root (record { 0 = 1 }) (listed 2 false ∷ listed 3 false ∷ [])
     ∷ command.Deliver 1 ∷ command.Deliver 2 ∷ command.Lose 1 ∷ command.Lose 2
     ∷ command.Create (record { 0 = 1 }) (record { 0 = 1 }) (codes "e0") ∷ command.Lose 3 ∷ command.Lose 4 ∷ []
 unfolding digits

@@ -2,7 +2,7 @@ pub mod Numbers
 pub mod Splitting
 pub mod Reading
 pub mod Families
-pub mod Listed
+pub mod ListedTexts
 pub mod Rounds
 pub mod ScriptLengths
 mod Examples

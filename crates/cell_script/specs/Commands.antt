@@ -11,7 +11,7 @@ use Rattle.cell_script.specs.declared.command.ScriptLine.TheVariants as line
 use Rattle.cell_script.specs.declared.fault.ParseFault.{ParseFault}
 use Rattle.cell_script.specs.declared.fault.ParseFault.TheVariants.{UnknownCommand}
 use Rattle.cell_script.specs.Forms.{◌>>=◌, Form, House, Directory, Serial, Time, Node, SimpleName, FullName, AttrName, Value, Octets, Confidence, Encoded}
-use Rattle.cell_script.specs.Forms.{Interface, ElementInterface, InterfaceOrNone, Bindings, Objects, Object, Protocols, Priority, Note, Houses, Words}
+use Rattle.cell_script.specs.Forms.{Interface, ElementInterface, InterfaceOrNone, Bindings, Objects, Object, Protocols, Priority, Note, Houses, Listeds, Words}
 use Rattle.cell_script.specs.Forms.{Builds, followed_by, miscounted, read_as}
 
 -- a command of any type of line: its first word, the forms of the words behind it, and what a line of them says (own)
@@ -32,6 +32,26 @@ abbrev pub early_among : {Line : Type 0} → List (RowOf Line) → Option ParseF
 early_among [] other word s = other
 early_among (row ∷ rows) other word s = if bytes_eq word row.word then miscounted row.forms s else early_among rows other word s
 
+-- a line of any type that says something, or its fault (own)
+abbrev pub some_line : {Line : Type 0} → Result Line ParseFault → Result (Option Line) ParseFault
+some_line r = do
+  l ← r
+  Ok (Some l)
+
+-- what a line says, where this is what the words behind its first one say: a line without words, or whose first word begins
+-- with #, says nothing (own)
+abbrev pub line_in : {Line : Type 0} → (List ℕ → Words → Result Line ParseFault) → List (List ℕ) → Result (Option Line) ParseFault
+line_in says [] = Ok None
+line_in says (word ∷ words) =
+    if starts_with nat_eq word (codes "#") then Ok None
+    else some_line (says word (record { read = 1; rest = words }))
+
+-- the fault of a line that shows early, where this is the fault of the words behind its first one that does (own)
+abbrev pub fault_in : (List ℕ → Words → Option ParseFault) → List (List ℕ) → Option ParseFault
+fault_in early [] = None
+fault_in early (word ∷ words) =
+    if starts_with nat_eq word (codes "#") then None else early word (record { read = 1; rest = words })
+
 -- ---- the script
 
 abbrev pub Row : Type 0
@@ -49,8 +69,8 @@ abbrev pub making_rows : List Row
 making_rows =
     step (codes "house") (House ∷ Node ∷ []) command.House
     ∷ step (codes "clock") (House ∷ Time ∷ []) command.Clock
-    ∷ step (codes "root") (House ∷ Houses ∷ []) command.Root
-    ∷ step (codes "mkdir") (House ∷ Directory ∷ SimpleName ∷ House ∷ Houses ∷ []) command.Mkdir
+    ∷ step (codes "root") (House ∷ Listeds ∷ []) command.Root
+    ∷ step (codes "mkdir") (House ∷ Directory ∷ SimpleName ∷ House ∷ Listeds ∷ []) command.Mkdir
     ∷ step (codes "repoint") (House ∷ Directory ∷ SimpleName ∷ House ∷ Houses ∷ []) command.Repoint
     ∷ []
 
@@ -74,7 +94,7 @@ value_rows =
 -- the commands about all replicas of a directory (own)
 abbrev pub replica_rows : List Row
 replica_rows =
-    step (codes "epoch") (Directory ∷ House ∷ Houses ∷ []) command.Epoch
+    step (codes "epoch") (Directory ∷ House ∷ Listeds ∷ []) command.Epoch
     ∷ step (codes "skulk") (House ∷ Directory ∷ []) command.Skulk
     ∷ []
 
@@ -129,20 +149,10 @@ said_by = said_in_row rows
 unfoldable pub early_by : List ℕ → Words → Option ParseFault
 early_by = early_among rows (Some (UnknownCommand 1))
 
--- a line that says something, or its fault (own)
-abbrev pub some_line : Result ScriptLine ParseFault → Result (Option ScriptLine) ParseFault
-some_line r = do
-  l ← r
-  Ok (Some l)
-
--- a line without words, or whose first word begins with #, says nothing (own)
+-- what a line says (own)
 abbrev pub said_in : List (List ℕ) → Result (Option ScriptLine) ParseFault
-said_in [] = Ok None
-said_in (word ∷ words) =
-    if starts_with nat_eq word (codes "#") then Ok None
-    else some_line (said_by word (record { read = 1; rest = words }))
+said_in = line_in said_by
 
 -- the fault of a line that shows before any word but the first one is read (own)
 abbrev pub early_fault : List (List ℕ) → Option ParseFault
-early_fault [] = None
-early_fault (word ∷ words) = if starts_with nat_eq word (codes "#") then None else early_by word (record { read = 1; rest = words })
+early_fault = fault_in early_by

@@ -9,13 +9,14 @@ use Rattle.tower_codec.specs.declared.rpc.Interface.{Interface as InterfaceId}
 use Rattle.tower_codec.specs.declared.binding.StringBinding.{StringBinding}
 use Rattle.cell_script.specs.declared.command.Question.{Question}
 use Rattle.cell_script.specs.declared.fault.ParseFault.{ParseFault}
+use Rattle.cell_script.specs.declared.lists.Listed.{Listed}
 use Rattle.cell_script.specs.declared.fault.ParseFault.TheVariants.{WrongCount, BadWord}
-use Rattle.cell_script.specs.Words.{number_of, house_of, directory_of, serial_of, node_of, simple_name_of, full_name_of, attr_name_of, octets_value_of}
+use Rattle.cell_script.specs.Words.{number_of, house_of, listed_of, directory_of, serial_of, node_of, simple_name_of, full_name_of, attr_name_of, octets_value_of}
 use Rattle.cell_script.specs.Words.{octets_of, confidence_of, octets_asked}
 use Rattle.cell_script.specs.NameService.{interface_of, element_interface_of, interface_or_none_of, bindings_of, objects_of}
 use Rattle.cell_script.specs.NameService.{object_of, protocols_of, priority_of, note_of}
 
--- the forms of words; the last but one stands for two words, and the last for any number of them (own)
+-- the forms of words; Encoded stands for two words, and the two behind it for any number of them (own)
 pub data Form : Type 0 where
   House : Form
   Directory : Form
@@ -39,6 +40,7 @@ pub data Form : Type 0 where
   Note : Form
   Encoded : Form
   Houses : Form
+  Listeds : Form
 
 -- what words of a form say (own)
 abbrev pub Said : Form → Type 0
@@ -64,6 +66,7 @@ Said Priority = ℕ
 Said Note = List ℕ
 Said Encoded = Question
 Said Houses = List HouseNo
+Said Listeds = List Listed
 
 -- the words of a line that are still to be read, and how many were read before them (own)
 pub record Words : Type 0 where
@@ -89,18 +92,19 @@ next_word says read (w ∷ ws) = do
   x ← said_at (read + 1) (says w)
   Ok (x, record { read = read + 1; rest = ws })
 
--- houses, a word each, as many as there are (own)
-abbrev pub houses_in : ℕ → List (List ℕ) → Result (List HouseNo) ParseFault
-houses_in read [] = Ok []
-houses_in read (w ∷ ws) = do
-  h ← said_at (read + 1) (house_of w)
-  hs ← houses_in (read + 1) ws
-  Ok (h ∷ hs)
+-- what words of one kind say, as many as there are (own)
+abbrev pub each_word : {A : Type 0} → (List ℕ → Option A) → ℕ → List (List ℕ) → Result (List A) ParseFault
+each_word says read [] = Ok []
+each_word says read (w ∷ ws) = do
+  x ← said_at (read + 1) (says w)
+  xs ← each_word says (read + 1) ws
+  Ok (x ∷ xs)
 
-abbrev pub all_houses : ℕ → List (List ℕ) → Result (List HouseNo × Words) ParseFault
-all_houses read ws = do
-  hs ← houses_in read ws
-  Ok (hs, record { read = read + length ws; rest = [] })
+-- the same of all words that are left, and no words behind them (own)
+abbrev pub all_words : {A : Type 0} → (List ℕ → Option A) → ℕ → List (List ℕ) → Result (List A × Words) ParseFault
+all_words says read ws = do
+  xs ← each_word says read ws
+  Ok (xs, record { read = read + length ws; rest = [] })
 
 -- a word that tells what the next one asks for, and that one (own)
 abbrev pub two_words : ℕ → List (List ℕ) → Result (Question × Words) ParseFault
@@ -129,7 +133,8 @@ taken Protocols s = next_word protocols_of s.read s.rest
 taken Priority s = next_word priority_of s.read s.rest
 taken Note s = next_word note_of s.read s.rest
 taken Encoded s = two_words s.read s.rest
-taken Houses s = all_houses s.read s.rest
+taken Houses s = all_words house_of s.read s.rest
+taken Listeds s = all_words listed_of s.read s.rest
 
 -- ---- lines of several forms
 
@@ -137,12 +142,14 @@ taken Houses s = all_houses s.read s.rest
 abbrev pub least_of : List Form → ℕ
 least_of [] = 0
 least_of (Houses ∷ fs) = least_of fs
+least_of (Listeds ∷ fs) = least_of fs
 least_of (Encoded ∷ fs) = least_of fs + 2
 least_of (f ∷ fs) = least_of fs + 1
 
 abbrev pub is_open : List Form → Bool
 is_open [] = false
 is_open (Houses ∷ fs) = true
+is_open (Listeds ∷ fs) = true
 is_open (f ∷ fs) = is_open fs
 
 -- there are as many words as wanted, or at least so many (own)

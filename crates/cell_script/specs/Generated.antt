@@ -1,5 +1,5 @@
 -- The script of the form `load`: a list of commands for each number of rounds (own).
-use Rattle.std.specs.Prelude.{◌≡◌, ℕ, zero, suc, ◌+◌, ◌*◌, ◌/◌, ◌%◌, Bool, ◌||◌, ◌==◌, nat_lt, if◌then◌else◌}
+use Rattle.std.specs.Prelude.{◌≡◌, ℕ, zero, suc, ◌+◌, ◌*◌, ◌/◌, ◌%◌, Bool, false, ◌||◌, ◌==◌, nat_lt, if◌then◌else◌}
 use Rattle.std.specs.Prelude.{List, [], ◌∷◌, ◌++◌, map, Option, Some, None, codes}
 use Rattle.std.specs.List.{enumerate_from, flat_map, range_with_len}
 use Rattle.std.specs.Fmt.{decimal}
@@ -8,6 +8,7 @@ use Rattle.cds_stamps.specs.declared.numbers.DirId.{DirId}
 use Rattle.cell_script.specs.declared.command.Command.{Command}
 use Rattle.cell_script.specs.declared.command.Command.TheVariants as command
 use Rattle.cell_script.specs.declared.command.ScriptLine.{ScriptLine}
+use Rattle.cell_script.specs.declared.lists.Listed.{Listed}
 use Rattle.cell_script.specs.declared.command.ScriptLine.TheVariants as line
 
 -- A part of the script: its commands post messages, of which some are delivered, and then all are lost. Which are delivered is told by the
@@ -36,10 +37,15 @@ so_many count first = range_with_len first count
 
 -- ---- the cell: three houses, and a directory of 16 entries at each
 
--- a house, and the directory, by its number (own)
+-- a house by its number (own)
 abbrev pub house : ℕ → HouseNo
 house n = record { 0 = n }
 
+-- a read-only house of a replica set, by its number (own)
+abbrev pub reader : ℕ → Listed
+reader n = record { house = house n; secondary = false }
+
+-- the directory (own)
 abbrev pub the_root : DirId
 the_root = record { 0 = 1 }
 
@@ -49,7 +55,7 @@ house_made n = command.House (house n) n
 
 -- the root directory at house 1, which is its master, and at houses 2 and 3 (own)
 abbrev pub root_made : Command
-root_made = command.Root (house 1) (house 2 ∷ house 3 ∷ [])
+root_made = command.Root (house 1) (reader 2 ∷ reader 3 ∷ [])
 
 -- houses 1, 2 and 3, and the root directory, of which the two others are told (own)
 abbrev pub opening : Part

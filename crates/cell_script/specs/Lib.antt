@@ -1,4 +1,5 @@
 pub mod Words
+pub mod Listings
 pub mod PrivateCounts
 pub mod Notes
 pub mod NameService

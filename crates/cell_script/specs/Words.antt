@@ -15,6 +15,7 @@ use Rattle.cds_stamps.specs.Outcomes.{ok_unless}
 use Rattle.cell_names.specs.FullNames.{name_fault, components_of}
 use Rattle.attr_sets.specs.Values.{value_fault}
 use Rattle.cell_script.specs.declared.command.Question.{Question}
+use Rattle.cell_script.specs.declared.lists.Listed.{Listed}
 use Rattle.cell_script.specs.declared.command.Question.TheVariants as question
 
 -- the words of a line, between its spaces (own)
@@ -61,6 +62,15 @@ most_serial = 18446744073709551615
 -- the number of a house (own)
 abbrev pub house_of : List ℕ → Option HouseNo
 house_of w = option_map (λ n. record { 0 = n }) (number_to most_house w)
+
+-- a house of a replica set by its number, secondary or read-only (own)
+abbrev pub listed_as : (secondary : Bool) → List ℕ → Option Listed
+listed_as secondary w = option_map (λ h. record { house = h; secondary = secondary }) (house_of w)
+
+-- the same where an `s` before the number says that it is secondary (own)
+abbrev pub listed_of : List ℕ → Option Listed
+listed_of [] = listed_as false []
+listed_of (c ∷ cs) = if c == 115 then listed_as true cs else listed_as false (c ∷ cs)
 
 -- the number of a directory (own)
 abbrev pub directory_of : List ℕ → Option DirId

@@ -1,5 +1,5 @@
 // The commands of a script.
-use crate::lists::{HouseNos, Note, Octets, StringBindings, Uuids};
+use crate::lists::{HouseNos, Listeds, Note, Octets, StringBindings, Uuids};
 use attr_sets::Value;
 use cds_stamps::{AttrName, DirId, HouseNo, Node, SimpleName};
 use cell_names::FullName;
@@ -12,8 +12,8 @@ use uuid::Uuid;
 pub enum Command {
     House(HouseNo, Node),
     Clock(HouseNo, u64),
-    Root(HouseNo, HouseNos),
-    Mkdir(HouseNo, DirId, SimpleName, HouseNo, HouseNos),
+    Root(HouseNo, Listeds),
+    Mkdir(HouseNo, DirId, SimpleName, HouseNo, Listeds),
     Repoint(HouseNo, DirId, SimpleName, HouseNo, HouseNos),
     Create(HouseNo, DirId, SimpleName),
     Link(HouseNo, DirId, SimpleName, FullName),
@@ -23,7 +23,7 @@ pub enum Command {
     Put(HouseNo, DirId, SimpleName, AttrName, Value),
     Clear(HouseNo, DirId, SimpleName, AttrName),
     /// A new epoch of a directory: its master, and the other houses.
-    Epoch(DirId, HouseNo, HouseNos),
+    Epoch(DirId, HouseNo, Listeds),
     Skulk(HouseNo, DirId),
     /// A message is delivered, or lost, by its serial number.
     Deliver(u64),

@@ -26,7 +26,7 @@ pub(crate) fn root(alloc: Global, words: &mut Words<'_>) -> Parsed<ScriptLine>
     ensures { Says result (made (codes "root") words.old) }
 {
     words.at_least(1)?;
-    Ok(ScriptLine::Cell(Command::Root(words.house()?, words.houses(alloc)?)))
+    Ok(ScriptLine::Cell(Command::Root(words.house()?, words.listeds(alloc)?)))
 }
 
 pub(crate) fn mkdir(alloc: Global, words: &mut Words<'_>) -> Parsed<ScriptLine>
@@ -38,7 +38,7 @@ pub(crate) fn mkdir(alloc: Global, words: &mut Words<'_>) -> Parsed<ScriptLine>
         words.directory()?,
         words.simple_name(alloc)?,
         words.house()?,
-        words.houses(alloc)?,
+        words.listeds(alloc)?,
     )))
 }
 

@@ -1,6 +1,7 @@
 // Lists inside commands.
 ghost use Rattle.std.specs.Prelude.{◌≡◌, [], ◌∷◌, ◌++◌, None, Ok, IsTrue, IfOk, OnOk, OnErr};
 ghost use Rattle.std.specs.List.{list_all};
+ghost use Rattle.cell_script.specs.Listings.{houses_in};
 ghost use Rattle.cell_script.specs.Notes.{is_note_octet, note_in};
 
 use cds_stamps::HouseNo;
@@ -48,6 +49,63 @@ impl HouseNos {
     {
         self.items.as_slice()
     }
+}
+
+/// A house in the list of a replica set: secondary, or else read-only.
+#[derive(Clone, Copy, Debug, PartialEq, Eq)]
+pub struct Listed {
+    pub house: HouseNo,
+    pub secondary: bool,
+}
+
+/// The other houses of a replica set. Their numbers stand apart as well, so that nobody needs memory to compare them.
+#[derive(Drop)]
+pub struct Listeds {
+    list: Vec<Listed>,
+    houses: Vec<HouseNo>,
+}
+
+impl Model for Listeds {
+    ghost use Rattle.std.specs.Prelude.{◌≡◌, List};
+    ghost use Rattle.cell_script.specs.declared.lists.Listed.{Listed};
+    ghost use Rattle.cell_script.specs.Listings.{houses_in};
+
+    ghost Value = { List Listed };
+
+    ghost view = { λ v. v.list.items };
+
+    ghost invariant = { λ v. v.houses.items ≡ houses_in v.list.items };
+}
+
+impl Listeds {
+    /// The houses of a vector, in its order.
+    pub fn of(alloc: Global, list: Vec<Listed>) -> Result<Listeds, AllocError>
+        ensures { IfOk result (λ l. l ≡ list.items) }
+    {
+        let houses = houses_of(alloc, &list)?;
+        Ok(Listeds { list, houses })
+    }
+
+    /// The houses, in their order.
+    pub fn list(&self) -> &[Listed]
+        ensures { result.now ≡ self.now }
+    {
+        self.list.as_slice()
+    }
+
+    /// Their numbers, in the same order.
+    pub fn houses(&self) -> &[HouseNo]
+        ensures { result.now ≡ houses_in self.now }
+    {
+        self.houses.as_slice()
+    }
+}
+
+// The numbers of these houses.
+fn houses_of(alloc: Global, list: &[Listed]) -> Result<Vec<HouseNo>, AllocError>
+    ensures { IfOk result (λ v. v.items ≡ houses_in list.now) }
+{
+    list.iter().map(|listed| listed.house).collect(alloc)
 }
 
 /// Octets that are asked about, or told.
@@ -123,7 +181,7 @@ impl StringBindings {
     }
 
     /// The bindings of a vector, in its order.
-    pub(crate) fn of(items: Vec<StringBinding>) -> StringBindings
+    pub fn of(items: Vec<StringBinding>) -> StringBindings
         ensures { result ≡ items.items }
     {
         StringBindings { items }
@@ -160,8 +218,25 @@ impl Model for Uuids {
 }
 
 impl Uuids {
+    /// No UUID. Takes no memory.
+    pub fn new(alloc: Global) -> Uuids
+        ensures { result ≡ [] }
+    {
+        Uuids {
+            items: Vec::new(alloc),
+        }
+    }
+
+    /// Puts a UUID behind the others.
+    pub fn push(&mut self, uuid: Uuid) -> Result<(), AllocError>
+        ensures ok { OnOk result (self.new ≡ self.old ++ uuid ∷ []) }
+        ensures err { OnErr result (self.new ≡ self.old) }
+    {
+        Ok(self.items.push(uuid)?)
+    }
+
     /// The UUIDs of a vector, in its order.
-    pub(crate) fn of(items: Vec<Uuid>) -> Uuids
+    pub fn of(items: Vec<Uuid>) -> Uuids
         ensures { result ≡ items.items }
     {
         Uuids { items }

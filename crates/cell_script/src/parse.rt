@@ -3,7 +3,7 @@ ghost use Rattle.std.specs.Prelude.{◌≡◌, ◌∷◌, Ok, Err, None, IfSome}
 ghost use Rattle.cds_stamps.specs.Outcomes.{Answers};
 ghost use Rattle.cds_stamps.specs.declared.alloc_or.AllocOr.TheVariants.{Fault};
 ghost use Rattle.cell_script.specs.Words.{words_of};
-ghost use Rattle.cell_script.specs.Commands.{said_in, early_fault};
+ghost use Rattle.cell_script.specs.Commands.{said_by, early_by, said_in, early_fault};
 ghost use Rattle.cell_script.specs.PrivateRows.{Says, made, updated, changed, replicated, befallen, asked, served};
 
 use crate::command::ScriptLine;
@@ -13,9 +13,19 @@ use crate::{commands, questions, replicas, service, updates};
 use cds_stamps::AllocOr;
 use std::alloc::Global;
 
-// What the words behind the first one say: of a command that makes houses or directories, or of another.
+/// What the words behind the first one say, whatever the first one is: a command, or the fault that tells that no command has
+/// this first word; or else that there are too few or too many words; or else the first word that is not of its form.
+#[tactic(auto, using(crate::proofs::Families::says_answers, crate::proofs::Families::says_early))]
+pub fn line_behind(alloc: Global, word: &[u8], words: &mut Words<'_>) -> Parsed<ScriptLine>
+    ensures answer { Answers result (said_by word.now words.old) }
+    ensures early { IfSome (early_by word.now words.old) (λ fault. result ≡ Err (Fault fault)) }
+{
+    made(alloc, word, words)
+}
+
+// What they say where the first one is of a command that makes houses or directories, or of another.
 #[tactic(auto, unfolding(crate::specs::PrivateRows::made))]
-fn said(alloc: Global, word: &[u8], words: &mut Words<'_>) -> Parsed<ScriptLine>
+fn made(alloc: Global, word: &[u8], words: &mut Words<'_>) -> Parsed<ScriptLine>
     ensures { Says result (made word.now words.old) }
 {
     if word == b"house".as_slice() {
@@ -176,7 +186,7 @@ pub fn parse_line(alloc: Global, line: &[u8]) -> Result<Option<ScriptLine>, Allo
 }
 
 // What a line of this first word says.
-#[tactic(auto, using(crate::proofs::Families::says_answers, crate::proofs::Families::says_early, crate::proofs::Reading::some_line_says))]
+#[tactic(auto, using(crate::proofs::Reading::some_line_says))]
 fn said_behind(alloc: Global, word: &[u8], words: &mut Words<'_>) -> Parsed<Option<ScriptLine>>
     requires { words.old.read ≡ 1 }
     ensures answer { Answers result (said_in (word.now ∷ words.old.rest)) }
@@ -186,5 +196,5 @@ fn said_behind(alloc: Global, word: &[u8], words: &mut Words<'_>) -> Parsed<Opti
     if word.starts_with(b"#") {
         return Ok(None);
     }
-    Ok(Some(said(alloc, word, words)?))
+    Ok(Some(line_behind(alloc, word, words)?))
 }

@@ -12,7 +12,7 @@ pub(crate) fn epoch(alloc: Global, words: &mut Words<'_>) -> Parsed<ScriptLine>
     ensures { Says result (replicated (codes "epoch") words.old) }
 {
     words.at_least(2)?;
-    Ok(ScriptLine::Cell(Command::Epoch(words.directory()?, words.house()?, words.houses(alloc)?)))
+    Ok(ScriptLine::Cell(Command::Epoch(words.directory()?, words.house()?, words.listeds(alloc)?)))
 }
 
 pub(crate) fn skulk(words: &mut Words<'_>) -> Parsed<ScriptLine>

@@ -13,7 +13,7 @@ use uuid::Uuid;
 
 impl<'a> Words<'a> {
     /// An interface: UUID, `:`, major version, `.` and minor version.
-    pub(crate) fn interface(&mut self) -> Parsed<Interface>
+    pub fn interface(&mut self) -> Parsed<Interface>
         ensures { Takes result self.new (taken form.Interface self.old) }
     {
         let word = self.needed()?;
@@ -21,7 +21,7 @@ impl<'a> Words<'a> {
     }
 
     /// The interface of an element, or `default` for none.
-    pub(crate) fn element_interface(&mut self) -> Parsed<Option<Interface>>
+    pub fn element_interface(&mut self) -> Parsed<Option<Interface>>
         ensures { Takes result self.new (taken form.ElementInterface self.old) }
     {
         let word = self.needed()?;
@@ -29,7 +29,7 @@ impl<'a> Words<'a> {
     }
 
     /// An interface, or `-` for none.
-    pub(crate) fn interface_or_none(&mut self) -> Parsed<Option<Interface>>
+    pub fn interface_or_none(&mut self) -> Parsed<Option<Interface>>
         ensures { Takes result self.new (taken form.InterfaceOrNone self.old) }
     {
         let word = self.needed()?;
@@ -37,7 +37,7 @@ impl<'a> Words<'a> {
     }
 
     /// String bindings without object parts, with commas between, or `-` for none.
-    pub(crate) fn bindings(&mut self, alloc: Global) -> Parsed<StringBindings>
+    pub fn bindings(&mut self, alloc: Global) -> Parsed<StringBindings>
         ensures { Takes result self.new (taken form.Bindings self.old) }
     {
         let word = self.needed()?;
@@ -46,7 +46,7 @@ impl<'a> Words<'a> {
     }
 
     /// UUIDs other than nil, with commas between, or `-` for none.
-    pub(crate) fn objects(&mut self, alloc: Global) -> Parsed<Uuids>
+    pub fn objects(&mut self, alloc: Global) -> Parsed<Uuids>
         ensures { Takes result self.new (taken form.Objects self.old) }
     {
         let word = self.needed()?;
@@ -55,7 +55,7 @@ impl<'a> Words<'a> {
     }
 
     /// A UUID, or `-` for nil.
-    pub(crate) fn object(&mut self) -> Parsed<Uuid>
+    pub fn object(&mut self) -> Parsed<Uuid>
         ensures { Takes result self.new (taken form.Object self.old) }
     {
         let word = self.needed()?;
@@ -63,7 +63,7 @@ impl<'a> Words<'a> {
     }
 
     /// The protocol sequences, with a comma between: whether TCP is one, and whether UDP is.
-    pub(crate) fn protocols(&mut self) -> Parsed<(bool, bool)>
+    pub fn protocols(&mut self) -> Parsed<(bool, bool)>
         ensures { Takes result self.new (taken form.Protocols self.old) }
     {
         let word = self.needed()?;
@@ -71,7 +71,7 @@ impl<'a> Words<'a> {
     }
 
     /// A priority, 0 to 255.
-    pub(crate) fn priority(&mut self) -> Parsed<u8>
+    pub fn priority(&mut self) -> Parsed<u8>
         ensures { Takes result self.new (taken form.Priority self.old) }
     {
         let word = self.needed()?;
@@ -79,7 +79,7 @@ impl<'a> Words<'a> {
     }
 
     /// An annotation of one word, or `-` for the empty one.
-    pub(crate) fn note(&mut self, alloc: Global) -> Parsed<Note>
+    pub fn note(&mut self, alloc: Global) -> Parsed<Note>
         ensures { Takes result self.new (taken form.Note self.old) }
     {
         let word = self.needed()?;

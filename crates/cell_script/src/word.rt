@@ -2,11 +2,11 @@
 ghost use Rattle.std.specs.Prelude.{◌≡◌, ◌≢◌, ◌*◌, ◌%◌, ◌≤◌, ℕ, List, ◌∷◌, true, false, length, None, IfOk};
 ghost use Rattle.std.specs.Int.{from_be_bytes, w64};
 ghost use Rattle.attr_sets.specs.Values.{longest_value};
-ghost use Rattle.cell_script.specs.Words.{number_of, number_to, house_of, directory_of, serial_of, node_of, octets_value_of, octets_of, confidence_of};
+ghost use Rattle.cell_script.specs.Words.{number_of, number_to, house_of, listed_as, listed_of, directory_of, serial_of, node_of, octets_value_of, octets_of, confidence_of};
 ghost use Rattle.cell_script.specs.Words as asked;
 
 use crate::command::Question;
-use crate::lists::Octets;
+use crate::lists::{Listed, Octets};
 use attr_sets::{LONGEST_VALUE, Value};
 use cds_stamps::{AllocOr, DirId, HouseNo, Node};
 use hex::FromHexError;
@@ -82,6 +82,26 @@ pub(crate) fn house(word: &[u8]) -> Option<HouseNo>
         Some(number) => Some(HouseNo(number as u8)),
         None => None,
     }
+}
+
+/// A house of a replica set's list: its number, behind an `s` where it is secondary.
+pub(crate) fn listed(word: &[u8]) -> Option<Listed>
+    ensures { result ≡ listed_of word.now }
+{
+    if let Some((first, number)) = word.split_first() {
+        if *first == b's' {
+            return listed_as(number, true);
+        }
+    }
+    listed_as(word, false)
+}
+
+// A house of this number, secondary or read-only.
+fn listed_as(number: &[u8], secondary: bool) -> Option<Listed>
+    ensures { result ≡ listed_as secondary number.now }
+{
+    let house = house(number)?;
+    Some(Listed { house, secondary })
 }
 
 /// The number of a directory.

@@ -16,7 +16,7 @@ ghost use Rattle.cell_script.specs.Forms.{Takes, taken, counted, said_at};
 
 use crate::command::Question;
 use crate::fault::ParseFault;
-use crate::lists::{HouseNos, Octets};
+use crate::lists::{HouseNos, Listeds, Octets};
 use crate::word;
 use attr_sets::Value;
 use cds_stamps::{AllocOr, AttrName, DirId, HouseNo, Node, SimpleName};
@@ -27,11 +27,12 @@ use std::marker::Model;
 // Octets that are looked at together.
 const STRIDE: usize = 128;
 
-pub(crate) type Parsed<T> = Result<T, AllocOr<ParseFault>>;
+/// What words say, or the fault of their line, or want of memory.
+pub type Parsed<T> = Result<T, AllocOr<ParseFault>>;
 
 /// The words of a line that are still to be read.
 #[derive(Drop)]
-pub(crate) struct Words<'a> {
+pub struct Words<'a> {
     // How many words were read before them.
     read: usize,
     rest: &'a [u8],
@@ -115,7 +116,7 @@ fn word_count(octets: &[u8]) -> usize
 
 impl<'a> Words<'a> {
     /// The words of a line.
-    pub(crate) fn of(line: &'a [u8]) -> Words<'a>
+    pub fn of(line: &'a [u8]) -> Words<'a>
         ensures { result ≡ record { read = 0; rest = words_of line.now } }
     {
         Words {
@@ -125,7 +126,7 @@ impl<'a> Words<'a> {
     }
 
     /// The next word.
-    pub(crate) fn next(&mut self) -> Option<&'a [u8]>
+    pub fn next(&mut self) -> Option<&'a [u8]>
         ensures some { IfSome result (λ w. self.old.rest ≡ w.now ∷ self.new.rest) }
         ensures read { IfSome result (λ w. self.new.read ≡ self.old.read + 1) }
         ensures none { IfNone result (self.old.rest ≡ []) }
@@ -151,7 +152,7 @@ impl<'a> Words<'a> {
     }
 
     /// There have to be so many words.
-    pub(crate) fn exactly(&self, wanted: usize) -> Parsed<()>
+    pub fn exactly(&self, wanted: usize) -> Parsed<()>
         ensures answer { Answers result (counted false wanted self.now) }
         ensures memory { result ≢ Err OutOfMemory }
     {
@@ -164,7 +165,7 @@ impl<'a> Words<'a> {
     }
 
     /// There have to be so many words, or more.
-    pub(crate) fn at_least(&self, wanted: usize) -> Parsed<()>
+    pub fn at_least(&self, wanted: usize) -> Parsed<()>
         ensures answer { Answers result (counted true wanted self.now) }
         ensures memory { result ≢ Err OutOfMemory }
     {
@@ -177,7 +178,7 @@ impl<'a> Words<'a> {
     }
 
     /// The next word of a line that has to have one.
-    pub(crate) fn needed(&mut self) -> Parsed<&'a [u8]>
+    pub fn needed(&mut self) -> Parsed<&'a [u8]>
         ensures word { IfOk result (λ w. self.old.rest ≡ w.now ∷ self.new.rest) }
         ensures read { IfOk result (λ w. self.new.read ≡ self.old.read + 1) }
         ensures none { IfErr result (λ e. e ≡ Fault (WrongCount self.old.read)) }
@@ -190,7 +191,7 @@ impl<'a> Words<'a> {
     }
 
     /// What the last word says; it has to say something.
-    pub(crate) fn said<T>(&self, value: Option<T>) -> Parsed<T>
+    pub fn said<T>(&self, value: Option<T>) -> Parsed<T>
         ensures answer { Answers result (said_at self.now.read value) }
         ensures memory { result ≢ Err OutOfMemory }
     {
@@ -213,7 +214,7 @@ impl<'a> Words<'a> {
     }
 
     /// The number of a house, 1 to 255.
-    pub(crate) fn house(&mut self) -> Parsed<HouseNo>
+    pub fn house(&mut self) -> Parsed<HouseNo>
         ensures { Takes result self.new (taken form.House self.old) }
     {
         let word = self.needed()?;
@@ -221,7 +222,7 @@ impl<'a> Words<'a> {
     }
 
     /// The number of a directory, 1 to 4,294,967,295.
-    pub(crate) fn directory(&mut self) -> Parsed<DirId>
+    pub fn directory(&mut self) -> Parsed<DirId>
         ensures { Takes result self.new (taken form.Directory self.old) }
     {
         let word = self.needed()?;
@@ -229,7 +230,7 @@ impl<'a> Words<'a> {
     }
 
     /// The serial number of a message, from 1 on.
-    pub(crate) fn serial(&mut self) -> Parsed<u64>
+    pub fn serial(&mut self) -> Parsed<u64>
         ensures { Takes result self.new (taken form.Serial self.old) }
     {
         let word = self.needed()?;
@@ -237,7 +238,7 @@ impl<'a> Words<'a> {
     }
 
     /// A time.
-    pub(crate) fn time(&mut self) -> Parsed<u64>
+    pub fn time(&mut self) -> Parsed<u64>
         ensures { Takes result self.new (taken form.Time self.old) }
     {
         let word = self.needed()?;
@@ -245,7 +246,7 @@ impl<'a> Words<'a> {
     }
 
     /// A node, in twelve hexadecimal digits.
-    pub(crate) fn node(&mut self) -> Parsed<Node>
+    pub fn node(&mut self) -> Parsed<Node>
         ensures { Takes result self.new (taken form.Node self.old) }
     {
         let word = self.needed()?;
@@ -253,7 +254,7 @@ impl<'a> Words<'a> {
     }
 
     /// How much the answer of a replica is trusted: true for `high`.
-    pub(crate) fn confidence(&mut self) -> Parsed<bool>
+    pub fn confidence(&mut self) -> Parsed<bool>
         ensures { Takes result self.new (taken form.Confidence self.old) }
     {
         let word = self.needed()?;
@@ -261,7 +262,7 @@ impl<'a> Words<'a> {
     }
 
     /// A simple name.
-    pub(crate) fn simple_name(&mut self, alloc: Global) -> Parsed<SimpleName>
+    pub fn simple_name(&mut self, alloc: Global) -> Parsed<SimpleName>
         ensures { Takes result self.new (taken form.SimpleName self.old) }
     {
         let word = self.needed()?;
@@ -269,7 +270,7 @@ impl<'a> Words<'a> {
     }
 
     /// A full name.
-    pub(crate) fn full_name(&mut self, alloc: Global) -> Parsed<FullName>
+    pub fn full_name(&mut self, alloc: Global) -> Parsed<FullName>
         ensures { Takes result self.new (taken form.FullName self.old) }
     {
         let word = self.needed()?;
@@ -277,7 +278,7 @@ impl<'a> Words<'a> {
     }
 
     /// The name of an attribute.
-    pub(crate) fn attr_name(&mut self, alloc: Global) -> Parsed<AttrName>
+    pub fn attr_name(&mut self, alloc: Global) -> Parsed<AttrName>
         ensures { Takes result self.new (taken form.AttrName self.old) }
     {
         let word = self.needed()?;
@@ -285,7 +286,7 @@ impl<'a> Words<'a> {
     }
 
     /// A value, in hexadecimal digits.
-    pub(crate) fn value(&mut self, alloc: Global) -> Parsed<Value>
+    pub fn value(&mut self, alloc: Global) -> Parsed<Value>
         ensures { Takes result self.new (taken form.Value self.old) }
     {
         let word = self.needed()?;
@@ -294,7 +295,7 @@ impl<'a> Words<'a> {
     }
 
     /// Octets, in hexadecimal digits.
-    pub(crate) fn octets(&mut self, alloc: Global) -> Parsed<Octets>
+    pub fn octets(&mut self, alloc: Global) -> Parsed<Octets>
         ensures { Takes result self.new (taken form.Octets self.old) }
     {
         let word = self.needed()?;
@@ -303,7 +304,7 @@ impl<'a> Words<'a> {
     }
 
     /// Whose octets are asked for: `msg` and the number of a message, or `house` and that of a house.
-    pub(crate) fn encoded(&mut self) -> Parsed<Question>
+    pub fn encoded(&mut self) -> Parsed<Question>
         ensures { Takes result self.new (taken form.Encoded self.old) }
     {
         let word = self.needed()?;
@@ -319,7 +320,7 @@ impl<'a> Words<'a> {
     }
 
     /// Numbers of houses, as many as there are words.
-    pub(crate) fn houses(&mut self, alloc: Global) -> Parsed<HouseNos>
+    pub fn houses(&mut self, alloc: Global) -> Parsed<HouseNos>
         ensures { Takes result self.new (taken form.Houses self.old) }
     {
         let mut houses = HouseNos::new(alloc);
@@ -327,5 +328,16 @@ impl<'a> Words<'a> {
             houses.push(self.said(word::house(word))?)?;
         }
         Ok(houses)
+    }
+
+    /// Houses of a replica set, as many as there are words: each a number, behind an `s` where the house is secondary.
+    pub fn listeds(&mut self, alloc: Global) -> Parsed<Listeds>
+        ensures { Takes result self.new (taken form.Listeds self.old) }
+    {
+        let mut list = Vec::new(alloc);
+        while let Some(word) = self.next() {
+            list.push(self.said(word::listed(word))?)?;
+        }
+        Ok(Listeds::of(alloc, list)?)
     }
 }

@@ -6,7 +6,7 @@ ghost use Rattle.cell_script.specs.PrivateGenerated.{commands_of};
 ghost use Rattle.cell_script.specs.PrivateWorks.{is_work};
 
 use crate::command::Command;
-use crate::lists::HouseNos;
+use crate::lists::{Listed, Listeds};
 use attr_sets::Value;
 use cds_stamps::{AttrName, DirId, HouseNo, Node, SimpleName};
 use std::alloc::{AllocError, Global};
@@ -40,6 +40,16 @@ fn entry_name(alloc: Global, entry: u8) -> Result<SimpleName, AllocError>
     }
 }
 
+// A read-only house of a replica set.
+fn reader(house: u8) -> Listed
+    ensures { result ≡ script.reader house }
+{
+    Listed {
+        house: HouseNo(house),
+        secondary: false,
+    }
+}
+
 // A house, or the root directory behind the last house.
 fn house_made(alloc: Global, house: u8) -> Result<Command, AllocError>
     requires { house ≤ 4 }
@@ -49,10 +59,10 @@ fn house_made(alloc: Global, house: u8) -> Result<Command, AllocError>
         let node = Node::new(u64::from(house)).unwrap();
         return Ok(Command::House(HouseNo(house), node));
     }
-    let mut others = HouseNos::new(alloc);
-    others.push(HouseNo(2))?;
-    others.push(HouseNo(3))?;
-    Ok(Command::Root(MASTER, others))
+    let mut others = Vec::new(alloc);
+    others.push(reader(2))?;
+    others.push(reader(3))?;
+    Ok(Command::Root(MASTER, Listeds::of(alloc, others)?))
 }
 
 fn entry_made(alloc: Global, entry: u8) -> Result<Command, AllocError>

@@ -1,6 +1,6 @@
 use Rattle.std.proofs.Common.{◌∙◌, sym, ap, length, arith}
 use Rattle.cell_script.specs.NameService.{all_said, texts_of}
-use Rattle.cell_script.proofs.Listed.{behind_none, texts_left, all_said-push, all_said-stops, all_said-end}
+use Rattle.cell_script.proofs.ListedTexts.{behind_none, texts_left, all_said-push, all_said-stops, all_said-end}
 use Rattle.cell_script.proofs.service_word.all_said.Goals as goal
 
 pub loop-rest-init : goal.loop-rest-init

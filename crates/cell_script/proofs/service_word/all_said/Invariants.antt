@@ -1,6 +1,6 @@
 use Rattle.std.proofs.Common.{◌≡◌, length}
 use Rattle.cell_script.specs.NameService.{all_said, texts_of}
-use Rattle.cell_script.proofs.Listed.{behind, texts_left}
+use Rattle.cell_script.proofs.ListedTexts.{behind, texts_left}
 use Rattle.cell_script.proofs.service_word.all_said.Given as goal
 
 abbrev pub invariant-loop-rest : goal.invariant-loop-rest
