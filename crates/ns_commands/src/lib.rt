@@ -9,6 +9,7 @@ mod profiles;
 mod refusals;
 mod updates;
 
+pub use entries::{object, values_of};
 pub use exports::{export, unexport};
 pub use groups::{add_member, delete_member};
 pub use imports::import;

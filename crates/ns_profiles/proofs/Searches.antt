@@ -22,7 +22,7 @@ use Rattle.directory.specs.Updates.{Change, Remove}
 use Rattle.ns_profiles.specs.declared.fault.ProfileFault.TheVariants.{NoSuchElement}
 use Rattle.ns_profiles.specs.declared.element.Element.{Element}
 use Rattle.ns_profiles.specs.declared.fault.ProfileFault.{ProfileFault}
-use Rattle.ns_profiles.specs.Elements.{element_fault, element_of, said}
+use Rattle.ns_profiles.specs.Elements.{default_priority, element_fault, element_of, said}
 use Rattle.ns_profiles.specs.Profiles.{profile, is_element, delete_fault, deleted, reads_as, is_taken, is_sought, elements_in, of_priority}
 use Rattle.ns_profiles.specs.Profiles.{priorities, search_order}
 use Rattle.ns_profiles.proofs.ElementLaws.{priority_within}
@@ -236,6 +236,15 @@ high_read (x ∷ xs) =
     let rest = high_read xs in
     by_read (λ o. AllByRecursion (λ e. e.priority < 9) (cons_option o (filter_map element_of xs))) x rest
     (λ e. let within = priority_within x e in (omega arith, rest))
+
+-- the elements of values that pass a test stand by their priorities, those of default elements last
+pub filter_by_priority : (q : Element → Bool) (values : List (List ℕ))
+    → filter q (elements_in values) ≡ flat_map (λ p. of_priority p (filter q (elements_in values))) (priorities ++ default_priority ∷ [])
+filter_by_priority q values =
+    let es = elements_in values in
+    let rises : Rises es = rises_read (ascending values) (ascending-rises values) in
+    let high : AllByRecursion (λ e. e.priority < 9) es = high_read (ascending values) in
+    sym (all_groups 9 (filter q es) (rises_filter q es rises) (all_filter (λ e. e.priority < 9) q es high))
 
 -- the members of the octets that pass a test of elements
 map_taken : (t : Element → Bool) (xs : List (List ℕ))

@@ -88,6 +88,13 @@ impl Element {
         }
     }
 
+    /// Whether it is a default element, which is for no interface.
+    pub fn is_default(&self) -> bool
+        ensures { result ≡ (self.now.priority == default_priority) }
+    {
+        self.priority == DEFAULT
+    }
+
     // The element of octets that are one.
     fn of_octets(alloc: Global, octets: &[u8]) -> Result<Element, AllocError>
         requires { element_fault octets.now ≡ None }

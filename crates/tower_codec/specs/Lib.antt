@@ -5,6 +5,7 @@ pub mod Spelling
 pub mod Rpc
 pub mod RpcReading
 pub mod Serving
+pub mod InterfaceTexts
 pub mod Binding
 pub mod BindingReading
 pub mod BindingFaults

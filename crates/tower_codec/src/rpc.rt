@@ -27,7 +27,7 @@ const HOST_ADDRESS: u8 = 0x09;
 const SIZE: usize = 75;
 
 /// An interface or a transfer syntax, and its version.
-#[derive(Clone, Copy, Debug, PartialEq, Eq)]
+#[derive(Clone, Copy, Debug, PartialEq, Eq, Hash)]
 pub struct Interface {
     /// Which one it is.
     pub uuid: Uuid,
@@ -148,6 +148,18 @@ impl Interface {
             19, 0, UUID, u[0], u[1], u[2], u[3], u[4], u[5], u[6], u[7], u[8], u[9], u[10], u[11],
             u[12], u[13], u[14], u[15], major_low, major_high, 2, 0, minor_low, minor_high,
         ]
+    }
+}
+
+/// The text that scripts have for an interface: its UUID in lower case, `:`, its major version, `.` and its minor version.
+impl fmt::Display for Interface {
+    ghost use Rattle.tower_codec.specs.InterfaceTexts.{interface_text};
+
+    ghost output = { λ interface. Some (interface_text interface) };
+
+    fn fmt<W: fmt::Write>(&self, f: &mut fmt::Formatter<W>) -> fmt::Result {
+        let Interface { uuid, major, minor } = *self;
+        write!(f, "{uuid}:{major}.{minor}")
     }
 }
 
