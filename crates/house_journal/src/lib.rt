@@ -11,9 +11,12 @@ mod disk;
 mod journal;
 mod leave;
 mod list_end;
+mod memory;
 mod settle;
+mod step;
 
 pub use at_once::AtOnce;
 pub use disk::{Disk, DiskError};
 pub use journal::{Journal, JournalFault, MOST_OCTETS};
 pub use leave::Leave;
+pub use memory::MemDisk;
