@@ -1,0 +1,9 @@
+pub mod Disks
+pub mod Past
+pub mod Records
+pub mod ListEnds
+pub mod Journals
+pub mod Faults
+pub mod Tellings
+pub mod MemoryDisks
+pub mod Clocks

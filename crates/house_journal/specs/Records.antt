@@ -1,0 +1,67 @@
+-- The list of images that the octets of a journal are (own).
+use Rattle.std.specs.Prelude.{◌≡◌, ◌⊎◌, ℕ, zero, suc, ◌+◌, ◌≤◌, ◌==◌, nat_le, Bool, ◌&&◌, if◌then◌else◌, List, [], ◌∷◌, ◌++◌, length, take, drop, slice_index, Option, Some, None}
+use Rattle.std.specs.Int.{w64, from_be_bytes}
+
+-- how many octets the image of the record at the front has (own)
+abbrev pub length_at : List ℕ → ℕ
+length_at file = from_be_bytes w64 (take 8 (drop 1 file))
+
+-- the gate at the front is open: it is 1, and a whole length, so many octets and one more follow (own)
+abbrev pub is_open : List ℕ → Bool
+is_open file = (slice_index file 0 == 1) && nat_le (length_at file + 10) (length file)
+
+-- the images of the records that stand behind so many octets, up to the first gate that is not open (own)
+unfoldable pub images_behind : (skip : ℕ) → List ℕ → List (List ℕ)
+images_behind skip [] = []
+images_behind (suc skip) (b ∷ bs) = images_behind skip bs
+images_behind zero (b ∷ bs) =
+    if is_open (b ∷ bs) then take (length_at (b ∷ bs)) (drop 8 bs) ∷ images_behind (length_at (b ∷ bs) + 8) bs else []
+
+-- how many octets these records have (own)
+unfoldable pub records_behind : (skip : ℕ) → List ℕ → ℕ
+records_behind skip [] = 0
+records_behind (suc skip) (b ∷ bs) = records_behind skip bs
+records_behind zero (b ∷ bs) =
+    if is_open (b ∷ bs) then length_at (b ∷ bs) + 9 + records_behind (length_at (b ∷ bs) + 8) bs else 0
+
+-- the images of a journal, the oldest first (own)
+abbrev pub images : List ℕ → List (List ℕ)
+images = images_behind 0
+
+-- the place of the gate that ends the list (own)
+abbrev pub gate_of : List ℕ → ℕ
+gate_of = records_behind 0
+
+-- the last of these images, or else this one (own)
+abbrev pub last_or : Option (List ℕ) → List (List ℕ) → Option (List ℕ)
+last_or image [] = image
+last_or image (next ∷ later) = last_or (Some next) later
+
+-- the image of the last record, if there is one (own)
+abbrev pub last_image : List ℕ → Option (List ℕ)
+last_image file = last_or None (images file)
+
+-- nothing stands behind a gate that is 1 and not open (own)
+abbrev pub IsClean : List ℕ → Type 0
+IsClean file = slice_index file (gate_of file) ≡ 1 → length file ≤ gate_of file + 1
+
+-- these octets have the images of that file, and are clean (own)
+abbrev pub HasImagesOf : List ℕ → List ℕ → Type 0
+HasImagesOf file c = (images c ≡ images file) × IsClean c
+
+-- the gate that ends the list is closed, and is the last octet (own)
+pub record IsAtRest (file : List ℕ) (place : ℕ) : Type 0 where
+  pub gate : place ≡ gate_of file
+  pub last : length file ≡ place + 1
+  pub closed : slice_index file place ≡ 0
+
+-- the images are these, or these and one more (own)
+abbrev pub IsBeforeOrAfter : List (List ℕ) → List ℕ → List ℕ → Type 0
+IsBeforeOrAfter before image c = ((images c ≡ before) ⊎ (images c ≡ before ++ image ∷ [])) × IsClean c
+
+-- the octets of a record of this image, and a closed gate behind it (own)
+pub record IsRecordOf (image octets : List ℕ) : Type 0 where
+  pub head : List ℕ
+  pub split : octets ≡ 1 ∷ (head ++ (image ++ 0 ∷ []))
+  pub eight : length head ≡ 8
+  pub says : from_be_bytes w64 head ≡ length image

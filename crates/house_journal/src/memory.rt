@@ -1,0 +1,230 @@
+// A disk in memory, which can be stopped at each of its writing calls and started again.
+ghost use Rattle.std.specs.Prelude.{◌≡◌, ◌+◌, ◌-◌, ◌^◌, ◌<◌, ◌≤◌, ◌↔◌, ℕ, List, [], true, false, Some, length, IsTrue, OnOk, OnErr};
+ghost use Rattle.cds_base.specs.Counts.{HasCause};
+ghost use Rattle.house_journal.specs.Disks.{written};
+ghost use Rattle.house_journal.specs.MemoryDisks.{counted, missed, fails, has_stopped, noted_write, noted_cut, noted_sync};
+ghost use Rattle.house_journal.specs.MemoryDisks.{left_now, left_from, moment_of, told_of, stop_with};
+ghost use Rattle.house_journal.specs.Clocks.{reads_left_lem, counts_now_lem, only_now_lem};
+ghost use Rattle.house_journal.specs.declared.step.Stop.TheVariants.{Never};
+
+use crate::step::{Step, Stop};
+use crate::{Disk, DiskError, Leave};
+use cds_base::Failed;
+use cds_stamps::Octets;
+use std::alloc::{AllocError, Global};
+use std::marker::Model;
+
+/// A disk in memory. It keeps its octets as they read, and of each write and cut the octets that it replaced: 20,000 records
+/// of a journal cost their octets once, and a few octets a step.
+#[derive(Drop)]
+pub struct MemDisk {
+    alloc: Global,
+    octets: Vec<u8>,
+    // the oldest first
+    steps: Vec<Step>,
+    calls: u64,
+    faults: u64,
+    stop: Stop,
+}
+
+impl Model for MemDisk {
+    ghost use Rattle.std.specs.Prelude.{reverse};
+    ghost use Rattle.house_journal.specs.MemoryDisks.{Fits, MemState};
+
+    ghost Value = { MemState };
+
+    ghost view = { λ m. record { octets = m.octets.items; steps = reverse m.steps.items; calls = m.calls; faults = m.faults; stop = m.stop } };
+
+    ghost invariant = { λ m. Fits (reverse m.steps.items) m.octets.items };
+}
+
+/// Writes a piece over octets, and past their end.
+pub(crate) fn overwrite(octets: &mut Vec<u8>, at: usize, piece: &[u8]) -> Result<(), AllocError>
+    requires { at ≤ length octets.old.items }
+    ensures ok { OnOk result (octets.new.items ≡ written octets.old.items at piece.now) }
+    ensures err { OnErr result (octets.new.items ≡ octets.old.items) }
+{
+    let over = piece.len().min(octets.len() - at);
+    octets.extend_from_slice(&piece[over..])?;
+    octets[at..at + over].copy_from_slice(&piece[..over]);
+    Ok(())
+}
+
+impl MemDisk {
+    /// An empty disk. Takes no memory.
+    pub fn new(alloc: Global) -> MemDisk
+        ensures { result ≡ record { octets = []; steps = []; calls = 0; faults = 0; stop = Never } }
+    {
+        MemDisk {
+            alloc,
+            octets: Vec::new(alloc),
+            steps: Vec::new(alloc),
+            calls: 0,
+            faults: 0,
+            stop: Stop::Never,
+        }
+    }
+
+    /// Lets the `at`-th call from now that writes, cuts or syncs fail, and all later calls. That call, if it writes or cuts,
+    /// is done and not synced; the later ones do nothing. A disk that has stopped stays so, with the new leave.
+    pub fn stop(&mut self, at: u64, leave: Leave)
+        requires { 1 ≤ at }
+        ensures { self.new ≡ record self.old { stop = stop_with at leave self.old.stop } }
+    {
+        self.stop = match self.stop {
+            Stop::Stopped(_) => Stop::Stopped(leave),
+            _ => Stop::After(at - 1, leave),
+        };
+    }
+
+    fn has_stopped(&self) -> bool
+        ensures { result ≡ has_stopped self.now.stop }
+    {
+        matches!(self.stop, Stop::Stopped(_))
+    }
+
+    // Counts a call that reads, which fails where the disk has stopped.
+    fn count_read(&mut self) -> Result<(), Failed>
+        ensures counted { self.new ≡ missed self.old }
+        ensures cause { HasCause self.old.faults self.new.faults result }
+        ensures ok { OnOk result (has_stopped self.old.stop ≡ false) }
+        ensures err { OnErr result (has_stopped self.old.stop ≡ true) }
+    {
+        if self.has_stopped() {
+            self.faults = self.faults.saturating_add(1);
+            return Err(Failed);
+        }
+        Ok(())
+    }
+
+    // Counts a call that writes, cuts or syncs, which fails where the disk has stopped or stops by it.
+    fn count_call(&mut self) -> Result<(), Failed>
+        ensures counted { self.new ≡ counted self.old }
+        ensures cause { HasCause self.old.faults self.new.faults result }
+        ensures ok { OnOk result (fails self.old.stop ≡ false) }
+        ensures err { OnErr result (fails self.old.stop ≡ true) }
+    {
+        self.calls = self.calls.saturating_add(1);
+        match self.stop {
+            Stop::Never => Ok(()),
+            Stop::After(left, leave) if left > 0 => {
+                self.stop = Stop::After(left - 1, leave);
+                Ok(())
+            }
+            Stop::After(_, leave) | Stop::Stopped(leave) => {
+                self.stop = Stop::Stopped(leave);
+                self.faults = self.faults.saturating_add(1);
+                Err(Failed)
+            }
+        }
+    }
+
+    // Writes a piece, unless the disk has stopped.
+    fn note_write(&mut self, at: usize, piece: &[u8]) -> Result<(), AllocError>
+        requires { at ≤ length self.old.octets }
+        ensures ok { OnOk result (self.new ≡ noted_write at piece.now self.old) }
+        ensures err { OnErr result (self.new ≡ self.old) }
+    {
+        if self.has_stopped() {
+            return Ok(());
+        }
+        let over = piece.len().min(self.octets.len() - at);
+        let gone = Octets::of(self.alloc, &self.octets[at..at + over])?;
+        self.steps.push(Step {
+            cuts: false,
+            at,
+            len: piece.len(),
+            gone,
+            synced: false,
+        })?;
+        match overwrite(&mut self.octets, at, piece) {
+            Ok(()) => Ok(()),
+            Err(error) => {
+                self.steps.pop();
+                Err(error)
+            }
+        }
+    }
+
+    // Cuts off all after so many octets, unless the disk has stopped.
+    fn note_cut(&mut self, size: usize) -> Result<(), AllocError>
+        requires { size ≤ length self.old.octets }
+        ensures ok { OnOk result (self.new ≡ noted_cut size self.old) }
+        ensures err { OnErr result (self.new ≡ self.old) }
+    {
+        if self.has_stopped() {
+            return Ok(());
+        }
+        let gone = Octets::of(self.alloc, &self.octets[size..])?;
+        self.steps.push(Step {
+            cuts: true,
+            at: size,
+            len: 0,
+            gone,
+            synced: false,
+        })?;
+        self.octets.truncate(size);
+        Ok(())
+    }
+
+    // Notes that all steps are synced.
+    fn note_sync(&mut self)
+        ensures { self.new ≡ noted_sync self.old }
+    {
+        if self.steps.is_empty() {
+            return;
+        }
+        let newest = self.steps.len() - 1;
+        self.steps[newest].synced = true;
+    }
+}
+
+impl Disk for MemDisk {
+    ghost reads = { λ m. m.octets };
+
+    ghost may_leave = { λ m c. left_now m.steps m.octets c };
+
+    ghost moment = { λ m. moment_of m.steps };
+
+    ghost left_since = { λ m t c. left_from t m.steps m.octets c };
+
+    ghost faults = { λ m. m.faults };
+
+    ghost told = { λ m. Some (told_of m) };
+
+    ghost reads_left = { λ m. reads_left_lem m.steps m.octets };
+
+    ghost counts_now = { λ m t c le now. counts_now_lem m.steps m.octets t c le now };
+
+    ghost only_now = { λ m c left. only_now_lem m.steps m.octets c left };
+
+    fn size(&mut self) -> Result<u64, Failed> {
+        self.count_read()?;
+        Ok(self.octets.len() as u64)
+    }
+
+    fn read_at(&mut self, at: u64, buf: &mut [u8]) -> Result<(), Failed> {
+        self.count_read()?;
+        let rest = &self.octets[at as usize..];
+        buf.copy_from_slice(&rest[..buf.len()]);
+        Ok(())
+    }
+
+    fn write_at(&mut self, at: u64, piece: &[u8]) -> Result<(), DiskError> {
+        self.note_write(at as usize, piece)?;
+        self.count_call()?;
+        Ok(())
+    }
+
+    fn cut(&mut self, size: u64) -> Result<(), DiskError> {
+        self.note_cut(size as usize)?;
+        self.count_call()?;
+        Ok(())
+    }
+
+    fn sync(&mut self) -> Result<(), Failed> {
+        self.count_call()?;
+        self.note_sync();
+        Ok(())
+    }
+}
