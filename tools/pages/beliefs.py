@@ -1,0 +1,122 @@
+"""The definitions of `specs/` under a clause: those that it names, those that these name, and so on."""
+import functools
+import os
+import re
+
+from . import sources
+
+# A name, also a mixfix one or one with a hyphen.
+WORD = r"[^\s(){}\[\],.;λ→×⊎¬]+"
+SIGNATURE = re.compile(rf"(?:(?:abbrev|unfoldable|opaque|pub|data|record)\s+)+({WORD})(?=[\s:(])")
+
+
+class Definition:
+    """A definition: its crate, its file, its name, and its lines, with the comment above it."""
+
+    def __init__(self, crate, file, name, number):
+        self.crate, self.file, self.name, self.number, self.comment, self.lines = crate, file, name, number, 0, []
+
+    def length(self):
+        """How many lines a reader has to read."""
+        return self.comment + len(self.lines)
+
+
+class File:
+    """A file of definitions: these in their order, and what its imports name."""
+
+    def __init__(self, crate, path):
+        self.crate, self.name, self.definitions, self.known, self.aliases = crate, os.path.basename(path)[:-5], {}, {}, {}
+        self.about = ""
+        comment, last = 0, None
+        for number, line in enumerate(sources.text_of(path).split("\n"), 1):
+            if line.startswith("--"):
+                comment, last = comment + 1, None
+                self.about = self.about or (line[3:] if number == 1 else "")
+            elif line.startswith("use "):
+                self.take_import(line)
+                comment = 0
+            elif not line.strip():
+                comment, last = 0, None
+            elif SIGNATURE.match(line) and "pub mod" not in line:
+                last = Definition(crate, self, SIGNATURE.match(line).group(1), number)
+                last.comment, comment = comment, 0
+                last.lines.append(line)
+                self.definitions[last.name] = last
+            elif last:
+                last.lines.append(line)
+            else:
+                # Equations behind a comment or a blank line belong to the definition before.
+                found = list(self.definitions.values())
+                if found and not line.startswith("pub mod"):
+                    last = found[-1]
+                    last.lines.append(line)
+                    last.comment += comment
+                comment = 0
+        for it in list(self.definitions.values()):
+            if re.search(r"\bdata\b", it.lines[0].split(":")[0]):
+                for constructor in re.findall(rf"(?m)^  (?:pub )?({WORD}) :", "\n".join(it.lines[1:])):
+                    self.known[constructor] = it
+
+    def take_import(self, line):
+        """Takes what an import names, for later."""
+        named = re.match(r"use Rattle\.(\w+)\.specs\.([\w.]+?)\.\{(.*)\}", line)
+        alias = re.match(r"use Rattle\.(\w+)\.specs\.([\w.]+) as (\w+)", line)
+        if named:
+            for name in (it.strip() for it in named.group(3).split(",")):
+                self.known.setdefault(name, (named.group(1), named.group(2), name))
+        elif alias:
+            self.aliases[alias.group(3)] = (alias.group(1), alias.group(2))
+
+    def meant(self, name):
+        """The definition of a name in this file, if the repository has it."""
+        if name in self.definitions:
+            return self.definitions[name]
+        found = self.known.get(name)
+        return found_in(*found) if isinstance(found, tuple) else found
+
+    def named_by(self, definition):
+        """The definitions that a definition names."""
+        text = "\n".join(re.sub(r"--.*", "", it) for it in definition.lines)
+        for alias, name in re.findall(rf"\b(\w+)\.({WORD})", text):
+            if alias in self.aliases:
+                yield found_in(*self.aliases[alias], name)
+        words = set(re.findall(WORD, text))
+        for name in {*self.definitions, *self.known}:
+            parts = [it for it in re.split(r"[◌ ]+", name) if it]
+            if "◌" in name and all(it in text for it in parts) or name in words:
+                yield self.meant(name)
+
+
+@functools.cache
+def files():
+    """The files of definitions, by crate and name."""
+    found = {}
+    for crate in sources.stood_on():
+        for path in sources.files_of(crate, "specs", "antt"):
+            it = File(crate, path)
+            found[crate, it.name] = it
+    return found
+
+
+def found_in(crate, file, name):
+    """The definition of a name that a file of a crate has, if the repository has it."""
+    it = files().get((crate, file.split(".")[0]))
+    return it.meant(name) if it and not file.startswith("declared") else None
+
+
+def under(names):
+    """The definitions under these, each `crate/File.name`."""
+    begin = [found_in(*re.match(r"(\w+)/(\w+)\.(.*)", it).groups()) for it in names]
+    known = set()
+    while begin:
+        it = begin.pop()
+        if it is None or it in known:
+            continue
+        known.add(it)
+        begin += it.file.named_by(it)
+    return known
+
+
+def all_lines():
+    """How many lines the files of definitions have."""
+    return sum(sources.text_of(path).count("\n") for crate in sources.stood_on() for path in sources.files_of(crate, "specs", "antt"))

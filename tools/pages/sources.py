@@ -1,0 +1,267 @@
+"""What the sources of the crates say, read as text: functions and whom they call by name, planted bugs, tests, definitions."""
+import functools
+import glob
+import os
+import re
+
+ROOT = os.path.dirname(os.path.dirname(os.path.dirname(os.path.realpath(__file__))))
+CASES = "crates/cdsreplay/cases"
+# Crates whose code is no part of the program: its tests.
+TESTS = ("layer_tests", "replay_tests")
+
+
+@functools.cache
+def text_of(file):
+    """The text of a file, given from the root on; empty where there is none."""
+    path = f"{ROOT}/{file}"
+    if not os.path.isfile(path):
+        return ""
+    with open(path, encoding="utf-8") as it:
+        return it.read()
+
+
+@functools.cache
+def stood_on():
+    """The crates of crates.txt, each with those of the repository that it stands on, itself included."""
+    lines = [it.split(":") for it in text_of("crates.txt").splitlines() if it.strip() and not it.startswith("#")]
+    names = {first.split()[0] for first, _ in lines}
+    return {first.split()[0]: {first.split()[0], *(names & set(rest.split()))} for first, rest in lines}
+
+
+def files_of(crate, folder, ending):
+    """The files of a crate's folder, from the root on."""
+    found = glob.glob(f"{ROOT}/crates/{crate}/{folder}/**/*.{ending}", recursive=True)
+    return sorted(os.path.relpath(it, ROOT) for it in found)
+
+
+class Function:
+    """A function: its crate, file, owner (the type of its `impl`, or its trait), name, parameters and body."""
+
+    def __init__(self, crate, file, owner, trait, head, body, line, is_test):
+        self.crate, self.file, self.owner, self.trait, self.line, self.is_test = crate, file, owner, trait, line, is_test
+        self.name = re.search(r"\bfn (\w+)", head).group(1)
+        self.head, self.body = head, body
+        inner = inside(head, head.index("(", head.index(f"fn {self.name}")))
+        parameters = [it.strip() for it in split_at_commas(inner) if it.strip()]
+        self.is_method = bool(parameters) and re.fullmatch(r"&?(?:'\w+ )?(?:mut )?self(?:: .*)?", parameters[0]) is not None
+        self.arity = len(parameters) - self.is_method
+        self.types = {it.split(":")[0].removeprefix("mut ").strip(): set(re.findall(r"\b[A-Z]\w*", it)) for it in parameters if ":" in it}
+
+    def key(self):
+        """Crate, file and name, as docs/RULES.md has them."""
+        return self.crate, self.file, self.name
+
+
+def inside(text, at):
+    """What stands between the bracket at a place and its partner."""
+    depth, begin = 0, at + 1
+    for place in range(at, len(text)):
+        depth += (text[place] in "([{") - (text[place] in ")]}")
+        if depth == 0:
+            return text[begin:place]
+    return text[begin:]
+
+
+def split_at_commas(text):
+    """The parts of a text between commas that no bracket encloses."""
+    parts, depth, last = [], 0, 0
+    for at, letter in enumerate(text):
+        depth += (letter in "([{<") - (letter in ")]}" or letter == ">" and text[at - 1] not in "-=")
+        if letter == "," and depth == 0:
+            parts.append(text[last:at])
+            last = at + 1
+    return [*parts, text[last:]]
+
+
+def bare(text):
+    """A source without comments and without what its strings say."""
+    text = re.sub(r"//[^\n]*", "", text)
+    return re.sub(r'b?"(?:[^"\\]|\\.)*"', '""', text)
+
+
+def functions_of(crate, file):
+    """The functions of a file. The layout of `rt fmt` is taken for granted: a body ends at the indentation of its head."""
+    lines = bare(text_of(file)).split("\n")
+    found, owner, trait, is_test = [], "", "", False
+    at = 0
+    while at < len(lines):
+        line = lines[at]
+        opened = re.match(r"(?:pub(?:\([^)]*\))? )?(?:impl|trait)\b(.*)", line)
+        if opened:
+            said = line
+            while "{" not in said and at + 1 < len(lines):
+                at += 1
+                said += " " + lines[at].strip()
+            owner, trait = owner_of(said)
+        elif line == "}":
+            owner, trait = "", ""
+        if line.strip().startswith("#["):
+            is_test = is_test or line.strip() == "#[test]"
+        head = re.match(r"( *)(?:pub(?:\([^)]*\))? )?(?:const )?fn \w+", line)
+        if head:
+            end = end_of(lines, at, head.group(1))
+            whole = lines[at : end + 1]
+            first = next((it for it, text in enumerate(whole) if text == head.group(1) + "{"), None)
+            cut = first if first is not None else next((it for it, text in enumerate(whole) if text.endswith(("{", "{}", ";", "}"))), 0) + 1
+            found.append(Function(crate, file, owner, trait, "\n".join(whole[: max(cut, 1)]), "\n".join(whole[cut:]) if first is not None or len(whole) > 1 else whole[0], at + 1, is_test))
+            is_test, at = False, end
+        elif line.strip() and not line.strip().startswith("#["):
+            is_test = False
+        at += 1
+    return found
+
+
+def owner_of(said):
+    """The type of an `impl`, or the trait, and the trait that is implemented, if any."""
+    said = said.split("{")[0].split(" where ")[0]
+    said = re.sub(r"<[^<>]*(?:<[^<>]*>[^<>]*)*>", "", said)
+    if re.match(r"(?:pub(?:\([^)]*\))? )?trait\b", said):
+        return re.search(r"trait (\w+)", said).group(1), ""
+    said = said.split("impl", 1)[1]
+    first, mark, second = said.partition(" for ")
+    words = re.findall(r"\w+", (second if mark else first))
+    return (words[-1] if words else ""), (re.findall(r"\w+", first)[-1] if mark else "")
+
+
+def end_of(lines, at, indent):
+    """The last line of the function whose head begins at a line."""
+    for place in range(at, len(lines)):
+        text = lines[place]
+        if text == indent + "}" or place == at and text.endswith(("{}", ";")) or place == at and re.search(r"\{.*\}$", text):
+            return place
+        if text == "" and place > at and not any(it.strip() for it in lines[place - 1 : place]):
+            continue
+        if place > at and text.startswith(indent + ")") and text.endswith(";"):
+            return place
+        if place > at and re.match(rf"{indent}(?:pub |fn |impl |\}})", text):
+            return place - 1
+    return len(lines) - 1
+
+
+@functools.cache
+def functions():
+    """All functions of all crates."""
+    return [it for crate in stood_on() for file in files_of(crate, "src", "rt") for it in functions_of(crate, file)]
+
+
+@functools.cache
+def fields():
+    """Of each name of a field the types that such fields have, in any crate."""
+    found = {}
+    for crate in stood_on():
+        for file in files_of(crate, "src", "rt"):
+            for name, kind in re.findall(r"(?m)^    (?:pub(?:\([^)]*\))? )?(\w+): ([^,\n{]+),", bare(text_of(file))):
+                found.setdefault(name, set()).update(re.findall(r"\b[A-Z]\w*", kind))
+    return found
+
+
+@functools.cache
+def traits():
+    """The traits of the repository, by their names."""
+    return {it.owner for it in functions() if re.search(rf"trait {it.owner}\b", text_of(it.file))} - {""}
+
+
+class Calls:
+    """Which functions a body can call, by names, numbers of arguments, and types where the text tells them."""
+
+    def __init__(self):
+        self.by_name = {}
+        for it in functions():
+            self.by_name.setdefault(it.name, []).append(it)
+
+    def of(self, caller):
+        """The functions that a function can call."""
+        found, below = set(), stood_on()[caller.crate]
+        for match in re.finditer(r"(\w+)(?=\s*(?:::<[^;(]*?>)?\()|(?<=::)(\w+)\b|\b([a-z_]\w*)\b", caller.body):
+            name = match.group(1) or match.group(2) or match.group(3)
+            if name in self.by_name:
+                found.update(self.chosen(caller, below, name, match))
+        return found
+
+    def chosen(self, caller, below, name, match):
+        """The functions of a name that may be meant where it stands."""
+        body, at = caller.body, match.start()
+        behind = body[match.end() :].lstrip()
+        is_call = behind.startswith(("(", "::<"))
+        arity = len([it for it in split_at_commas(inside(behind, behind.index("("))) if it.strip()]) if is_call and "(" in behind else None
+        front = body[:at].rstrip()
+        several = [it for it in self.by_name[name] if it.crate in below or it.trait in traits()]
+        if front.endswith("."):
+            several = [it for it in several if it.is_method and arity in (None, it.arity)]
+            owners = self.receivers(caller, front[:-1].rstrip())
+            return self.narrowed(several, owners)
+        if front.endswith("::"):
+            owner = re.search(r"(\w+)(?:::<[^;]*>)?::$", front)
+            owner = owner.group(1) if owner else ""
+            owner = caller.owner if owner == "Self" else owner
+            if len(owner) == 1:
+                return [it for it in several if it.owner in traits()]
+            fit = [it for it in several if it.owner == owner or it.trait == owner]
+            return fit or ([it for it in several if not it.owner] if owner[:1].islower() else [])
+        if not is_call and not re.search(r"[(,]$", front):
+            return []
+        same = [it for it in several if not it.owner and arity in (None, it.arity)]
+        return [it for it in same if it.file == caller.file] or same
+
+    def receivers(self, caller, front):
+        """The types that the receiver of a call may have, or none where the text does not tell."""
+        if re.search(r"(?<![\w.])self$", front):
+            return {caller.owner}
+        last = re.search(r"(?<![\w.])(\w+)$", front)
+        if last and last.group(1) in caller.types:
+            return caller.types[last.group(1)]
+        if last:
+            made = re.search(rf"\b{last.group(1)}(?:: ([A-Z]\w*))?\)? = (?:\w+::)*([A-Z]\w*)?", caller.body)
+            named = last.group(1).replace("_", "").capitalize()
+            return {it for it in (made.groups() if made else ()) if it} | {named}
+        field = re.search(r"\.(\w+)(?:\[[^\]]*\])?$", front)
+        return fields().get(field.group(1), set()) if field else set()
+
+    def narrowed(self, several, owners):
+        """Of several methods those of these types, or all where none is."""
+        fit = [it for it in several if it.owner in owners or it.trait in owners]
+        return fit or several
+
+
+@functools.cache
+def reached():
+    """The functions that `run` of cell_replay and `main` of cdsreplay can come to. What implements a trait of the standard library is
+    called in ways that no name tells, so of a crate of the program it counts as reached.
+    """
+    calls, known = Calls(), set()
+    theirs = [it for it in functions() if it.crate not in TESTS]
+    begin = [it for it in theirs if (it.crate, it.name) in (("cell_replay", "run"), ("cdsreplay", "main"))]
+    begin += [it for it in theirs if it.trait and it.trait not in traits()]
+    while begin:
+        it = begin.pop()
+        if it in known or it.crate in TESTS or it.is_test:
+            continue
+        known.add(it)
+        begin += calls.of(it)
+        if it.owner in traits():
+            begin += [other for other in calls.by_name[it.name] if other.trait == it.owner]
+    return known
+
+
+@functools.cache
+def bugs():
+    """The planted bugs, each with its file and the texts that it changes."""
+    found = {}
+    for crate in stood_on():
+        for folder in ("must-fail", "plants"):
+            for file in files_of(crate, folder, "edit"):
+                text = text_of(file)
+                found[crate, os.path.basename(file)[:-5]] = (re.findall(r"(?m)^file: (\S+)", text), re.findall(r"(?m)^old: (.*)", text))
+    return found
+
+
+@functools.cache
+def cases():
+    """The names of the cases."""
+    return sorted(os.path.basename(it)[:-5] for it in glob.glob(f"{ROOT}/{CASES}/*.case"))
+
+
+@functools.cache
+def tests():
+    """The names of the test functions."""
+    return {it.name for it in functions() if it.is_test}
