@@ -1,5 +1,5 @@
 -- The index of a table's deletions: what it knows of after each call's changes.
-use Rattle.std.proofs.Common.{◌≡◌, ℕ, Bool, true, false, cond, List, [], ◌∷◌, Option, Some, None, refl, sym, ap, subst, ◌∙◌, ⊎_elim}
+use Rattle.std.proofs.Common.{◌≡◌, ℕ, Bool, true, false, cond, List, [], ◌∷◌, Option, Some, None, refl, sym, ap, subst, ◌∙◌, ⊎_elim, arith}
 use Rattle.std.proofs.Common.{Result, Ok, Err, IfOk, OnOk, OnErr, is_ok}
 use Rattle.std.specs.Prelude.{if◌then◌else◌, IfSome}
 use Rattle.std.specs.Option.{IsSomeAnd}
@@ -22,7 +22,7 @@ use Rattle.directory.specs.Deletions.{has_lost, is_lost, has_deletion, without, 
 use Rattle.directory.specs.Entries.{Entries, join_entries, join_tables, IsValidEntry, IsValidTable}
 use Rattle.directory.specs.EntryLawProofs.{table_join}
 use Rattle.directory.specs.Histories.{entry_of}
-use Rattle.directory.specs.IndexWords.{is_indexed, Keeps, AddsAt, KnowsAll, BeginsWell, BeginsWellElsewhere, IsIndexed}
+use Rattle.directory.specs.IndexWords.{is_indexed, kept, Keeps, AddsAt, KnowsAll, BeginsWell, BeginsWellElsewhere, IsSettled, IsIndexed}
 use Rattle.directory.specs.Shown.{Shown, marks_of}
 use Rattle.directory.specs.Updates.{Change, changed_name}
 use Rattle.directory.proofs.DeletionLaws.{others_stay, raised_deletion, raised_valid, joined_deletion, update_lost, without_has, without_valid, purged_without}
@@ -30,14 +30,24 @@ use Rattle.directory.proofs.DeletionOrder.{neither_before}
 use Rattle.directory.proofs.DeletionSets.{one_deletion}
 use Rattle.directory.proofs.TableLaws.{entry_of-valid}
 
+-- an index that knows of the same
+pub index_same : (x y : Deletions) (m : Entries) → ((d : Deletion) → is_indexed y d ≡ is_indexed x d) → kept y ≡ kept x → y.most ≡ x.most
+    → IsIndexed x m → IsIndexed y m
+index_same x y m same as_many room i = record {
+  valid = i.valid;
+  all = λ d h. same d ∙ i.all d h;
+  first = λ d h least. i.first d (sym (same d) ∙ h) (λ e has. least e (same e ∙ has));
+  within = let a = i.within in omega (arith, a, as_many, room);
+}
+
 -- what stands before the index settles: the entries are valid, and it knows of all their deletions
 pub record IsKnown (x : Deletions) (m : Entries) : Type 0 where
   pub valid : IsValidTable m
   pub all : KnowsAll x m
 
 -- a call that settles the index
-pub settled : (x y : Deletions) (m : Entries) → IsKnown x m → (KnowsAll x m → KnowsAll y m) → BeginsWell y m → IsIndexed y m
-settled x y m known all first = record { valid = known.valid; all = all known.all; first = first }
+pub settled : (x y : Deletions) (m : Entries) → IsKnown x m → (KnowsAll x m → KnowsAll y m) → BeginsWell y m → IsSettled x y m → IsIndexed y m
+settled x y m known all first is = record { valid = known.valid; all = all known.all; first = first; within = is.within }
 
 module _ (x y : Deletions) (m n : Entries) (keeps : Keeps x y) (i : IsIndexed x m) where
   -- entries that stay
@@ -131,11 +141,12 @@ purged_dropped m n d t early dropped = at (has_deletion m d) refl dropped
     at false has is = ap (purged_table t) is
 
 -- an empty table, and an index that knows of nothing
-pub empty_index : (x : Deletions) (m : Entries) → m ≡ empty → ((d : Deletion) → is_indexed x d ≡ false) → IsIndexed x m
-empty_index x m none nothing = record {
+pub empty_index : (x : Deletions) (m : Entries) → m ≡ empty → ((d : Deletion) → is_indexed x d ≡ false) → kept x ≡ 0 → IsIndexed x m
+empty_index x m none nothing zero = record {
   valid = λ q. subst (λ e. IfSome e IsValidEntry) (sym (gone q)) tt;
   all = λ d h. absurd (false≢true (sym (ap (λ e. is_lost e d.stamp d.what) (gone d.name)) ∙ h));
   first = λ d h least. absurd (false≢true (sym (nothing d) ∙ h));
+  within = omega (arith, zero);
 }
   where
     gone : (q : List ℕ) → get m q ≡ None

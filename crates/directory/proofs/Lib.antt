@@ -8,6 +8,7 @@ pub mod UpdateLaws
 pub mod ChangeLaws
 pub mod DeletionOrder
 pub mod DeletionSets
+pub mod DeletionCounts
 pub mod EntryChangeLaws
 pub mod Lookups
 pub mod FragmentLaws

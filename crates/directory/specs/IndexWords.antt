@@ -1,7 +1,7 @@
 -- Words of private contracts: the index of a table's deletions (own). It may also know of deletions that the table has no more, but
 -- its first one is none of these.
-use Rattle.std.specs.Prelude.{Bool, true, false, ◌&&◌, ◌≡◌, ◌≢◌, ℕ, List, Option, Some, IfSome}
-use Rattle.std.specs.BTreeSet.{contains}
+use Rattle.std.specs.Prelude.{Bool, true, false, ◌&&◌, ◌≡◌, ◌≢◌, ◌≤◌, ◌<◌, ◌*◌, max, ℕ, List, Option, Some, IfSome}
+use Rattle.std.specs.BTreeSet.{contains, btree_set_len}
 use Rattle.std.specs.FinMap.{get, empty, insert}
 use Rattle.std.specs.List.{fold}
 use Rattle.cds_stamps.specs.declared.stamp.Stamp.{Stamp}
@@ -15,6 +15,7 @@ use Rattle.directory.specs.declared.deletions.Deletion.{Deletion}
 use Rattle.directory.specs.declared.deletions.Deletions.{Deletions}
 use Rattle.directory.specs.Entries.{Entries, IsValidTable}
 use Rattle.directory.specs.Deletions.{deletion_cmp, has_deletion, is_before, is_at, is_absent}
+use Rattle.directory.specs.Held.{held_in}
 use Rattle.directory.specs.Updates.{Change, Add, Remove, changed_name}
 
 -- the index knows of d (own)
@@ -80,11 +81,27 @@ BeginsWellBeside u x m =
     (d : Deletion) → touches u d ≡ false → is_indexed x d ≡ true → ((e : Deletion) → is_indexed x e ≡ true → is_before e d ≡ false)
     → has_deletion m d ≡ true
 
--- the index is that of the table, whose entries are valid (own)
+-- how many deletions the index keeps, those that the table has no more among them
+abbrev pub kept : Deletions → ℕ
+kept x = btree_set_len x.known
+
+-- how many it may keep at least
+abbrev pub few : ℕ
+few = 64
+
+-- the settled index y of a table keeps no more than it may. How many that is changes only where the index x, from which it comes, kept
+-- more: then it is at most twice what the table holds, or few
+pub record IsSettled (x y : Deletions) (m : Entries) : Type 0 where
+  pub within : kept y ≤ y.most
+  pub spared : kept x ≤ x.most → y.most ≡ x.most
+  pub swept : x.most < kept x → y.most ≤ max few (2 * held_in m)
+
+-- the index is that of the table, whose entries are valid, and keeps no more than it may (own)
 pub record IsIndexed (x : Deletions) (m : Entries) : Type 0 where
   pub valid : IsValidTable m
   pub all : KnowsAll x m
   pub first : BeginsWell x m
+  pub within : kept x ≤ x.most
 
 -- the table of these entries, inserted in turn (own)
 abbrev pub inserted : List (List ℕ × EntryCell) → Entries

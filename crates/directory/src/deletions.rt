@@ -1,12 +1,13 @@
 // The index of a table's deletions, by their stamps.
-ghost use Rattle.std.specs.Prelude.{◌≡◌, ◌≢◌, ◌<◌, ◌&&◌, IsFalse, MatchBool, IfSome, IfNone, IfOk, OnOk, OnErr, true, false, Some, if◌then◌else◌};
-ghost use Rattle.std.specs.BTreeSet.{btree_set_len};
+ghost use Rattle.std.specs.Prelude.{◌≡◌, ◌≢◌, ◌<◌, ◌≤◌, ◌*◌, ◌&&◌, max, IsFalse, MatchBool, IfSome, IfNone, IfOk, OnOk, OnErr, true, false, Some, if◌then◌else◌};
 ghost use Rattle.directory.specs.declared.deletions.Deletion.{Deletion};
 ghost use Rattle.directory.specs.declared.deletions.What.{What};
 ghost use Rattle.cds_stamps.specs.declared.stamp.Stamp.{Stamp};
 ghost use Rattle.cds_stamps.specs.Stamps.{is_up_to};
 ghost use Rattle.directory.specs.Deletions.{has_lost, has_deletion, is_before, is_deletion, deleted_by};
+ghost use Rattle.directory.specs.Held.{held_in};
 ghost use Rattle.directory.specs.IndexWords.{is_indexed, Keeps, AddsAt, AddsOnly, KnowsMark, KnowsCell, KnowsAll};
+ghost use Rattle.directory.specs.IndexWords.{few, kept, IsSettled};
 ghost use Rattle.directory.specs.IndexWords.{BeginsWell, BeginsWellElsewhere, is_absence, may_undo, touches, BeginsWellBeside};
 ghost use Rattle.directory.specs.Updates.{change_of, changed_name};
 
@@ -34,7 +35,8 @@ pub struct Deletion {
     pub what: What,
 }
 
-/// The deletions that a table has, and some that it had: those are thrown away when they come first, or are too many.
+/// The deletions that a table has, and some that it had: those are thrown away when they come first, or when it knows of more
+/// than `most`. That is twice as many as the last sweep left, and so at most twice what the table held then, or `FEW`.
 #[derive(Drop)]
 pub(crate) struct Deletions {
     known: BTreeSet<Deletion>,
@@ -100,7 +102,9 @@ impl Clone for Deletions {
 
 impl Deletions {
     pub(crate) fn new(alloc: Global) -> Self
-        ensures { (d : Deletion) → is_indexed result d ≡ false }
+        ensures none { (d : Deletion) → is_indexed result d ≡ false }
+        ensures empty { kept result ≡ 0 }
+        ensures room { result.most ≡ few }
     {
         Deletions {
             known: BTreeSet::new(alloc),
@@ -121,6 +125,7 @@ impl Deletions {
         ensures first { IfSome result (λ d. (is_indexed self.old d ≡ true) × ((e : Deletion) → is_indexed self.old e ≡ true → is_before e d ≡ false)) }
         ensures rest { IfSome result (λ d. (e : Deletion) → is_indexed self.new e ≡ (if is_deletion e d then false else is_indexed self.old e)) }
         ensures none { IfNone result ((self.new ≡ self.old) × ((d : Deletion) → is_indexed self.old d ≡ false)) }
+        ensures room { self.new.most ≡ self.old.most }
     {
         self.known.pop_first()
     }
@@ -128,9 +133,10 @@ impl Deletions {
     /// Takes the first deletion out, if it is stamped at most t.
     pub(crate) fn pop_up_to(&mut self, t: Stamp) -> Option<Deletion>
         ensures first { IfSome result (λ d. (is_indexed self.old d ≡ true) × (is_up_to t d.stamp ≡ true)) }
-        ensures shorter { IfSome result (λ _. btree_set_len self.new.known < btree_set_len self.old.known) }
+        ensures shorter { IfSome result (λ _. kept self.new < kept self.old) }
         ensures rest { IfSome result (λ d. (e : Deletion) → is_indexed self.new e ≡ (if is_deletion e d then false else is_indexed self.old e)) }
         ensures none { IfNone result ((self.new ≡ self.old) × ((d : Deletion) → is_indexed self.old d ≡ true → is_up_to t d.stamp ≡ false)) }
+        ensures room { self.new.most ≡ self.old.most }
     {
         match self.known.first() {
             Some(first) if !(t < first.stamp) => self.known.pop_first(),
@@ -142,6 +148,8 @@ impl Deletions {
     pub(crate) fn add(&mut self, deletion: Deletion) -> Result<(), AllocError>
         ensures ok { OnOk result ((e : Deletion) → is_indexed self.new e ≡ (if is_deletion e deletion then true else is_indexed self.old e)) }
         ensures err { OnErr result ((e : Deletion) → is_indexed self.new e ≡ is_indexed self.old e) }
+        ensures same { OnErr result (kept self.new ≡ kept self.old) }
+        ensures room { self.new.most ≡ self.old.most }
     {
         self.known.insert(deletion)?;
         Ok(())
@@ -157,6 +165,8 @@ impl Deletions {
         ensures adds { AddsOnly (deleted_by (change_of update.now) stamp) self.old self.new }
         ensures ok { OnOk result (IfSome (deleted_by (change_of update.now) stamp) (λ d. is_indexed self.new d ≡ true)) }
         ensures err { OnErr result ((e : Deletion) → is_indexed self.new e ≡ is_indexed self.old e) }
+        ensures same { OnErr result (kept self.new ≡ kept self.old) }
+        ensures room { self.new.most ≡ self.old.most }
     {
         match deletion_of(alloc, update, stamp)? {
             Some(deletion) => self.add(deletion),
@@ -174,6 +184,7 @@ impl Deletions {
     ) -> Result<(), AllocError>
         ensures adds { AddsAt name.now self.old self.new }
         ensures ok { OnOk result (is_indexed self.new (record { stamp = stamp; name = name.now; what = what }) ≡ true) }
+        ensures room { self.new.most ≡ self.old.most }
     {
         let name = name.copy(alloc)?;
         self.add(Deletion { stamp, name, what })
@@ -189,6 +200,7 @@ impl Deletions {
         ensures adds { AddsAt name.now self.old self.new }
         ensures ok { OnOk result ((s : Stamp) (w : What) → has_lost entry.now s w ≡ true →
             is_indexed self.new (record { stamp = s; name = name.now; what = w }) ≡ true) }
+        ensures room { self.new.most ≡ self.old.most }
     {
         if let Some(death) = entry.death {
             self.add_what(alloc, name, death, What::Death)?;
@@ -209,6 +221,7 @@ impl Deletions {
     ) -> Result<(), AllocError>
         ensures adds { AddsAt name.now self.old self.new }
         ensures ok { OnOk result (KnowsCell self.new name.now attr.now cell.now) }
+        ensures room { self.new.most ≡ self.old.most }
     {
         if let Some(clear) = cell.cleared {
             self.add_what(alloc, name, clear, What::Clear(attr.copy(alloc)?))?;
@@ -230,6 +243,7 @@ impl Deletions {
     ) -> Result<(), AllocError>
         ensures adds { AddsAt name.now self.old self.new }
         ensures ok { OnOk result (KnowsMark self.new name.now attr.now value.now mark.now) }
+        ensures room { self.new.most ≡ self.old.most }
     {
         if mark.present {
             return Ok(());
@@ -242,6 +256,7 @@ impl Deletions {
     pub(crate) fn add_all(&mut self, other: &Deletions) -> Result<(), AllocError>
         ensures keeps { Keeps self.old self.new }
         ensures ok { OnOk result (Keeps other.now self.new) }
+        ensures room { self.new.most ≡ self.old.most }
     {
         for deletion in other.known.iter() {
             self.add(deletion.clone()?)?;
@@ -249,11 +264,12 @@ impl Deletions {
         Ok(())
     }
 
-    /// Throws away what comes first and is no deletion of the entries any more, or all that is none, if that is much.
+    /// Throws away what comes first and is no deletion of the entries any more, or all that is none, where it knows of too many.
     pub(crate) fn settle(&mut self, entries: &EntryMap)
         ensures all { KnowsAll self.old entries.now → KnowsAll self.new entries.now }
         ensures fewer { Keeps self.new self.old }
         ensures first { BeginsWell self.new entries.now }
+        ensures settled { IsSettled self.old self.new entries.now }
     {
         if self.known.len() > self.most {
             self.sweep(entries);
@@ -265,6 +281,7 @@ impl Deletions {
     pub(crate) fn settle_at(&mut self, entries: &EntryMap, name: &SimpleName)
         ensures all { KnowsAll self.old entries.now → KnowsAll self.new entries.now }
         ensures first { BeginsWellElsewhere name.now self.old entries.now → BeginsWell self.new entries.now }
+        ensures settled { IsSettled self.old self.new entries.now }
     {
         if self.known.len() > self.most || self.begins_at(name) {
             self.settle(entries);
@@ -286,6 +303,7 @@ impl Deletions {
     pub(crate) fn settle_after(&mut self, entries: &EntryMap, update: &Update)
         ensures all { KnowsAll self.old entries.now → KnowsAll self.new entries.now }
         ensures first { BeginsWellBeside (change_of update.now) self.old entries.now → BeginsWell self.new entries.now }
+        ensures settled { IsSettled self.old self.new entries.now }
     {
         if self.known.len() > self.most || self.begins_touched(update) {
             self.settle(entries);
@@ -307,7 +325,9 @@ impl Deletions {
     fn pop_outdated(&mut self, entries: &EntryMap) -> bool
         ensures all { KnowsAll self.old entries.now → KnowsAll self.new entries.now }
         ensures fewer { Keeps self.new self.old }
-        ensures first { MatchBool result (btree_set_len self.new.known < btree_set_len self.old.known) (BeginsWell self.new entries.now) }
+        ensures first { MatchBool result (kept self.new < kept self.old)
+            ((kept self.new ≡ kept self.old) × BeginsWell self.new entries.now) }
+        ensures room { self.new.most ≡ self.old.most }
     {
         match self.known.first() {
             Some(first) if !entries.has(first) => {
@@ -318,9 +338,11 @@ impl Deletions {
         }
     }
 
-    /// Throws away all that is no deletion of the entries any more.
+    /// Throws away all that is no deletion of the entries any more. From then on it may keep twice as many as are left.
     fn sweep(&mut self, entries: &EntryMap)
-        ensures { (d : Deletion) → is_indexed self.new d ≡ (is_indexed self.old d && has_deletion entries.now d) }
+        ensures left { (d : Deletion) → is_indexed self.new d ≡ (is_indexed self.old d && has_deletion entries.now d) }
+        ensures within { kept self.new ≤ self.new.most }
+        ensures room { self.new.most ≤ max few (2 * held_in entries.now) }
     {
         self.known.retain(|deletion| entries.has(deletion));
         self.most = self.known.len().saturating_mul(2).max(FEW);

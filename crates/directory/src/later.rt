@@ -43,6 +43,7 @@ pub(crate) fn add_deletions(
 ) -> Result<(), AllocError>
     ensures keeps { Keeps deletions.old deletions.new }
     ensures ok { OnOk result (KnowsAll deletions.new entries.now) }
+    ensures room { deletions.new.most ≡ deletions.old.most }
 {
     for (name, entry) in entries.iter() {
         deletions.add_entry(alloc, name, entry)?;

@@ -262,6 +262,7 @@ impl Table {
     pub fn first_deletion(&self) -> Option<Stamp>
         ensures first { IfSome result (λ s. (d : Deletion) × ((d.stamp ≡ s) × IsFirst self.now d)) }
         ensures none { IfNone result (HasNone self.now) }
+        ensures valid { IsValidTable self.now }
     {
         match self.deletions.first() {
             Some(deletion) => Some(deletion.stamp),

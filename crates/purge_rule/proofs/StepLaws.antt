@@ -19,7 +19,7 @@ use Rattle.directory.specs.Deletions.{has_deletion, change_at, IsFirst, without,
 use Rattle.directory.specs.Entries.{Entries, IsValidTable}
 use Rattle.directory.specs.Held.{most_held}
 use Rattle.directory.specs.Purges.{purged_table}
-use Rattle.directory.proofs.DeletionLaws.{each_set, purged_without, without_valid, purged_none}
+use Rattle.directory.proofs.DeletionLaws.{each_set, purged_without, purged_none}
 use Rattle.purge_rule.specs.Latest.{CellUpTo, EntryUpTo, TableUpTo}
 use Rattle.purge_rule.proofs.MergeLaws.{some_cell-up_to}
 
@@ -58,11 +58,10 @@ module _ (n : ℕ) where
 -- a table on the way from another: with the same deletions up to t dropped both are one
 pub record IsOnTheWay (t : Stamp) (old now : Entries) : Type 0 where
   pub same : purged_table t now ≡ purged_table t old
-  pub valid : IsValidTable old → IsValidTable now
   pub times : (n : ℕ) → TableUpTo n old → TableUpTo n now
 
 pub sets_out : (t : Stamp) (m : Entries) → IsOnTheWay t m m
-sets_out t m = record { same = refl; valid = λ v. v; times = λ n p. p }
+sets_out t m = record { same = refl; times = λ n p. p }
 
 -- the first deletion is dropped, if it is stamped at most t
 pub goes_on : (t s : Stamp) (old now next : Entries) → is_up_to t s ≡ true → ((d : Deletion) × ((d.stamp ≡ s) × IsFirst now d))
@@ -73,7 +72,6 @@ goes_on t s old now next up first drops way =
     let up_too : is_up_to t d.stamp ≡ true = ap (is_up_to t) first.1.0 ∙ up in
     record {
       same = ap (purged_table t) is ∙ purged_without now d t first.1.1.0 up_too ∙ way.same;
-      valid = λ v. subst IsValidTable (sym is) (without_valid now d (way.valid v));
       times = λ n p. subst (TableUpTo n) (sym is) (without-up_to n now d (way.times n p));
     }
 
@@ -87,16 +85,16 @@ not_less Greater s e = refl
 
 -- where the first deletion is later than t, all are, and none is left to be dropped
 pub arrives_late : (t s : Stamp) (old now : Entries) → is_earlier t s ≡ true → ((d : Deletion) × ((d.stamp ≡ s) × IsFirst now d)) → IsOnTheWay t old now
-    → IsValidTable old → now ≡ purged_table t old
+    → IsValidTable now → now ≡ purged_table t old
 arrives_late t s old now late first way v =
-    sym (purged_none now t (way.valid v) (λ e has.
+    sym (purged_none now t v (λ e has.
     let after : is_earlier e.stamp first.0.stamp ≡ false = not_less (stamp_cmp e.stamp first.0.stamp) _ (first.1.1.1 e has) in
     ap not (later_first stamp_total t first.0.stamp e.stamp (ap (is_earlier t) first.1.0 ∙ late) after))) ∙ way.same
 
 -- and where there is no deletion
-pub arrives : (t : Stamp) (old now : Entries) → ((d : Deletion) → has_deletion now d ≡ false) → IsOnTheWay t old now → IsValidTable old
+pub arrives : (t : Stamp) (old now : Entries) → ((d : Deletion) → has_deletion now d ≡ false) → IsOnTheWay t old now → IsValidTable now
     → now ≡ purged_table t old
-arrives t old now none way v = sym (purged_none now t (way.valid v) (λ d has. absurd (apart (none d) has))) ∙ way.same
+arrives t old now none way v = sym (purged_none now t v (λ d has. absurd (apart (none d) has))) ∙ way.same
   where
     apart : {b : Bool} → b ≡ false → b ≡ true → ⊥
     apart p q = cc

@@ -97,7 +97,7 @@ impl Replica {
     /// that is dropped with its entry.
     pub fn advance_counted<L: Ledger>(&mut self, t: Stamp, steps: &mut Steps<L>)
         ensures merged { (h : List Mark) → self.old ≡ replica_of h self.old.all_up_to → self.new ≡ replica_of h (together self.old.all_up_to (Some t)) }
-        ensures dropped { IsValidTable self.old.table → IfSome self.new.all_up_to (λ u. self.new.table ≡ purged_table u self.old.table) }
+        ensures dropped { IfSome self.new.all_up_to (λ u. self.new.table ≡ purged_table u self.old.table) }
         ensures all_up_to { self.new.all_up_to ≡ together self.old.all_up_to (Some t) }
         ensures valid { IsValidTable self.old.table → IsValidTable self.new.table }
         ensures times { (n : ℕ) → ReplicaUpTo n self.old → t.time ≤ n → ReplicaUpTo n self.new }

@@ -4,7 +4,6 @@ ghost use Rattle.cds_stamps.specs.declared.stamp.Stamp.{Stamp};
 ghost use Rattle.cds_stamps.specs.Stamps.{is_earlier};
 ghost use Rattle.directory.specs.declared.deletions.Deletion.{Deletion};
 ghost use Rattle.directory.specs.Deletions.{has_deletion, HasNone};
-ghost use Rattle.directory.specs.Entries.{IsValidTable};
 ghost use Rattle.directory.specs.Held.{held_in, most_held};
 ghost use Rattle.directory.specs.Purges.{purged_table};
 ghost use Rattle.purge_rule.specs.Latest.{TableUpTo};
@@ -67,7 +66,7 @@ impl<L: Ledger> Steps<L> {
 
 /// Drops the deletions up to t, and counts them, and what is dropped with them. One that is handed out and stays counts as well.
 pub(crate) fn forget<L: Ledger>(table: &mut Table, t: Stamp, steps: &mut Steps<L>)
-    ensures dropped { IsValidTable table.old → table.new ≡ purged_table t table.old }
+    ensures dropped { table.new ≡ purged_table t table.old }
     ensures times { (n : ℕ) → TableUpTo n table.old → TableUpTo n table.new }
     ensures cost { steps.new + held_in table.new ≤ steps.old + held_in table.old + 1 }
     ensures exact_if_none { held_in table.old ≤ most_held → HasNone table.new → steps.new + held_in table.new ≡ steps.old + held_in table.old }

@@ -19,4 +19,4 @@ returns-clause-index c = λ indexed.
       | else-is_ok w ↦ stays_known c.args.deletions.now c.add_deletions-taken.new.deletions c.args.entries.now later indexed keeps
           c.if-is_ok.entries w.entries-is
     ] in
-    record { valid = known.0; all = c.settle.ensures.all known.1; first = c.settle.ensures.first }
+    record { valid = known.0; all = c.settle.ensures.all known.1; first = c.settle.ensures.first; within = c.settle.ensures.settled.within }

@@ -40,4 +40,4 @@ returns-clause-fewer c =
 pub returns-clause-index : goal.returns-clause-index
 returns-clause-index c =
     settled c.pop_first.new.self c.settle.new.self c.match-pop_first.entries (drops (goal.at.returns-clause-index c).After-settle).known
-    c.settle.ensures.all c.settle.ensures.first
+    c.settle.ensures.all c.settle.ensures.first c.settle.ensures.settled

@@ -20,4 +20,4 @@ returns-clause-index c = λ i.
           (known_still x y m w.join-joined.new.self keeps i))
       | else-is_ok w ↦ known_still x y m c.if-is_ok.entries keeps i w.entries-is
     ])
-    c.settle.ensures.all c.settle.ensures.first
+    c.settle.ensures.all c.settle.ensures.first c.settle.ensures.settled

@@ -37,3 +37,4 @@ returns-clause-index c = λ i.
           (λ same q apart. ap (λ n. get n q) same))
       | else-is_ok w ↦ rw w.entries-is (λ q apart. refl)
     ]) i))
+    c.settle_at.ensures.settled

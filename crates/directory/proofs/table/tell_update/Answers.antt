@@ -1,6 +1,6 @@
 use Rattle.directory.specs.Shown.{shown_in}
 use Rattle.directory.specs.Updates.{change_of, changed_name}
-use Rattle.directory.proofs.IndexLaws.{settled, known_still, known_update, on_answer}
+use Rattle.directory.proofs.IndexLaws.{index_same, settled, known_still, known_update, on_answer}
 use Rattle.directory.proofs.TouchedLaws.{update_spares, begins_beside, nothing_changed}
 use Rattle.directory.proofs.table.tell_update.Goals as goal
 
@@ -21,3 +21,9 @@ returns-clause-index c = λ i.
     (update_spares m n u c.args.stamp i.valid c.accept_told-answer.ensures.others)
     (nothing_changed m n u))
     i))
+    c.settle_after.ensures.settled
+
+pub returns-in_err-add_update-clause-index : goal.returns-in_err-add_update-clause-index
+returns-in_err-add_update-clause-index c =
+    index_same c.args.deletions.now c.add_update.new.self c.args.entries.now c.in_err-add_update.ensures.err c.in_err-add_update.ensures.same
+    c.add_update.ensures.room

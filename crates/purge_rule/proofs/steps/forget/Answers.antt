@@ -21,6 +21,8 @@ pub returns-then-is_later-clause-dropped : goal.returns-then-is_later-clause-dro
 returns-then-is_later-clause-dropped g c =
     let late : is_earlier c.args.t c.in-Some.first ≡ true = sym c.is_later.ensures ∙ c.if-is_later.true in
     arrives_late c.args.t c.in-Some.first c.args.table.now c.loop-first.table late c.in-Some.ensures.first c.loop-first.invariant.way
+    c.first_deletion.ensures.valid
 
 pub returns-clause-dropped : goal.returns-clause-dropped
-returns-clause-dropped g c = arrives c.args.t c.args.table.now c.loop-first.table c.in_default.ensures.none c.loop-first.invariant.way
+returns-clause-dropped g c =
+    arrives c.args.t c.args.table.now c.loop-first.table c.in_default.ensures.none c.loop-first.invariant.way c.first_deletion.ensures.valid

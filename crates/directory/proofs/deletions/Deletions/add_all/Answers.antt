@@ -14,4 +14,5 @@ loop-deletion-preserved c =
       λ d has. kept_beside c.loop-deletion.self c.add.new.self c.in-Some.deletion.now put d (c.loop-deletion.invariant.0 d has),
       λ d has. one_added c.loop-deletion.self c.add.new.self c.in-Some.deletion.now c.loop-deletion.deletion-iterator c.next.new.self
           c.in-Some.ensures.steps put d (c.loop-deletion.invariant.1 d has),
+      c.add.ensures.room ∙ c.loop-deletion.invariant.2,
     )

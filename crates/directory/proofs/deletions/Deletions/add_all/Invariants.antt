@@ -10,3 +10,4 @@ abbrev pub invariant-loop-deletion : goal.invariant-loop-deletion
 invariant-loop-deletion l =
     Keeps l.fn.self l.self
     × ((d : Deletion) → is_indexed l.fn.other d ≡ true → (list_any (is_at (deletion_cmp d)) l.deletion-iterator ≡ true) ⊎ (is_indexed l.self d ≡ true))
+    × (l.self.most ≡ l.fn.self.most)

@@ -22,7 +22,7 @@ put_more ps i p within is = ap (fold put none) (take_more ps i p within) ∙ fol
     ∙ ap (put (fold put none (take i ps))) (sym is)
 
 pub loop-name-init : goal.loop-name-init
-loop-name-init c = (empty_index c.new-deletions.result none refl c.new-deletions.ensures).all
+loop-name-init c = (empty_index c.new-deletions.result none refl c.new-deletions.ensures.none c.new-deletions.ensures.empty).all
 
 pub loop-name-preserved : goal.loop-name-preserved
 loop-name-preserved c =
@@ -44,7 +44,7 @@ invariant_of-result c =
     settled y c.settle.new.self m
     (record {
       valid = subst IsValidTable (sym c.in_ok-entries.ensures)
-          (folded_valid none ps (empty_index c.new-deletions.result none refl c.new-deletions.ensures).valid c.requires);
+          (folded_valid none ps (empty_index c.new-deletions.result none refl c.new-deletions.ensures.none c.new-deletions.ensures.empty).valid c.requires);
       all = subst (KnowsAll y) (ap (fold put none) all ∙ sym c.in_ok-entries.ensures) c.loop-name.invariant;
     })
-    c.settle.ensures.all c.settle.ensures.first
+    c.settle.ensures.all c.settle.ensures.first c.settle.ensures.settled

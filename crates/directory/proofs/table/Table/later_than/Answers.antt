@@ -12,4 +12,4 @@ invariant_of-result c =
       valid = subst IsValidTable (sym c.in_ok-entries.ensures) (delta_table-valid (Some c.args.t) c.self.inside.entries c.self.invariant.valid);
       all = c.in_ok-add_deletions.ensures.ok;
     })
-    c.settle.ensures.all c.settle.ensures.first
+    c.settle.ensures.all c.settle.ensures.first c.settle.ensures.settled
