@@ -9,6 +9,7 @@
     generate.py towers N     the octets of N RPC towers of five floors, 75 octets each, for the form `towers`
     generate.py untowers N   the text of the same towers, a line each, for the form `untowers`
     generate.py bag N        a directory at three houses, and N updates whose messages are delivered twice and then lost
+    generate.py two_masters N  N updates at a master and two secondary members in turn, each told to the others, with a skulk each thousand
     generate.py skulks N     a directory of 10,000 entries with four values each at four houses, and N skulks of it
     generate.py crashes N    a house with 10,000 entries that goes down and starts again N times
     generate.py purges N     an entry that gets N values and loses them again, with a skulk each thousand lines
@@ -118,6 +119,30 @@ def bag(count):
         yield f"{command} 1 1 entry-{x >> 2 & 15:02} Attribute 0000{x >> 6 & 7:02x}ff\n"
         yield from delivered(range(serial, serial + 2), 2)
         serial += 2
+    for house in 1, 2, 3:
+        yield f"dump {house} 1\n"
+
+
+def two_masters(count):
+    yield from houses(3)
+    for i in range(16):
+        yield f"create 1 1 entry-{i:02}\n"
+    yield "epoch 1 1 s2 s3\n"
+    yield from delivered(range(1, 3), 1)
+    serial = 3
+    random = pseudorandom(count)
+    for at in range(count):
+        x = next(random)
+        command = "add" if x & 3 else "remove"
+        yield f"{command} {at % 3 + 1} 1 entry-{x >> 2 & 15:02} Attribute 0000{x >> 6 & 7:02x}ff\n"
+        yield from delivered(range(serial, serial + 2), 1)
+        serial += 2
+        if at % 1_000 == 999:
+            yield "skulk 1 1\n"
+            # The two rounds with their answers, and what follows the last.
+            for _ in range(5):
+                yield from delivered(range(serial, serial + 2), 1)
+                serial += 2
     for house in 1, 2, 3:
         yield f"dump {house} 1\n"
 
@@ -314,6 +339,7 @@ KINDS = {
     "towers": towers,
     "untowers": untowers,
     "bag": lambda count: encoded(bag(count)),
+    "two_masters": lambda count: encoded(two_masters(count)),
     "skulks": lambda count: encoded(skulks(count)),
     "crashes": lambda count: encoded(crashes(count)),
     "purges": lambda count: encoded(purges(count)),

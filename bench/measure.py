@@ -36,6 +36,7 @@ SIZES = {
     "towers": 700_000,
     "untowers": 700_000,
     "bag": 100_000,
+    "two_masters": 100_000,
     "skulks": 200,
     "crashes": 1_000,
     "purges": 100_000,

@@ -5,6 +5,7 @@ use std::io::{self, Write};
 
 use crate::cell::Answer;
 use crate::house::{Held, Posted, Refusal, Said};
+use crate::records::Role;
 use crate::rpc::Binding;
 use crate::tables::{Entry, Kind, Stamp};
 
@@ -107,7 +108,12 @@ fn write_dump(text: &mut Vec<u8>, number: u32, held: &Held) -> io::Result<()> {
     let all_up_to = stamp_or(held.replica.all_up_to, "none");
     write!(text, "{number} dump epoch {} allupto {all_up_to} members", held.term.epoch)?;
     for member in &held.term.members {
-        write!(text, " {}:{}:{}", member.house, member.since, if member.is_master { 'm' } else { 'r' })?;
+        let role = match member.role {
+            Role::Master => 'm',
+            Role::ReadOnly => 'r',
+            Role::Secondary => 's',
+        };
+        write!(text, " {}:{}:{role}", member.house, member.since)?;
     }
     text.push(b'\n');
     for (name, entry) in held.replica.entries() {

@@ -7,9 +7,9 @@ use std::rc::Rc;
 use crate::house::Refusal::{At, Because};
 use crate::house::{Clearinghouse, Held, Letters, Posted, Refusal, Said, Term, Update};
 use crate::names::LONGEST_NAME;
-use crate::records::{self, Member};
+use crate::records::{self, Member, Role};
 use crate::rpc::Binding;
-use crate::script::{Ask, Command};
+use crate::script::{Ask, Command, Listed};
 use crate::tables::{Entry, Kind, Pointer, Stamp};
 
 const MOST_MEMBERS: usize = 64;
@@ -41,12 +41,17 @@ pub struct Cell {
     posted: u64,
 }
 
-/// The members of an epoch with these houses, the master first; who was a member before keeps its term.
-fn listing(before: &[Member], epoch: u64, houses: &[u8]) -> Term {
-    let mut ordered = houses.to_vec();
+/// The members of an epoch with these houses; who was a member before keeps its term.
+fn listing(before: &[Member], epoch: u64, listed: &Listed) -> Term {
+    let mut ordered = listed.houses.clone();
     ordered.sort_unstable();
     let since = |house| before.iter().find(|member| member.house == house).map_or(epoch, |member| member.since);
-    let member = |house| Member { house, since: since(house), is_master: house == houses[0] };
+    let role = |house| match house {
+        _ if house == listed.houses[0] => Role::Master,
+        _ if listed.secondary.contains(&house) => Role::Secondary,
+        _ => Role::ReadOnly,
+    };
+    let member = |house| Member { house, since: since(house), role: role(house) };
     Term { epoch, members: ordered.into_iter().map(member).collect() }
 }
 
@@ -107,23 +112,23 @@ impl Cell {
     }
 
     /// A new directory, by its number.
-    fn found(&mut self, houses: &[u8]) -> Result<u32, Refusal> {
-        let term = listing(&[], 1, houses);
+    fn found(&mut self, listed: &Listed) -> Result<u32, Refusal> {
+        let term = listing(&[], 1, listed);
         self.directories.push(term.clone());
         let dir = self.directories.len() as u32;
-        let letters = self.up(houses[0])?.0.found(dir, term);
+        let letters = self.up(listed.houses[0])?.0.found(dir, term);
         self.post(letters);
         Ok(dir)
     }
 
-    fn make_root(&mut self, houses: &[u8]) -> Result<Said, Refusal> {
+    fn make_root(&mut self, listed: &Listed) -> Result<Said, Refusal> {
         if !self.directories.is_empty() {
             return Err(Because("DirectoryExists"));
         }
-        self.made(houses)?;
-        listable(houses)?;
-        self.up(houses[0])?;
-        self.found(houses)?;
+        self.made(&listed.houses)?;
+        listable(&listed.houses)?;
+        self.up(listed.houses[0])?;
+        self.found(listed)?;
         Ok(Said::Done)
     }
 
@@ -140,7 +145,8 @@ impl Cell {
         Ok(stamp)
     }
 
-    fn make_directory(&mut self, house: u8, dir: u32, name: &[u8], houses: &[u8]) -> Result<Said, Refusal> {
+    fn make_directory(&mut self, house: u8, dir: u32, name: &[u8], listed: &Listed) -> Result<Said, Refusal> {
+        let houses = &listed.houses;
         self.known(dir)?;
         self.made(&[house])?;
         self.made(houses)?;
@@ -150,7 +156,7 @@ impl Cell {
         let child = self.directories.len() as u32 + 1;
         let value = Pointer { dir: child, houses: pointed(houses).into() }.octets();
         let stamp = self.accept(house, dir, name, Update::New(Kind::Child, Some(value)))?;
-        Ok(Said::Made(self.found(houses)?, stamp))
+        Ok(Said::Made(self.found(listed)?, stamp))
     }
 
     fn repoint(&mut self, house: u8, dir: u32, name: &[u8], houses: &[u8]) -> Result<Said, Refusal> {
@@ -161,10 +167,11 @@ impl Cell {
         self.accept(house, dir, name, Update::Repoint(pointed(houses))).map(Said::Stamped)
     }
 
-    fn new_epoch(&mut self, dir: u32, houses: &[u8]) -> Result<Said, Refusal> {
+    fn new_epoch(&mut self, dir: u32, listed: &Listed) -> Result<Said, Refusal> {
+        let houses = &listed.houses;
         let last = self.known(dir)?;
         let (epoch, is_member) = (last.epoch + 1, last.place(houses[0]).is_some());
-        let term = listing(&last.members, epoch, houses);
+        let term = listing(&last.members, epoch, listed);
         let left = last.members.iter().map(|member| member.house).filter(|house| term.place(*house).is_none()).collect();
         self.made(houses)?;
         listable(houses)?;
@@ -220,11 +227,11 @@ impl Cell {
         match command {
             Command::House(house, node) => self.make_house(house, node),
             Command::Clock(house, time) => self.house(house).map(|house| house.clock = time).map(|_| Said::Done),
-            Command::Root(houses) => self.make_root(&houses),
-            Command::Mkdir(house, dir, name, houses) => self.make_directory(house, dir, name, &houses),
+            Command::Root(listed) => self.make_root(&listed),
+            Command::Mkdir(house, dir, name, listed) => self.make_directory(house, dir, name, &listed),
             Command::Repoint(house, dir, name, houses) => self.repoint(house, dir, name, &houses),
             Command::Update(house, dir, name, update) => self.accept(house, dir, name, update).map(Said::Stamped),
-            Command::Epoch(dir, houses) => self.new_epoch(dir, &houses),
+            Command::Epoch(dir, listed) => self.new_epoch(dir, &listed),
             Command::Skulk(house, dir) => self.begin_skulk(house, dir),
             Command::Deliver(serial) => self.deliver(serial),
             Command::Lose(serial) => self.bag.remove(&serial).map(|_| Said::Done).ok_or(Because("NoMessage")),

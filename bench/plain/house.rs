@@ -4,7 +4,7 @@ use std::collections::BTreeMap;
 use std::ops::RangeInclusive;
 
 use crate::records::{self, begin_message, put_entry, put_marks, put_members, put_replica, put_stamp};
-use crate::records::{Body, Member, Message, Sender, Tag};
+use crate::records::{Body, Member, Message, Role, Sender, Tag};
 use crate::tables::{Change, Entry, Kind, LINK_TARGET, Marks, Pointer, REPLICAS, Replica, Stamp};
 
 /// The numbers of the messages that a command posted.
@@ -55,7 +55,11 @@ impl Term {
     }
 
     pub fn master(&self) -> Option<u8> {
-        self.members.iter().find(|member| member.is_master).map(|member| member.house)
+        self.members.iter().find(|member| member.role == Role::Master).map(|member| member.house)
+    }
+
+    fn role(&self, house: u8) -> Option<Role> {
+        Some(self.members[self.place(house)?].role)
     }
 
     /// The members but this house.
@@ -312,11 +316,11 @@ impl Clearinghouse {
         })
     }
 
-    /// What it holds as the master, who issues its stamps, and its floor.
-    fn master(&mut self, clock: u64, dir: u32) -> Result<(&mut Held, Issuer, &mut u64), Refusal> {
+    /// What it holds as a member that may do this, who issues its stamps, and its floor.
+    fn issuing(&mut self, clock: u64, dir: u32, may: fn(Role) -> bool) -> Result<(&mut Held, Issuer, &mut u64), Refusal> {
         let by = Issuer { house: self.number, node: self.node, clock };
         match self.dirs.get_mut(&dir) {
-            Some(Slot::Held(held)) if held.term.master() == Some(self.number) => Ok((held, by, &mut self.floor)),
+            Some(Slot::Held(held)) if held.term.role(self.number).is_some_and(may) => Ok((held, by, &mut self.floor)),
             Some(Slot::Held(_)) => Err(Because("NotMaster")),
             _ => Err(Because("NoReplica")),
         }
@@ -329,12 +333,12 @@ impl Clearinghouse {
         name: &[u8],
         update: Update,
     ) -> Result<(Stamp, Option<Letters>), Refusal> {
-        let (held, by, floor) = self.master(clock, dir)?;
+        let (held, by, floor) = self.issuing(clock, dir, |role| role != Role::ReadOnly)?;
         held.accept(by, floor, dir, name, update)
     }
 
     pub fn begin_skulk(&mut self, clock: u64, dir: u32) -> Result<(Said, Option<Letters>), Refusal> {
-        let (held, by, floor) = self.master(clock, dir)?;
+        let (held, by, floor) = self.issuing(clock, dir, |role| role == Role::Master)?;
         held.begin_skulk(by, floor, dir)
     }
 

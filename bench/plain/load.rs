@@ -4,7 +4,7 @@ use std::io::{self, Write};
 
 use crate::cell::{Answer, Cell};
 use crate::house::{Said, Update};
-use crate::script::Command;
+use crate::script::{Command, Listed};
 use crate::tables::{Change, Entry, Kind};
 
 const ENTRIES: [&[u8]; 16] = [
@@ -57,7 +57,7 @@ impl Loader {
         for house in 1..=3 {
             self.step(Command::House(house, u64::from(house)));
         }
-        self.step(Command::Root(vec![1, 2, 3]));
+        self.step(Command::Root(Listed { houses: vec![1, 2, 3], secondary: vec![] }));
         self.fates(2, Some(1));
         for entry in 0..ENTRIES.len() {
             self.create(entry);

@@ -23,11 +23,19 @@ pub enum Tag {
     Leave = 8,
 }
 
+/// What a member is, with its number in records.
+#[derive(Clone, Copy, PartialEq)]
+pub enum Role {
+    Master = 1,
+    ReadOnly = 2,
+    Secondary = 3,
+}
+
 #[derive(Clone, Copy)]
 pub struct Member {
     pub house: u8,
     pub since: u64,
-    pub is_master: bool,
+    pub role: Role,
 }
 
 /// Who sends a message about which directory.
@@ -160,7 +168,7 @@ pub fn put_members(out: &mut Vec<u8>, members: &[Member]) {
     for member in members {
         out.push(member.house);
         out.extend(member.since.to_be_bytes());
-        out.push(if member.is_master { 1 } else { 2 });
+        out.push(member.role as u8);
     }
 }
 
@@ -360,15 +368,16 @@ impl<'a> Reader<'a> {
         let mut members: Vec<Member> = Vec::with_capacity(usize::from(count));
         for behind in (0..count).rev() {
             let last = members.last().map(|member| member.house);
-            let has_master = members.iter().any(|member| member.is_master);
+            let has_master = members.iter().any(|member| member.role == Role::Master);
             let house = self.kept("OutOfOrder", Self::octet, |house| last < Some(*house))?;
             let since = self.number()?;
             let kind = self.kept("BadFlag", Self::octet, |kind| match kind {
                 1 => !has_master,
-                2 => has_master || behind > 0,
+                2 | 3 => has_master || behind > 0,
                 _ => false,
             })?;
-            members.push(Member { house, since, is_master: kind == 1 });
+            let role = [Role::Master, Role::ReadOnly, Role::Secondary][usize::from(kind) - 1];
+            members.push(Member { house, since, role });
         }
         Ok(members)
     }

@@ -20,15 +20,21 @@ pub struct Ask {
     pub high: bool,
 }
 
+/// The houses of a replica set, the master first, and those of them that are secondary.
+pub struct Listed {
+    pub houses: Vec<u8>,
+    pub secondary: Vec<u8>,
+}
+
 /// What a line says; its names are those of the line. In a list of houses the master stands first, as in the line.
 pub enum Command<'a> {
     House(u8, u64),
     Clock(u8, u64),
-    Root(Vec<u8>),
-    Mkdir(u8, u32, &'a [u8], Vec<u8>),
+    Root(Listed),
+    Mkdir(u8, u32, &'a [u8], Listed),
     Repoint(u8, u32, &'a [u8], Vec<u8>),
     Update(u8, u32, &'a [u8], Update<'a>),
-    Epoch(u32, Vec<u8>),
+    Epoch(u32, Listed),
     Skulk(u8, u32),
     Deliver(u64),
     Lose(u64),
@@ -56,6 +62,14 @@ fn number(word: &[u8]) -> Option<u64> {
 
 fn house(word: &[u8]) -> Option<u8> {
     u8::try_from(number(word)?).ok().filter(|house| *house > 0)
+}
+
+/// A house that is no master, and whether it is secondary.
+fn member(word: &[u8]) -> Option<(u8, bool)> {
+    match word.strip_prefix(b"s") {
+        Some(number) => Some((house(number)?, true)),
+        None => Some((house(word)?, false)),
+    }
 }
 
 fn directory(word: &[u8]) -> Option<u32> {
@@ -188,6 +202,17 @@ impl<'a> Words<'a> {
         (self.read..self.words.len()).map(|_| self.next(house)).collect()
     }
 
+    /// All that are left are houses of a replica set: the master, and others that are secondary behind an `s`.
+    fn listed(&mut self) -> Result<Listed, Fault> {
+        let mut listed = Listed { houses: vec![self.next(house)?], secondary: vec![] };
+        while self.read < self.words.len() {
+            let (house, is_secondary) = self.next(member)?;
+            listed.houses.push(house);
+            listed.secondary.extend(is_secondary.then_some(house));
+        }
+        Ok(listed)
+    }
+
     fn ask(&mut self) -> Result<Ask, Fault> {
         Ok(Ask { house: self.next(house)?, high: self.next(is_high)? })
     }
@@ -256,8 +281,8 @@ fn command(words: Vec<&[u8]>) -> Result<Command<'_>, Fault> {
     Ok(match w.words[0] {
         b"house" => Command::House(w.next(house)?, w.next(node)?),
         b"clock" => Command::Clock(w.next(house)?, w.next(number)?),
-        b"root" => Command::Root(w.houses()?),
-        b"mkdir" => Command::Mkdir(w.next(house)?, w.next(directory)?, w.next(simple)?, w.houses()?),
+        b"root" => Command::Root(w.listed()?),
+        b"mkdir" => Command::Mkdir(w.next(house)?, w.next(directory)?, w.next(simple)?, w.listed()?),
         b"repoint" => Command::Repoint(w.next(house)?, w.next(directory)?, w.next(simple)?, w.houses()?),
         b"create" => w.update(|_| Ok(Update::New(Kind::Object, None)))?,
         b"link" => w.update(|w| Ok(Update::New(Kind::Link, Some(w.next(full)?.to_vec()))))?,
@@ -268,7 +293,7 @@ fn command(words: Vec<&[u8]>) -> Result<Command<'_>, Fault> {
         b"clear" => {
             w.update(|w| Ok(Update::Change(Change { attribute: w.next(attribute)?, clears: true, value: None })))?
         }
-        b"epoch" => Command::Epoch(w.next(directory)?, w.houses()?),
+        b"epoch" => Command::Epoch(w.next(directory)?, w.listed()?),
         b"skulk" => Command::Skulk(w.next(house)?, w.next(directory)?),
         b"deliver" => Command::Deliver(w.next(serial)?),
         b"lose" => Command::Lose(w.next(serial)?),

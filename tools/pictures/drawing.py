@@ -59,10 +59,12 @@ LEGEND = {
     "hollow refused": "refused",
     "delivery": "delivery",
     "lane master": "is a master",
+    "lane secondary": "is secondary",
     "lane ": "holds a replica",
     "lane without": "holds none",
     "gap": "is down",
     "epoch": "epoch, its master M",
+    "second": "its secondary S",
     "shade": "skulk",
     "open": "skulk, not complete",
     "rise": "AllUpTo rises",
@@ -76,7 +78,7 @@ FIXED = """text{font-family:Helvetica,Arial,'Liberation Sans','DejaVu Sans',sans
 .head{fill:currentColor;stroke:currentColor;stroke-linejoin:round}.full{fill:currentColor}
 .hollow{stroke:currentColor;stroke-width:1.4px}
 .refused{stroke-dasharray:2.5 2}.cross{fill:none;stroke:currentColor;stroke-width:2.4px}.lane{fill:none;stroke-width:1.3px}
-.master{stroke-width:3.4px}.without{stroke-dasharray:1.5 4}.guide{stroke-width:1px}
+.master{stroke-width:3.4px}.secondary{stroke-width:3.4px;stroke-dasharray:11 3}.without{stroke-dasharray:1.5 4}.guide{stroke-width:1px}
 .upright{stroke-width:1.2px;stroke-dasharray:5 3}
 .open{fill:none;stroke-width:1.2px;stroke-dasharray:6 4}.tag{stroke-width:1px}.pale{opacity:.42}"""
 
@@ -149,9 +151,9 @@ def circle(x, y, radius, kind):
     return f'<circle cx="{number(x)}" cy="{number(y)}" r="{number(radius)}" class="{kind}"/>'
 
 
-def master(x, y):
-    """The sign of a master."""
-    return circle(x, y, 7, "ink") + text(x, y + 3.3, "M", "number onink")
+def badge(x, y, letter):
+    """The sign of a master, or of a secondary member."""
+    return circle(x, y, 7, "ink") + text(x, y + 3.3, letter, "number onink")
 
 
 def line(x, y, to_x, to_y, kind):
@@ -459,7 +461,7 @@ class Picture:
             self.add("guide", line(x, y + 4, x, row.y(lane) if lane is not None else self.break_y(row, step.message), "guide"))
 
     def draw_lanes(self):
-        """The lines of the houses: gone while a house is down, and thick while it is a master."""
+        """The lines of the houses: gone while a house is down, and thick while it accepts updates."""
         for house, lane in self.lane.items():
             changes = [*self.lane_changes(house), (None, None)]
             for (at, style), (until, _) in zip(changes, changes[1:]):
@@ -486,7 +488,8 @@ class Picture:
             else:
                 is_up = what == "up"
             held = roles.values()
-            style = "master" if "master" in held else "" if "member" in held else "without"
+            styles = ("master", "master"), ("secondary", "secondary"), ("member", "")
+            style = next((it for role, it in styles if role in held), "without")
             changes.append((at, style if is_up else None))
         if any(it is None for _, it in changes):
             self.used.add("gap")
@@ -517,8 +520,10 @@ class Picture:
         shapes.append(line(x, row.strip + 2, x, row.lanes + LANE * len(self.houses) - 6, "upright"))
         for house in epoch.members:
             lane = self.lane.get(house)
-            if lane is not None and house == epoch.master:
-                shapes.append(master(x, row.y(lane)))
+            letter = {"master": "M", "secondary": "S"}.get(epoch.role(house))
+            if lane is not None and letter:
+                shapes.append(badge(x, row.y(lane), letter))
+                self.used |= {"second"} if letter == "S" else set()
             elif lane is not None:
                 shapes.append(circle(x, row.y(lane), 4, "ink"))
         self.add("upright", titled("", "\n".join([epoch_title(epoch), *told(self.replay.steps[epoch.step])]), *shapes))
@@ -743,7 +748,9 @@ def sample(kind, x, y, message):
     if kind == "gap":
         return line(x, y, x + 8, y, "lane") + line(x + 20, y, x + 28, y, "lane")
     if kind == "epoch":
-        return line(x + 14, y - 9, x + 14, y + 9, "upright") + master(x + 14, y)
+        return line(x + 14, y - 9, x + 14, y + 9, "upright") + badge(x + 14, y, "M")
+    if kind == "second":
+        return line(x + 14, y - 9, x + 14, y + 9, "upright") + badge(x + 14, y, "S")
     if kind in ("shade", "open"):
         return rect(x + 1, y - 7, 26, 14, kind, 3)
     if kind == "rise":
@@ -764,7 +771,7 @@ def dots(begin, end):
 
 def epoch_title(epoch):
     """The hover text of an epoch."""
-    members = " ".join(map(str, epoch.members))
+    members = " ".join("s" * (it in epoch.secondary) + str(it) for it in epoch.members)
     return f"epoch {epoch.number} of directory {epoch.dir}: master {epoch.master}, members {members}"
 
 

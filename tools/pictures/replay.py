@@ -6,7 +6,7 @@ houses get the messages that it posts, what these messages are, and what a house
 import re
 
 COMMANDS = {
-    "house": "H NODE", "clock": "H TIME", "root": "M R*", "mkdir": "H D S M R*", "repoint": "H D S M R*",
+    "house": "H NODE", "clock": "H TIME", "root": "M R*", "mkdir": "H D S M R*", "repoint": "H D S M H*",
     "create": "H D S", "link": "H D S NAME", "delete": "H D S", "add": "H D S ATTR VALUE", "remove": "H D S ATTR VALUE",
     "put": "H D S ATTR VALUE", "clear": "H D S ATTR", "epoch": "D M R*", "skulk": "H D", "deliver": "N", "lose": "N",
     "crash": "H", "start": "H", "read": "H C NAME ATTR", "readlink": "H C NAME", "export": "NAME IF BS OS",
@@ -26,11 +26,13 @@ HEXADECIMAL = r"(?:[0-9A-Fa-f]{2})+"
 STAMP = r"(?:0|[1-9]\d{0,19})@[0-9a-f]{12}"
 # The forms of words. Those of the name service are not looked at, and the program tells their faults.
 WORDS = {
-    "H": f"({HOUSE})", "M": f"({HOUSE})", "R*": f"((?: {HOUSE})*)", "D": r"([1-9]\d{0,9})", "N": r"([1-9]\d{0,19})",
+    "H": f"({HOUSE})", "M": f"({HOUSE})", "H*": f"((?: {HOUSE})*)", "D": r"([1-9]\d{0,9})", "N": r"([1-9]\d{0,19})",
     "TIME": f"({NUMBER})", "NODE": r"([0-9A-Fa-f]{12})", "S": r"([^ /]{1,254})", "NAME": r"(/\.:(?:/[^ /]{1,254})*)",
     "ATTR": r"([A-Za-z0-9_]{1,31})", "VALUE": f"({HEXADECIMAL})", "OCTETS": f"({HEXADECIMAL})", "C": "(low|high)",
-    "WHAT": "(msg|house)",
+    "WHAT": "(msg|house)", "R*": f"((?: s?{HOUSE})*)",
 }
+# Each stands for any number of words.
+LISTS = WORDS["H*"], WORDS["R*"]
 REASONS = set(
     """HouseExists NoHouse DirectoryExists BadMembers Down NoDirectory NoReplica NotMaster EntryExists StampsSpent NoSuchEntry
     WrongKind NotMember NotJoined NoMessage Up NotLink NothingToExport NothingToUnexport NotObject NoSuchMember BadPriority
@@ -44,7 +46,7 @@ MOST_LINKS = 64
 def form_of(command):
     """The form of a command's line."""
     words = [WORDS.get(word, r"([^ ]+)") for word in COMMANDS[command].split()]
-    return re.compile(command + "".join(word if word == WORDS["R*"] else f" {word}" for word in words))
+    return re.compile(command + "".join(word if word in LISTS else f" {word}" for word in words))
 
 
 def answer_form(command):
@@ -112,10 +114,15 @@ class Message:
 class Epoch:
     """An epoch of a directory: `since` has for each member the epoch with which its term began."""
 
-    def __init__(self, directory, number, master, members, before, step):
+    def __init__(self, directory, number, master, members, secondary, before, step):
         self.dir, self.number, self.master, self.members, self.step = directory, number, master, sorted(members), step
+        self.secondary = sorted(secondary)
         self.since = {house: before.since.get(house, number) if before else number for house in self.members}
         self.known = {}
+
+    def role(self, house):
+        """What a member is."""
+        return "master" if house == self.master else "secondary" if house in self.secondary else "member"
 
     def others(self, house):
         """The members but this house."""
@@ -150,8 +157,13 @@ def plural(count, word):
 
 
 def numbers(text):
-    """The numbers of a text, as they stand."""
-    return [int(it) for it in text.split()]
+    """The numbers of a text, as they stand, of secondary houses too."""
+    return [int(it.removeprefix("s")) for it in text.split()]
+
+
+def secondary(text):
+    """The numbers of the secondary houses of a text."""
+    return [int(it[1:]) for it in text.split() if it.startswith("s")]
 
 
 class Entry:
@@ -197,7 +209,7 @@ class Replay:
     def hold(self, house, directory, epoch, step):
         """A house holds this epoch of a directory from now on, or none; a skulk that it ran ends."""
         self.held[house, directory] = epoch
-        role = "none" if epoch is None else "master" if epoch.master == house else "member"
+        role = "none" if epoch is None else epoch.role(house)
         self.holdings.append((step.at, house, directory, role))
         self.end_skulk(house, directory, step)
 
@@ -242,13 +254,13 @@ class Replay:
             self.post(step, "Update", house, directory, epoch.number, epoch.others(house))
 
     def begin_epoch(self, step, directory, master, others):
-        """Begins an epoch of a directory, and posts its Joins and Leaves."""
-        listed = [master, *others]
+        """Begins an epoch of a directory, whose other members these words name, and posts its Joins and Leaves."""
+        listed = [master, *numbers(others)]
         if len(set(listed)) < len(listed) or any(it not in self.nodes for it in listed):
             raise self.fault("the new epoch has no such members")
         epochs = self.epochs.setdefault(directory, [])
         before = epochs[-1] if epochs else None
-        epoch = Epoch(directory, len(epochs) + 1, master, listed, before, step.at)
+        epoch = Epoch(directory, len(epochs) + 1, master, listed, secondary(others), before, step.at)
         epochs.append(epoch)
         self.hold(master, directory, epoch, step)
         self.post(step, "Join", master, directory, epoch.number, epoch.others(master))
@@ -285,18 +297,19 @@ class Replay:
         """The root directory is made."""
         if 1 in self.epochs:
             raise self.fault("there is a root directory already")
-        self.begin_epoch(step, 1, int(step.words[0]), numbers(step.words[1]))
+        self.begin_epoch(step, 1, int(step.words[0]), step.words[1])
 
     def do_mkdir(self, step, said):
         """A child and its directory are made."""
-        house, parent, name, master, others = (it if at == 2 else numbers(it) for at, it in enumerate(step.words))
+        house, parent, master = (int(step.words[it]) for it in (0, 1, 3))
+        name, others = step.words[2], step.words[4]
         directory = int(said[0])
         if directory != len(self.epochs) + 1:
             raise self.fault(f"directory {directory} is made before {len(self.epochs) + 1}")
-        self.post_updates(step, house[0], parent[0])
-        self.begin_epoch(step, directory, master[0], others)
-        step.dirs = (parent[0], directory)
-        self.entry(parent[0], name).become("child", (directory, (master[0], *sorted(others))))
+        self.post_updates(step, house, parent)
+        self.begin_epoch(step, directory, master, others)
+        step.dirs = (parent, directory)
+        self.entry(parent, name).become("child", (directory, (master, *sorted(numbers(others)))))
 
     def do_update(self, step, said):
         """An update is accepted."""
@@ -311,7 +324,7 @@ class Replay:
 
     def do_epoch(self, step, said):
         """A new epoch begins."""
-        directory, master, others = int(step.words[0]), int(step.words[1]), numbers(step.words[2])
+        directory, master, others = int(step.words[0]), int(step.words[1]), step.words[2]
         if directory not in self.epochs:
             raise self.fault(f"directory {directory} was not made")
         self.held_epoch(master, directory)

@@ -71,7 +71,8 @@ member_flag : (left : ℕ) (master : Bool) (n : ℕ) → kind_rule left master n
 member_flag left master zero e = absurd cc
 member_flag left master (suc zero) e = refl
 member_flag left master (suc (suc zero)) e = refl
-member_flag left master (suc (suc (suc n))) e = absurd (grind (arith, e))
+member_flag left master (suc (suc (suc zero))) e = refl
+member_flag left master (suc (suc (suc (suc n)))) e = absurd (grind (arith, e))
 
 spell_member_kind : (left : ℕ) (master : Bool) → OneSpelling (member_kind left master)
 unfolding member_kind octet

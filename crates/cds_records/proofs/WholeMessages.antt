@@ -8,7 +8,7 @@ use Rattle.std.proofs.lemmas.List.{length-map}
 use Rattle.std.proofs.lemmas.List.Sums.{sum_by-cons}
 use Rattle.cds_stamps.specs.declared.members.Member.{Member}
 use Rattle.cds_stamps.specs.declared.members.MemberKind.{MemberKind}
-use Rattle.cds_stamps.specs.declared.members.MemberKind.TheVariants.{Master, ReadOnly}
+use Rattle.cds_stamps.specs.declared.members.MemberKind.TheVariants.{Master, ReadOnly, Secondary}
 use Rattle.cds_stamps.specs.Members.{Member as listed_member}
 use Rattle.cds_stamps.specs.Members.{is_master, member_of, members_of, members_fault, first_unordered, masters_in, most_members}
 use Rattle.cds_stamps.proofs.MemberLaws.{no_members_fault}
@@ -56,6 +56,9 @@ may_stand Master n false rest none e = (refl, omega arith)
 may_stand ReadOnly n true rest none e = (let t : ((n == 0) && not true) ≡ false = grind arith in rw t refl, omega arith)
 may_stand ReadOnly zero false rest none e = absurd (let z = none refl in omega arith)
 may_stand ReadOnly (suc n) false rest none e = (let t : (suc n == 0) ≡ false = grind arith in rw t refl, omega arith)
+may_stand Secondary n true rest none e = (let t : ((n == 0) && not true) ≡ false = grind arith in rw t refl, omega arith)
+may_stand Secondary zero false rest none e = absurd (let z = none refl in omega arith)
+may_stand Secondary (suc n) false rest none e = (let t : (suc n == 0) ≡ false = grind arith in rw t refl, omega arith)
 
 no_masters : (ms : List Member) → length ms ≡ 0 → masters_in (members_of ms) ≡ 0
 no_masters [] e = refl

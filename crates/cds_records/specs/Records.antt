@@ -43,13 +43,13 @@ replica =
 
 -- ---- members
 
--- a kind that is neither, a second master, or a last member of a list without a master; `left` members follow (own)
+-- no kind, a second master, or a last member of a list without a master; `left` members follow (own)
 abbrev pub kind_rule : (left : ℕ) → (master : Bool) → ℕ → Option Rule
 kind_rule left master kind =
     if kind == 1 then (if master then Some BadFlag else None)
-    else (if kind == 2 then (if (left == 0) && not master then Some BadFlag else None) else Some BadFlag)
+    else (if (kind == 2) || (kind == 3) then (if (left == 0) && not master then Some BadFlag else None) else Some BadFlag)
 
--- a master is 1, a read-only house 2; `left` members follow, and one before is master or none (own)
+-- a master is 1, a read-only house 2, a secondary one 3; `left` members follow, and one before is master or none (own)
 unfoldable pub member_kind : (left : ℕ) → (master : Bool) → Layout MemberKind
 member_kind left master = next (octet (kind_rule left master)) (λ k. done (kind_in k))
 

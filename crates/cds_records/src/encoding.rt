@@ -159,13 +159,14 @@ fn put_joined(out: &mut Vec<u8>, members: &Members, replica: &Replica) -> Result
     Ok(())
 }
 
-/// The number of a kind: a master is 1, a read-only house 2.
+/// The number of a kind: a master is 1, a read-only house 2, a secondary one 3.
 fn member_kind_number(kind: MemberKind) -> u8
     ensures { result ≡ kinds.kind_number kind }
 {
     match kind {
         MemberKind::Master => 1,
         MemberKind::ReadOnly => 2,
+        MemberKind::Secondary => 3,
     }
 }
 

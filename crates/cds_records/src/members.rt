@@ -105,6 +105,7 @@ fn kind_of(number: u8, following: u8, master: bool) -> Option<MemberKind>
     match number {
         1 if !master => Some(MemberKind::Master),
         2 if master || following > 0 => Some(MemberKind::ReadOnly),
+        3 if master || following > 0 => Some(MemberKind::Secondary),
         _ => None,
     }
 }

@@ -115,16 +115,16 @@ plain_of g c p = unless_plain g (first_refusal (refusals_of g c)) (effect g c) p
 pub said : (g : Cell) (c : Command) → Said g c
 said g (command.House h node) = plain_of g (command.House h node) tt
 said g (command.Clock h time) = plain_of g (command.Clock h time) tt
-said g (command.Root m rs) = plain_of g (command.Root m rs) tt
-said g (command.Mkdir h d n m rs) =
+said g (command.Root m rs ss) = plain_of g (command.Root m rs ss) tt
+said g (command.Mkdir h d n m rs ss) =
     let u : Change = changes.MakeChild n (record { dir = g.next_dir; master = m; others = ascending rs }) in
-    plain_of g (command.Mkdir h d n m rs) (mkdir_plain g h d m (listing [] 1 m rs) u ((g.house h).slots d))
+    plain_of g (command.Mkdir h d n m rs ss) (mkdir_plain g h d m (listing [] 1 m rs ss) u ((g.house h).slots d))
 said g (command.Repoint h d n m rs) =
     plain_of g (command.Repoint h d n m rs) (slot_plain g h d (changes.Repoint n m (ascending rs)) ((g.house h).slots d))
 said g (command.Accept h d u) = plain_of g (command.Accept h d u) (slot_plain g h d u ((g.house h).slots d))
-said g (command.Epoch d m rs) =
-    let ms : List Member = listing (g.present d) (g.top d + 1) m rs in
-    plain_of g (command.Epoch d m rs) (epoch_plain g d m (g.top d + 1) ms (leaving (g.present d) ms) ((g.house m).slots d))
+said g (command.Epoch d m rs ss) =
+    let ms : List Member = listing (g.present d) (g.top d + 1) m rs ss in
+    plain_of g (command.Epoch d m rs ss) (epoch_plain g d m (g.top d + 1) ms (leaving (g.present d) ms) ((g.house m).slots d))
 said g (command.Skulk h d) =
     unless_begun g (first_refusal (refusals_of g (command.Skulk h d))) (effect g (command.Skulk h d)) (skulk_begun g h d ((g.house h).slots d))
 said g (command.Deliver n) = tt
@@ -141,11 +141,11 @@ taken_by g (command.Skulk h d) ns e = elim (subst IsBegun e (said g (command.Sku
 taken_by g (command.Deliver n) ns e = (n, refl)
 taken_by g (command.House h node) ns e = plain_taken g (command.House h node) ns (said g (command.House h node)) e
 taken_by g (command.Clock h time) ns e = plain_taken g (command.Clock h time) ns (said g (command.Clock h time)) e
-taken_by g (command.Root m rs) ns e = plain_taken g (command.Root m rs) ns (said g (command.Root m rs)) e
-taken_by g (command.Mkdir h d n m rs) ns e = plain_taken g (command.Mkdir h d n m rs) ns (said g (command.Mkdir h d n m rs)) e
+taken_by g (command.Root m rs ss) ns e = plain_taken g (command.Root m rs ss) ns (said g (command.Root m rs ss)) e
+taken_by g (command.Mkdir h d n m rs ss) ns e = plain_taken g (command.Mkdir h d n m rs ss) ns (said g (command.Mkdir h d n m rs ss)) e
 taken_by g (command.Repoint h d n m rs) ns e = plain_taken g (command.Repoint h d n m rs) ns (said g (command.Repoint h d n m rs)) e
 taken_by g (command.Accept h d u) ns e = plain_taken g (command.Accept h d u) ns (said g (command.Accept h d u)) e
-taken_by g (command.Epoch d m rs) ns e = plain_taken g (command.Epoch d m rs) ns (said g (command.Epoch d m rs)) e
+taken_by g (command.Epoch d m rs ss) ns e = plain_taken g (command.Epoch d m rs ss) ns (said g (command.Epoch d m rs ss)) e
 taken_by g (command.Lose n) ns e = plain_taken g (command.Lose n) ns (said g (command.Lose n)) e
 taken_by g (command.Crash h) ns e = plain_taken g (command.Crash h) ns (said g (command.Crash h)) e
 taken_by g (command.Start h) ns e = plain_taken g (command.Start h) ns (said g (command.Start h)) e

@@ -188,13 +188,13 @@ answers_lem commands (command.Deliver n) = record {
 }
 answers_lem commands (command.House h node) = plain_holds (replay commands) (command.House h node) (said (replay commands) (command.House h node))
 answers_lem commands (command.Clock h time) = plain_holds (replay commands) (command.Clock h time) (said (replay commands) (command.Clock h time))
-answers_lem commands (command.Root m rs) = plain_holds (replay commands) (command.Root m rs) (said (replay commands) (command.Root m rs))
-answers_lem commands (command.Mkdir h d n m rs) =
-    plain_holds (replay commands) (command.Mkdir h d n m rs) (said (replay commands) (command.Mkdir h d n m rs))
+answers_lem commands (command.Root m rs ss) = plain_holds (replay commands) (command.Root m rs ss) (said (replay commands) (command.Root m rs ss))
+answers_lem commands (command.Mkdir h d n m rs ss) =
+    plain_holds (replay commands) (command.Mkdir h d n m rs ss) (said (replay commands) (command.Mkdir h d n m rs ss))
 answers_lem commands (command.Repoint h d n m rs) =
     plain_holds (replay commands) (command.Repoint h d n m rs) (said (replay commands) (command.Repoint h d n m rs))
 answers_lem commands (command.Accept h d u) = plain_holds (replay commands) (command.Accept h d u) (said (replay commands) (command.Accept h d u))
-answers_lem commands (command.Epoch d m rs) = plain_holds (replay commands) (command.Epoch d m rs) (said (replay commands) (command.Epoch d m rs))
+answers_lem commands (command.Epoch d m rs ss) = plain_holds (replay commands) (command.Epoch d m rs ss) (said (replay commands) (command.Epoch d m rs ss))
 answers_lem commands (command.Lose n) = plain_holds (replay commands) (command.Lose n) (said (replay commands) (command.Lose n))
 answers_lem commands (command.Crash h) = plain_holds (replay commands) (command.Crash h) (said (replay commands) (command.Crash h))
 answers_lem commands (command.Start h) = plain_holds (replay commands) (command.Start h) (said (replay commands) (command.Start h))

@@ -42,21 +42,21 @@ move_still g g' p a l v (crashes h up) =
 move_still g g' p a l v (starts h made) = still_put g.house h (started_house (g.house h)) v (up_still (started_house (g.house h)) refl)
 move_still g g' p a l v (acts h d _ floor o posts b n act) =
     still_put g.house h (holding (g.house h) d floor o) v (up_still (holding (g.house h) d floor o) (act_up g h d floor o posts b n act))
-move_still g g' p a l v (founds d m rs ns root up none) =
-    still_put g.house m (holding (g.house m) d (g.house m).floor (Held (first_replica (listing [] 1 m rs)))) v
-    (up_still (holding (g.house m) d (g.house m).floor (Held (first_replica (listing [] 1 m rs)))) up)
-move_still g g' p a l v (crowns d m rs r up known at list since) =
-    let s : Slot = Held (epoch_replica (g.top d + 1) (listing (g.present d) (g.top d + 1) m rs) r) in
+move_still g g' p a l v (founds d m rs ss ns root up none) =
+    still_put g.house m (holding (g.house m) d (g.house m).floor (Held (first_replica (listing [] 1 m rs ss)))) v
+    (up_still (holding (g.house m) d (g.house m).floor (Held (first_replica (listing [] 1 m rs ss)))) up)
+move_still g g' p a l v (crowns d m rs ss r up known at list since) =
+    let s : Slot = Held (epoch_replica (g.top d + 1) (listing (g.present d) (g.top d + 1) m rs ss) r) in
     still_put g.house m (holding (g.house m) d (g.house m).floor s) v (up_still (holding (g.house m) d (g.house m).floor s) up)
 
 steps_still : (g g' : Cell) (p : Option (ℕ × ℕ)) (a : Answer) (l : List Accepted) → Still g → Steps g p g' a l → Still g'
 steps_still g g' p a l v (one _ _ _ m) = move_still g g' p a l v m
-steps_still g g' p a l v (mkdirs h d m u rs r s ns at i fine up known) =
+steps_still g g' p a l v (mkdirs h d m u rs ss r s ns at i fine up known) =
     let now : House = holding (g.house h) d s.time (Held (grown r (new_marks r u s))) in
     let f : ℕ → House = put g.house h now in
     let up_still_then : (f m).up ≡ true = put_at (λ x (y : House). (g.house x).up ≡ true → y.up ≡ true) g.house h now (λ e. e) (λ x _ e. e) m up in
-    still_put f m (holding (f m) g.next_dir (f m).floor (Held (first_replica (listing [] 1 m rs)))) (still_put g.house h now v (up_still now i.up))
-    (up_still (holding (f m) g.next_dir (f m).floor (Held (first_replica (listing [] 1 m rs)))) up_still_then)
+    still_put f m (holding (f m) g.next_dir (f m).floor (Held (first_replica (listing [] 1 m rs ss)))) (still_put g.house h now v (up_still now i.up))
+    (up_still (holding (f m) g.next_dir (f m).floor (Held (first_replica (listing [] 1 m rs ss)))) up_still_then)
 
 run_still : (cs : List Command) (g : Cell) → Still g → Still (replay_from g cs)
 run_still [] g v = v

@@ -26,9 +26,9 @@ pub record Whole (home : ℕ → ℕ) (g : Cell) : Type 0 where
 
 -- ---- one more epoch
 
-good_next : (roll : Roll) (top k m : ℕ) (rs : List ℕ) → k ≡ suc top → Good roll top → roll.list k ≡ listing (roll.list top) k m rs
+good_next : (roll : Roll) (top k m : ℕ) (rs ss : List ℕ) → k ≡ suc top → Good roll top → roll.list k ≡ listing (roll.list top) k m rs ss
     → (1 ≤ top → (b : ℕ) × Listed (roll.list top) m b) → Good roll k
-good_next roll top k m rs next g new head = record {
+good_next roll top k m rs ss next g new head = record {
   none = g.none;
   order = λ e x s le l. ⊎_elim
       (λ (old : e < k). g.order e x s (omega arith) l)
@@ -50,13 +50,13 @@ good_next roll top k m rs next g new head = record {
       (λ (old : suc e < k). g.chain e low (omega arith))
       (λ (ge : k ≤ suc e). let is : suc e ≡ k = omega arith in let below : e ≡ top = omega arith in
       let h = head (omega arith) in
-      let master : master_of (roll.list (suc e)) ≡ m = ap (λ (z : ℕ). master_of (roll.list z)) is ∙ ap master_of new ∙ master_new (roll.list top) k m rs in
+      let master : master_of (roll.list (suc e)) ≡ m = ap (λ (z : ℕ). master_of (roll.list z)) is ∙ ap master_of new ∙ master_new (roll.list top) k m rs ss in
       (h.0, subst (λ (z : ℕ). Listed (roll.list e) z h.0) (sym master) (subst (λ (z : ℕ). Listed (roll.list z) m h.0) (sym below) h.1)))
       (cases_lt (suc e) k);
 }
   where
     at_new : (x s : ℕ) → Listed (roll.list k) x s → Listed (roll.list top) x s ⊎ (s ≡ k)
-    at_new x s l = listed_before (roll.list top) k m x s rs (subst (λ (z : List Member). Listed z x s) new l)
+    at_new x s l = listed_before (roll.list top) k m x s rs ss (subst (λ (z : List Member). Listed z x s) new l)
 
 -- the heads of the epochs, after one more at the house m
 heads_next : (roll : Roll) (v : View) (m floor k : ℕ) (q : Replica) → k ≡ suc v.top → q.epoch ≡ k → master_of (roll.list k) ≡ m → (e : ℕ) → suc e ≤ k
@@ -72,13 +72,13 @@ heads_next roll v m floor k q next ep head e le = ⊎_elim
     (cases_lt (suc e) k)
 
 -- a new directory
-module _ (roll : Roll) (g : Cell) (d m : ℕ) (rs : List ℕ) (w : Whole roll.home g) (s : Sound roll (view d g)) (none : g.top d ≡ 0)
-    (fit : listing [] 1 m rs ≡ roll.list 1) where
+module _ (roll : Roll) (g : Cell) (d m : ℕ) (rs ss : List ℕ) (w : Whole roll.home g) (s : Sound roll (view d g)) (none : g.top d ≡ 0)
+    (fit : listing [] 1 m rs ss ≡ roll.list 1) where
   abbrev v : View
   v = view d g
 
   abbrev ms : List Member
-  ms = listing [] 1 m rs
+  ms = listing [] 1 m rs ss
 
   abbrev q : Replica
   q = first_replica ms
@@ -93,7 +93,7 @@ module _ (roll : Roll) (g : Cell) (d m : ℕ) (rs : List ℕ) (w : Whole roll.ho
       (slot_cases e _ up)
 
   mine : (b : ℕ) × Listed (roll.list 1) m b
-  mine = (since_in ms m 0, subst (λ (z : List Member). Listed z m (since_in ms m 0)) fit (listed_at ms m (master_listed [] 1 m rs)))
+  mine = (since_in ms m 0, subst (λ (z : List Member). Listed z m (since_in ms m 0)) fit (listed_at ms m (master_listed [] 1 m rs ss)))
 
   empty : [] ≡ roll.list 0
   empty = sym (w.bare d none) ∙ s.present ∙ ap roll.list none
@@ -115,19 +115,19 @@ module _ (roll : Roll) (g : Cell) (d m : ℕ) (rs : List ℕ) (w : Whole roll.ho
       (λ x o. let l = listed_at ms x (In-others_of x m ms o).1 in
       (fit, (since_in ms x 0, subst (λ (z : List Member). Listed z x (since_in ms x 0)) fit l), λ k i. i)))
       (omega (arith, none))
-      (good_next roll 0 1 m rs refl (subst (λ (z : ℕ). Good roll z) none s.good) (sym fit
-      ∙ ap (λ (z : List Member). listing z 1 m rs) empty) (λ z. absurd (omega arith)))
+      (good_next roll 0 1 m rs ss refl (subst (λ (z : ℕ). Good roll z) none s.good) (sym fit
+      ∙ ap (λ (z : List Member). listing z 1 m rs ss) empty) (λ z. absurd (omega arith)))
       fit
-      (heads_next roll v m (g.house m).floor 1 q (ap suc (sym none)) refl (ap master_of (sym fit) ∙ master_new [] 1 m rs))
+      (heads_next roll v m (g.house m).floor 1 q (ap suc (sym none)) refl (ap master_of (sym fit) ∙ master_new [] 1 m rs ss))
 
 -- a new epoch
-module _ (roll : Roll) (g : Cell) (d m k : ℕ) (rs : List ℕ) (r : Replica) (next : k ≡ suc (g.top d)) (s : Sound roll (view d g)) (at : IsHeld g m d r)
-    (l : is_listed m (g.present d) ≡ true) (since : since_in (g.present d) m 0 ≤ r.epoch) (fit : listing (g.present d) k m rs ≡ roll.list k) where
+module _ (roll : Roll) (g : Cell) (d m k : ℕ) (rs ss : List ℕ) (r : Replica) (next : k ≡ suc (g.top d)) (s : Sound roll (view d g)) (at : IsHeld g m d r)
+    (l : is_listed m (g.present d) ≡ true) (since : since_in (g.present d) m 0 ≤ r.epoch) (fit : listing (g.present d) k m rs ss ≡ roll.list k) where
   abbrev v2 : View
   v2 = view d g
 
   abbrev ms2 : List Member
-  ms2 = listing (g.present d) k m rs
+  ms2 = listing (g.present d) k m rs ss
 
   abbrev q2 : Replica
   q2 = epoch_replica k ms2 r
@@ -139,11 +139,11 @@ module _ (roll : Roll) (g : Cell) (d m k : ℕ) (rs : List ℕ) (r : Replica) (n
   low = omega (arith, (s.held m r at).top, next)
 
   mine2 : (b : ℕ) × Listed (roll.list k) m b
-  mine2 = (since_in ms2 m 0, subst (λ (z : List Member). Listed z m (since_in ms2 m 0)) fit (listed_at ms2 m (master_listed (g.present d) k m rs)))
+  mine2 = (since_in ms2 m 0, subst (λ (z : List Member). Listed z m (since_in ms2 m 0)) fit (listed_at ms2 m (master_listed (g.present d) k m rs ss)))
 
   cont : (b : ℕ) → Listed (roll.list k) m b → b ≤ r.epoch
   cont b lb =
-      let e = since_new (g.present d) k m m rs (master_listed (g.present d) k m rs) in
+      let e = since_new (g.present d) k m m rs ss (master_listed (g.present d) k m rs ss) in
       let f = since_listed m k (g.present d) l in
       let lb' : Listed ms2 m b = subst (λ (z : List Member). Listed z m b) (sym fit) lb in
       omega (arith, lb'.1, e, f, since)
@@ -170,7 +170,7 @@ module _ (roll : Roll) (g : Cell) (d m k : ℕ) (rs : List ℕ) (r : Replica) (n
       (λ j i. own r at i (omega (arith, low)) cont (λ k z. z)))
       (λ p i. ⊎_elim (joins p) (leavers p) (In-append_cases p _ _ i))
       (omega (arith, next))
-      (good_next roll (g.top d) k m rs next s.good (sym fit ∙ ap (λ (z : List Member). listing z k m rs) s.present)
+      (good_next roll (g.top d) k m rs ss next s.good (sym fit ∙ ap (λ (z : List Member). listing z k m rs ss) s.present)
       (λ _. (since_in (g.present d) m 0, subst (λ (z : List Member). Listed z m (since_in (g.present d) m 0)) s.present (listed_at (g.present d) m l))))
       fit
-      (heads_next roll v2 m (g.house m).floor k q2 next refl (ap master_of (sym fit) ∙ master_new (g.present d) k m rs))
+      (heads_next roll v2 m (g.house m).floor k q2 next refl (ap master_of (sym fit) ∙ master_new (g.present d) k m rs ss))

@@ -166,19 +166,19 @@ move_fates g g' c p a l w untaken (crashes h up) =
     house_fates g c h (crashed_house (g.house h)) (λ d r at. keeps (record r { phase = Idle }) (ap crashed at) (λ j i. i))
 move_fates g g' c p a l w untaken (starts h made) = house_fates g c h (started_house (g.house h)) (λ d r at. keeps r at (λ j i. i))
 move_fates g g' c p a l w untaken (acts h d _ floor o posts b n act) = slot_fates g c h d floor o (act_fate g c h d floor o posts b n untaken act)
-move_fates g g' c p a l w untaken (founds d m rs ns root up none) =
-    slot_fates g c m d (g.house m).floor (Held (first_replica (listing [] 1 m rs))) (λ r at. absurd (w.free d m r none at))
-move_fates g g' c p a l w untaken (crowns d m rs r up known at list since) =
-    slot_fates g c m d (g.house m).floor (Held (epoch_replica (g.top d + 1) (listing (g.present d) (g.top d + 1) m rs) r))
-    (grown_fate g c m d r (epoch_replica (g.top d + 1) (listing (g.present d) (g.top d + 1) m rs) r) at (λ j i. i))
+move_fates g g' c p a l w untaken (founds d m rs ss ns root up none) =
+    slot_fates g c m d (g.house m).floor (Held (first_replica (listing [] 1 m rs ss))) (λ r at. absurd (w.free d m r none at))
+move_fates g g' c p a l w untaken (crowns d m rs ss r up known at list since) =
+    slot_fates g c m d (g.house m).floor (Held (epoch_replica (g.top d + 1) (listing (g.present d) (g.top d + 1) m rs ss) r))
+    (grown_fate g c m d r (epoch_replica (g.top d + 1) (listing (g.present d) (g.top d + 1) m rs ss) r) at (λ j i. i))
 
 steps_fates : (g g' : Cell) (c : Command) (p : Option (ℕ × ℕ)) (a : Answer) (l : List Accepted) → Ground g → g.top g.next_dir ≡ 0 → IsUntaken a
     → Steps g p g' a l → Fates g c g'
 steps_fates g g' c p a l w none untaken (one _ _ _ m) = move_fates g g' c p a l w untaken m
-steps_fates g g' c p a l w none untaken (mkdirs h d m u rs r s ns at i fine up known) =
+steps_fates g g' c p a l w none untaken (mkdirs h d m u rs ss r s ns at i fine up known) =
     let q : Replica = grown r (new_marks r u s) in
     let f : ℕ → House = put g.house h (holding (g.house h) d s.time (Held q)) in
-    then_slot g c f m g.next_dir (f m).floor (Held (first_replica (listing [] 1 m rs)))
+    then_slot g c f m g.next_dir (f m).floor (Held (first_replica (listing [] 1 m rs ss)))
     (slot_fates g c h d s.time (Held q) (grown_fate g c h d r q i.held (left_part r.history (new_marks r u s))))
     (λ n t. absurd (w.free g.next_dir m n none t))
 
@@ -187,11 +187,11 @@ delivery_or : (c : Command) → ((n : ℕ) × (c ≡ command.Deliver n)) ⊎ ((n
 delivery_or (command.Deliver n) = inl (n, refl)
 delivery_or (command.House h node) = inr (λ n e. absurd (cc))
 delivery_or (command.Clock h time) = inr (λ n e. absurd (cc))
-delivery_or (command.Root m rs) = inr (λ n e. absurd (cc))
-delivery_or (command.Mkdir h d o m rs) = inr (λ n e. absurd (cc))
+delivery_or (command.Root m rs ss) = inr (λ n e. absurd (cc))
+delivery_or (command.Mkdir h d o m rs ss) = inr (λ n e. absurd (cc))
 delivery_or (command.Repoint h d o m rs) = inr (λ n e. absurd (cc))
 delivery_or (command.Accept h d u) = inr (λ n e. absurd (cc))
-delivery_or (command.Epoch d m rs) = inr (λ n e. absurd (cc))
+delivery_or (command.Epoch d m rs ss) = inr (λ n e. absurd (cc))
 delivery_or (command.Skulk h d) = inr (λ n e. absurd (cc))
 delivery_or (command.Lose o) = inr (λ n e. absurd (cc))
 delivery_or (command.Crash h) = inr (λ n e. absurd (cc))

@@ -55,7 +55,7 @@ move_accepted g g' pl a n p _ b i = elim i [ ]
 pub steps_accepted : (g g' : Cell) (pl : Option (ℕ × ℕ)) (a : Answer) (n : List Accepted) → Plain g → Steps g pl g' a n → (b : Accepted) → In b n
     → Issued g g' b.by b.stamp × ((c : Accepted) → In c n → c ≡ b)
 steps_accepted g g' pl a n p (one _ _ _ m) b i = move_accepted g g' pl a n p m b i
-steps_accepted g g' pl a n p (mkdirs h d m u rs r s ns at is fine up known) b i =
+steps_accepted g g' pl a n p (mkdirs h d m u rs ss r s ns at is fine up known) b i =
     let w = act_accepted g h d s.time _ _ _ n p (accepts h d u r s ns is fine) b i in
     let o : Slot = Held (grown r (new_marks r u s)) in
     let posts : List Message = to_each (others_of h r.members) d h r.epoch s.time (Update (new_marks r u s)) in

@@ -236,9 +236,9 @@ move_lifts g g' p a n d low unmade (crashes h up) =
 move_lifts g g' p a n d low unmade (starts h made) = still_lifts g _ p d _ (same_slots g h _ (λ e. refl) d) (bag_back g)
 move_lifts g g' p a n d low unmade (acts h e at floor o posts b l act) =
     changed_lifts g b p h e floor o posts g.top g.present g.next_dir (act_posts g h e floor o posts b l act) (act_lifts g p h e floor o posts b l at act) d
-move_lifts g g' p a n d low unmade (founds e m rs ns root up none) =
+move_lifts g g' p a n d low unmade (founds e m rs ss ns root up none) =
     changed_lifts g _ p m e _ _ _ _ _ g.next_dir (first_joins_dir g e m _) (first_owing g _ p e m _) d
-move_lifts g g' p a n d low unmade (crowns e m rs r up known at l since) =
+move_lifts g g' p a n d low unmade (crowns e m rs ss r up known at l since) =
     let le : r.epoch ≤ g.top e + 1 = omega (arith, low m r e at) in
     changed_lifts g _ p m e _ _ _ _ _ g.next_dir (epoch_posts_dir g e m _ _ r) (crown_owing g _ p e m (g.top e + 1) _ r at le) d
 
@@ -287,12 +287,12 @@ pub steps_lifts : (g g' : Cell) (p : Option (ℕ × ℕ)) (a : Answer) (n : List
     → ((x : ℕ) (r : Replica) (e : ℕ) → IsHeld g x e r → r.epoch ≤ g.top e) → ((x : ℕ) → has x g.made ≡ false → g.house x ≡ no_house) → Steps g p g' a n
     → Lifts g g' a p d
 steps_lifts g g' p a n d low unmade (one _ _ _ m) = move_lifts g g' p a n d low unmade m
-steps_lifts g g' p a n d low unmade (mkdirs h e m u rs r s ns at i fine up known) =
+steps_lifts g g' p a n d low unmade (mkdirs h e m u rs ss r s ns at i fine up known) =
     let act = accepts h e u r s ns i fine in
     let first = changed_lifts g (Stamped s ns) p h e s.time _ _ g.top g.present g.next_dir (act_posts g h e s.time _ _ _ n act)
     (act_lifts g p h e s.time _ _ _ n at act) d in
     let g1 : Cell = moved g h (holding (g.house h) e s.time (Held (grown r (new_marks r u s))))
     (to_each (others_of h r.members) e h r.epoch s.time (Update (new_marks r u s))) in
     lifts_on g g1 g' (Stamped s ns) a p d (λ x t z. let y = z.1 in absurd (cc)) first
-    (λ x q t z w. founded_back g1 g.next_dir m (listing [] 1 m rs) (g.next_dir + 1) d x q t z w)
-    (λ q t z dir w. founded_bag g1 g.next_dir m (listing [] 1 m rs) q t z w)
+    (λ x q t z w. founded_back g1 g.next_dir m (listing [] 1 m rs ss) (g.next_dir + 1) d x q t z w)
+    (λ q t z dir w. founded_bag g1 g.next_dir m (listing [] 1 m rs ss) q t z w)

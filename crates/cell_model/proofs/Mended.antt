@@ -3,7 +3,7 @@ use Rattle.std.proofs.Common.{◌≡◌, ◌≢◌, ℕ, ◌+◌, ◌*◌, ◌�
 use Rattle.std.proofs.Common.{Option, Some, None, append_assoc, refl, sym, ap, ◌∙◌, subst, arith, ⊎_elim, nat_lt, nat_le, le_refl, length-append}
 use Rattle.std.specs.List.{list_any}
 use Rattle.cds_stamps.specs.declared.stamp.Stamp.{Stamp}
-use Rattle.cds_stamps.specs.Members.{Member, master_of, others_of, is_listed, since_in, most_members}
+use Rattle.cds_stamps.specs.Members.{Member, master_of, others_of, is_listed, secondaries_of, since_in, most_members}
 use Rattle.cell_model.specs.Cells.{Replica, Slot, Absent, Gone, Held, House, Join, Message, Cell, IsHeld}
 use Rattle.cell_model.specs.Commands.{Command, Epoch, Skulk, Start, NewEpoch, NotJoined, Refused}
 use Rattle.cell_model.specs.Sets.{In, has}
@@ -30,10 +30,10 @@ use Rattle.cell_model.proofs.JoinRuns.{Joining, join_run}
 
 -- ---- how many others a list has
 
-module _ (old : List Member) (k m : ℕ) where
+module _ (old : List Member) (k m : ℕ) (ss : List ℕ) where
   -- the others of a new list with these houses
   abbrev others_among : List ℕ → List ℕ
-  others_among hs = others_of m (map (λ x. record { house = x; since = since_in old x k; kind = kind_among m x }) hs)
+  others_among hs = others_of m (map (λ x. record { house = x; since = since_in old x k; kind = kind_among m ss x }) hs)
 
   count_step : (c b : Bool) (xs ys : List ℕ) (x z : ℕ) → length xs ≡ length (cond b ys (x ∷ ys))
       → length (cond c xs (z ∷ xs)) ≡ length (cond b (cond c ys (z ∷ ys)) (x ∷ cond c ys (z ∷ ys)))
@@ -69,7 +69,7 @@ module _ (old : List Member) (k m : ℕ) where
       ∙ ap (λ (c : ℕ). suc c) (count_apart zs (λ i. n (inr i)))
 
   -- a new list has as many others as it was given
-  others_count : (rs : List ℕ) → (In m rs → ⊥) → length (others_of m (listing old k m rs)) ≡ length rs
+  others_count : (rs : List ℕ) → (In m rs → ⊥) → length (others_of m (listing old k m rs ss)) ≡ length rs
   others_count rs n =
       count_ascending (m ∷ rs) ∙ ap (λ (b : Bool). length (cond b (others_among rs) (m ∷ others_among rs))) (eq_to m m refl) ∙ count_apart rs n
 
@@ -106,24 +106,24 @@ none_leaves (y ∷ ys) now f =
 module _ (ms : List Member) (k m : ℕ) (listed : is_listed m ms ≡ true) where
   -- the list of epoch k with the same master and the same houses
   abbrev renewed : List Member
-  renewed = listing ms k m (others_of m ms)
+  renewed = listing ms k m (others_of m ms) (secondaries_of ms)
 
   renewed_has : (x : ℕ) → is_listed x ms ≡ true → is_listed x renewed ≡ true
   renewed_has x l =
       let i : In x (m ∷ others_of m ms) = ⊎_elim (λ (e : x ≡ m). inl e) (λ (o : In x (others_of m ms)). inr o) (listed_or x m ms l) in
       house_listed x renewed
-      (subst (λ (hs : List ℕ). In x hs) (sym (houses_new ms k m (others_of m ms))) (ascending_in x (m ∷ others_of m ms) i))
+      (subst (λ (hs : List ℕ). In x hs) (sym (houses_new ms k m (others_of m ms) (secondaries_of ms))) (ascending_in x (m ∷ others_of m ms) i))
 
   renewed_only : (x : ℕ) → is_listed x renewed ≡ true → is_listed x ms ≡ true
   renewed_only x l =
       ⊎_elim (λ (e : x ≡ m). subst (λ (z : ℕ). is_listed z ms ≡ true) (sym e) listed) (λ (o : In x (others_of m ms)). (In-others_of x m ms o).1)
-      (in_ascending x (m ∷ others_of m ms) (subst (λ (hs : List ℕ). In x hs) (houses_new ms k m (others_of m ms)) (listed_house x renewed l)))
+      (in_ascending x (m ∷ others_of m ms) (subst (λ (hs : List ℕ). In x hs) (houses_new ms k m (others_of m ms) (secondaries_of ms)) (listed_house x renewed l)))
 
   apart : In m (others_of m ms) → ⊥
   apart i = (In-others_of m m ms i).0 refl
 
   renewed_count : length (others_of m renewed) ≡ length (others_of m ms)
-  renewed_count = others_count ms k m (others_of m ms) apart
+  renewed_count = others_count ms k m (secondaries_of ms) (others_of m ms) apart
 
   not_missing : (made : List ℕ) (top : ℕ) → IsProper made top ms → list_any (λ h. not (has h made)) (m ∷ others_of m ms) ≡ false
   not_missing made top p = none_missing made (m ∷ others_of m ms) (λ x i. p.known x (by_place x i))
@@ -167,7 +167,7 @@ module _ (d k : ℕ) (ms : List Member) (next : Option Stamp) (p : ℕ) (g : Cel
   listed = c.proper.headed c.known
 
   abbrev now : List Member
-  now = listing ms (k + 1) (master_of ms) (others_of (master_of ms) ms)
+  now = listing ms (k + 1) (master_of ms) (others_of (master_of ms) ms) (secondaries_of ms)
 
   abbrev joins : List Message
   joins = to_each (others_of (master_of ms) now) d (master_of ms) (k + 1) (g.house (master_of ms)).floor (Join now (copy_of c.replica))
@@ -175,13 +175,13 @@ module _ (d k : ℕ) (ms : List Member) (next : Option Stamp) (p : ℕ) (g : Cel
   abbrev crowned : Cell
   crowned = noted (changed g (master_of ms) d (g.house (master_of ms)).floor (epoch_replica (k + 1) now c.replica) joins) d (k + 1) now
 
-  epoch_works : outcome g (Epoch d (master_of ms) (others_of (master_of ms) ms))
+  epoch_works : outcome g (Epoch d (master_of ms) (others_of (master_of ms) ms) (secondaries_of ms))
       ≡ record { cell = crowned; answer = NewEpoch (k + 1) (serials_of g joins); accepted = [] }
   epoch_works =
       let rs : List ℕ = others_of m ms in
       let house : House = holding (g.house m) d (g.house m).floor (Held (epoch_replica (k + 1) now c.replica)) in
       let given : List Member → ℕ → Outcome = λ (l : List Member) (n : ℕ).
-      (let fresh : List Member = listing l (n + 1) m rs in
+      (let fresh : List Member = listing l (n + 1) m rs (secondaries_of ms) in
       let o : Outcome = at_house g m (new_epoch m (g.house m) d (n + 1) fresh (leaving l fresh)) in
       with_epoch o d fresh o.answer) in
       let done : HouseStep → Outcome = λ (s : HouseStep). with_epoch (at_house g m s) d now (at_house g m s).answer in
@@ -191,11 +191,11 @@ module _ (d k : ℕ) (ms : List Member) (next : Option Stamp) (p : ℕ) (g : Cel
       let member : not (is_listed m (g.present d)) ≡ false = ap (λ (l : List Member). not (is_listed m l)) c.present ∙ ap not listed in
       let down : is_down g m ≡ false = ap not (c.up m listed) in
       let since : nat_le (since_in now m 0) c.replica.epoch ≡ true =
-      (let a = since_kept ms (k + 1) m rs listed in
+      (let a = since_kept ms (k + 1) m rs (secondaries_of ms) listed in
       let le : since_in now m 0 ≤ c.replica.epoch = omega (arith, a, c.since, c.epoch) in
       grind (arith, le)) in
       let left : leaving ms now ≡ [] = none_leaves ms now (λ x i. renewed_has ms (k + 1) m listed x (house_listed x ms i)) in
-      not_refused g (Epoch d m rs)
+      not_refused g (Epoch d m rs (secondaries_of ms))
       (unknown, (not_missing ms (k + 1) m listed g.made k c.proper, (not_bad ms (k + 1) m listed g.made k c.proper, (member, (down, tt)))))
       ∙ ap (λ (l : List Member). given l (g.top d)) c.present
       ∙ ap (λ (n : ℕ). given ms n) c.top
@@ -236,10 +236,10 @@ module _ (d k : ℕ) (ms : List Member) (next : Option Stamp) (p : ℕ) (g : Cel
       let rs : List ℕ = others_of (master_of ms) ms in
       let fine = not_bad ms (k + 1) (master_of ms) listed g.made k c.proper in
       let there = not_missing ms (k + 1) (master_of ms) listed g.made k c.proper in
-      others_once (master_of ms) now (proper_new g.made ms (k + 1) (k + 1) (master_of ms) rs fine there).once
+      others_once (master_of ms) now (proper_new g.made ms (k + 1) (k + 1) (master_of ms) rs (secondaries_of ms) fine there).once
 
   -- a new epoch, and its Joins
-  ripe_joined : Run g (Epoch d (master_of ms) (others_of (master_of ms) ms) ∷ delivering p (length (others_of (master_of ms) ms)))
+  ripe_joined : Run g (Epoch d (master_of ms) (others_of (master_of ms) ms) (secondaries_of ms) ∷ delivering p (length (others_of (master_of ms) ms)))
       (CanSkulk d (master_of ms) (k + 1) now next (p + length (others_of (master_of ms) ms)))
   ripe_joined =
       let n : ℕ = length (others_of m ms) in
@@ -247,7 +247,7 @@ module _ (d k : ℕ) (ms : List Member) (next : Option Stamp) (p : ℕ) (g : Cel
       let joined : Run crowned (delivering p n) (CanSkulk d m (k + 1) now next (p + n)) =
       subst (λ (l : ℕ). Run crowned (delivering p l) (CanSkulk d m (k + 1) now next (p + l))) (renewed_count ms (k + 1) m listed)
       (join_run d m (k + 1) now next (g.house m).floor (copy_of c.replica) renewed_head (others_of m now) crowned p renewed_once others joins_wait) in
-      run_first g (Epoch d m (others_of m ms)) (delivering p n) (CanSkulk d m (k + 1) now next (p + n)) _ epoch_works tt joined
+      run_first g (Epoch d m (others_of m ms) (secondaries_of ms)) (delivering p n) (CanSkulk d m (k + 1) now next (p + n)) _ epoch_works tt joined
 
 -- ---- every cell that is reached
 
@@ -327,13 +327,13 @@ module _ (all : List Command) (d : ℕ) (some : (replay all).top d ≢ 0) where
       }
 
   abbrev renewal : List Member
-  renewal = listing list (g.top d + 1) (master_of list) (others_of (master_of list) list)
+  renewal = listing list (g.top d + 1) (master_of list) (others_of (master_of list) list) (secondaries_of list)
 
   -- the houses are started, and take a new epoch
   abbrev renewing : List Command
   renewing =
       starting g list
-      ++ Epoch d (master_of list) (others_of (master_of list) list) ∷ delivering (length g.bag) (length (others_of (master_of list) list))
+      ++ Epoch d (master_of list) (others_of (master_of list) list) (secondaries_of list) ∷ delivering (length g.bag) (length (others_of (master_of list) list))
 
   abbrev skulking_then : List Command
   skulking_then =
@@ -342,7 +342,7 @@ module _ (all : List Command) (d : ℕ) (some : (replay all).top d ≢ 0) where
   in_parts : renewing ++ skulking_then ≡ mending g d
   in_parts =
       append_assoc (starting g list)
-      (Epoch d (master_of list) (others_of (master_of list) list) ∷ delivering (length g.bag) (length (others_of (master_of list) list))) skulking_then
+      (Epoch d (master_of list) (others_of (master_of list) list) (secondaries_of list) ∷ delivering (length g.bag) (length (others_of (master_of list) list))) skulking_then
 
   renewing_runs : (next : Option Stamp) → stamp_at (g.house (master_of list)) ≡ next → Run g renewing
       (CanSkulk d (master_of list) (g.top d + 1) renewal next (length g.bag + length (others_of (master_of list) list)))
@@ -350,7 +350,7 @@ module _ (all : List Command) (d : ℕ) (some : (replay all).top d ≢ 0) where
       let p = (tidy_lem all).lists d in
       let m : ℕ = master_of list in
       let n : ℕ = length (others_of m list) in
-      run_append g (starting g list) (Epoch d m (others_of m list) ∷ delivering (length g.bag) n) (Started g g list)
+      run_append g (starting g list) (Epoch d m (others_of m list) (secondaries_of list) ∷ delivering (length g.bag) n) (Started g g list)
       (CanSkulk d m (g.top d + 1) renewal next (length g.bag + n))
       (start_run g list g p.once (λ x i. p.known x (house_listed x list i)) (alike_self g) (λ x i. refl))
       (λ h s. ripe_joined d (g.top d) list next (length g.bag) h (ripe next stamp h s))
@@ -365,7 +365,7 @@ module _ (all : List Command) (d : ℕ) (some : (replay all).top d ≢ 0) where
       let k : ℕ = g.top d + 1 in
       let fine = not_bad list k m head_listed g.made (g.top d) p in
       let there = not_missing list k m head_listed g.made (g.top d) p in
-      others_once m renewal (proper_new g.made list k k m (others_of m list) fine there).once
+      others_once m renewal (proper_new g.made list k k m (others_of m list) (secondaries_of list) fine there).once
 
   -- then a skulk completes
   mending_finishes : (t : Stamp) → stamp_at (g.house (master_of list)) ≡ Some t
@@ -380,7 +380,7 @@ module _ (all : List Command) (d : ℕ) (some : (replay all).top d ≢ 0) where
       subst (λ (l : List Command). Finish g m d l t over) in_parts
       (finish_append g m d renewing skulking_then t (CanSkulk d m k renewal (Some t) place) over (renewing_runs (Some t) stamp)
       (λ h s. subst (λ (l : ℕ). Finish h m d (skulking m d place l) t over) count
-      (skulk_finishes d m k renewal t renewal_head (master_new list k m (others_of m list)) renewal_once h place s)))
+      (skulk_finishes d m k renewal t renewal_head (master_new list k m (others_of m list) (secondaries_of list)) renewal_once h place s)))
 
   -- without a stamp none does
   mending_needs : stamp_at (g.house (master_of list)) ≡ None → Works g (mending g d) → ⊥
@@ -389,7 +389,7 @@ module _ (all : List Command) (d : ℕ) (some : (replay all).top d ≢ 0) where
       let k : ℕ = g.top d + 1 in
       let r = renewing_runs None none in
       let later = works_behind renewing skulking_then g (subst (λ (l : List Command). Works g l) (sym in_parts) w) in
-      let refused = skulk_refused d m k renewal renewal_head (master_new list k m (others_of m list)) (replay_from g renewing) _ r.state in
+      let refused = skulk_refused d m k renewal renewal_head (master_new list k m (others_of m list) (secondaries_of list)) (replay_from g renewing) _ r.state in
       subst HasWorked refused (later (outcome (replay_from g renewing) (Skulk m d)).answer (inl refl))
 
 starting_few : (g : Cell) (ys : List Member) → length (starting g ys) ≤ length ys
@@ -413,7 +413,7 @@ mending_few g d listed =
     let p : ℕ = length g.bag in
     let starts = starting_few g ms in
     let fewer = others_fewer m ms listed in
-    let a = length-append (starting g ms) (Epoch d m (others_of m ms) ∷ (delivering p n ++ skulking m d (p + n) n)) in
+    let a = length-append (starting g ms) (Epoch d m (others_of m ms) (secondaries_of ms) ∷ (delivering p n ++ skulking m d (p + n) n)) in
     let b = length-append (delivering p n) (skulking m d (p + n) n) in
     let first = delivering_count n p in
     let then = delivering_count (4 * n) (p + n) in
@@ -429,7 +429,7 @@ mended_lem all d t low stamp =
     let some = some_epoch (g.top d) low in
     let listed = ((tidy_lem all).lists d).headed some in
     record {
-      settled = settles all (mending g d) d k t ms (listing ms k m (others_of m ms)) listed (master_new ms k m (others_of m ms))
+      settled = settles all (mending g d) d k t ms (listing ms k m (others_of m ms) (secondaries_of ms)) listed (master_new ms k m (others_of m ms) (secondaries_of ms))
           (λ x l. renewed_has ms k m listed x l)
           (mending_finishes all d some t stamp);
       few = mending_few g d listed;

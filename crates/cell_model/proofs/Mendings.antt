@@ -19,7 +19,7 @@ abbrev crashed : List Command
 crashed = take 10 crash_in_second
 
 crashed-mending : mending (replay crashed) 1 ≡
-    Start 1 ∷ Epoch 1 1 (2 ∷ []) ∷ Deliver 6 ∷ Skulk 1 1 ∷ Deliver 7 ∷ Deliver 8 ∷ Deliver 9 ∷ Deliver 10 ∷ []
+    Start 1 ∷ Epoch 1 1 (2 ∷ []) [] ∷ Deliver 6 ∷ Skulk 1 1 ∷ Deliver 7 ∷ Deliver 8 ∷ Deliver 9 ∷ Deliver 10 ∷ []
 crashed-mending = refl
 
 crashed-answers : answers_from (replay crashed) (mending (replay crashed) 1) ≡
@@ -38,11 +38,11 @@ crashed-skulking-answers = refl
 -- every message was lost: two of three houses never had the directory
 abbrev all_lost : List Command
 all_lost =
-    House 1 10 ∷ House 2 11 ∷ House 3 12 ∷ Root 2 (1 ∷ 3 ∷ []) ∷ Lose 1 ∷ Lose 2 ∷ Accept 2 1 (Create (codes "e")) ∷ Lose 3 ∷ Lose 4 ∷ Skulk 2 1 ∷
+    House 1 10 ∷ House 2 11 ∷ House 3 12 ∷ Root 2 (1 ∷ 3 ∷ []) [] ∷ Lose 1 ∷ Lose 2 ∷ Accept 2 1 (Create (codes "e")) ∷ Lose 3 ∷ Lose 4 ∷ Skulk 2 1 ∷
     Lose 5 ∷ Lose 6 ∷ []
 
 all_lost-mending : mending (replay all_lost) 1 ≡
-    Epoch 1 2 (1 ∷ 3 ∷ []) ∷ Deliver 7 ∷ Deliver 8 ∷ Skulk 2 1 ∷ Deliver 9 ∷ Deliver 10 ∷ Deliver 11 ∷ Deliver 12 ∷ Deliver 13 ∷ Deliver 14 ∷
+    Epoch 1 2 (1 ∷ 3 ∷ []) [] ∷ Deliver 7 ∷ Deliver 8 ∷ Skulk 2 1 ∷ Deliver 9 ∷ Deliver 10 ∷ Deliver 11 ∷ Deliver 12 ∷ Deliver 13 ∷ Deliver 14 ∷
     Deliver 15 ∷ Deliver 16 ∷ []
 all_lost-mending = refl
 
@@ -51,12 +51,21 @@ all_lost-answers : answers_from (replay all_lost) (mending (replay all_lost) 1) 
     Taken (13 ∷ 14 ∷ []) ∷ Taken (15 ∷ []) ∷ Taken (16 ∷ []) ∷ Taken [] ∷ Complete (at 3 11) (17 ∷ 18 ∷ []) ∷ []
 all_lost-answers = refl
 
+-- the new epoch keeps the secondary houses
+abbrev joins_lost : List Command
+joins_lost = House 1 10 ∷ House 2 11 ∷ House 3 12 ∷ Root 2 (1 ∷ 3 ∷ []) (3 ∷ []) ∷ Lose 1 ∷ Lose 2 ∷ []
+
+joins_lost-mending : mending (replay joins_lost) 1 ≡
+    Epoch 1 2 (1 ∷ 3 ∷ []) (3 ∷ []) ∷ Deliver 3 ∷ Deliver 4 ∷ Skulk 2 1 ∷ Deliver 5 ∷ Deliver 6 ∷ Deliver 7 ∷ Deliver 8 ∷ Deliver 9 ∷ Deliver 10 ∷
+    Deliver 11 ∷ Deliver 12 ∷ []
+joins_lost-mending = refl
+
 -- an old master that is listed again, and still holds its old list: it comes back in a new term
 abbrev came_back : List Command
 came_back = take 10 old_master
 
 came_back-mending : mending (replay came_back) 1 ≡
-    Epoch 1 2 (1 ∷ []) ∷ Deliver 5 ∷ Skulk 2 1 ∷ Deliver 6 ∷ Deliver 7 ∷ Deliver 8 ∷ Deliver 9 ∷ []
+    Epoch 1 2 (1 ∷ []) [] ∷ Deliver 5 ∷ Skulk 2 1 ∷ Deliver 6 ∷ Deliver 7 ∷ Deliver 8 ∷ Deliver 9 ∷ []
 came_back-mending = refl
 
 came_back-answers : answers_from (replay came_back) (mending (replay came_back) 1) ≡
@@ -70,10 +79,10 @@ came_back-state = refl
 
 -- an old master whose skulk still runs, and that has not heard of its successor: behind the mending it runs none
 abbrev overtaken_round : List Command
-overtaken_round = House 1 10 ∷ House 2 11 ∷ Root 1 (2 ∷ []) ∷ Deliver 1 ∷ Skulk 1 1 ∷ Deliver 2 ∷ Epoch 1 2 (1 ∷ []) ∷ []
+overtaken_round = House 1 10 ∷ House 2 11 ∷ Root 1 (2 ∷ []) [] ∷ Deliver 1 ∷ Skulk 1 1 ∷ Deliver 2 ∷ Epoch 1 2 (1 ∷ []) [] ∷ []
 
 overtaken_round-mending : mending (replay overtaken_round) 1 ≡
-    Epoch 1 2 (1 ∷ []) ∷ Deliver 5 ∷ Skulk 2 1 ∷ Deliver 6 ∷ Deliver 7 ∷ Deliver 8 ∷ Deliver 9 ∷ []
+    Epoch 1 2 (1 ∷ []) [] ∷ Deliver 5 ∷ Skulk 2 1 ∷ Deliver 6 ∷ Deliver 7 ∷ Deliver 8 ∷ Deliver 9 ∷ []
 overtaken_round-mending = refl
 
 overtaken_round-answers : answers_from (replay overtaken_round) (mending (replay overtaken_round) 1) ≡
@@ -89,10 +98,10 @@ overtaken_round-behind = refl
 
 -- a house that a late Leave made Gone is listed again, but its Join is lost, and it is down
 abbrev gone_late : List Command
-gone_late = overtaken ++ Epoch 1 1 (2 ∷ []) ∷ Lose 3 ∷ Crash 2 ∷ []
+gone_late = overtaken ++ Epoch 1 1 (2 ∷ []) [] ∷ Lose 3 ∷ Crash 2 ∷ []
 
 gone_late-mending : mending (replay gone_late) 1 ≡
-    Start 2 ∷ Epoch 1 1 (2 ∷ []) ∷ Deliver 4 ∷ Skulk 1 1 ∷ Deliver 5 ∷ Deliver 6 ∷ Deliver 7 ∷ Deliver 8 ∷ []
+    Start 2 ∷ Epoch 1 1 (2 ∷ []) [] ∷ Deliver 4 ∷ Skulk 1 1 ∷ Deliver 5 ∷ Deliver 6 ∷ Deliver 7 ∷ Deliver 8 ∷ []
 gone_late-mending = refl
 
 gone_late-answers : answers_from (replay gone_late) (mending (replay gone_late) 1) ≡
@@ -102,7 +111,7 @@ gone_late-answers = refl
 
 -- a master that is alone and down
 abbrev alone_down : List Command
-alone_down = House 1 10 ∷ Root 1 [] ∷ Crash 1 ∷ []
+alone_down = House 1 10 ∷ Root 1 [] [] ∷ Crash 1 ∷ []
 
 alone_down-answers : answers_from (replay alone_down) (mending (replay alone_down) 1) ≡ Done ∷ NewEpoch 2 [] ∷ Complete (at 1 10) [] ∷ []
 alone_down-answers = refl
@@ -110,8 +119,8 @@ alone_down-answers = refl
 -- a house whose floor is the last time answers all the same, where it is not the master
 abbrev member_spent : List Command
 member_spent =
-    House 1 10 ∷ House 2 11 ∷ Root 1 (2 ∷ []) ∷ Deliver 1 ∷ Clock 2 last_time ∷ Epoch 1 2 (1 ∷ []) ∷ Accept 2 1 (Create (codes "e")) ∷
-    Epoch 1 1 (2 ∷ []) ∷ []
+    House 1 10 ∷ House 2 11 ∷ Root 1 (2 ∷ []) [] ∷ Deliver 1 ∷ Clock 2 last_time ∷ Epoch 1 2 (1 ∷ []) [] ∷ Accept 2 1 (Create (codes "e")) ∷
+    Epoch 1 1 (2 ∷ []) [] ∷ []
 
 member_spent-answers : answers_from (replay member_spent) (mending (replay member_spent) 1) ≡
     NewEpoch 4 (5 ∷ []) ∷ Taken [] ∷ Stamped (at 1 10) (6 ∷ []) ∷ Taken (7 ∷ []) ∷ Taken (8 ∷ []) ∷ Taken (9 ∷ []) ∷ Complete (at 1 10) (10 ∷ []) ∷ []

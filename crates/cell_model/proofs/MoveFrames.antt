@@ -192,10 +192,10 @@ fit_kept v h floor top present d k ms d' n = ap (λ (z : ℕ). altered v h floor
     ∙ ap (λ (z : List Member). altered v h floor (v.house h).slot [] (top d') z) (put_other present d ms d' n)
 
 -- a new directory, seen from any directory
-pub founding_frame : (roll : Roll) (g : Cell) (d m : ℕ) (rs : List ℕ) (nd : ℕ) → Whole roll.home g → g.top d ≡ 0 → (d' : ℕ) → Sound roll (view d' g)
-    → put g.present d (listing [] 1 m rs) d' ≡ roll.list (put g.top d 1 d')
-    → Frame roll (view d' g) (view d' (record (founded_at g d m (listing [] 1 m rs)) { next_dir = nd })) []
-founding_frame roll g d m rs nd w none d' s fit =
+pub founding_frame : (roll : Roll) (g : Cell) (d m : ℕ) (rs ss : List ℕ) (nd : ℕ) → Whole roll.home g → g.top d ≡ 0 → (d' : ℕ) → Sound roll (view d' g)
+    → put g.present d (listing [] 1 m rs ss) d' ≡ roll.list (put g.top d 1 d')
+    → Frame roll (view d' g) (view d' (record (founded_at g d m (listing [] 1 m rs ss)) { next_dir = nd })) []
+founding_frame roll g d m rs ss nd w none d' s fit =
     by_dir (λ z. Sound roll (view z g) → put g.present d ms z ≡ roll.list (put g.top d 1 z)
     → Frame roll (view z g) (view z (record (founded_at g d m ms) { next_dir = nd })) []) d d'
     (λ s' fit'.
@@ -204,7 +204,7 @@ founding_frame roll g d m rs nd w none d' s fit =
     view_in g m d (g.house m).floor (Held (first_replica ms)) (first_told g d m ms) (put g.top d 1) (put g.present d ms) (first_joins_dir g d m ms)
     ∙ ap (λ (z : ℕ). altered (view d g) m (g.house m).floor (Held (first_replica ms)) (first_told g d m ms) z (put g.present d ms d)) (put_same g.top d 1)
     ∙ ap (λ (z : List Member). altered (view d g) m (g.house m).floor (Held (first_replica ms)) (first_told g d m ms) 1 z) (put_same g.present d ms) in
-    subst (λ (z : View). Frame roll (view d g) z []) (sym is) (founds_frame roll g d m rs w s' none (fit_set roll g.top g.present d 1 ms fit')))
+    subst (λ (z : View). Frame roll (view d g) z []) (sym is) (founds_frame roll g d m rs ss w s' none (fit_set roll g.top g.present d 1 ms fit')))
     (λ n s' _.
     subst (λ (z : View). Frame roll (view d' g) z [])
     (sym (view_out g m d (g.house m).floor (Held (first_replica ms)) (first_told g d m ms) (put g.top d 1) (put g.present d ms) d' n
@@ -213,7 +213,7 @@ founding_frame roll g d m rs nd w none d' s fit =
     s fit
   where
     ms : List Member
-    ms = listing [] 1 m rs
+    ms = listing [] 1 m rs ss
 
 -- a new directory changes nothing of another one
 put_itself : (f : ℕ → Seat) (m x : ℕ) → put f m (f m) x ≡ f x
@@ -227,11 +227,11 @@ founded_view g d m ms nd d' n =
     ∙ same_view _ _ (put_itself (seat d' g) m) (append_nil (of_dir d' g.bag)) refl refl
 
 -- a new epoch, seen from any directory
-pub promotion_frame : (roll : Roll) (g : Cell) (d m k : ℕ) (rs : List ℕ) (r : Replica) → k ≡ suc (g.top d) → IsHeld g m d r
+pub promotion_frame : (roll : Roll) (g : Cell) (d m k : ℕ) (rs ss : List ℕ) (r : Replica) → k ≡ suc (g.top d) → IsHeld g m d r
     → is_listed m (g.present d) ≡ true → since_in (g.present d) m 0 ≤ r.epoch → (d' : ℕ) → Sound roll (view d' g)
-    → put g.present d (listing (g.present d) k m rs) d' ≡ roll.list (put g.top d k d')
-    → Frame roll (view d' g) (view d' (promote g d m k (listing (g.present d) k m rs) r).cell) []
-promotion_frame roll g d m k rs r next at l since d' s fit =
+    → put g.present d (listing (g.present d) k m rs ss) d' ≡ roll.list (put g.top d k d')
+    → Frame roll (view d' g) (view d' (promote g d m k (listing (g.present d) k m rs ss) r).cell) []
+promotion_frame roll g d m k rs ss r next at l since d' s fit =
     by_dir (λ z. Sound roll (view z g) → put g.present d ms z ≡ roll.list (put g.top d k z)
     → Frame roll (view z g) (view z (promote g d m k ms r).cell) []) d d'
     (λ s' fit'.
@@ -240,7 +240,7 @@ promotion_frame roll g d m k rs r next at l since d' s fit =
     ∙ ap (λ (z : ℕ). altered (view d g) m (g.house m).floor (Held (epoch_replica k ms r)) (epoch_told g d m k ms r) z (put g.present d ms d))
     (put_same g.top d k)
     ∙ ap (λ (z : List Member). altered (view d g) m (g.house m).floor (Held (epoch_replica k ms r)) (epoch_told g d m k ms r) k z) (put_same g.present d ms) in
-    subst (λ (z : View). Frame roll (view d g) z []) (sym is) (crowns_frame roll g d m k rs r next s' at l since (fit_set roll g.top g.present d k ms fit')))
+    subst (λ (z : View). Frame roll (view d g) z []) (sym is) (crowns_frame roll g d m k rs ss r next s' at l since (fit_set roll g.top g.present d k ms fit')))
     (λ n s' _.
     subst (λ (z : View). Frame roll (view d' g) z [])
     (sym (view_out g m d (g.house m).floor (Held (epoch_replica k ms r)) (epoch_told g d m k ms r) (put g.top d k) (put g.present d ms) d' n
@@ -249,7 +249,7 @@ promotion_frame roll g d m k rs r next at l since d' s fit =
     s fit
   where
     ms : List Member
-    ms = listing (g.present d) k m rs
+    ms = listing (g.present d) k m rs ss
 
 -- an act, seen from any directory
 pub acting_frame : (roll : Roll) (g : Cell) (h d floor : ℕ) (o : Slot) (posts : List Message) (a : Answer) (n : List Accepted) → Whole roll.home g
@@ -295,5 +295,5 @@ move_frame roll g g' p a n w s fit (starts h made) =
     subst (λ (z : View). Frame roll (view roll.dir g) z []) (sym (view_moved g h (record (g.house h) { up = true }) [] g.top g.present roll.dir))
     (risen_frame roll (view roll.dir g) s h (g.house h).floor (le_refl _) [])
 move_frame roll g g' p a n w s fit (acts h d _ floor o posts b l act) = acting_frame roll g h d floor o posts b l w act s
-move_frame roll g g' p a n w s fit (founds d m rs ns one up none) = founding_frame roll g d m rs g.next_dir w none roll.dir s fit
-move_frame roll g g' p a n w s fit (crowns d m rs r up known at l since) = promotion_frame roll g d m (g.top d + 1) rs r (omega arith) at l since roll.dir s fit
+move_frame roll g g' p a n w s fit (founds d m rs ss ns one up none) = founding_frame roll g d m rs ss g.next_dir w none roll.dir s fit
+move_frame roll g g' p a n w s fit (crowns d m rs ss r up known at l since) = promotion_frame roll g d m (g.top d + 1) rs ss r (omega arith) at l since roll.dir s fit

@@ -148,20 +148,20 @@ pub data Move (g : Cell) (p : Option (ℕ × ℕ)) : Cell → Answer → List Ac
   starts : (h : ℕ) → has h g.made ≡ true → Move g p (start g h) Done []
   acts : (h d : ℕ) → p ≡ Some (h, d) → (floor : ℕ) (s : Slot) (posts : List Message) (a : Answer) (n : List Accepted) → Act g h d floor s posts a n
       → Move g p (moved g h (holding (g.house h) d floor s) posts) a n
-  founds : (d m : ℕ) (rs ns : List ℕ) → d ≡ 1 → IsUp g m → g.top d ≡ 0 → Move g p (founded g d m (listing [] 1 m rs)) (Posted ns) []
-  crowns : (d m : ℕ) (rs : List ℕ) (r : Replica) → IsUp g m → g.top d ≢ 0 → IsHeld g m d r → is_listed m (g.present d) ≡ true
+  founds : (d m : ℕ) (rs ss ns : List ℕ) → d ≡ 1 → IsUp g m → g.top d ≡ 0 → Move g p (founded g d m (listing [] 1 m rs ss)) (Posted ns) []
+  crowns : (d m : ℕ) (rs ss : List ℕ) (r : Replica) → IsUp g m → g.top d ≢ 0 → IsHeld g m d r → is_listed m (g.present d) ≡ true
       → since_in (g.present d) m 0 ≤ r.epoch
-      → Move g p (promote g d m (g.top d + 1) (listing (g.present d) (g.top d + 1) m rs) r).cell
-      (promote g d m (g.top d + 1) (listing (g.present d) (g.top d + 1) m rs) r).answer []
+      → Move g p (promote g d m (g.top d + 1) (listing (g.present d) (g.top d + 1) m rs ss) r).cell
+      (promote g d m (g.top d + 1) (listing (g.present d) (g.top d + 1) m rs ss) r).answer []
 
 -- a command is a move; or the update of a parent, and then the directory of the child
 pub data Steps (g : Cell) (p : Option (ℕ × ℕ)) : Cell → Answer → List Accepted → Type 0 where
   one : (g' : Cell) (a : Answer) (n : List Accepted) → Move g p g' a n → Steps g p g' a n
-  mkdirs : (h d m : ℕ) (u : Change) (rs : List ℕ) (r : Replica) (s : Stamp) (ns : List ℕ) → p ≡ Some (h, d) → Issuing g h d r s → update_refusal h u r ≡ None
+  mkdirs : (h d m : ℕ) (u : Change) (rs ss : List ℕ) (r : Replica) (s : Stamp) (ns : List ℕ) → p ≡ Some (h, d) → Issuing g h d r s → update_refusal h u r ≡ None
       → IsUp g m → g.top d ≢ 0
       → Steps g p (record (founded
       (moved g h (holding (g.house h) d s.time (Held (grown r (new_marks r u s))))
-      (to_each (others_of h r.members) d h r.epoch s.time (Update (new_marks r u s)))) g.next_dir m (listing [] 1 m rs)) { next_dir = g.next_dir + 1 })
+      (to_each (others_of h r.members) d h r.epoch s.time (Update (new_marks r u s)))) g.next_dir m (listing [] 1 m rs ss)) { next_dir = g.next_dir + 1 })
       (Made g.next_dir s ns) (accepting h d u r s ∷ [])
 
 abbrev pub Moves : Cell → Option (ℕ × ℕ) → Outcome → Type 0
@@ -292,16 +292,16 @@ skulk_moves g h d (Held r) up e =
 abbrev Noted : Cell → (d m : ℕ) → List Member → HouseStep → Type 0
 Noted g d m ms s = Moves g (Some (m, d)) (with_epoch (at_house g m s) d ms (at_house g m s).answer)
 
-epoch_moves : (g : Cell) (d m : ℕ) (rs : List ℕ) (s : Slot) → IsUp g m → g.top d ≢ 0 → is_listed m (g.present d) ≡ true → (g.house m).slots d ≡ s
-    → Noted g d m (listing (g.present d) (g.top d + 1) m rs)
-    (new_epoch_in m (g.house m) d (g.top d + 1) (listing (g.present d) (g.top d + 1) m rs)
-    (leaving (g.present d) (listing (g.present d) (g.top d + 1) m rs)) s)
-epoch_moves g d m rs Absent up known l e = stays _ tt
-epoch_moves g d m rs (Gone k) up known l e = stays _ tt
-epoch_moves g d m rs (Held r) up known l e = by_since (nat_le (since_in ms m 0) r.epoch) refl
+epoch_moves : (g : Cell) (d m : ℕ) (rs ss : List ℕ) (s : Slot) → IsUp g m → g.top d ≢ 0 → is_listed m (g.present d) ≡ true → (g.house m).slots d ≡ s
+    → Noted g d m (listing (g.present d) (g.top d + 1) m rs ss)
+    (new_epoch_in m (g.house m) d (g.top d + 1) (listing (g.present d) (g.top d + 1) m rs ss)
+    (leaving (g.present d) (listing (g.present d) (g.top d + 1) m rs ss)) s)
+epoch_moves g d m rs ss Absent up known l e = stays _ tt
+epoch_moves g d m rs ss (Gone k) up known l e = stays _ tt
+epoch_moves g d m rs ss (Held r) up known l e = by_since (nat_le (since_in ms m 0) r.epoch) refl
   where
     ms : List Member
-    ms = listing (g.present d) (g.top d + 1) m rs
+    ms = listing (g.present d) (g.top d + 1) m rs ss
 
     left : List ℕ
     left = leaving (g.present d) ms
@@ -313,28 +313,28 @@ epoch_moves g d m rs (Held r) up known l e = by_since (nat_le (since_in ms m 0) 
         (epoch_posts (g.house m).floor d m (g.top d + 1) ms left r) (NewEpoch (g.top d + 1)))
         (Stays (Refused (NotJoined r.epoch (since_in ms m 0)))))
     by_since true q =
-        crowns d m rs r up known e l (subst (λ (z : ℕ). z ≤ r.epoch) (since_kept (g.present d) (g.top d + 1) m rs l) (le_from _ _ q))
+        crowns d m rs ss r up known e l (subst (λ (z : ℕ). z ≤ r.epoch) (since_kept (g.present d) (g.top d + 1) m rs ss l) (le_from _ _ q))
     by_since false q = stays _ tt
 
 -- the update of a parent, and then the directory of the child
-abbrev Mkdirs : Cell → (h d m : ℕ) → List ℕ → HouseStep → Type 0
-Mkdirs g h d m rs s = StepsOf g (Some (h, d)) (with_directory (at_house g h s) g.next_dir m (listing [] 1 m rs) (at_house g h s).answer)
+abbrev Mkdirs : Cell → (h d m : ℕ) → (rs ss : List ℕ) → HouseStep → Type 0
+Mkdirs g h d m rs ss s = StepsOf g (Some (h, d)) (with_directory (at_house g h s) g.next_dir m (listing [] 1 m rs ss) (at_house g h s).answer)
 
-mkdir_stamp : (g : Cell) (h d m : ℕ) (u : Change) (rs : List ℕ) (r : Replica) (o : Option Stamp) → IsUp g h → IsUp g m → g.top d ≢ 0 → IsHeld g h d r
-    → update_refusal h u r ≡ None → stamp_at (g.house h) ≡ o → Mkdirs g h d m rs (accept_at h (g.house h) d u r o)
-mkdir_stamp g h d m u rs r None up up' known at fine e = one _ _ _ (stays _ tt)
-mkdir_stamp g h d m u rs r (Some s) up up' known at fine e = mkdirs h d m u rs r s _ refl (record { up = up; held = at; next = e }) fine up' known
+mkdir_stamp : (g : Cell) (h d m : ℕ) (u : Change) (rs ss : List ℕ) (r : Replica) (o : Option Stamp) → IsUp g h → IsUp g m → g.top d ≢ 0 → IsHeld g h d r
+    → update_refusal h u r ≡ None → stamp_at (g.house h) ≡ o → Mkdirs g h d m rs ss (accept_at h (g.house h) d u r o)
+mkdir_stamp g h d m u rs ss r None up up' known at fine e = one _ _ _ (stays _ tt)
+mkdir_stamp g h d m u rs ss r (Some s) up up' known at fine e = mkdirs h d m u rs ss r s _ refl (record { up = up; held = at; next = e }) fine up' known
 
-mkdir_unless : (g : Cell) (h d m : ℕ) (u : Change) (rs : List ℕ) (r : Replica) (q : Option UpdateRefusal) → IsUp g h → IsUp g m → g.top d ≢ 0
-    → IsHeld g h d r → update_refusal h u r ≡ q → Mkdirs g h d m rs (unless_refused q (accept_at h (g.house h) d u r (stamp_at (g.house h))))
-mkdir_unless g h d m u rs r None up up' known at fine = mkdir_stamp g h d m u rs r (stamp_at (g.house h)) up up' known at fine refl
-mkdir_unless g h d m u rs r (Some q) up up' known at fine = one _ _ _ (stays _ tt)
+mkdir_unless : (g : Cell) (h d m : ℕ) (u : Change) (rs ss : List ℕ) (r : Replica) (q : Option UpdateRefusal) → IsUp g h → IsUp g m → g.top d ≢ 0
+    → IsHeld g h d r → update_refusal h u r ≡ q → Mkdirs g h d m rs ss (unless_refused q (accept_at h (g.house h) d u r (stamp_at (g.house h))))
+mkdir_unless g h d m u rs ss r None up up' known at fine = mkdir_stamp g h d m u rs ss r (stamp_at (g.house h)) up up' known at fine refl
+mkdir_unless g h d m u rs ss r (Some q) up up' known at fine = one _ _ _ (stays _ tt)
 
-mkdir_steps : (g : Cell) (h d m : ℕ) (u : Change) (rs : List ℕ) (s : Slot) → IsUp g h → IsUp g m → g.top d ≢ 0 → (g.house h).slots d ≡ s
-    → Mkdirs g h d m rs (accept_in h (g.house h) d u s)
-mkdir_steps g h d m u rs Absent up up' known e = one _ _ _ (stays _ tt)
-mkdir_steps g h d m u rs (Gone k) up up' known e = one _ _ _ (stays _ tt)
-mkdir_steps g h d m u rs (Held r) up up' known e = mkdir_unless g h d m u rs r (update_refusal h u r) up up' known e refl
+mkdir_steps : (g : Cell) (h d m : ℕ) (u : Change) (rs ss : List ℕ) (s : Slot) → IsUp g h → IsUp g m → g.top d ≢ 0 → (g.house h).slots d ≡ s
+    → Mkdirs g h d m rs ss (accept_in h (g.house h) d u s)
+mkdir_steps g h d m u rs ss Absent up up' known e = one _ _ _ (stays _ tt)
+mkdir_steps g h d m u rs ss (Gone k) up up' known e = one _ _ _ (stays _ tt)
+mkdir_steps g h d m u rs ss (Held r) up up' known e = mkdir_unless g h d m u rs ss r (update_refusal h u r) up up' known e refl
 
 unless_steps : (g : Cell) (p : Option (ℕ × ℕ)) (r : Option Refusal) (x : Outcome) → (r ≡ None → StepsOf g p x) → StepsOf g p (unless g r x)
 unless_steps g p None x k = k refl
@@ -364,14 +364,14 @@ made_of g h e = not_true _ (or_left (not (has h g.made)) _ e)
 effect_steps : (g : Cell) (c : Command) → AllFail (refusals_of g c) → StepsOf g (place_of g c) (effect g c)
 effect_steps g (commands.House h node) p = one_of g _ _ (houses h node p.0)
 effect_steps g (commands.Clock h time) p = one_of g _ _ (clocks h time (made_of g h p.0))
-effect_steps g (commands.Root m rs) p = one_of g _ _ (founds 1 m rs _ refl (not_true _ p.1.1.1.0) (is_new g 1 p.0))
-effect_steps g (commands.Mkdir h d n m rs) p =
+effect_steps g (commands.Root m rs ss) p = one_of g _ _ (founds 1 m rs ss _ refl (not_true _ p.1.1.1.0) (is_new g 1 p.0))
+effect_steps g (commands.Mkdir h d n m rs ss) p =
     let down = p.1.1.1.0 in
-    mkdir_steps g h d m (changes.MakeChild n (record { dir = g.next_dir; master = m; others = ascending rs })) rs _ (not_true _ (or_left _ (is_down g m) down))
+    mkdir_steps g h d m (changes.MakeChild n (record { dir = g.next_dir; master = m; others = ascending rs })) rs ss _ (not_true _ (or_left _ (is_down g m) down))
     (not_true _ (or_right (is_down g h) _ down)) (is_known g d p.0) refl
 effect_steps g (commands.Repoint h d n m rs) p = one_of g _ _ (accept_moves g h d (changes.Repoint n m (ascending rs)) _ (not_true _ p.1.1.1.0) refl)
 effect_steps g (commands.Accept h d u) p = one_of g _ _ (accept_moves g h d u _ (not_true _ p.1.1.0) refl)
-effect_steps g (commands.Epoch d m rs) p = one_of g _ _ (epoch_moves g d m rs _ (not_true _ p.1.1.1.1.0) (is_known g d p.0) (not_true _ p.1.1.1.0) refl)
+effect_steps g (commands.Epoch d m rs ss) p = one_of g _ _ (epoch_moves g d m rs ss _ (not_true _ p.1.1.1.1.0) (is_known g d p.0) (not_true _ p.1.1.1.0) refl)
 effect_steps g (commands.Skulk h d) p = one_of g _ _ (skulk_moves g h d _ (not_true _ p.1.1.0) refl)
 effect_steps g (commands.Deliver n) p = one_of g _ _ (deliver_moves g n (message_at g n) refl)
 effect_steps g (commands.Lose n) p = one_of g _ _ (lose_moves g n (message_at g n))

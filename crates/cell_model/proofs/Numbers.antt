@@ -59,16 +59,16 @@ move_numbered g g' p a n v (loses i) = v
 move_numbered g g' p a n v (crashes h up) = v
 move_numbered g g' p a n v (starts h made) = v
 move_numbered g g' p a n v (acts h d _ floor o posts b l act) = v
-move_numbered g g' p a n v (founds d m rs ns root up none) =
+move_numbered g g' p a n v (founds d m rs ss ns root up none) =
     numbered_put g.top g.next_dir g.next_dir d 1 v (le_refl _) (λ e. omega (arith, root, e)) (le_refl _) (λ e le lt. absurd (omega arith)) (inl root)
-move_numbered g g' p a n v (crowns d m rs r up known at l since) =
+move_numbered g g' p a n v (crowns d m rs ss r up known at l since) =
     numbered_put g.top g.next_dir g.next_dir d (g.top d + 1) v (omega arith) (known_some g.top g.next_dir d v known) (le_refl _)
     (λ e le lt. absurd (omega arith)) (inr (v.root d (at_least (g.top d) known)))
 
 steps_numbered : (g g' : Cell) (p : Option (ℕ × ℕ)) (a : Answer) (n : List Accepted) → Numbered g.top g.next_dir → Steps g p g' a n
     → Numbered g'.top g'.next_dir
 steps_numbered g g' p a n v (one _ _ _ m) = move_numbered g g' p a n v m
-steps_numbered g g' p a n v (mkdirs h d m u rs r s ns at i fine up known) =
+steps_numbered g g' p a n v (mkdirs h d m u rs ss r s ns at i fine up known) =
     numbered_put g.top g.next_dir (g.next_dir + 1) g.next_dir 1 v (le_refl _) (λ e. omega (arith, e, v.two)) (omega arith) (λ e le lt. omega arith)
     (inr (v.root d (at_least (g.top d) known)))
 

@@ -122,27 +122,27 @@ pub data Passage (roll : Roll) (v v' : View) (n : List Accepted) : Type 0 where
   halves : Halves roll v v' n → Passage roll v v' n
 
 -- whether the command makes this directory
-by_number : (roll : Roll) (g : Cell) (m : ℕ) (rs : List ℕ) (n : List Accepted) (g1 : Cell) (nd : ℕ) → Whole roll.home g1 → g.top g.next_dir ≡ 0
+by_number : (roll : Roll) (g : Cell) (m : ℕ) (rs ss : List ℕ) (n : List Accepted) (g1 : Cell) (nd : ℕ) → Whole roll.home g1 → g.top g.next_dir ≡ 0
     → g1.top g.next_dir ≡ 0 → Sound roll (view roll.dir g) → Sound roll (view roll.dir g1) → Frame roll (view roll.dir g) (view roll.dir g1) n
     → AllAccepting roll.dir (view roll.dir g) (view roll.dir g1) n
-    → put g1.present g.next_dir (listing [] 1 m rs) roll.dir ≡ roll.list (put g1.top g.next_dir 1 roll.dir)
-    → Passage roll (view roll.dir g) (view roll.dir (record (founded g1 g.next_dir m (listing [] 1 m rs)) { next_dir = nd })) n
-by_number roll g m rs n g1 nd w1 none none1 s s1 fr acc fit = go (eqb roll.dir g.next_dir) refl
+    → put g1.present g.next_dir (listing [] 1 m rs ss) roll.dir ≡ roll.list (put g1.top g.next_dir 1 roll.dir)
+    → Passage roll (view roll.dir g) (view roll.dir (record (founded g1 g.next_dir m (listing [] 1 m rs ss)) { next_dir = nd })) n
+by_number roll g m rs ss n g1 nd w1 none none1 s s1 fr acc fit = go (eqb roll.dir g.next_dir) refl
   where
     go : (b : Bool) → eqb roll.dir g.next_dir ≡ b
-        → Passage roll (view roll.dir g) (view roll.dir (record (founded g1 g.next_dir m (listing [] 1 m rs)) { next_dir = nd })) n
+        → Passage roll (view roll.dir g) (view roll.dir (record (founded g1 g.next_dir m (listing [] 1 m rs ss)) { next_dir = nd })) n
     go true e = halves (record {
       mid = view roll.dir g1;
       first = fr;
       accepting = acc;
-      second = founding_frame roll g1 g.next_dir m rs nd w1 none1 roll.dir s1 fit;
+      second = founding_frame roll g1 g.next_dir m rs ss nd w1 none1 roll.dir s1 fit;
       vacant = λ x r h. omega (arith, held_low roll (view roll.dir g) x r s h, (s.held x r h).top, ap g.top (eq_from roll.dir g.next_dir e), none);
-      still = founded_still roll g1 g.next_dir m (listing [] 1 m rs) s1 none1;
+      still = founded_still roll g1 g.next_dir m (listing [] 1 m rs ss) s1 none1;
       floors = put_at (λ x v. (g1.house x).floor ≡ v.floor) g1.house m _ refl (λ x _. refl);
     })
     go false e =
         let apart : roll.dir ≢ g.next_dir = grind arith in
-        let is = founded_view g1 g.next_dir m (listing [] 1 m rs) nd roll.dir apart in
+        let is = founded_view g1 g.next_dir m (listing [] 1 m rs ss) nd roll.dir apart in
         whole (subst (λ (z : View). Frame roll (view roll.dir g) z n) (sym is) fr)
         (subst (λ (z : View). AllAccepting roll.dir (view roll.dir g) z n) (sym is) acc)
 
@@ -150,7 +150,7 @@ by_number roll g m rs n g1 nd w1 none none1 s s1 fr acc fit = go (eqb roll.dir g
 pub passage : (roll : Roll) (g g' : Cell) (p : Option (ℕ × ℕ)) (a : Answer) (n : List Accepted) → Fit roll g → Fit roll g' → Sound roll (view roll.dir g)
     → Steps g p g' a n → Passage roll (view roll.dir g) (view roll.dir g') n
 passage roll g g' p a n f f' s (one _ _ _ m) = whole (move_frame roll g g' p a n (whole_at roll g f) s f'.present m) (move_accepting roll g g' p a n s m)
-passage roll g g' p a n f f' s (mkdirs h d m u rs r t ns at i fine up known) =
+passage roll g g' p a n f f' s (mkdirs h d m u rs ss r t ns at i fine up known) =
     let o : Slot = Held (grown r (new_marks r u t)) in
     let posts : List Message = to_each (others_of h r.members) d h r.epoch t.time (Update (new_marks r u t)) in
     let g1 : Cell = moved g h (holding (g.house h) d t.time o) posts in
@@ -160,7 +160,7 @@ passage roll g g' p a n f f' s (mkdirs h d m u rs r t ns at i fine up known) =
     let fr : Frame roll (view roll.dir g) (view roll.dir g1) n = acting_frame roll g h d t.time o posts _ n (whole_at roll g f) act s in
     let s1 : Sound roll (view roll.dir g1) = sound_kept roll (view roll.dir g) (view roll.dir g1) n s fr in
     let w1 : Whole roll.home g1 = whole_of roll.home g1 on.plain (λ x mx. ap roll.home (on.kept x mx).1 ∙ f.homes x mx) in
-    by_number roll g m rs n g1 (g.next_dir + 1) w1 (f.plain.unknown g.next_dir (le_refl _)) (f.plain.unknown g.next_dir (le_refl _)) s s1 fr
+    by_number roll g m rs ss n g1 (g.next_dir + 1) w1 (f.plain.unknown g.next_dir (le_refl _)) (f.plain.unknown g.next_dir (le_refl _)) s s1 fr
     (act_accepting roll g h d t.time o posts _ n s act) f'.present
 
 -- ---- what every reached cell is

@@ -131,14 +131,14 @@ pub record IsProper (made : List ℕ) (top : ℕ) (ms : List Member) : Type 0 wh
   pub known : (x : ℕ) → is_listed x ms ≡ true → has x made ≡ true
   pub headed : top ≢ 0 → is_listed (master_of ms) ms ≡ true
 
-houses_listing : (old : List Member) (k m : ℕ) (hs : List ℕ)
-    → houses_of (map (λ x. record { house = x; since = since_in old x k; kind = kind_among m x }) hs) ≡ hs
-houses_listing old k m [] = refl
-houses_listing old k m (h ∷ hs) = ap (λ (l : List ℕ). h ∷ l) (houses_listing old k m hs)
+houses_listing : (old : List Member) (k m : ℕ) (ss hs : List ℕ)
+    → houses_of (map (λ x. record { house = x; since = since_in old x k; kind = kind_among m ss x }) hs) ≡ hs
+houses_listing old k m ss [] = refl
+houses_listing old k m ss (h ∷ hs) = ap (λ (l : List ℕ). h ∷ l) (houses_listing old k m ss hs)
 
 -- the houses of a new list
-pub houses_new : (old : List Member) (k m : ℕ) (rs : List ℕ) → houses_of (listing old k m rs) ≡ ascending (m ∷ rs)
-houses_new old k m rs = houses_listing old k m (ascending (m ∷ rs))
+pub houses_new : (old : List Member) (k m : ℕ) (rs ss : List ℕ) → houses_of (listing old k m rs ss) ≡ ascending (m ∷ rs)
+houses_new old k m rs ss = houses_listing old k m ss (ascending (m ∷ rs))
 
 length_houses : (ms : List Member) → length (houses_of ms) ≡ length ms
 length_houses [] = refl
@@ -151,21 +151,21 @@ all_made made (h ∷ hs) e x (inl s) =
 all_made made (h ∷ hs) e x (inr i) = all_made made hs (or_right (not (has h made)) (list_any (λ h. not (has h made)) hs) e) x i
 
 -- a list that a command names is proper
-pub proper_new : (made : List ℕ) (old : List Member) (top k m : ℕ) (rs : List ℕ) → is_bad_list (m ∷ rs) ≡ false
-    → list_any (λ h. not (has h made)) (m ∷ rs) ≡ false → IsProper made top (listing old k m rs)
-proper_new made old top k m rs fine there =
-    let same = houses_new old k m rs in
+pub proper_new : (made : List ℕ) (old : List Member) (top k m : ℕ) (rs ss : List ℕ) → is_bad_list (m ∷ rs) ≡ false
+    → list_any (λ h. not (has h made)) (m ∷ rs) ≡ false → IsProper made top (listing old k m rs ss)
+proper_new made old top k m rs ss fine there =
+    let same = houses_new old k m rs ss in
     let many : nat_lt most_members (length (m ∷ rs)) ≡ false = or_right (stands_twice (m ∷ rs)) (nat_lt most_members (length (m ∷ rs))) fine in
-    let count : length (listing old k m rs) ≡ length (m ∷ rs) =
-    sym (length_houses (listing old k m rs)) ∙ ap (λ (l : List ℕ). length l) same ∙ length_ascending (m ∷ rs) in
+    let count : length (listing old k m rs ss) ≡ length (m ∷ rs) =
+    sym (length_houses (listing old k m rs ss)) ∙ ap (λ (l : List ℕ). length l) same ∙ length_ascending (m ∷ rs) in
     let within : length (m ∷ rs) ≤ most_members = within_test (length (m ∷ rs)) many in
     record {
       once = subst Once (sym same)
           (once_ascending (m ∷ rs) (once_from (m ∷ rs) (or_left (stands_twice (m ∷ rs)) (nat_lt most_members (length (m ∷ rs))) fine)));
       few = subst (λ (n : ℕ). n ≤ most_members) (sym count) within;
       known = λ x l. all_made made (m ∷ rs) there x
-          (in_ascending x (m ∷ rs) (subst (λ (l : List ℕ). In x l) same (listed_house x (listing old k m rs) l)));
-      headed = λ some. subst (λ (x : ℕ). is_listed x (listing old k m rs) ≡ true) (sym (master_new old k m rs)) (master_listed old k m rs);
+          (in_ascending x (m ∷ rs) (subst (λ (l : List ℕ). In x l) same (listed_house x (listing old k m rs ss) l)));
+      headed = λ some. subst (λ (x : ℕ). is_listed x (listing old k m rs ss) ≡ true) (sym (master_new old k m rs ss)) (master_listed old k m rs ss);
     }
   where
     within_test : (n : ℕ) → nat_lt most_members n ≡ false → n ≤ most_members
@@ -248,22 +248,22 @@ tidy_effect g (commands.House h node) f v = record {
   lost = v.lost;
 }
 tidy_effect g (commands.Clock h time) f v = record { lists = v.lists; lost = v.lost }
-tidy_effect g (commands.Root m rs) f v = tidy_founded g 1 m (listing [] 1 m rs) v (proper_new g.made [] 1 1 m rs f.1.1.0 f.1.0)
-tidy_effect g (commands.Mkdir h d n m rs) f v =
+tidy_effect g (commands.Root m rs ss) f v = tidy_founded g 1 m (listing [] 1 m rs ss) v (proper_new g.made [] 1 1 m rs ss f.1.1.0 f.1.0)
+tidy_effect g (commands.Mkdir h d n m rs ss) f v =
     let u : changes.Change = changes.MakeChild n (record { dir = g.next_dir; master = m; others = ascending rs }) in
     let o = at_house g h (accept h (g.house h) d u) in
     let r = at_house-rest g h (accept h (g.house h) d u) in
     let missing : list_any (λ x. not (has x g.made)) (m ∷ rs) ≡ false = or_right (not (has h g.made)) (list_any (λ x. not (has x g.made)) (m ∷ rs)) f.1.0 in
-    tidy_directory o g.next_dir m (listing [] 1 m rs) o.answer (tidy_at g h (accept h (g.house h) d u) v)
-    (subst (λ (l : List ℕ). IsProper l 1 (listing [] 1 m rs)) (sym r.made) (proper_new g.made [] 1 1 m rs f.1.1.0 missing))
+    tidy_directory o g.next_dir m (listing [] 1 m rs ss) o.answer (tidy_at g h (accept h (g.house h) d u) v)
+    (subst (λ (l : List ℕ). IsProper l 1 (listing [] 1 m rs ss)) (sym r.made) (proper_new g.made [] 1 1 m rs ss f.1.1.0 missing))
 tidy_effect g (commands.Repoint h d n m rs) f v = tidy_at g h (accept h (g.house h) d (changes.Repoint n m (ascending rs))) v
 tidy_effect g (commands.Accept h d u) f v = tidy_at g h (accept h (g.house h) d u) v
-tidy_effect g (commands.Epoch d m rs) f v =
-    let ms : List Member = listing (g.present d) (g.top d + 1) m rs in
+tidy_effect g (commands.Epoch d m rs ss) f v =
+    let ms : List Member = listing (g.present d) (g.top d + 1) m rs ss in
     let s : HouseStep = new_epoch m (g.house m) d (g.top d + 1) ms (leaving (g.present d) ms) in
     let r = at_house-rest g m s in
     tidy_epoch (at_house g m s) d ms (at_house g m s).answer (tidy_at g m s v)
-    (λ k. subst (λ (l : List ℕ). IsProper l k ms) (sym r.made) (proper_new g.made (g.present d) k (g.top d + 1) m rs f.1.1.0 f.1.0))
+    (λ k. subst (λ (l : List ℕ). IsProper l k ms) (sym r.made) (proper_new g.made (g.present d) k (g.top d + 1) m rs ss f.1.1.0 f.1.0))
 tidy_effect g (commands.Skulk h d) f v = tidy_at g h (skulk h (g.house h) d) v
 tidy_effect g (commands.Deliver n) f v = tidy_delivered g (message_at g n) v
 tidy_effect g (commands.Lose n) f v = tidy_lost g n (message_at g n) refl v

@@ -12,7 +12,7 @@ use Rattle.cell_model.proofs.ExampleWords.{at, listed, value_at, state_at, left_
 -- a skulk that is begun again
 abbrev begun_again : List Command
 begun_again =
-    House 1 10 ∷ House 2 11 ∷ House 3 12 ∷ Root 1 (2 ∷ 3 ∷ []) ∷ Deliver 1 ∷ Deliver 2 ∷ Skulk 1 1 ∷ Deliver 3 ∷ Deliver 4 ∷ Deliver 5 ∷ Skulk 1 1 ∷
+    House 1 10 ∷ House 2 11 ∷ House 3 12 ∷ Root 1 (2 ∷ 3 ∷ []) [] ∷ Deliver 1 ∷ Deliver 2 ∷ Skulk 1 1 ∷ Deliver 3 ∷ Deliver 4 ∷ Deliver 5 ∷ Skulk 1 1 ∷
     Deliver 6 ∷ Deliver 7 ∷ Deliver 8 ∷ Deliver 9 ∷ Deliver 10 ∷ Deliver 11 ∷ Deliver 12 ∷ Deliver 13 ∷ Deliver 14 ∷ Deliver 14 ∷ []
 
 begun_again-answers : answers begun_again ≡
@@ -24,7 +24,7 @@ begun_again-answers = refl
 -- an update between the two rounds is later than the skulk
 abbrev between_rounds : List Command
 between_rounds =
-    House 1 10 ∷ House 2 11 ∷ Root 1 (2 ∷ []) ∷ Deliver 1 ∷ Accept 1 1 (Create (codes "e")) ∷ Skulk 1 1 ∷ Deliver 3 ∷
+    House 1 10 ∷ House 2 11 ∷ Root 1 (2 ∷ []) [] ∷ Deliver 1 ∷ Accept 1 1 (Create (codes "e")) ∷ Skulk 1 1 ∷ Deliver 3 ∷
     Accept 1 1 (Delete (codes "e")) ∷ Deliver 4 ∷ Deliver 6 ∷ Deliver 7 ∷ []
 
 between_rounds-answers : answers between_rounds ≡
@@ -41,7 +41,7 @@ between_rounds-dump_1_left = refl
 -- a master that is alone completes at once
 abbrev single_member : List Command
 single_member =
-    House 1 10 ∷ Root 1 [] ∷ Skulk 1 1 ∷ []
+    House 1 10 ∷ Root 1 [] [] ∷ Skulk 1 1 ∷ []
 
 single_member-answers : answers single_member ≡
     Done ∷ Posted [] ∷ Complete (at 1 10) [] ∷ []
@@ -50,7 +50,7 @@ single_member-answers = refl
 -- a deletion that was purged does not return
 abbrev purged_deletion : List Command
 purged_deletion =
-    House 1 10 ∷ House 2 11 ∷ House 3 12 ∷ Root 1 (2 ∷ 3 ∷ []) ∷ Deliver 1 ∷ Deliver 2 ∷ Accept 1 1 (Create (codes "e")) ∷
+    House 1 10 ∷ House 2 11 ∷ House 3 12 ∷ Root 1 (2 ∷ 3 ∷ []) [] ∷ Deliver 1 ∷ Deliver 2 ∷ Accept 1 1 (Create (codes "e")) ∷
     Accept 1 1 (Delete (codes "e")) ∷ Skulk 1 1 ∷ Deliver 7 ∷ Deliver 8 ∷ Deliver 9 ∷ Deliver 10 ∷ Deliver 11 ∷ Deliver 12 ∷ Deliver 13 ∷
     Deliver 14 ∷ Deliver 15 ∷ Deliver 3 ∷ Deliver 4 ∷ []
 
@@ -82,8 +82,8 @@ purged_deletion-dump_4_left = refl
 -- an old master comes back in a new term
 abbrev pub old_master : List Command
 old_master =
-    House 1 10 ∷ House 2 11 ∷ Root 1 (2 ∷ []) ∷ Deliver 1 ∷ Epoch 1 2 [] ∷ Accept 1 1 (Create (codes "lone")) ∷ Deliver 3 ∷ Skulk 2 1 ∷
-    Epoch 1 2 (1 ∷ []) ∷ Epoch 1 1 (2 ∷ []) ∷ Deliver 4 ∷ Deliver 2 ∷ []
+    House 1 10 ∷ House 2 11 ∷ Root 1 (2 ∷ []) [] ∷ Deliver 1 ∷ Epoch 1 2 [] [] ∷ Accept 1 1 (Create (codes "lone")) ∷ Deliver 3 ∷ Skulk 2 1 ∷
+    Epoch 1 2 (1 ∷ []) [] ∷ Epoch 1 1 (2 ∷ []) [] ∷ Deliver 4 ∷ Deliver 2 ∷ []
 
 old_master-answers : answers old_master ≡
     Done ∷ Done ∷ Posted (1 ∷ []) ∷ Taken [] ∷ NewEpoch 2 (2 ∷ []) ∷ Stamped (at 1 10) (3 ∷ []) ∷ Late 1 2 ∷ Complete (at 1 11) [] ∷
@@ -102,7 +102,7 @@ old_master-dump_2_left = refl
 -- a house that missed two epochs keeps its updates
 abbrev missed_epochs : List Command
 missed_epochs =
-    House 1 10 ∷ House 2 11 ∷ Root 1 (2 ∷ []) ∷ Deliver 1 ∷ Epoch 1 2 (1 ∷ []) ∷ Epoch 1 2 (1 ∷ []) ∷ Accept 1 1 (Create (codes "kept")) ∷
+    House 1 10 ∷ House 2 11 ∷ Root 1 (2 ∷ []) [] ∷ Deliver 1 ∷ Epoch 1 2 (1 ∷ []) [] ∷ Epoch 1 2 (1 ∷ []) [] ∷ Accept 1 1 (Create (codes "kept")) ∷
     Accept 2 1 (Create (codes "new")) ∷ Deliver 5 ∷ Deliver 3 ∷ Deliver 2 ∷ Accept 1 1 (Create (codes "x")) ∷ Skulk 2 1 ∷ Deliver 6 ∷ Deliver 7 ∷
     Deliver 8 ∷ Deliver 9 ∷ []
 
@@ -121,7 +121,7 @@ missed_epochs-read_2 = refl
 -- a crash in the second round
 abbrev pub crash_in_second : List Command
 crash_in_second =
-    House 1 10 ∷ House 2 11 ∷ Root 1 (2 ∷ []) ∷ Deliver 1 ∷ Skulk 1 1 ∷ Deliver 2 ∷ Deliver 3 ∷ Deliver 4 ∷ Crash 1 ∷ Deliver 5 ∷ Start 1 ∷
+    House 1 10 ∷ House 2 11 ∷ Root 1 (2 ∷ []) [] ∷ Deliver 1 ∷ Skulk 1 1 ∷ Deliver 2 ∷ Deliver 3 ∷ Deliver 4 ∷ Crash 1 ∷ Deliver 5 ∷ Start 1 ∷
     Deliver 5 ∷ Skulk 1 1 ∷ Deliver 6 ∷ Deliver 7 ∷ Deliver 8 ∷ Deliver 9 ∷ []
 
 crash_in_second-answers : answers crash_in_second ≡
@@ -132,7 +132,7 @@ crash_in_second-answers = refl
 -- a member that took a Gather issues stamps above its time
 abbrev above_gather : List Command
 above_gather =
-    House 1 10 ∷ House 2 11 ∷ Root 1 (2 ∷ []) ∷ Deliver 1 ∷ Clock 1 100 ∷ Skulk 1 1 ∷ Deliver 2 ∷ Epoch 1 2 (1 ∷ []) ∷
+    House 1 10 ∷ House 2 11 ∷ Root 1 (2 ∷ []) [] ∷ Deliver 1 ∷ Clock 1 100 ∷ Skulk 1 1 ∷ Deliver 2 ∷ Epoch 1 2 (1 ∷ []) [] ∷
     Accept 2 1 (Create (codes "e")) ∷ []
 
 above_gather-answers : answers above_gather ≡
@@ -142,7 +142,7 @@ above_gather-answers = refl
 
 -- a Join that a Leave of a later epoch has overtaken does not bring the directory back
 abbrev pub overtaken : List Command
-overtaken = House 1 10 ∷ House 2 11 ∷ Root 1 (2 ∷ []) ∷ Epoch 1 1 [] ∷ Deliver 2 ∷ Deliver 1 ∷ Deliver 2 ∷ []
+overtaken = House 1 10 ∷ House 2 11 ∷ Root 1 (2 ∷ []) [] ∷ Epoch 1 1 [] [] ∷ Deliver 2 ∷ Deliver 1 ∷ Deliver 2 ∷ []
 
 overtaken-answers : answers overtaken ≡
     Done ∷ Done ∷ Posted (1 ∷ []) ∷ NewEpoch 2 (2 ∷ []) ∷ Taken [] ∷ Late 1 2 ∷ Late 2 2 ∷ []

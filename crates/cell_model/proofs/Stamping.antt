@@ -72,7 +72,7 @@ founded_floor g d m ms nd =
 
 steps_made : (g g' : Cell) (p : Option (ℕ × ℕ)) (d : ℕ) (s : Stamp) (ns : List ℕ) (n : List Accepted) → Steps g p g' (Made d s ns) n → IssuedAt g g' p s
 steps_made g g' p d s ns n (one _ _ _ m) = absurd (move_made g g' p d s ns n m)
-steps_made g g' p d s ns n (mkdirs h e m u rs r _ _ at i fine up known) =
+steps_made g g' p d s ns n (mkdirs h e m u rs ss r _ _ at i fine up known) =
     let o : Slot = Held (grown r (new_marks r u s)) in
     let posts : List Message = to_each (others_of h r.members) e h r.epoch s.time (Update (new_marks r u s)) in
     record {
@@ -81,7 +81,7 @@ steps_made g g' p d s ns n (mkdirs h e m u rs r _ _ at i fine up known) =
       replica = r;
       at = at;
       issuing = i;
-      floor = founded_floor (moved g h (holding (g.house h) e s.time o) posts) g.next_dir m (listing [] 1 m rs) (g.next_dir + 1) h ∙ act_floor g h e s o posts;
+      floor = founded_floor (moved g h (holding (g.house h) e s.time o) posts) g.next_dir m (listing [] 1 m rs ss) (g.next_dir + 1) h ∙ act_floor g h e s o posts;
     }
 
 -- ---- a skulk that completes at once

@@ -1,10 +1,10 @@
 -- Member lists from epoch to epoch.
 use Rattle.std.proofs.Common.{◌≡◌, ◌≢◌, ℕ, ◌⊎◌, inl, inr, Bool, true, false, ◌||◌, eqb, cond, List, [], ◌∷◌, map, refl, sym, ap, ◌∙◌, subst, arith}
 use Rattle.std.proofs.Common.{⊎_elim, nat_lt}
-use Rattle.cds_stamps.specs.declared.members.MemberKind.TheVariants.{Master, ReadOnly}
+use Rattle.cds_stamps.specs.declared.members.MemberKind.TheVariants.{Master, ReadOnly, Secondary}
 use Rattle.cds_stamps.specs.Members.{Member, is_master, master_of, others_of, is_listed, since_in}
 use Rattle.cell_model.specs.Sets.{In, has}
-use Rattle.cell_model.specs.Steps.{insert_house, ascending, listing, leaving}
+use Rattle.cell_model.specs.Steps.{insert_house, ascending, kind_among, listing, leaving}
 use Rattle.cell_model.proofs.Lists.{eq_from, eq_to, or_cases, or_true, has-from_In}
 
 -- the house is listed, since this epoch
@@ -96,66 +96,71 @@ has_ascending x [] = refl
 has_ascending x (z ∷ zs) = has_insert x z (ascending zs) ∙ ap (λ (b : Bool). eqb x z || b) (has_ascending x zs)
 
 -- a member as a new list has it
-abbrev member_at : List Member → (k m x : ℕ) → Member
-member_at old k m x = record { house = x; since = since_in old x k; kind = cond (eqb x m) Master ReadOnly }
+abbrev member_at : List Member → (k m : ℕ) → (ss : List ℕ) → (x : ℕ) → Member
+member_at old k m ss x = record { house = x; since = since_in old x k; kind = kind_among m ss x }
 
 -- the test of numbers does not ask for their order
 pub flip_eq : (a b : ℕ) → eqb a b ≡ eqb b a
 flip_eq a b = grind arith
 
-listed_map : (old : List Member) (k m x : ℕ) (hs : List ℕ) → is_listed x (map (member_at old k m) hs) ≡ has x hs
-listed_map old k m x [] = refl
-listed_map old k m x (h ∷ hs) = ap (λ (b : Bool). b || is_listed x (map (member_at old k m) hs)) (flip_eq h x)
-    ∙ ap (λ (b : Bool). eqb x h || b) (listed_map old k m x hs)
+listed_map : (old : List Member) (k m : ℕ) (ss : List ℕ) (x : ℕ) (hs : List ℕ) → is_listed x (map (member_at old k m ss) hs) ≡ has x hs
+listed_map old k m ss x [] = refl
+listed_map old k m ss x (h ∷ hs) = ap (λ (b : Bool). b || is_listed x (map (member_at old k m ss) hs)) (flip_eq h x)
+    ∙ ap (λ (b : Bool). eqb x h || b) (listed_map old k m ss x hs)
 
-since_map_step : (old : List Member) (k m x h : ℕ) (hs : List ℕ) (b : Bool) → eqb h x ≡ b
-    → (has x hs ≡ true → since_in (map (member_at old k m) hs) x 0 ≡ since_in old x k) → (b || has x hs) ≡ true
-    → cond b (since_in old h k) (since_in (map (member_at old k m) hs) x 0) ≡ since_in old x k
-since_map_step old k m x h hs true q rest e = ap (λ (z : ℕ). since_in old z k) (eq_from h x q)
-since_map_step old k m x h hs false q rest e = rest e
+since_map_step : (old : List Member) (k m : ℕ) (ss : List ℕ) (x h : ℕ) (hs : List ℕ) (b : Bool) → eqb h x ≡ b
+    → (has x hs ≡ true → since_in (map (member_at old k m ss) hs) x 0 ≡ since_in old x k) → (b || has x hs) ≡ true
+    → cond b (since_in old h k) (since_in (map (member_at old k m ss) hs) x 0) ≡ since_in old x k
+since_map_step old k m ss x h hs true q rest e = ap (λ (z : ℕ). since_in old z k) (eq_from h x q)
+since_map_step old k m ss x h hs false q rest e = rest e
 
-since_map : (old : List Member) (k m x : ℕ) (hs : List ℕ) → has x hs ≡ true → since_in (map (member_at old k m) hs) x 0 ≡ since_in old x k
-since_map old k m x [] e = absurd (cc)
-since_map old k m x (h ∷ hs) e = since_map_step old k m x h hs (eqb h x) refl (since_map old k m x hs) (ap (λ (b : Bool). b || has x hs) (flip_eq h x) ∙ e)
+since_map : (old : List Member) (k m : ℕ) (ss : List ℕ) (x : ℕ) (hs : List ℕ) → has x hs ≡ true → since_in (map (member_at old k m ss) hs) x 0 ≡ since_in old x k
+since_map old k m ss x [] e = absurd (cc)
+since_map old k m ss x (h ∷ hs) e = since_map_step old k m ss x h hs (eqb h x) refl (since_map old k m ss x hs) (ap (λ (b : Bool). b || has x hs) (flip_eq h x) ∙ e)
 
-master_step : (old : List Member) (k m h : ℕ) (hs : List ℕ) (b : Bool) → eqb h m ≡ b → (has m hs ≡ true → master_of (map (member_at old k m) hs) ≡ m)
-    → (eqb m h || has m hs) ≡ true → cond (is_master (cond b Master ReadOnly)) h (master_of (map (member_at old k m) hs)) ≡ m
-master_step old k m h hs true q rest e = eq_from h m q
-master_step old k m h hs false q rest e =
-    rest (subst (λ (b : Bool). (b || has m hs) ≡ true) (sym (flip_eq h m) ∙ q) (subst (λ (b : Bool). (b || has m hs) ≡ true) refl e))
+master_step : (old : List Member) (k m : ℕ) (ss : List ℕ) (h : ℕ) (hs : List ℕ) (b : Bool) → eqb h m ≡ b → (has m hs ≡ true → master_of (map (member_at old k m ss) hs) ≡ m)
+    → (eqb m h || has m hs) ≡ true → cond (is_master (cond b Master (cond (has h ss) Secondary ReadOnly))) h (master_of (map (member_at old k m ss) hs)) ≡ m
+master_step old k m ss h hs true q rest e = eq_from h m q
+master_step old k m ss h hs false q rest e =
+    ap (λ (b : Bool). cond b h (master_of (map (member_at old k m ss) hs))) (no_master (has h ss))
+    ∙ rest (subst (λ (b : Bool). (b || has m hs) ≡ true) (sym (flip_eq h m) ∙ q) (subst (λ (b : Bool). (b || has m hs) ≡ true) refl e))
+  where
+    no_master : (b : Bool) → is_master (cond b Secondary ReadOnly) ≡ false
+    no_master true = refl
+    no_master false = refl
 
-master_map : (old : List Member) (k m : ℕ) (hs : List ℕ) → has m hs ≡ true → master_of (map (member_at old k m) hs) ≡ m
-master_map old k m [] e = absurd (cc)
-master_map old k m (h ∷ hs) e = master_step old k m h hs (eqb h m) refl (master_map old k m hs) e
+master_map : (old : List Member) (k m : ℕ) (ss : List ℕ) (hs : List ℕ) → has m hs ≡ true → master_of (map (member_at old k m ss) hs) ≡ m
+master_map old k m ss [] e = absurd (cc)
+master_map old k m ss (h ∷ hs) e = master_step old k m ss h hs (eqb h m) refl (master_map old k m ss hs) e
 
-listed_new : (old : List Member) (k m x : ℕ) (rs : List ℕ) → is_listed x (listing old k m rs) ≡ has x (m ∷ rs)
-listed_new old k m x rs = listed_map old k m x (ascending (m ∷ rs)) ∙ has_ascending x (m ∷ rs)
+listed_new : (old : List Member) (k m x : ℕ) (rs ss : List ℕ) → is_listed x (listing old k m rs ss) ≡ has x (m ∷ rs)
+listed_new old k m x rs ss = listed_map old k m ss x (ascending (m ∷ rs)) ∙ has_ascending x (m ∷ rs)
 
 self : (m : ℕ) (rs : List ℕ) → has m (m ∷ rs) ≡ true
 self m rs = has-from_In m (m ∷ rs) (inl refl)
 
 -- the master of a new list is the one named, and is listed
-pub master_new : (old : List Member) (k m : ℕ) (rs : List ℕ) → master_of (listing old k m rs) ≡ m
-master_new old k m rs = master_map old k m (ascending (m ∷ rs)) (has_ascending m (m ∷ rs) ∙ self m rs)
+pub master_new : (old : List Member) (k m : ℕ) (rs ss : List ℕ) → master_of (listing old k m rs ss) ≡ m
+master_new old k m rs ss = master_map old k m ss (ascending (m ∷ rs)) (has_ascending m (m ∷ rs) ∙ self m rs)
 
 -- the master of a new list is on it
-pub master_listed : (old : List Member) (k m : ℕ) (rs : List ℕ) → is_listed m (listing old k m rs) ≡ true
-master_listed old k m rs = listed_new old k m m rs ∙ self m rs
+pub master_listed : (old : List Member) (k m : ℕ) (rs ss : List ℕ) → is_listed m (listing old k m rs ss) ≡ true
+master_listed old k m rs ss = listed_new old k m m rs ss ∙ self m rs
 
 -- the since that a new list has is that of the old list, or the new epoch
-pub since_new : (old : List Member) (k m x : ℕ) (rs : List ℕ) → is_listed x (listing old k m rs) ≡ true → since_in (listing old k m rs) x 0 ≡ since_in old x k
-since_new old k m x rs e = since_map old k m x (ascending (m ∷ rs)) (sym (listed_map old k m x (ascending (m ∷ rs))) ∙ e)
+pub since_new : (old : List Member) (k m x : ℕ) (rs ss : List ℕ) → is_listed x (listing old k m rs ss) ≡ true → since_in (listing old k m rs ss) x 0 ≡ since_in old x k
+since_new old k m x rs ss e = since_map old k m ss x (ascending (m ∷ rs)) (sym (listed_map old k m ss x (ascending (m ∷ rs))) ∙ e)
 
 -- the new master's since is the one that it had
-pub since_kept : (old : List Member) (k m : ℕ) (rs : List ℕ) → is_listed m old ≡ true → since_in (listing old k m rs) m 0 ≡ since_in old m 0
-since_kept old k m rs l = since_new old k m m rs (master_listed old k m rs) ∙ since_listed m k old l
+pub since_kept : (old : List Member) (k m : ℕ) (rs ss : List ℕ) → is_listed m old ≡ true → since_in (listing old k m rs ss) m 0 ≡ since_in old m 0
+since_kept old k m rs ss l = since_new old k m m rs ss (master_listed old k m rs ss) ∙ since_listed m k old l
 
 -- a house on a new list was on the old one with that since, or its since is the new epoch
-pub listed_before : (old : List Member) (k m x s : ℕ) (rs : List ℕ) → Listed (listing old k m rs) x s → Listed old x s ⊎ (s ≡ k)
-listed_before old k m x s rs l = go (is_listed x old) refl
+pub listed_before : (old : List Member) (k m x s : ℕ) (rs ss : List ℕ) → Listed (listing old k m rs ss) x s → Listed old x s ⊎ (s ≡ k)
+listed_before old k m x s rs ss l = go (is_listed x old) refl
   where
     from : since_in old x k ≡ s
-    from = sym (since_new old k m x rs l.0) ∙ l.1
+    from = sym (since_new old k m x rs ss l.0) ∙ l.1
 
     go : (b : Bool) → is_listed x old ≡ b → Listed old x s ⊎ (s ≡ k)
     go true e = inl (e, sym (since_listed x k old e) ∙ from)

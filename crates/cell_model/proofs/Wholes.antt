@@ -226,8 +226,8 @@ move_onward g g' pl a n p (crashes h up) = moved_onward g h _ [] p (up_made g h 
 move_onward g g' pl a n p (starts h made) = moved_onward g h _ [] p made refl (le_refl _)
 move_onward g g' pl a n p (acts h d _ floor o posts b l act) =
     moved_onward g h (holding (g.house h) d floor o) posts p (up_made g h p (act_up g h d floor o posts b l act)) refl (act_rises g h d floor o posts b l act)
-move_onward g g' pl a n p (founds d m rs ns root up none) = founded_onward g d m _ g.next_dir p (up_made g m p up) none (omega (arith, root, p.two)) (le_refl _)
-move_onward g g' pl a n p (crowns d m rs r up known at l since) =
+move_onward g g' pl a n p (founds d m rs ss ns root up none) = founded_onward g d m _ g.next_dir p (up_made g m p up) none (omega (arith, root, p.two)) (le_refl _)
+move_onward g g' pl a n p (crowns d m rs ss r up known at l since) =
     let lt : d < g.next_dir = ⊎_elim (λ z. z) (λ (ge : g.next_dir ≤ d). absurd (known (p.unknown d ge))) (cases_lt d g.next_dir) in
     changed g m _ _ g.lost (put g.top d (g.top d + 1)) (put g.present d _) g.next_dir p (up_made g m p up) refl (le_refl _) p.two
     (set_unknown g.top d (g.top d + 1) g.next_dir lt p.unknown)
@@ -236,7 +236,7 @@ move_onward g g' pl a n p (crowns d m rs r up known at l since) =
 
 pub steps_onward : (g g' : Cell) (pl : Option (ℕ × ℕ)) (a : Answer) (n : List Accepted) → Plain g → Steps g pl g' a n → Onward g g'
 steps_onward g g' pl a n p (one _ _ _ m) = move_onward g g' pl a n p m
-steps_onward g g' pl a n p (mkdirs h d m u rs r s ns at i fine up known) =
+steps_onward g g' pl a n p (mkdirs h d m u rs ss r s ns at i fine up known) =
     let made = up_made g h p i.up in
     let first = moved_onward g h _ _ p made refl (act_rises g h d s.time _ _ _ n (accepts h d u r s ns i fine)) in
     onward_trans g _ _ first (founded_onward _ g.next_dir m _ (g.next_dir + 1) first.plain (up_made g m p up) (p.unknown g.next_dir (le_refl _)) (omega arith)

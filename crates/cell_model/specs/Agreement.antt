@@ -16,10 +16,10 @@ use Rattle.cell_model.specs.Steps.{message_at, outcome, replay, accepted}
 
 -- the house and the directory that a command acts at (own)
 abbrev pub place_of : Cell → Command → Option (ℕ × ℕ)
-place_of g (Mkdir h d n m rs) = Some (h, d)
+place_of g (Mkdir h d n m rs ss) = Some (h, d)
 place_of g (Repoint h d n m rs) = Some (h, d)
 place_of g (Accept h d u) = Some (h, d)
-place_of g (Epoch d m rs) = Some (m, d)
+place_of g (Epoch d m rs ss) = Some (m, d)
 place_of g (Skulk h d) = Some (h, d)
 place_of g (Deliver n) = option_map (λ (m : Message). (m.receiver, m.dir)) (message_at g n)
 place_of g _ = None

@@ -6,15 +6,15 @@ use Rattle.directory.specs.Histories.{Mark}
 use Rattle.directory.specs.Updates.{Change}
 
 -- h is a house, d a directory, n the simple name of a child or the serial of a message, m a master and rs the other
--- houses of a replica set. Accept is each command of one update: create, link, delete, add, remove, put and clear (own)
+-- houses of a replica set, of which ss are secondary and the others read-only. Accept is each command of one update: create, link, delete, add, remove, put and clear (own)
 pub data Command : Type 0 where
   House : (h node : ℕ) → Command
   Clock : (h time : ℕ) → Command
-  Root : (m : ℕ) → (rs : List ℕ) → Command
-  Mkdir : (h d : ℕ) → (n : List ℕ) → (m : ℕ) → (rs : List ℕ) → Command
+  Root : (m : ℕ) → (rs ss : List ℕ) → Command
+  Mkdir : (h d : ℕ) → (n : List ℕ) → (m : ℕ) → (rs ss : List ℕ) → Command
   Repoint : (h d : ℕ) → (n : List ℕ) → (m : ℕ) → (rs : List ℕ) → Command
   Accept : (h d : ℕ) → (u : Change) → Command
-  Epoch : (d m : ℕ) → (rs : List ℕ) → Command
+  Epoch : (d m : ℕ) → (rs ss : List ℕ) → Command
   Skulk : (h d : ℕ) → Command
   Deliver : (n : ℕ) → Command
   Lose : (n : ℕ) → Command

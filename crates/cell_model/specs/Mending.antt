@@ -1,7 +1,7 @@
 -- From every state a skulk can complete: the commands that bring it about, and what they leave (own, after C705, skulks and new epochs).
 use Rattle.std.specs.Prelude.{◌≡◌, ℕ, zero, suc, ◌+◌, ◌*◌, ◌≤◌, true, if◌then◌else◌, List, [], ◌∷◌, ◌++◌, length, Some, None}
 use Rattle.cds_stamps.specs.declared.stamp.Stamp.{Stamp}
-use Rattle.cds_stamps.specs.Members.{Member, master_of, others_of, is_listed}
+use Rattle.cds_stamps.specs.Members.{Member, master_of, others_of, is_listed, secondaries_of}
 use Rattle.cell_model.specs.Cells.{Idle, Replica, Cell, IsHeld}
 use Rattle.cell_model.specs.Commands.{Command, Epoch, Skulk, Deliver, Start, Answer, Done, Stamped, NewEpoch, Taken, Complete}
 use Rattle.cell_model.specs.Sets.{In}
@@ -32,13 +32,14 @@ skulking_at g d =
     let m : ℕ = master_of (g.present d) in
     skulking m d (length g.bag) (length (others_of m (g.present d)))
 
--- what mends a directory: the houses of the console's present list are started, get an epoch with the same master and the same houses,
--- take its Joins, and then the master's skulk completes (own)
+-- what mends a directory: the houses of the console's present list are started, get an epoch with the same master and the same houses
+-- of the same kinds, take its Joins, and then the master's skulk completes (own)
 abbrev pub mending : Cell → ℕ → List Command
 mending g d =
     let m : ℕ = master_of (g.present d) in
     let rs : List ℕ = others_of m (g.present d) in
-    starting g (g.present d) ++ Epoch d m rs ∷ (delivering (length g.bag) (length rs) ++ skulking m d (length g.bag + length rs) (length rs))
+    starting g (g.present d) ++ Epoch d m rs (secondaries_of (g.present d))
+    ∷ (delivering (length g.bag) (length rs) ++ skulking m d (length g.bag + length rs) (length rs))
 
 -- ---- what they leave
 

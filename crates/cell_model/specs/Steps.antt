@@ -3,7 +3,7 @@ use Rattle.std.specs.Prelude.{ℕ, ◌+◌, ◌-◌, Bool, true, false, ◌||◌
 use Rattle.std.specs.Prelude.{length, Option, Some, None, slice_get}
 use Rattle.std.specs.List.{list_any}
 use Rattle.cds_stamps.specs.declared.members.MemberKind.{MemberKind}
-use Rattle.cds_stamps.specs.declared.members.MemberKind.TheVariants.{Master, ReadOnly}
+use Rattle.cds_stamps.specs.declared.members.MemberKind.TheVariants.{Master, ReadOnly, Secondary}
 use Rattle.cds_stamps.specs.Members.{Member, is_listed, since_in, most_members}
 use Rattle.cds_stamps.specs.Numbers.{root_dir}
 use Rattle.directory.specs.Updates as updates
@@ -97,13 +97,14 @@ abbrev pub ascending : List ℕ → List ℕ
 ascending [] = []
 ascending (x ∷ xs) = insert_house x (ascending xs)
 
--- what a listed house is, by the master of its list (own, after C705, read-only replicas)
-abbrev pub kind_among : (m x : ℕ) → MemberKind
-kind_among m x = if x == m then Master else ReadOnly
+-- what a listed house is, by the master and the secondary houses of its list (own, after C705, replica sets)
+abbrev pub kind_among : (m : ℕ) → (ss : List ℕ) → (x : ℕ) → MemberKind
+kind_among m ss x = if x == m then Master else (if has x ss then Secondary else ReadOnly)
 
--- the member list of epoch k with this master and these other houses: a house that the old list has keeps its `since` (own, after C705, new epochs)
-abbrev pub listing : (old : List Member) → (k m : ℕ) → (rs : List ℕ) → List Member
-listing old k m rs = map (λ x. record { house = x; since = since_in old x k; kind = kind_among m x }) (ascending (m ∷ rs))
+-- the member list of epoch k with this master and these other houses, of which ss are secondary: a house that the old list has
+-- keeps its `since` (own, after C705, new epochs)
+abbrev pub listing : (old : List Member) → (k m : ℕ) → (rs ss : List ℕ) → List Member
+listing old k m rs ss = map (λ x. record { house = x; since = since_in old x k; kind = kind_among m ss x }) (ascending (m ∷ rs))
 
 -- those of the old list that the new one has no more (own)
 abbrev pub leaving : List Member → List Member → List ℕ
@@ -144,20 +145,20 @@ with_directory o d m ms (Stamped s ns) =
 with_directory o d m ms _ = o
 
 -- a child in the directory d, and its directory, with the next number (own)
-abbrev pub mkdir : Cell → (h d : ℕ) → List ℕ → ℕ → List ℕ → Outcome
-mkdir g h d n m rs =
+abbrev pub mkdir : Cell → (h d : ℕ) → List ℕ → ℕ → (rs ss : List ℕ) → Outcome
+mkdir g h d n m rs ss =
     let o : Outcome = at_house g h (accept h (g.house h) d (updates.MakeChild n (record { dir = g.next_dir; master = m; others = ascending rs }))) in
-    with_directory o g.next_dir m (listing [] 1 m rs) o.answer
+    with_directory o g.next_dir m (listing [] 1 m rs ss) o.answer
 
 -- a new epoch that its master took is known to the console (own)
 abbrev pub with_epoch : Outcome → ℕ → List Member → Answer → Outcome
 with_epoch o d ms (NewEpoch k ns) = record o { cell = noted o.cell d k ms }
 with_epoch o d ms _ = o
 
--- the next epoch of a directory, with this master and these other houses (own, after C705, new epochs)
-abbrev pub next_epoch : Cell → (d m : ℕ) → List ℕ → Outcome
-next_epoch g d m rs =
-    let ms : List Member = listing (g.present d) (g.top d + 1) m rs in
+-- the next epoch of a directory, with this master and these other houses, of which ss are secondary (own, after C705, new epochs)
+abbrev pub next_epoch : Cell → (d m : ℕ) → (rs ss : List ℕ) → Outcome
+next_epoch g d m rs ss =
+    let ms : List Member = listing (g.present d) (g.top d + 1) m rs ss in
     let o : Outcome = at_house g m (new_epoch m (g.house m) d (g.top d + 1) ms (leaving (g.present d) ms)) in
     with_epoch o d ms o.answer
 
@@ -194,14 +195,14 @@ start g h = moved g h (started_house (g.house h)) []
 abbrev pub refusals_of : Cell → Command → List (Bool × Refusal)
 refusals_of g (commands.House h node) = (is_taken g h node, HouseExists) ∷ []
 refusals_of g (commands.Clock h time) = (is_missing g (h ∷ []), NoHouse) ∷ []
-refusals_of g (commands.Root m rs) =
+refusals_of g (commands.Root m rs ss) =
     (not (is_unknown g root_dir), DirectoryExists) ∷ (is_missing g (m ∷ rs), NoHouse) ∷ (is_bad_list (m ∷ rs), BadMembers) ∷ (is_down g m, Down) ∷ []
-refusals_of g (commands.Mkdir h d n m rs) =
+refusals_of g (commands.Mkdir h d n m rs ss) =
     (is_unknown g d, NoDirectory) ∷ (is_missing g (h ∷ m ∷ rs), NoHouse) ∷ (is_bad_list (m ∷ rs), BadMembers) ∷ (is_down g h || is_down g m, Down) ∷ []
 refusals_of g (commands.Repoint h d n m rs) =
     (is_unknown g d, NoDirectory) ∷ (is_missing g (h ∷ m ∷ rs), NoHouse) ∷ (is_bad_list (m ∷ rs), BadMembers) ∷ (is_down g h, Down) ∷ []
 refusals_of g (commands.Accept h d u) = (is_unknown g d, NoDirectory) ∷ (is_missing g (h ∷ []), NoHouse) ∷ (is_down g h, Down) ∷ []
-refusals_of g (commands.Epoch d m rs) =
+refusals_of g (commands.Epoch d m rs ss) =
     (is_unknown g d, NoDirectory) ∷ (is_missing g (m ∷ rs), NoHouse) ∷ (is_bad_list (m ∷ rs), BadMembers)
     ∷ (not (is_listed m (g.present d)), NotMember) ∷ (is_down g m, Down) ∷ []
 refusals_of g (commands.Skulk h d) = (is_unknown g d, NoDirectory) ∷ (is_missing g (h ∷ []), NoHouse) ∷ (is_down g h, Down) ∷ []
@@ -214,11 +215,11 @@ refusals_of g (commands.Start h) = (is_missing g (h ∷ []), NoHouse) ∷ (not (
 abbrev pub effect : Cell → Command → Outcome
 effect g (commands.House h node) = stays (new_house g h node) Done
 effect g (commands.Clock h time) = stays (set_clock g h time) Done
-effect g (commands.Root m rs) = root g m (listing [] 1 m rs)
-effect g (commands.Mkdir h d n m rs) = mkdir g h d n m rs
+effect g (commands.Root m rs ss) = root g m (listing [] 1 m rs ss)
+effect g (commands.Mkdir h d n m rs ss) = mkdir g h d n m rs ss
 effect g (commands.Repoint h d n m rs) = at_house g h (accept h (g.house h) d (updates.Repoint n m (ascending rs)))
 effect g (commands.Accept h d u) = at_house g h (accept h (g.house h) d u)
-effect g (commands.Epoch d m rs) = next_epoch g d m rs
+effect g (commands.Epoch d m rs ss) = next_epoch g d m rs ss
 effect g (commands.Skulk h d) = at_house g h (skulk h (g.house h) d)
 effect g (commands.Deliver n) = deliver g (message_at g n)
 effect g (commands.Lose n) = lose g n (message_at g n)

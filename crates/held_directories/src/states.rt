@@ -184,7 +184,7 @@ impl Held {
         ensures { result ≡ is_accepting house.0 (members_of self.now.members) }
     {
         self.members.list().iter().any(|member| member.house == house
-            && member.kind == MemberKind::Master)
+            && member.kind != MemberKind::ReadOnly)
     }
 
     /// Whether no other house is a member.
