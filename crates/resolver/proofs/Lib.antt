@@ -1,4 +1,6 @@
-mod PassLaws
+mod LinkLaws
+pub mod PassLaws
+pub mod ChangingLaws
 mod SeenLaws
 mod EndLaws
 mod Examples

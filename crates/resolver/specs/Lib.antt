@@ -1,8 +1,11 @@
 pub mod Readers
 pub mod Walks
+pub mod ChangingReaders
 pub mod PassWords
 pub mod WalkEndProofs
+pub mod ChangingEndProofs
 pub mod WalkEnds
+pub mod ChangingEnds
 pub mod SeenEnds
 pub mod ListedReaders
 pub mod ListedReaderProofs

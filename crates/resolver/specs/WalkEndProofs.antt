@@ -61,7 +61,7 @@ abbrev GoesOn : Reader → Bool → Walker → Type 0
 GoesOn reader last w = (next : Walker) → w.links < most_links → next.links ≡ w.links + 1 → SomeEndFrom reader last next
 
 -- a link that is followed was not the last that may be
-allowed : (links : ℕ) (came_up : List (List (List ℕ))) (name : List (List ℕ)) → link_refusal links came_up name ≡ None → links < most_links
+pub allowed : (links : ℕ) (came_up : List (List (List ℕ))) (name : List (List ℕ)) → link_refusal links came_up name ≡ None → links < most_links
 allowed links came_up name h = grind (arith, h)
 
 follow_ends : {reader : Reader} {last : Bool} (w : Walker) → GoesOn reader last w → (name : List (List ℕ))

@@ -1,8 +1,8 @@
-// Where one component of a full name leads.
-ghost use Rattle.std.specs.Prelude.{◌≡◌, ◌+◌, ◌<◌, ◌^◌, [], IfOk};
+//! Where one component of a full name leads, by what is seen of it.
+ghost use Rattle.std.specs.Prelude.{◌≡◌, ◌+◌, ◌<◌, ◌^◌, [], IfOk, OnErr};
 ghost use Rattle.resolver.specs.Readers.{Reader, sight_of};
 ghost use Rattle.resolver.specs.Walks.{Walker, Stops, at_last, at_inner, in_directory, found};
-ghost use Rattle.resolver.specs.PassWords.{step_of};
+ghost use Rattle.resolver.specs.PassWords.{IsNoRefusal, step_of};
 
 use crate::refusal::Refusal;
 use crate::seen::{Found, Place, Seen};
@@ -11,8 +11,8 @@ use cds_stamps::{DirId, HouseNo, SimpleName};
 use directory::Kind;
 use std::alloc::{AllocError, Global};
 
-/// A component of a full name where it is looked up: the directory, its name, what stands behind it in the full name, and
-/// how many components stand in front of it.
+/// A component of a full name where it is looked up: the directory, its name, what stands after it
+/// in the full name, and how many components stand before it.
 #[derive(Clone, Copy)]
 pub(crate) struct Component<'a> {
     pub(crate) dir: DirId,
@@ -30,9 +30,15 @@ impl Component<'_> {
         follow_last: bool,
     ) -> Result<Move, AllocError>
         requires { self.now.done + 1 < 2 ^ 32 }
-        ensures { IfOk result (λ next. (reader : Reader) (w : Walker) → let here : Walker = record w { done = self.now.done } in
-            in_directory reader follow_last here self.now.dir.0 self.now.name.now self.now.rest.now (sight_of seen)
+        ensures step { IfOk result (λ next. (reader : Reader) (w : Walker)
+            → let here : Walker = record w { done = self.now.done } in
+            in_directory reader follow_last here self.now.dir.0 self.now.name.now self.now.rest.now
+            (sight_of seen)
             ≡ step_of reader here self.now.rest.now next) }
+        ensures lacking { OnErr result ((reader : Reader) (w : Walker)
+            → let here : Walker = record w { done = self.now.done } in
+            IsNoRefusal (in_directory reader follow_last here
+            self.now.dir.0 self.now.name.now self.now.rest.now (sight_of seen))) }
     {
         if self.rest.is_empty() {
             self.lead_last(alloc, seen, follow_last)
@@ -43,8 +49,14 @@ impl Component<'_> {
 
     // Where it leads as the last component.
     fn lead_last(&self, alloc: Global, seen: Seen, follow_last: bool) -> Result<Move, AllocError>
-        ensures { IfOk result (λ next. (reader : Reader) (w : Walker) → let here : Walker = record w { done = self.now.done } in
-            at_last reader follow_last here self.now.dir.0 self.now.name.now (sight_of seen) ≡ step_of reader here [] next) }
+        ensures step { IfOk result (λ next. (reader : Reader) (w : Walker)
+            → let here : Walker = record w { done = self.now.done } in
+            at_last reader follow_last here self.now.dir.0 self.now.name.now (sight_of seen)
+            ≡ step_of reader here [] next) }
+        ensures lacking { OnErr result ((reader : Reader) (w : Walker)
+            → let here : Walker = record w { done = self.now.done } in
+            IsNoRefusal (at_last reader follow_last here
+            self.now.dir.0 self.now.name.now (sight_of seen))) }
     {
         match seen {
             Seen::Unreachable => Ok(Move::Stop(End::Refused(Refusal::Unreachable(self.dir)))),
@@ -69,11 +81,13 @@ impl Component<'_> {
         }
     }
 
-    // Where it leads with others behind it.
+    // Where it leads with others after it.
     fn lead_on(&self, seen: Seen) -> Move
         requires { self.now.done + 1 < 2 ^ 32 }
-        ensures { (reader : Reader) (w : Walker) → let here : Walker = record w { done = self.now.done } in
-            at_inner reader here self.now.dir.0 self.now.rest.now (sight_of seen) ≡ step_of reader here self.now.rest.now result }
+        ensures { (reader : Reader) (w : Walker)
+            → let here : Walker = record w { done = self.now.done } in
+            at_inner reader here self.now.dir.0 self.now.rest.now (sight_of seen)
+            ≡ step_of reader here self.now.rest.now result }
     {
         match seen {
             Seen::Unreachable => Move::Stop(End::Refused(Refusal::Unreachable(self.dir))),
@@ -86,7 +100,8 @@ impl Component<'_> {
 
     // The entry of this kind.
     fn found(&self, alloc: Global, house: HouseNo, kind: Kind) -> Result<Move, AllocError>
-        ensures { IfOk result (λ next. (reader : Reader) (w : Walker) → found self.now.dir.0 house.0 self.now.name.now kind ≡ step_of reader w [] next) }
+        ensures { IfOk result (λ next. (reader : Reader) (w : Walker)
+            → found self.now.dir.0 house.0 self.now.name.now kind ≡ step_of reader w [] next) }
     {
         Ok(Move::Stop(End::Found(Found {
             dir: self.dir,

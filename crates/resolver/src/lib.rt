@@ -15,3 +15,4 @@ pub use reader::EntryReader;
 pub use refusal::Refusal;
 pub use resolution::{place, resolve};
 pub use seen::{Found, Place, Seen};
+pub use walk::{End, Walk};

@@ -9,7 +9,7 @@ ghost use Rattle.resolver.specs.WalkEnds.{walked, placed};
 use crate::reader::EntryReader;
 use crate::refusal::Refusal;
 use crate::seen::Found;
-use crate::walk::{End, walk};
+use crate::walk::{End, walk_name};
 use cds_stamps::AllocOr;
 use cell_names::FullName;
 use std::alloc::Global;
@@ -26,7 +26,7 @@ pub fn resolve<R: EntryReader>(
     ensures walked { Answers result (walked (R.tells reader.now) follow_last name.now) }
     ensures root { name.now ≡ [] → result ≡ Err (Fault RootName) }
 {
-    match walk(alloc, reader, name, follow_last)? {
+    match walk_name(alloc, reader, name, follow_last)? {
         End::Found(found) => Ok(found),
         End::Missing(_, done) => Err(AllocOr::Fault(Refusal::NoSuchName(done))),
         End::Refused(refusal) => Err(AllocOr::Fault(refusal)),
@@ -44,7 +44,7 @@ pub fn place<R: EntryReader>(
     ensures placed { Answers result (placed (R.tells reader.now) name.now) }
     ensures root { name.now ≡ [] → result ≡ Err (Fault RootName) }
 {
-    match walk(alloc, reader, name, true)? {
+    match walk_name(alloc, reader, name, true)? {
         End::Found(found) => Ok(crate::seen::Place {
             dir: found.dir,
             house: found.house,

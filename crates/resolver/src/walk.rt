@@ -1,20 +1,27 @@
-// The walk of a full name.
-ghost use Rattle.std.specs.Prelude.{◌≡◌, ◌+◌, ◌<◌, ◌≤◌, [], ◌∷◌, ◌++◌, ℕ, List, Some, Ok, Err, length, drop, IfOk};
+//! The walk of a full name: between two of its look-ups, and to its end. A walk between look-ups knows
+//! no reader, so whoever looks up may have one of its own.
+ghost use Rattle.std.specs.Prelude.{◌≡◌, ◌+◌, ◌<◌, ◌≤◌, [], ◌∷◌, ◌++◌, true, Some, Ok, Err, length, drop};
+ghost use Rattle.std.specs.Prelude.{IfOk, IfNone, IfSome, OnErr};
 ghost use Rattle.std.specs.List.{list_any};
+ghost use Rattle.std.specs.Option.{option_map};
 ghost use Rattle.cds_stamps.specs.Outcomes.{Answers, ok_unless};
 ghost use Rattle.cds_stamps.specs.declared.alloc_or.AllocOr.TheVariants.{Fault};
-ghost use Rattle.cell_names.specs.FullNames.{is_name};
+ghost use Rattle.cell_names.specs.FullNames.{is_name, splice_fault};
 ghost use Rattle.cell_names.specs.ChildPointers.{pointer_in};
-ghost use Rattle.resolver.specs.declared.refusal.Refusal.TheVariants.{RootName, TooManyLinks};
+ghost use Rattle.resolver.specs.declared.refusal.Refusal.TheVariants.{RootName};
 ghost use Rattle.resolver.specs.declared.walk.End.TheVariants.{Refused};
-ghost use Rattle.resolver.specs.Walks.{Ends, most_links, link_refusal};
-ghost use Rattle.resolver.specs.PassWords.{Passes, present_name, current_dir, beginning};
+ghost use Rattle.resolver.specs.Readers.{Reader, sight_of};
+ghost use Rattle.resolver.specs.Walks.{Ends, EndsFrom, link_refusal, step};
+ghost use Rattle.resolver.specs.Walks as walks;
+ghost use Rattle.resolver.specs.ChangingReaders.{look_of};
+ghost use Rattle.resolver.specs.PassWords.{IsAtComponent, IsBehindAll, IsNoRefusal, Saw, come_to, current_dir};
+ghost use Rattle.resolver.specs.PassWords.{first_walker, present_name, step_of, steps_ahead, walker_of};
 
 use crate::component::Component;
 use crate::reader::EntryReader;
 use crate::refusal::Refusal;
-use crate::seen::{Found, Place};
-use cds_stamps::{AllocOr, DirId};
+use crate::seen::{Found, Place, Seen};
+use cds_stamps::{AllocOr, DirId, SimpleName};
 use cell_names::{ChildPointer, FullName, SpliceFault};
 use std::alloc::{AllocError, Global};
 
@@ -23,10 +30,11 @@ const MOST_LINKS: usize = 64;
 
 /// How a walk ends.
 #[derive(Drop)]
-pub(crate) enum End {
+pub enum End {
     /// At an entry.
     Found(Found),
-    /// At the last component, of which the house that was asked shows no entry. So many components stand in front of it.
+    /// At the last component, of which the house that was asked shows no entry. So many components
+    /// stand before it.
     Missing(Place, u32),
     Refused(Refusal),
 }
@@ -39,16 +47,146 @@ pub(crate) enum Move {
     Stop(End),
 }
 
-/// What one full name of a walk comes to: the end of the walk, or the target of the link that its component at this
-/// place is, counted from 0.
+/// A walk of a full name between two of its look-ups: the first name and those that links led to,
+/// the directory, and how many components of the last name are done. Whoever walks asks `next_look`
+/// what to look up, and lets it `hear` what is seen.
 #[derive(Drop)]
-pub(crate) enum Pass {
-    End(End),
-    Link(FullName, usize),
+pub struct Walk<'a> {
+    first: &'a FullName,
+    later: Vec<FullName>,
+    root: ChildPointer,
+    entered: Option<ChildPointer>,
+    done: usize,
+    follow_last: bool,
 }
 
-/// Walks a full name to its end. `follow_last` says whether a link that is the last component is followed.
-pub(crate) fn walk<R: EntryReader>(
+impl<'a> Walk<'a> {
+    /// The walk of this name, from the root directory on. `follow_last` says whether a link that is
+    /// the last component is followed.
+    pub fn new(alloc: Global, root: ChildPointer, name: &'a FullName, follow_last: bool) -> Walk<'a>
+        ensures walker { walker_of result ≡ first_walker (pointer_in root) name.now }
+        ensures root { result.root ≡ root }
+        ensures last { result.follow_last ≡ follow_last }
+    {
+        Walk {
+            first: name,
+            later: Vec::new(alloc),
+            root,
+            entered: None,
+            done: 0,
+            follow_last,
+        }
+    }
+
+    /// What is to be looked up next: a component, in a directory. None where no component is left.
+    pub fn next_look(&self) -> Option<(&ChildPointer, &SimpleName)>
+        ensures look { option_map (λ q. (pointer_in q.0.now, q.1.now)) result
+            ≡ look_of (walker_of self.now) }
+        ensures within { IfSome result (λ q. IsAtComponent self.now) }
+        ensures done { IfNone result (IsBehindAll self.now) }
+    {
+        let components = present(self.first, &self.later).components();
+        if self.done < components.len() {
+            Some((current(&self.entered, &self.root), &components[self.done]))
+        } else {
+            None
+        }
+    }
+
+    /// Goes one step by what is seen of what was to be looked up next: to the end, if one is told,
+    /// or on. A walk that comes to its end stays where it was. No memory is asked for where it is
+    /// refused.
+    pub fn hear(&mut self, alloc: Global, seen: Seen) -> Result<Option<End>, AllocError>
+        requires { IsAtComponent self.old }
+        ensures step { let w = walker_of self.old in IfOk result (λ end.
+            (reader : Reader) → reader.root ≡ Some (pointer_in self.old.root)
+            → Saw reader w (sight_of seen)
+            → step reader self.old.follow_last w ≡ come_to end (walker_of self.new)) }
+        ensures root { self.new.root ≡ self.old.root }
+        ensures last { self.new.follow_last ≡ self.old.follow_last }
+        ensures ahead { IfOk result
+            (λ end. IfNone end (steps_ahead self.new < steps_ahead self.old)) }
+        ensures stays { IfOk result (λ end. IfSome end (λ _. self.new ≡ self.old)) }
+        ensures lacking { let w = walker_of self.old in OnErr result (
+            (reader : Reader) → reader.root ≡ Some (pointer_in self.old.root)
+            → Saw reader w (sight_of seen)
+            → IsNoRefusal (step reader self.old.follow_last w)) }
+    {
+        match self.lead(alloc, seen)? {
+            Move::Enter(child) => {
+                self.entered = Some(child);
+                self.done += 1;
+                Ok(None)
+            }
+            Move::Follow(target) => self.begin_again(alloc, &target),
+            Move::Stop(end) => Ok(Some(end)),
+        }
+    }
+
+    // Where the component at hand leads, by what is seen of it.
+    fn lead(&self, alloc: Global, seen: Seen) -> Result<Move, AllocError>
+        requires { IsAtComponent self.now }
+        ensures few { self.now.done < 1024 }
+        ensures step { let w = walker_of self.now in IfOk result (λ next.
+            (reader : Reader) → Saw reader w (sight_of seen)
+            → step reader self.now.follow_last w
+            ≡ step_of reader w (drop (w.done + 1) w.name) next) }
+        ensures lacking { let w = walker_of self.now in OnErr result (
+            (reader : Reader) → Saw reader w (sight_of seen)
+            → IsNoRefusal (step reader self.now.follow_last w)) }
+    {
+        let components = present(self.first, &self.later).components();
+        let here = Component {
+            dir: current(&self.entered, &self.root).dir,
+            name: &components[self.done],
+            rest: &components[self.done + 1..],
+            done: self.done as u32,
+        };
+        here.lead(alloc, seen, self.follow_last)
+    }
+
+    // Begins again at the root directory with the name to which the component at hand, a link,
+    // leads; or ends, where the link is not followed.
+    fn begin_again(&mut self, alloc: Global, target: &FullName) -> Result<Option<End>, AllocError>
+        requires few { self.old.done < 1024 }
+        requires within { IsAtComponent self.old }
+        ensures step { let w = walker_of self.old in IfOk result (λ end.
+            (reader : Reader) → reader.root ≡ Some (pointer_in self.old.root)
+            → walks.follow reader w.links w.came_up (target.now ++ drop (w.done + 1) w.name)
+            ≡ come_to end (walker_of self.new)) }
+        ensures root { self.new.root ≡ self.old.root }
+        ensures last { self.new.follow_last ≡ self.old.follow_last }
+        ensures ahead { IfOk result
+            (λ end. IfNone end (steps_ahead self.new < steps_ahead self.old)) }
+        ensures stays { IfOk result (λ end. IfSome end (λ _. self.new ≡ self.old)) }
+        ensures lacking { let w = walker_of self.old in OnErr result ((reader : Reader)
+            → IsNoRefusal (walks.follow reader w.links w.came_up
+            (target.now ++ drop (w.done + 1) w.name))) }
+    {
+        match follow(alloc, self.first, &self.later, target, self.done) {
+            Ok(next) => {
+                self.later.push(next)?;
+                self.entered = None;
+                self.done = 0;
+                Ok(None)
+            }
+            Err(AllocOr::Fault(refusal)) => Ok(Some(End::Refused(refusal))),
+            Err(AllocOr::OutOfMemory) => Err(AllocError),
+        }
+    }
+
+    /// The directory where the walk is.
+    pub fn into_dir(self) -> ChildPointer
+        ensures { Some (pointer_in result) ≡ (walker_of self.entry).at }
+    {
+        let Walk { root, entered, .. } = self;
+        entered.unwrap_or(root)
+    }
+}
+
+/// Walks a full name to its end. `follow_last` says whether a link that is the last component is
+/// followed.
+pub(crate) fn walk_name<R: EntryReader>(
     alloc: Global,
     reader: &R,
     name: &FullName,
@@ -61,64 +199,31 @@ pub(crate) fn walk<R: EntryReader>(
         return Ok(End::Refused(Refusal::RootName));
     }
     match reader.root(alloc)? {
-        Some(root) => walk_from(alloc, reader, &root, name, follow_last),
+        Some(root) => walk_from(alloc, reader, Walk::new(alloc, root, name, follow_last)),
         None => Ok(End::Refused(Refusal::Unreachable(DirId::ROOT))),
     }
 }
 
-// Walks a full name from the root directory on. Only the names that links lead to are kept.
+// Walks on to the end.
 fn walk_from<R: EntryReader>(
     alloc: Global,
     reader: &R,
-    root: &ChildPointer,
-    name: &FullName,
-    follow_last: bool,
+    mut walk: Walk<'_>,
 ) -> Result<End, AllocError>
-    requires { (R.tells reader.now).root ≡ Some (pointer_in root.now) }
-    ensures { IfOk result (λ end. Ends (R.tells reader.now) follow_last name.now end) }
+    requires { (R.tells reader.now).root ≡ Some (pointer_in walk.root) }
+    ensures { IfOk result
+        (EndsFrom (R.tells reader.now) walk.entry.follow_last (walker_of walk.entry)) }
 {
-    let mut later = Vec::new(alloc);
-    'names: loop {
-        match walk_name(alloc, reader, root, present(name, &later), follow_last)? {
-            Pass::End(end) => return Ok(end),
-            Pass::Link(target, at) => match follow(alloc, name, &later, &target, at) {
-                Ok(next) => later.push(next)?,
-                Err(AllocOr::Fault(refusal)) => return Ok(End::Refused(refusal)),
-                Err(AllocOr::OutOfMemory) => return Err(AllocError),
-            },
-        }
-    }
-}
-
-// Goes through one full name, from the root directory on, with one look-up a component.
-fn walk_name<R: EntryReader>(
-    alloc: Global,
-    reader: &R,
-    root: &ChildPointer,
-    name: &FullName,
-    follow_last: bool,
-) -> Result<Pass, AllocError>
-    ensures { IfOk result (λ pass. (came_up : List (List (List ℕ))) (links : ℕ)
-        → Passes (R.tells reader.now) follow_last (beginning root.now name.now came_up links) pass) }
-{
-    let components = name.components();
-    let mut entered = None;
-    for (at, component) in components.iter().enumerate() {
-        let dir = current(&entered, root);
-        let seen = reader.lookup(alloc, dir, component)?;
-        let here = Component {
-            dir: dir.dir,
-            name: component,
-            rest: &components[at + 1..],
-            done: at as u32,
+    'steps: loop {
+        let Some((dir, component)) = walk.next_look() else {
+            return Ok(End::Refused(Refusal::RootName));
         };
-        match here.lead(alloc, seen, follow_last)? {
-            Move::Enter(child) => entered = Some(child),
-            Move::Follow(target) => return Ok(Pass::Link(target, at)),
-            Move::Stop(end) => return Ok(Pass::End(end)),
+        let seen = reader.lookup(alloc, dir, component)?;
+        match walk.hear(alloc, seen)? {
+            Some(end) => return Ok(end),
+            None => {}
         }
     }
-    Ok(Pass::End(End::Refused(Refusal::RootName)))
 }
 
 // The directory that was entered last, or else the root directory.
@@ -141,14 +246,38 @@ fn present<'a>(first: &'a FullName, later: &'a [FullName]) -> &'a FullName
     }
 }
 
-// Whether a full name came up before. It is compared with each earlier one once.
-fn has_come_up(first: &FullName, later: &[FullName], name: &FullName) -> bool
-    ensures { result ≡ list_any (λ earlier. is_name earlier name.now) (first.now ∷ later.now) }
+// Whether a full name is this target with these components after it. If it is, they are no more
+// octets than a full name has.
+fn is_spliced(name: &FullName, target: &FullName, rest: &[SimpleName]) -> bool
+    ensures value { result ≡ is_name name.now (target.now ++ rest.now) }
+    ensures short { result ≡ true → splice_fault (target.now ++ rest.now) ≡ None }
 {
-    first == name || later.contains(name)
+    match name.components().strip_prefix(target.components()) {
+        Some(end) => end == rest,
+        None => false,
+    }
 }
 
-// The full name that a link leads to, which stands at this place of the last name that came up.
+// Whether a target with these components after it came up before. It is compared with each earlier
+// name once.
+fn has_come_up(first: &FullName, later: &[FullName], target: &FullName, rest: &[SimpleName]) -> bool
+    ensures value { result
+        ≡ list_any (λ earlier. is_name earlier (target.now ++ rest.now)) (first.now ∷ later.now) }
+    ensures short { result ≡ true → splice_fault (target.now ++ rest.now) ≡ None }
+{
+    if is_spliced(first, target, rest) {
+        return true;
+    }
+    for name in later {
+        if is_spliced(name, target, rest) {
+            return true;
+        }
+    }
+    false
+}
+
+// The full name that a link leads to, which stands at this place of the last name that came up. No
+// memory is asked for where the link is not followed.
 fn follow(
     alloc: Global,
     first: &FullName,
@@ -157,22 +286,22 @@ fn follow(
     at: usize,
 ) -> Result<FullName, AllocOr<Refusal>>
     requires { at < length (present_name first.now later.now) }
-    ensures links { most_links ≤ length later.now → result ≡ Err (Fault TooManyLinks) }
     ensures answer { let next = target.now ++ drop (at + 1) (present_name first.now later.now) in
-        Answers result (ok_unless (link_refusal (length later.now) (first.now ∷ later.now) next) next) }
+        let refusal = link_refusal (length later.now) (first.now ∷ later.now) next in
+        Answers result (ok_unless refusal next) }
+    ensures faulty { let next = target.now ++ drop (at + 1) (present_name first.now later.now) in
+        let refusal = link_refusal (length later.now) (first.now ∷ later.now) next in
+        IfSome refusal (λ why. result ≡ Err (Fault why)) }
 {
     if later.len() >= MOST_LINKS {
         return Err(AllocOr::Fault(Refusal::TooManyLinks));
     }
     let rest = &present(first, later).components()[at + 1..];
+    if has_come_up(first, later, target, rest) {
+        return Err(AllocOr::Fault(Refusal::LinkCycle));
+    }
     match target.splice(alloc, rest) {
-        Ok(next) => {
-            if has_come_up(first, later, &next) {
-                Err(AllocOr::Fault(Refusal::LinkCycle))
-            } else {
-                Ok(next)
-            }
-        }
+        Ok(next) => Ok(next),
         Err(AllocOr::Fault(SpliceFault::NameTooLong)) => {
             Err(AllocOr::Fault(Refusal::NameTooLong))
         }

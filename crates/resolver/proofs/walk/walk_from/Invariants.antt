@@ -1,16 +1,16 @@
-use Rattle.std.proofs.Common.{◌-◌, ◌∷◌, length}
+use Rattle.std.proofs.Common.{◌≡◌}
 use Rattle.resolver.specs.declared.walk.End.{End}
-use Rattle.resolver.specs.Walks.{most_links, EndsFrom, Ends}
-use Rattle.resolver.specs.PassWords.{present_name, beginning}
+use Rattle.resolver.specs.Walks.{EndsFrom}
+use Rattle.resolver.specs.PassWords.{walker_of, steps_ahead}
 use Rattle.resolver.proofs.walk.walk_from.Given as goal
 
--- the walk of the first name ends as the walk of the present one does
-abbrev pub invariant-names : goal.invariant-names
-invariant-names g l =
-    let tells = g.R.EntryReader.tells l.reader in
-    (e : End) → EndsFrom tells l.follow_last (beginning l.root (present_name l.name l.later.items) (l.name ∷ l.later.items) (length l.later.items)) e
-    → Ends tells l.follow_last l.name e
+-- the walk ends from here on as it does from its beginning
+abbrev pub invariant-steps : goal.invariant-steps
+invariant-steps g l = let tells = g.R.EntryReader.tells l.reader in record {
+  ends : (e : End) → EndsFrom tells l.initial.walk.follow_last (walker_of l.walk) e → EndsFrom tells l.initial.walk.follow_last (walker_of l.initial.walk) e;
+  root : l.walk.root ≡ l.initial.walk.root;
+  last : l.walk.follow_last ≡ l.initial.walk.follow_last;
+}
 
--- at most most_links links are followed
-abbrev pub decreases-names : goal.decreases-names
-decreases-names g l = most_links - length l.later.items
+abbrev pub decreases-steps : goal.decreases-steps
+decreases-steps g l = steps_ahead l.walk
