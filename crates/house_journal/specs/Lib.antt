@@ -7,3 +7,5 @@ pub mod Faults
 pub mod Tellings
 pub mod MemoryDisks
 pub mod Clocks
+pub mod Restarts
+pub mod Unwindings
