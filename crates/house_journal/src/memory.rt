@@ -4,6 +4,7 @@ ghost use Rattle.cds_base.specs.Counts.{HasCause};
 ghost use Rattle.house_journal.specs.Disks.{written};
 ghost use Rattle.house_journal.specs.MemoryDisks.{counted, missed, fails, has_stopped, noted_write, noted_cut, noted_sync};
 ghost use Rattle.house_journal.specs.MemoryDisks.{left_now, left_from, moment_of, told_of, stop_with};
+ghost use Rattle.house_journal.specs.CrashSets.{IsLeft};
 ghost use Rattle.house_journal.specs.Restarts.{CanBeOpened, begun_with, left_of, restarted};
 ghost use Rattle.house_journal.specs.declared.leave.Leave.TheVariants.{Keep};
 ghost use Rattle.house_journal.specs.Clocks.{reads_left_lem, counts_now_lem, only_now_lem};
@@ -129,6 +130,16 @@ impl MemDisk {
         self.octets = octets;
         self.steps.clear();
         self.stop = Stop::Never;
+    }
+
+    /// What a crash may leave is said by its steps. It is what one sentence says: octets of a size between the least and the
+    /// greatest since the last sync, and those of that sync at each place that was there then, and was neither written nor
+    /// cut off since.
+    pub fn a_crash_leaves_untouched_places(&self)
+        ensures { (c : List ℕ) → left_now self.now.steps self.now.octets c
+            ↔ IsLeft (told_of self.now).synced (told_of self.now).changes c }
+    {
+        let _ = &self.octets;
     }
 
     fn has_stopped(&self) -> bool
