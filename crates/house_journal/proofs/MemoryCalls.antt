@@ -1,15 +1,14 @@
 -- The calls of a disk in memory: what a crash may leave after each, that time goes on, and what is told.
-use Rattle.std.proofs.Common.{◌≡◌, ◌⊎◌, inl, inr, ⊎_elim, ℕ, zero, suc, ◌+◌, ◌-◌, ◌≤◌, ◌<◌, Bool, true, false, if◌then◌else◌, List, [], ◌∷◌, ◌++◌}
+use Rattle.std.proofs.Common.{◌≡◌, ⊎_elim, ℕ, zero, suc, ◌+◌, ◌≤◌, Bool, true, false, if◌then◌else◌, List, [], ◌∷◌, ◌++◌}
 use Rattle.std.proofs.Common.{length, take, drop, refl, sym, ◌∙◌, ap, subst, arith, length-append, length-drop}
-use Rattle.std.specs.Prelude.{Result, Ok, Err, IsErrAnd, is_err, OnErr}
-use Rattle.std.proofs.lemmas.List.{take_at, drop_at, length-take, length-take-le, drop-drop}
+use Rattle.std.specs.Prelude.{Result, Ok, Err, IsErrAnd, is_err}
+use Rattle.std.proofs.lemmas.List.{take_at, drop_at, length-take, length-take-le}
 use Rattle.house_journal.specs.declared.disk.DiskError.{DiskError}
 use Rattle.house_journal.specs.declared.disk.DiskError.TheVariants.{Failed, OutOfMemory}
 use Rattle.cds_base.specs.Counts.{HasCause, next_count}
-use Rattle.house_journal.specs.declared.step.Step.{Step}
 use Rattle.house_journal.specs.declared.step.Stop.{Stop}
 use Rattle.house_journal.specs.declared.step.Stop.TheVariants.{Never, After, Stopped}
-use Rattle.house_journal.specs.Disks.{Torn, CutBack, Follows, Elapses, Wrote, CutTo, Change, told_change, HasDiskCause, written}
+use Rattle.house_journal.specs.Disks.{Torn, CutBack, Follows, Elapses, Wrote, told_change, HasDiskCause, written}
 use Rattle.house_journal.specs.MemoryDisks.{MemState, FitsStep, write_of, cut_of, before_step, change_of, left_now, left_from, moment_of}
 use Rattle.house_journal.specs.MemoryDisks.{noted_write, noted_cut, counted, has_stopped, fails, told_of, synced_in, changes_in}
 use Rattle.house_journal.specs.Clocks.{reads_left_lem}

@@ -1,5 +1,5 @@
 -- The steps of a disk in memory: they fit its octets, and a sync marks the newest.
-use Rattle.std.proofs.Common.{◌≡◌, ℕ, zero, suc, ◌+◌, ◌-◌, ◌<◌, ◌≤◌, true, List, [], ◌∷◌, ◌++◌, length, set, get_or, reverse, refl, sym, ◌∙◌, ap, subst, arith, length-append}
+use Rattle.std.proofs.Common.{◌≡◌, ℕ, ◌-◌, ◌<◌, true, List, [], ◌∷◌, ◌++◌, length, set, get_or, reverse, refl, sym, ◌∙◌, ap, subst, arith, length-append}
 use Rattle.std.proofs.lemmas.List.{reverse-append, set_at, get_or_at}
 use Rattle.house_journal.specs.declared.step.Step.{Step}
 use Rattle.house_journal.specs.MemoryDisks.{Fits, FitsStep, before_step, synced_steps}

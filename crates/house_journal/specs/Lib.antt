@@ -7,3 +7,6 @@ pub mod Faults
 pub mod Tellings
 pub mod MemoryDisks
 pub mod Clocks
+pub mod CrashSets
+pub mod Restarts
+pub mod Unwindings

@@ -12,6 +12,7 @@ mod journal;
 mod leave;
 mod list_end;
 mod memory;
+mod restart;
 mod settle;
 mod step;
 

@@ -4,9 +4,13 @@ ghost use Rattle.cds_base.specs.Counts.{HasCause};
 ghost use Rattle.house_journal.specs.Disks.{written};
 ghost use Rattle.house_journal.specs.MemoryDisks.{counted, missed, fails, has_stopped, noted_write, noted_cut, noted_sync};
 ghost use Rattle.house_journal.specs.MemoryDisks.{left_now, left_from, moment_of, told_of, stop_with};
+ghost use Rattle.house_journal.specs.CrashSets.{IsLeft};
+ghost use Rattle.house_journal.specs.Restarts.{CanBeOpened, begun_with, left_of, restarted};
+ghost use Rattle.house_journal.specs.declared.leave.Leave.TheVariants.{Keep};
 ghost use Rattle.house_journal.specs.Clocks.{reads_left_lem, counts_now_lem, only_now_lem};
 ghost use Rattle.house_journal.specs.declared.step.Stop.TheVariants.{Never};
 
+use crate::restart::{synced, torn};
 use crate::step::{Step, Stop};
 use crate::{Disk, DiskError, Leave};
 use cds_base::Failed;
@@ -75,6 +79,67 @@ impl MemDisk {
             Stop::Stopped(_) => Stop::Stopped(leave),
             _ => Stop::After(at - 1, leave),
         };
+    }
+
+    /// Ends the stop, by its leave: all that was written is there, or what was there at the last sync, or that and of each
+    /// write since then the first half, rounded down, with 255 in the rest of what lay past the end. A disk that was not told
+    /// to stop stays as it is; after want of memory it is as before.
+    pub fn restart(&mut self) -> Result<(), AllocError>
+        ensures ok { OnOk result (self.new ≡ restarted self.old) }
+        ensures lawful { OnOk result (left_now self.old.steps self.old.octets self.new.octets) }
+        ensures kept { CanBeOpened self.old → CanBeOpened self.new }
+        ensures err { OnErr result (self.new ≡ self.old) }
+    {
+        match self.stop {
+            Stop::Never => Ok(()),
+            Stop::After(_, leave) | Stop::Stopped(leave) => self.begin_by(leave),
+        }
+    }
+
+    // Begins anew with what a stop leaves.
+    fn begin_by(&mut self, leave: Leave) -> Result<(), AllocError>
+        ensures ok { OnOk result (self.new ≡ begun_with (left_of leave self.old) self.old) }
+        ensures err { OnErr result (self.new ≡ self.old) }
+    {
+        match leave {
+            Leave::Keep => self.begin(),
+            Leave::Drop => {
+                let octets = synced(self.alloc, &self.steps, &self.octets)?;
+                self.begin_with(octets);
+            }
+            Leave::Torn => {
+                let octets = torn(self.alloc, &self.steps, &self.octets)?;
+                self.begin_with(octets);
+            }
+        }
+        Ok(())
+    }
+
+    // Begins anew with the octets that are there: all that was written.
+    fn begin(&mut self)
+        ensures { self.new ≡ begun_with (left_of Keep self.old) self.old }
+    {
+        self.steps.clear();
+        self.stop = Stop::Never;
+    }
+
+    // Begins anew with these octets.
+    fn begin_with(&mut self, octets: Vec<u8>)
+        ensures { self.new ≡ begun_with octets.items self.old }
+    {
+        self.octets = octets;
+        self.steps.clear();
+        self.stop = Stop::Never;
+    }
+
+    /// What a crash may leave is said by its steps. It is what one sentence says: octets of a size between the least and the
+    /// greatest since the last sync, and those of that sync at each place that was there then, and was neither written nor
+    /// cut off since.
+    pub fn a_crash_leaves_untouched_places(&self)
+        ensures { (c : List ℕ) → left_now self.now.steps self.now.octets c
+            ↔ IsLeft (told_of self.now).synced (told_of self.now).changes c }
+    {
+        let _ = &self.octets;
     }
 
     fn has_stopped(&self) -> bool

@@ -1,6 +1,5 @@
 // What a disk in memory keeps of each write and cut, and when it stops.
-ghost use Rattle.std.specs.Prelude.{◌≡◌};
-ghost use Rattle.house_journal.specs.MemoryDisks.{fails, has_stopped, stop_after};
+ghost use Rattle.std.specs.Prelude.{◌≤◌};
 
 use crate::Leave;
 use cds_stamps::Octets;
@@ -15,6 +14,15 @@ pub(crate) struct Step {
     pub(crate) gone: Octets,
     /// Whether a sync came after it, before any other step.
     pub(crate) synced: bool,
+}
+
+/// A write of which the first half is kept: its place, its end, and that half.
+#[derive(Drop)]
+pub(crate) struct Tear {
+    pub(crate) at: usize,
+    pub(crate) end: usize,
+    pub(crate) half: Octets,
+    ghost ordered: { at ≤ end },
 }
 
 /// When a disk stops.

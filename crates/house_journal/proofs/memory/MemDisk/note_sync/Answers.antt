@@ -1,6 +1,6 @@
-use Rattle.std.proofs.Common.{◌≡◌, ◌<◌, length, rules, sym, ◌∙◌, ap, subst, arith, List}
+use Rattle.std.proofs.Common.{◌<◌, length, sym, ◌∙◌, ap, subst, arith, List}
 use Rattle.house_journal.specs.declared.step.Step.{Step}
-use Rattle.house_journal.specs.MemoryDisks.{Fits, MemState, noted_sync}
+use Rattle.house_journal.specs.MemoryDisks.{Fits, noted_sync}
 use Rattle.house_journal.proofs.MemorySteps.{fits_synced, synced_last}
 use Rattle.std.proofs.lemmas.Grind.{common_steps}
 use Rattle.house_journal.proofs.memory.MemDisk.note_sync.Goals as goal

@@ -1,7 +1,7 @@
-use Rattle.std.proofs.Common.{◌≡◌, ◌≤◌, arith, ℕ, List, length, take, drop, rules, false, sym, ◌∙◌, ap, subst}
+use Rattle.std.proofs.Common.{◌≡◌, ◌≤◌, arith, ℕ, List, length, take, drop, false, sym, ◌∙◌, ap, subst}
 use Rattle.house_journal.specs.declared.step.Step.{Step}
 use Rattle.house_journal.specs.Disks.{written}
-use Rattle.house_journal.specs.MemoryDisks.{write_of, FitsStep, Fits, before_step}
+use Rattle.house_journal.specs.MemoryDisks.{write_of, FitsStep, before_step}
 use Rattle.house_journal.proofs.MemoryCalls.{fits_write}
 use Rattle.house_journal.proofs.MemorySteps.{fits_more}
 use Rattle.house_journal.proofs.Ticking.{before_write}

@@ -1,5 +1,5 @@
 use Rattle.std.proofs.Common.{sym, ◌∙◌, ap, subst}
-use Rattle.house_journal.specs.MemoryDisks.{MemState, counted, noted_sync}
+use Rattle.house_journal.specs.MemoryDisks.{MemState, noted_sync}
 use Rattle.house_journal.proofs.MemoryCalls.{Ticks}
 use Rattle.house_journal.proofs.Ticking.{elapses_synced}
 use Rattle.house_journal.proofs.memory.MemDiskDisk.sync.Goals as goal

@@ -1,7 +1,7 @@
-use Rattle.std.proofs.Common.{◌≡◌, ℕ, List, Bool, true, refl, sym, ◌∙◌, ap, subst, length}
-use Rattle.std.specs.Prelude.{Some, is_err}
+use Rattle.std.proofs.Common.{Bool, sym, ◌∙◌, ap, subst, length}
+use Rattle.std.specs.Prelude.{Some}
 use Rattle.house_journal.specs.Disks.{Follows, Torn, Wrote, told_change}
-use Rattle.house_journal.specs.MemoryDisks.{MemState, counted, noted_write, told_of, fails}
+use Rattle.house_journal.specs.MemoryDisks.{MemState, counted, told_of, fails}
 use Rattle.house_journal.proofs.MemoryCalls.{Leaves, Ticks, write_crash, write_time, write_told, write_stop, failed_is}
 use Rattle.house_journal.proofs.memory.MemDiskDisk.write_at.Goals as goal
 

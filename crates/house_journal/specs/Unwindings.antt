@@ -1,0 +1,21 @@
+-- How a disk in memory goes back over its steps (own).
+use Rattle.std.specs.Prelude.{ℕ, if◌then◌else◌, List, [], ◌∷◌}
+use Rattle.house_journal.specs.Disks.{written}
+use Rattle.house_journal.specs.MemoryDisks.{before_step, change_of}
+use Rattle.house_journal.specs.Restarts.{filled_to, torn_by}
+use Rattle.house_journal.specs.declared.step.Step.{Step}
+use Rattle.house_journal.specs.declared.step.Tear.{Tear}
+
+-- the octets after the first half of a write, with 255 in the rest of what lay past the end (own)
+abbrev pub torn_onto : Tear → List ℕ → List ℕ
+torn_onto t file = written (filled_to t.end file) t.at t.half
+
+-- the octets after several, the newest first (own)
+abbrev pub all_torn : List Tear → List ℕ → List ℕ
+all_torn [] file = file
+all_torn (t ∷ earlier) file = torn_onto t (all_torn earlier file)
+
+-- what a tear leaves of steps, the newest first, and of the octets after them (own)
+abbrev pub torn_in : List Step → List ℕ → List ℕ
+torn_in [] file = file
+torn_in (s ∷ earlier) file = if s.synced then file else torn_by (change_of s file) (torn_in earlier (before_step s file))
