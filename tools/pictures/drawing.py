@@ -789,11 +789,11 @@ class Picture:
         row, message = self.row_of(column), self.replay.steps[rise.step].message
         is_above = message is None or message.sender in self.lane and self.sign(message) < 0
         words = f"▲ {brief(rise.stamp)}{self.of_dir(rise.dir)}"
-        width = width_of(words) + 8
+        width = width_of(words) + 14
         x = row.x(column) - self.mark_width / 2
         key = row.first, lane, is_above
         if x < ends.get(key, 0) or x + width > row.right + OVERHANG - 10:
-            words, width = "▲", 17
+            words, width = "▲", 18
         ends[key] = x + width + 2
         top = row.y(lane) - MARK / 2 - 18 if is_above else row.y(lane) + MARK / 2 + 3
         before = rise.before or "none"
