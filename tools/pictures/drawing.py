@@ -5,19 +5,21 @@ import math
 
 from . import replay as happened
 
+SIZE = 11  # of letters: as great in a column of 830, which is as wide as a narrow picture
 LANE = 60  # between the lines of two houses
-MARK = 15  # how high a mark is
-LEFT = 84  # room for the names of the houses
+SUBLANE = 40  # between the lines of two directories at a house
+MARK = 17  # how high a mark is
+LEFT, FARTHER = 84, 122  # room for the names of the houses, and for those of directories, too
 EDGE = 16  # room at the other sides
-OVERHANG = 66  # room at the right, for the words above the last column
-LEVEL = 15  # how high a line of labels above the houses is
+OVERHANG = 76  # room at the right, for the words above the last column
+LEVEL = 17  # how high a line of labels below the houses is
 EPOCH = 26  # room for an epoch's upright line, in front of its step
 SLOPE = 50  # how steep the words above the columns are, in degrees
-LEAST, NARROW, WIDE = 640, 1160, 1720  # how wide a picture is at least, and the rows of one of few steps and of many
-MANY = 3  # rows that are too many to be narrow
+LEAST, NARROW, WIDE = 640, 830, 1720  # how wide a picture is at least, and the rows of one of few steps and of many
+MANY = 12  # rows that are too many to be narrow
 MOST_STEPS = 20_000
 LONGEST_LABEL, LONGEST_LINE, MOST_LINES = 24, 160, 12
-MOST_LEVELS = 4
+MOST_LEVELS = 8
 
 # Colours after Okabe and Ito on light ground, some of them darker; those of words on them; and lighter ones on dark ground.
 KINDS = {
@@ -44,42 +46,50 @@ GROUNDS = {
     ".lane": ("stroke:#57606a", "stroke:#9aa4ae"),
     ".guide": ("stroke:#e4e7eb", "stroke:#262c34"),
     ".upright": ("stroke:#1f2328", "stroke:#e6edf3"),
+    ".leader": ("stroke:#8a939d", "stroke:#77828d"),
     ".shade": ("fill:#f0e442;fill-opacity:.3", "fill:#f0e442;fill-opacity:.16"),
     ".open": ("stroke:#948a00", "stroke:#d9cf3f"),
     ".tag": ("fill:#fff;stroke:#a8477f", "fill:#0d1117;stroke:#e39ac6"),
 }
-# What the legend says behind the kinds of messages.
+# What the legend says, by groups; the messages begin with their kinds.
 LEGEND = {
-    "late": "delivered, and not taken",
-    "lost": "lost",
-    "pale": "never delivered",
-    "elsewhere": "goes on elsewhere",
-    "full": "command",
-    "asked": "question",
-    "hollow refused": "refused",
-    "delivery": "delivery",
-    "lane master": "is a master",
-    "lane secondary": "is secondary",
-    "lane ": "holds a replica",
-    "lane without": "holds none",
-    "gap": "is down",
-    "epoch": "epoch, its master M",
-    "second": "its secondary S",
-    "shade": "skulk",
-    "open": "skulk, not complete",
-    "rise": "AllUpTo rises",
+    "messages": {
+        **{kind: kind for kind in happened.KINDS},
+        "lost": "lost",
+        "pale": "never delivered",
+        "elsewhere": "goes on elsewhere",
+    },
+    "marks": {
+        "full": "command",
+        "asked": "question",
+        "hollow refused": "refused",
+        "delivery": "delivery",
+        "late": "delivered, and not taken",
+        "rise": "AllUpTo rises",
+    },
+    "lines": {
+        "lane master": "house is the master",
+        "lane secondary": "house is secondary",
+        "lane ": "holds a replica",
+        "lane without": "holds none",
+        "gap": "is down",
+        "epoch": "epoch, its master M",
+        "second": "its secondary S",
+        "shade": "skulk",
+        "open": "skulk, not complete",
+    },
 }
-FIXED = """text{font-family:Helvetica,Arial,'Liberation Sans','DejaVu Sans',sans-serif;font-size:10px}
-.number{font-size:9px;font-weight:bold;text-anchor:middle}.title{font-size:14px;font-weight:bold}
-.house{font-size:12px;font-weight:bold}
-.small{font-size:9px}.halo{stroke-width:3px;stroke-linejoin:round;paint-order:stroke}
+FIXED = """text{font-family:Helvetica,Arial,'Liberation Sans','DejaVu Sans',sans-serif;font-size:11px}
+.number{font-weight:bold;text-anchor:middle}.title{font-size:15px;font-weight:bold}
+.house{font-size:12px;font-weight:bold}.group{font-weight:bold}.end{text-anchor:end}
+.halo{stroke-width:3px;stroke-linejoin:round;paint-order:stroke}
 .line{fill:none;stroke:currentColor;stroke-width:1.5px}.Join .line{stroke-width:2.2px}
 .hit{fill:none;stroke:#000;stroke-opacity:0;stroke-width:9px}
 .head{fill:currentColor;stroke:currentColor;stroke-linejoin:round}.full{fill:currentColor}
 .hollow{stroke:currentColor;stroke-width:1.4px}
 .refused{stroke-dasharray:2.5 2}.cross{fill:none;stroke:currentColor;stroke-width:2.4px}.lane{fill:none;stroke-width:1.3px}
 .master{stroke-width:3.4px}.secondary{stroke-width:3.4px;stroke-dasharray:11 3}.without{stroke-dasharray:1.5 4}.guide{stroke-width:1px}
-.upright{stroke-width:1.2px;stroke-dasharray:5 3}
+.upright{stroke-width:1.2px;stroke-dasharray:5 3}.leader{stroke-width:1px}
 .open{fill:none;stroke-width:1.2px;stroke-dasharray:6 4}.tag{stroke-width:1px}.pale{opacity:.42}"""
 
 
@@ -102,9 +112,9 @@ def short(text, most):
     return text if len(text) <= most else text[: most - 1] + "…"
 
 
-def width_of(text, size=10):
+def width_of(text, size=SIZE):
     """How wide a text is, at most, in a font of usual width."""
-    return len(text) * size * 0.58
+    return len(text) * size * 0.6
 
 
 def brief(stamp):
@@ -153,7 +163,7 @@ def circle(x, y, radius, kind):
 
 def badge(x, y, letter):
     """The sign of a master, or of a secondary member."""
-    return circle(x, y, 7, "ink") + text(x, y + 3.3, letter, "number onink")
+    return circle(x, y, 8, "ink") + text(x, y + 4, letter, "number onink")
 
 
 def line(x, y, to_x, to_y, kind):
@@ -232,22 +242,50 @@ def label_of(step):
     return short(label, max(10, LONGEST_LABEL - len(outcome))) + outcome
 
 
-class Row:
-    """A row of the picture: the columns from `first` up to `end`, their places, and where its parts begin."""
+class Label:
+    """A label below the houses: where its line comes down, its words, and the place that was found for it."""
 
-    def __init__(self, first):
-        self.first, self.end, self.xs, self.right = first, first, [], LEFT
+    level, begin = 0, 0
+
+    def __init__(self, x, words, title):
+        self.x, self.words, self.title, self.width = x, words, title, width_of(words)
+
+    def put(self, level, right):
+        """Puts it at a level, to the right of its line, or to the left of it where it would come out of the picture."""
+        self.level, self.is_left = level, self.x + 5 + self.width > right
+        self.begin = self.x - 5 - self.width if self.is_left else self.x + 5
+        self.end = self.begin + self.width
+
+    def fits(self, other):
+        """Whether neither its words nor its line run into another label."""
+        if self.level == other.level and self.begin < other.end + 8 and other.begin < self.end + 8:
+            return False
+        upper, lower = sorted((self, other), key=lambda it: it.level)
+        return upper.level == lower.level or not upper.begin - 4 < lower.x < upper.end + 4
+
+
+class Row:
+    """A row of the picture: the columns from `first` up to `end`, their places, and where its parts begin: from above the words of
+    its columns, the lines of the houses at `tops`, and the labels of skulks and epochs from `strip` on.
+    """
+
+    def __init__(self, first, left, tops):
+        self.first, self.end, self.xs, self.left, self.right, self.tops = first, first, [], left, left, tops
         self.labels, self.marks, self.strip, self.lanes = [], {}, 0, 0
 
     def x(self, column):
         """The place of a column, or the nearer side of the row."""
         if column < self.first:
-            return LEFT
+            return self.left
         return self.xs[column - self.first] if column < self.end else self.right
 
     def y(self, lane):
-        """The place of a house's line, by its number from above."""
-        return self.lanes + LANE * lane + LANE / 2
+        """The place of a line, by its number from above."""
+        return self.lanes + self.tops[lane]
+
+    def bottom(self):
+        """Where the lines of the houses end."""
+        return self.lanes + self.tops[-1] - LANE / 2
 
     def is_free(self, lane, x, margin):
         """Whether no mark of the line is so near."""
@@ -269,8 +307,7 @@ class Picture:
         self.layers = {it: [] for it in ("shade", "guide", "lane", "upright", "arrow", "tag", "mark", "label")}
         self.used = set()
         digits = len(str(self.steps[-1].line))
-        self.mark_width = max(20, 9 + 5.6 * digits)
-        self.pitch = self.mark_width + 9
+        self.mark_width = max(22, 9 + 7 * digits)
 
     # What is drawn.
 
@@ -295,8 +332,29 @@ class Picture:
         made = {house for house, at in replay.born.items() if at <= self.ats[-1]}
         acting = {it.house for it in self.steps if it.house is not None}
         self.houses = sorted(acting | (made & members if directory else made))
-        self.lane = {house: lane for lane, house in enumerate(self.houses)}
-        self.is_aside = any(self.lane_of(it) == len(self.houses) for it in self.steps)
+        self.make_lanes()
+        self.is_aside = any(self.lane_of(it) == len(self.lanes) for it in self.steps)
+
+    def make_lanes(self):
+        """Gives each house a line for each directory that it holds at some time, or one line where it holds none."""
+        held = {}
+        for _, house, directory, role in self.replay.holdings:
+            if role != "none" and self.is_drawn(directory):
+                held.setdefault(house, set()).add(directory)
+        self.lanes = [(house, it) for house in self.houses for it in sorted(held.get(house, ())) or [None]]
+        self.is_split = len({it for _, it in self.lanes} - {None}) > 1
+        self.lane, self.tops, y = {}, [], 0
+        for lane, (house, directory) in enumerate(self.lanes):
+            is_first = house not in self.lane
+            y += 0 if lane == 0 else LANE if is_first else SUBLANE
+            self.lane.setdefault(house, lane)
+            self.lane[house, directory] = lane
+            self.tops.append(y + LANE / 2)
+        self.tops.append(y + LANE + LANE / 2)
+
+    def lane_for(self, house, directory):
+        """The line of a directory at a house, or the first of the house."""
+        return self.lane.get((house, directory), self.lane[house])
 
     def is_broken(self, step):
         """Whether a step loses a message whose way is known."""
@@ -305,7 +363,12 @@ class Picture:
 
     def lane_of(self, step):
         """The line that a step stands at, or None where it stands on the way of a message."""
-        return None if self.is_broken(step) else self.lane.get(step.house, len(self.houses))
+        if self.is_broken(step):
+            return None
+        if step.house not in self.lane:
+            return len(self.lanes)
+        known = [self.lane[step.house, it] for it in step.dirs if (step.house, it) in self.lane]
+        return known[0] if known else self.lane[step.house]
 
     def is_drawn(self, directory):
         """Whether a directory is chosen."""
@@ -328,21 +391,67 @@ class Picture:
     def lay_out(self, top):
         """Cuts the steps into rows, and gives each its place."""
         epochs = {epoch.step for directory in self.dirs for epoch in self.replay.epochs[directory]}
-        wide = self.pitch * len(self.steps) + EPOCH * sum(it in epochs for it in self.ats)
-        width = NARROW if wide <= MANY * (NARROW - LEFT) else WIDE
-        self.rows = [Row(0)]
-        for column, step in enumerate(self.steps):
-            row, room = self.rows[-1], self.pitch + (EPOCH if step.at in epochs else 0)
-            if row.xs and row.right + room > width - EDGE:
-                row = Row(column)
-                self.rows.append(row)
-            row.xs.append(row.right + room - self.pitch / 2)
-            row.right, row.end = row.right + room, column + 1
+        left, begun = FARTHER if self.is_split else LEFT, sum(it in epochs for it in self.ats)
+        room = NARROW - OVERHANG - left
+        # Steps stand a little nearer to each other where one row is enough then.
+        gaps = [it for it in (9, 8, 7, 6) if (self.mark_width + it) * len(self.steps) + EPOCH * begun <= room]
+        self.pitch = self.mark_width + (gaps or [9])[0]
+        rooms = [self.pitch + (EPOCH if it in epochs else 0) for it in self.ats]
+        width = NARROW if sum(rooms) <= MANY * room else WIDE
+        self.rows = []
+        for begin, end in self.cuts(rooms, width - OVERHANG - left):
+            row = Row(begin, left, self.tops)
+            for column in range(begin, end):
+                row.xs.append(row.right + rooms[column] - self.pitch / 2)
+                row.right, row.end = row.right + rooms[column], column + 1
+            self.rows.append(row)
         self.starts = [it.first for it in self.rows]
         self.gather_labels()
         for row in self.rows:
             top = self.place(row, top)
         self.bottom = top
+
+    def cuts(self, rooms, width):
+        """Where rows begin and end, of which none is wider: in the last third of what has room, where the least goes on in the next
+        one. What is left for the last two rows is cut into more equal ones.
+        """
+        spans = self.open_spans()
+        begin, cuts = 0, []
+        while begin < len(rooms):
+            most = max(self.filled(rooms, begin, width), begin + 1)
+            end = most
+            if most < len(rooms):
+                least, best = begin + max(1, (most - begin) * 2 // 3), most
+                if self.filled(rooms, most, width) == len(rooms):
+                    least, best = begin + max(1, (len(rooms) - begin) // 3), (begin + len(rooms)) // 2
+                    least = next(it for it in range(least, most + 1) if self.filled(rooms, it, width) == len(rooms))
+                end = min(range(most, least - 1, -1), key=lambda it: (spans[it], abs(it - best)))
+            cuts.append((begin, end))
+            begin = end
+        return cuts
+
+    def filled(self, rooms, begin, width):
+        """The first column behind a row that begins with one."""
+        used = 0
+        for end in range(begin, len(rooms)):
+            used += rooms[end]
+            if used > width:
+                return end
+        return len(rooms)
+
+    def open_spans(self):
+        """For each column how much is open in front of it: messages on their way, and skulks, which count more."""
+        changes = [0] * (len(self.steps) + 1)
+        spans = [(it.posted, at, 1) for it in self.messages() for at in (*it.deliveries, it.lost) if at is not None]
+        spans += [(it.start, it.end, 6) for it in self.skulks() if it.end is not None]
+        for begin, end, weight in spans:
+            first, last = self.column_of(begin) + 1, self.column_of(end)
+            if first <= last:
+                changes[first] += weight
+                changes[min(last + 1, len(self.steps))] -= weight
+        for at in range(len(self.steps)):
+            changes[at + 1] += changes[at]
+        return changes
 
     def row_of(self, column):
         """The row of a column."""
@@ -351,20 +460,21 @@ class Picture:
     def place(self, row, top):
         """Gives the parts of a row their places from above, and returns its end."""
         steps = self.steps[row.first : row.end]
-        longest = max(width_of(label_of(it), 9) for it in steps)
-        row.strip = top + longest * math.sin(math.radians(SLOPE)) + 14
-        row.labels.sort(key=lambda it: it[0])
-        ends, placed = [], []
-        for x, words, title in row.labels:
-            x = max(LEFT, min(x, row.right - width_of(words)))
-            level = next((it for it, end in enumerate(ends) if end <= x), len(ends))
-            if level < MOST_LEVELS:
-                ends[level : level + 1] = [x + width_of(words) + 8]
-                placed.append((x, level, words, title))
-        row.labels, row.lanes = placed, row.strip + LEVEL * len(ends) + 2
+        longest = max(width_of(label_of(it)) for it in steps)
+        row.lanes = top + longest * math.sin(math.radians(SLOPE)) + 14
+        row.strip = row.bottom() + 4
+        placed = []
+        for label in sorted(row.labels, key=lambda it: -it.x):
+            for level in range(MOST_LEVELS):
+                label.put(level, row.right + OVERHANG - 8)
+                if all(map(label.fits, placed)):
+                    placed.append(label)
+                    break
+        row.labels = placed
         for column, step in enumerate(steps, row.first):
             row.marks.setdefault(self.lane_of(step), []).append(row.x(column))
-        return row.lanes + LANE * (len(self.houses) + self.is_aside) + 10
+        levels = max((it.level + 1 for it in placed), default=0)
+        return row.strip + LEVEL * levels + (LANE if self.is_aside else 0) + 12
 
     def gather_labels(self):
         """Gives each row the labels of its skulks and epochs."""
@@ -372,12 +482,12 @@ class Picture:
             column = self.column[epoch.step]
             row = self.row_of(column)
             words = f"epoch {epoch.number}{self.of_dir(epoch.dir)}"
-            row.labels.append((self.upright_x(row, column) + 5, words, epoch_title(epoch)))
+            row.labels.append(Label(self.upright_x(row, column), words, epoch_title(epoch)))
         for skulk in self.skulks():
             for row, left, _ in self.spans(skulk.start, skulk.end):
                 ending = "" if skulk.is_complete else ", not complete"
                 words = f"skulk {brief(skulk.stamp)}{self.of_dir(skulk.dir)}{ending}"
-                row.labels.append((left + 5, words, self.skulk_title(skulk)))
+                row.labels.append(Label(left, words, self.skulk_title(skulk)))
 
     def epochs(self):
         """The epochs that begin in the picture."""
@@ -396,7 +506,7 @@ class Picture:
         half = self.mark_width / 2 + 3
         for row in self.rows:
             if begin < row.end and stop >= row.first and (stop > row.first or self.in_view(end)):
-                left = row.x(begin) - half if begin >= row.first and self.in_view(start) else LEFT
+                left = row.x(begin) - half if begin >= row.first and self.in_view(start) else row.left
                 right = row.x(stop) + half if stop < row.end and self.in_view(end) else row.right
                 yield row, left, right
 
@@ -443,53 +553,56 @@ class Picture:
 
     def draw_row(self, row):
         """The names of a row's houses, the words above its columns, and its labels."""
-        for house, lane in self.lane.items():
+        for lane, (house, directory) in enumerate(self.lanes):
             if self.replay.born[house] <= self.ats[row.end - 1]:
                 title = f"house {house}, node {self.replay.nodes[house]}"
-                name = text(EDGE, row.y(lane) + 4, f"house {house}", "house ink")
-                self.add("label", titled("", title, name))
+                if lane == self.lane[house]:
+                    self.add("label", titled("", title, text(EDGE, row.y(lane) + 4, f"house {house}", "house ink")))
+                if self.is_split and directory is not None:
+                    self.add("label", text(row.left - 6, row.y(lane) + 4, f"dir {directory}", "dim end"))
         if self.is_aside:
             title = "steps of no house: the script names none, or none that was made"
-            self.add("label", titled("", title, text(EDGE, row.y(len(self.houses)) + 4, "no house", "dim")))
-        for x, level, words, title in row.labels:
-            self.add("label", titled("", title, text(x, row.strip + LEVEL * level + 11, words, "ink small halo")))
+            self.add("label", titled("", title, text(EDGE, row.y(len(self.lanes)) + 4, "no house", "dim")))
+        for label in row.labels:
+            x, anchor = (label.x - 5, " end") if label.is_left else (label.x + 5, "")
+            y = row.strip + LEVEL * label.level + 12 + (LANE if self.is_aside else 0)
+            self.add("upright", line(label.x, row.bottom(), label.x, y + 2, "leader"))
+            self.add("label", titled("", label.title, text(x, y, label.words, f"ink{anchor}")))
         for column in range(row.first, row.end):
-            step, x, y = self.steps[column], row.x(column), row.strip - 4
-            turned = f' transform="rotate(-{SLOPE} {number(x)} {number(y)})"'
-            self.add("label", text(x + 2, y, label_of(step), "dim small", turned))
+            step, x, y = self.steps[column], row.x(column), row.lanes
+            turned = f' transform="rotate(-{SLOPE} {number(x)} {number(y - 4)})"'
+            self.add("label", text(x + 2, y - 4, label_of(step), "dim", turned))
             lane = self.lane_of(step)
-            self.add("guide", line(x, y + 4, x, row.y(lane) if lane is not None else self.break_y(row, step.message), "guide"))
+            self.add("guide", line(x, y, x, row.y(lane) if lane is not None else self.break_y(row, step.message), "guide"))
 
     def draw_lanes(self):
         """The lines of the houses: gone while a house is down, and thick while it accepts updates."""
-        for house, lane in self.lane.items():
-            changes = [*self.lane_changes(house), (None, None)]
+        for lane, (house, directory) in enumerate(self.lanes):
+            changes = [*self.lane_changes(house, directory), (None, None)]
             for (at, style), (until, _) in zip(changes, changes[1:]):
                 if style is None or until is not None and until <= self.ats[0] or at > self.ats[-1]:
                     continue
                 begin, stop = self.column_of(at), len(self.steps) if until is None else self.column_of(until)
                 for row in self.rows:
-                    left, right = LEFT if at < self.ats[0] else row.x(begin), row.x(stop)
+                    left, right = row.left if at < self.ats[0] else row.x(begin), row.x(stop)
                     if begin < row.end and stop >= row.first and left < right:
                         self.used.add(f"lane {style}")
                         self.add("lane", line(left, row.y(lane), right, row.y(lane), f"lane {style}"))
 
-    def lane_changes(self, house):
-        """From which step on a house's line has which style: none, while it is down or was not made."""
-        events = [(self.replay.born[house], "up", None, None)]
+    def lane_changes(self, house, directory):
+        """From which step on a line has which style: none, while its house is down or was not made."""
+        events = [(self.replay.born[house], "up", None)]
         for down, up in self.replay.downs.get(house, ()):
-            events.append((down, "down", None, None))
-            events += [(up, "up", None, None)] if up is not None else []
-        events += [(at, "role", it, role) for at, who, it, role in self.replay.holdings if who == house and self.is_drawn(it)]
-        roles, is_up, changes = {}, False, []
-        for at, what, directory, role in sorted(events, key=lambda it: it[0]):
+            events.append((down, "down", None))
+            events += [(up, "up", None)] if up is not None else []
+        events += [(at, "role", role) for at, who, it, role in self.replay.holdings if (who, it) == (house, directory)]
+        role, is_up, changes = "none", False, []
+        for at, what, now in sorted(events, key=lambda it: it[0]):
             if what == "role":
-                roles[directory] = role
+                role = now
             else:
                 is_up = what == "up"
-            held = roles.values()
-            styles = ("master", "master"), ("secondary", "secondary"), ("member", "")
-            style = next((it for role, it in styles if role in held), "without")
+            style = {"master": "master", "secondary": "secondary", "member": "", "none": "without"}[role]
             changes.append((at, style if is_up else None))
         if any(it is None for _, it in changes):
             self.used.add("gap")
@@ -500,7 +613,7 @@ class Picture:
         title, kind = self.skulk_title(skulk), "shade" if skulk.is_complete else "open"
         self.used.add(kind)
         for row, left, right in self.spans(skulk.start, skulk.end):
-            top, bottom = row.strip, row.lanes + LANE * len(self.houses) - 4
+            top, bottom = row.lanes, row.bottom()
             self.add("shade", titled("", title, rect(left, top, right - left, bottom - top, kind, 4)))
 
     def skulk_title(self, skulk):
@@ -517,9 +630,9 @@ class Picture:
         row = self.row_of(column)
         x, shapes = self.upright_x(row, column), []
         self.used.add("epoch")
-        shapes.append(line(x, row.strip + 2, x, row.lanes + LANE * len(self.houses) - 6, "upright"))
+        shapes.append(line(x, row.lanes + 2, x, row.bottom(), "upright"))
         for house in epoch.members:
-            lane = self.lane.get(house)
+            lane = self.lane_for(house, epoch.dir) if house in self.lane else None
             letter = {"master": "M", "secondary": "S"}.get(epoch.role(house))
             if lane is not None and letter:
                 shapes.append(badge(x, row.y(lane), letter))
@@ -545,7 +658,7 @@ class Picture:
             fill = "asked"
         self.used.add(fill if not is_delivery else "delivery" if fill == "full" else "late")
         title = "\n".join([*told(step), *([name_of(step.message)] if step.message else [])])
-        shapes = rect(left, top, width, MARK, fill, radius), text(x, y + 3.2, str(step.line), "number")
+        shapes = rect(left, top, width, MARK, fill, radius), text(x, y + 4, str(step.line), "number")
         self.add("mark", titled(kind if fill == "full" else f"{kind} bare", title, *shapes))
 
     # Messages.
@@ -565,7 +678,7 @@ class Picture:
         self.used.add(message.kind)
         home = self.row_of(self.column[message.posted]) if self.in_view(message.posted) else None
         if home and self.replay.steps[message.posted].house != message.sender:
-            x, y = home.x(self.column[message.posted]), home.y(self.lane[message.sender])
+            x, y = home.x(self.column[message.posted]), home.y(self.lane_for(message.sender, message.dir))
             self.add("arrow", circle(x, y, 3, "ink"))
         elsewhere = False
         for at in message.deliveries:
@@ -583,26 +696,26 @@ class Picture:
 
     def sign(self, message):
         """Which way a message goes: 1 down, or -1 up."""
-        return 1 if self.lane[message.receiver] > self.lane[message.sender] else -1
+        return 1 if self.lane_for(message.receiver, message.dir) > self.lane_for(message.sender, message.dir) else -1
 
     def gap(self, message):
         """How far from its end a message from elsewhere comes in, or to elsewhere goes: more where it goes farther."""
-        return min(18 + 8 * abs(self.lane[message.receiver] - self.lane[message.sender]), LANE - 14)
+        return min(18 + 8 * abs(self.lane_for(message.receiver, message.dir) - self.lane_for(message.sender, message.dir)), LANE - 14)
 
     def break_y(self, row, message):
         """Where a message is lost: before it comes to its receiver."""
-        return row.y(self.lane[message.receiver]) - self.sign(message) * LANE / 2
+        return row.y(self.lane_for(message.receiver, message.dir)) - self.sign(message) * LANE / 2
 
     def start(self, message, row):
         """The place at which a message leaves its sender."""
-        lane, is_mark = self.lane[message.sender], self.replay.steps[message.posted].house == message.sender
+        lane, is_mark = self.lane_for(message.sender, message.dir), self.replay.steps[message.posted].house == message.sender
         return row.x(self.column[message.posted]), row.y(lane) + self.sign(message) * (MARK / 2 if is_mark else 0)
 
     def draw_delivery(self, message, at, row, is_home, title):
         """The arrow to a delivery, from where it was posted, or from elsewhere."""
         sign, step = self.sign(message), self.replay.steps[at]
-        x, y = row.x(self.column[at]), row.y(self.lane[message.receiver]) - sign * (MARK / 2 + 1)
-        begin = self.start(message, row) if is_home else (max(LEFT - 8, x - self.pitch * 1.1), y - sign * self.gap(message))
+        x, y = row.x(self.column[at]), row.y(self.lane_for(message.receiver, message.dir)) - sign * (MARK / 2 + 1)
+        begin = self.start(message, row) if is_home else (max(row.left - 8, x - self.pitch * 1.1), y - sign * self.gap(message))
         points = self.route(row, begin, (x, y))
         shapes = [path(points, "hit"), path(points, "line"), head(points, not step.has_changed)]
         if not is_home:
@@ -613,7 +726,7 @@ class Picture:
     def draw_loss(self, message, row, is_home, title):
         """The way of a message to the cross where it was lost; pale, where it had been taken before."""
         x, y = row.x(self.column[message.lost]) - self.mark_width / 2 - 6, self.break_y(row, message)
-        near = (max(LEFT - 8, x - self.pitch * 0.8), y - self.sign(message) * 14)
+        near = (max(row.left - 8, x - self.pitch * 0.8), y - self.sign(message) * 14)
         points = self.route(row, self.start(message, row) if is_home else near, (x, y))
         shapes = [path(points, "hit"), path(points, "line"), cross(x, y)]
         if not is_home:
@@ -640,7 +753,7 @@ class Picture:
         """The points of a way that passes the marks of the houses between: straight, where that can be."""
         (x, y), (to_x, to_y) = begin, end
         points, sign, slope = [begin], 1 if to_y > y else -1, abs((to_x - x) / (to_y - y)) if to_y != y else 0
-        lanes = [it for it in range(len(self.houses)) if min(y, to_y) + 3 < row.y(it) < max(y, to_y) - 3]
+        lanes = [it for it in range(len(self.lanes)) if min(y, to_y) + 3 < row.y(it) < max(y, to_y) - 3]
         for lane in lanes if sign > 0 else lanes[::-1]:
             last_x, last_y = points[-1]
             over = last_x + (to_x - last_x) * (row.y(lane) - last_y) / (to_y - last_y)
@@ -676,22 +789,22 @@ class Picture:
 
     def draw_rise(self, rise, ends):
         """The tag of a rise: on the side of the house's line on which no message comes in."""
-        column, lane = self.column[rise.step], self.lane[rise.house]
+        column, lane = self.column[rise.step], self.lane_for(rise.house, rise.dir)
         row, message = self.row_of(column), self.replay.steps[rise.step].message
         is_above = message is None or message.sender in self.lane and self.sign(message) < 0
         words = f"▲ {brief(rise.stamp)}{self.of_dir(rise.dir)}"
-        width = width_of(words, 9) + 14
+        width = width_of(words) + 14
         x = row.x(column) - self.mark_width / 2
         key = row.first, lane, is_above
-        if x < ends.get(key, 0) or x + width > row.right + EDGE + 40:
-            words, width = "▲", 15
+        if x < ends.get(key, 0) or x + width > row.right + OVERHANG - 10:
+            words, width = "▲", 18
         ends[key] = x + width + 2
-        top = row.y(lane) - MARK / 2 - 15 if is_above else row.y(lane) + MARK / 2 + 3
+        top = row.y(lane) - MARK / 2 - 18 if is_above else row.y(lane) + MARK / 2 + 3
         before = rise.before or "none"
         title = f"AllUpTo of house {rise.house}, directory {rise.dir}: {rise.stamp}\nbefore it was {before}"
         title = "\n".join([title, *told(self.replay.steps[rise.step])])
         self.used.add("rise")
-        self.add("tag", titled("", title, rect(x, top, width, 12, "tag", 2), text(x + 3, top + 9.2, words, "ink small")))
+        self.add("tag", titled("", title, rect(x, top, width, 15, "tag", 2), text(x + 3, top + 11.5, words, "ink")))
 
     # Heading and legend.
 
@@ -701,16 +814,21 @@ class Picture:
         lines = f"line {first}" if first == last else f"lines {first} to {last}"
         about = f", directory {self.dir}" if self.dir else ""
         shapes = [text(EDGE, 24, f"{short(self.name, 60)}: {lines}{about}", "title ink")]
-        shapes.append(text(EDGE, 41, self.counts(), "dim"))
+        shapes.append(text(EDGE, 43, self.counts(), "dim"))
         message = next((it for it in happened.KINDS if it in self.used), "Update")
-        x, y = EDGE, 60
-        for kind, words in self.legend():
-            room = 34 + width_of(words) + 14
-            if x + room > width - EDGE and x > EDGE:
-                x, y = EDGE, y + 19
-            shapes += [sample(kind, x, y, message), text(x + 34, y + 3.5, words, "dim")]
-            x += room
-        return "\n".join(shapes), y + 20
+        y = 46
+        for group, items in LEGEND.items():
+            used = [it for it in items.items() if it[0] in self.used]
+            if used:
+                x, y = EDGE + 70, y + 20
+                shapes.append(text(EDGE, y + 4, group, "ink group"))
+            for kind, words in used:
+                room = 34 + width_of(words) * 0.93 + 14
+                if x + room > width - EDGE and x > EDGE + 70:
+                    x, y = EDGE + 70, y + 20
+                shapes += [sample(kind, x, y, message), text(x + 34, y + 4, words, "dim")]
+                x += room
+        return "\n".join(shapes), y + 22
 
     def counts(self):
         """What there is to count in the picture."""
@@ -727,11 +845,6 @@ class Picture:
         if skulks:
             said.append(happened.plural(len(skulks), "skulk") + f", {sum(it.is_complete for it in skulks)} complete")
         return "; ".join(said)
-
-    def legend(self):
-        """The samples of what the picture has, with their words."""
-        known = [*((kind, kind) for kind in happened.KINDS), *LEGEND.items()]
-        return [it for it in known if it[0] in self.used]
 
 
 def sample(kind, x, y, message):
@@ -754,7 +867,7 @@ def sample(kind, x, y, message):
     if kind in ("shade", "open"):
         return rect(x + 1, y - 7, 26, 14, kind, 3)
     if kind == "rise":
-        return rect(x + 3, y - 6, 22, 12, "tag", 2) + text(x + 6, y + 3.2, "▲", "ink small")
+        return rect(x + 3, y - 7, 22, 15, "tag", 2) + text(x + 8, y + 4.5, "▲", "ink")
     points = [(x, y), (x + (14 if kind == "elsewhere" else 20), y)]
     ends = {"lost": cross(x + 22, y), "elsewhere": dots(*points)}
     end = ends.get(kind) or circle(x + 22, y, 2.6, "hollow")

@@ -92,10 +92,11 @@ class Fault(Exception):
 
 class Step:
     """A command with its answer. `house` acts or is asked, and is None where the words don't tell.
-    `posted` are the serials of its answer that no message has yet.
+    `posted` are the serials of its answer that no message has yet. `found` are the house, the directory and the simple name of the
+    entry that a command of the name service changed.
     """
 
-    house, outcome, dirs, message, answer, posted, has_changed = None, "ok", (), None, "", (), False
+    house, outcome, dirs, message, answer, posted, has_changed, found = None, "ok", (), None, "", (), False, None
 
     def __init__(self, at, line, command, words, text):
         self.at, self.line, self.command, self.words, self.text = at, line, command, words, text
@@ -422,7 +423,7 @@ class Replay:
         if not found or due != len(step.posted):
             self.post(step, "Update", None, None, None, [None] * len(step.posted))
             return
-        step.house, step.dirs = house, (directory,)
+        step.house, step.dirs, step.found = house, (directory,), found
         self.post_updates(step, house, directory, count)
         entry = self.entry(directory, name)
         if count and entry.kind is None:

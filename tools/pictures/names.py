@@ -1,0 +1,392 @@
+"""Draws the tree of names of a cell as one SVG: directories and entries as rows, links and members as arrows beside them."""
+from . import drawing, replay as happened
+from .drawing import EDGE, circle, escaped, number, rect, short, text, titled, width_of
+
+ROW, DETAIL, INDENT, TRACK = 24, 18, 20, 13
+COLUMN = EDGE + 26  # where the tree begins, behind the numbers of a search
+MOST_ROWS, MOST_VALUES, LONGEST = 4000, 3, 78
+# What the legend says: the arrows, in the colours of kinds of messages, and the signs.
+ARROWS = {"link": ("Update", "a link"), "member": ("Spread", "a member of a group"), "element": ("Gather", "an element of a profile")}
+SIGNS = {"directory": "a directory", "object": "an object", "soft": "a link", "order": "order of the search"}
+MORE = """.soft{stroke-dasharray:5 3}.tree{fill:none;stroke:#8a939d;stroke-width:1px}.arrow{fill:none;stroke:currentColor;stroke-width:1.5px}
+.order{fill:#1f2328}.ordered{fill:#fff;font-weight:bold;text-anchor:middle}.ring{stroke:#1f2328;stroke-width:1.6px}
+@media (prefers-color-scheme: dark){
+.order{fill:#e6edf3}.ordered{fill:#0d1117}.tree{stroke:#77828d}.ring{stroke:#e6edf3}
+}"""
+
+
+class Entry:
+    """An entry as the script made it: its kind, where it leads, and what its attributes have."""
+
+    def __init__(self, kind, lead=None):
+        self.kind, self.lead, self.values = kind, lead, {}
+        self.towers, self.objects, self.members, self.elements = [], [], [], []
+
+    def change(self, command, attribute, value):
+        """A change of the values of an attribute."""
+        own = self.values.setdefault(attribute, [])
+        if command in ("put", "clear"):
+            own.clear()
+        if command in ("add", "put") and value not in own:
+            own.append(value)
+        if command == "remove" and value in own:
+            own.remove(value)
+
+
+class State:
+    """The names of the cell up to a line of the script."""
+
+    def __init__(self, replay, last):
+        self.entries, self.untold, self.epochs, self.born = {}, 0, {}, {}
+        for step in replay.steps:
+            if step.line > last:
+                break
+            if step.outcome == "ok":
+                self.take(step)
+        for directory, epochs in replay.epochs.items():
+            known = [it for it in epochs if replay.steps[it.step].line <= last]
+            if known:
+                self.epochs[directory] = known[-1]
+
+    def take(self, step):
+        """Takes a command that was not refused."""
+        command, words = step.command, step.words
+        if command in happened.SERVICES:
+            if step.found:
+                self.serve(command, words, step.found[1:])
+            else:
+                self.untold += 1
+        elif command == "mkdir":
+            self.entries[int(words[1]), words[2]] = Entry("child", int(step.answer.split()[2]))
+        elif command in ("create", "link"):
+            kind = "object" if command == "create" else "link"
+            self.entries[int(words[1]), words[2]] = Entry(kind, words[3] if kind == "link" else None)
+        elif command == "delete":
+            self.entries.pop((int(words[1]), words[2]), None)
+        elif command in ("add", "remove", "put", "clear"):
+            entry = self.entries.get((int(words[1]), words[2]))
+            if entry:
+                entry.change(command, words[3], (words[4] if len(words) > 4 else "").lower())
+
+    def serve(self, command, words, place):
+        """Takes a command of the name service at the entry of a place."""
+        if command in ("export", "groupadd", "profadd"):
+            self.entries.setdefault(place, Entry("object"))
+        entry = self.entries.get(place)
+        if entry is None:
+            return
+        if command == "export":
+            entry.towers += [(words[1].lower(), it) for it in listed(words[2]) if (words[1].lower(), it) not in entry.towers]
+            entry.objects += [it.lower() for it in listed(words[3]) if it.lower() not in entry.objects]
+        elif command == "unexport":
+            entry.towers = [it for it in entry.towers if it[0] != words[1].lower()]
+            entry.objects = [it for it in entry.objects if it not in words[2].lower().split(",")]
+        elif command == "groupadd":
+            entry.members = sorted({*entry.members, words[1]})
+        elif command == "groupdel":
+            entry.members = [it for it in entry.members if it != words[1]]
+        elif command == "profadd":
+            entry.elements = sorted({*entry.elements, element_of(*words[1:5])})
+        else:
+            entry.elements = [it for it in entry.elements if (it[5], it[7]) != (words[1].lower(), words[2])]
+
+    def place_of(self, name, follows=False, left=happened.MOST_LINKS):
+        """The directory and the simple name of a full name; links on the way are followed, and the last one where that is asked."""
+        directory, names = 1, name.split("/")[2:]
+        for at, it in enumerate(names):
+            entry, is_last = self.entries.get((directory, it)), at + 1 == len(names)
+            if entry and entry.kind == "link" and left and (follows or not is_last):
+                return self.place_of("/".join([entry.lead, *names[at + 1 :]]), follows, left - 1)
+            if is_last:
+                return (directory, it) if entry else None
+            if not entry or entry.kind != "child":
+                return None
+            directory = entry.lead
+        return None
+
+    def order(self, name, interface):
+        """The entries that a search from a name comes to, each where it comes first."""
+        order, waiting = [], [name]
+        while waiting:
+            place = self.place_of(waiting.pop(), True)
+            entry = self.entries.get(place)
+            if entry and entry.kind == "object" and place not in order:
+                order.append(place)
+                taken = [it for it in entry.elements if it[5] == "default" or serves(it[5], interface)]
+                waiting += [*(it[7] for it in reversed(taken)), *reversed(entry.members)]
+        return order
+
+
+def listed(words):
+    """The items of a list of words, or none of `-`."""
+    return [] if words == "-" else words.split(",")
+
+
+def element_of(interface, member, priority, note):
+    """An element of a profile, in the order of its octets, with what was said of it."""
+    uuid, _, version = interface.lower().partition(":")
+    major, _, minor = version.partition(".")
+    is_default = interface.lower() == "default"
+    numbers = (0, 0) if is_default else (int(major), int(minor))
+    octets = bytes(16).hex() if is_default else uuid.replace("-", "")
+    return int(priority), octets, *numbers, len(member), interface.lower(), note if note != "-" else "", member
+
+
+def serves(offered, wanted):
+    """Whether an interface that is offered serves the one that is wanted."""
+    (uuid, _, version), (own, _, least) = offered.partition(":"), wanted.lower().partition(":")
+    (major, _, minor), (of, _, at) = version.partition("."), least.partition(".")
+    return uuid == own and major == of and int(minor) >= int(at)
+
+
+def wide(words, kind):
+    """How wide words of a class are, at most."""
+    return width_of(words, 12.4 if kind == "house ink" else 10.6)
+
+
+class Row:
+    """A row: its place, its words in pieces with their classes, and the name that it leads to."""
+
+    def __init__(self, x, height, pieces, place=None, lead=None, kind=None, sign=None, title=""):
+        self.x, self.height, self.pieces, self.place, self.lead, self.kind, self.sign = x, height, pieces, place, lead, kind, sign
+        self.title, self.y = title, 0
+
+    def end(self):
+        """Where its words end."""
+        return self.x + (18 if self.sign else 0) + sum(wide(words, kind) + 8 for words, kind in self.pieces)
+
+
+class Tree:
+    """The rows of a tree of names, and its arrows."""
+
+    def __init__(self, state, directory):
+        self.state, self.rows, self.branches = state, [], []
+        self.root = Row(COLUMN, ROW, [("/.:" if directory == 1 else f"directory {directory}", "house ink"), *self.about(directory)], sign="directory")
+        self.rows.append(self.root)
+        self.seen = {directory}
+        self.add_directory(directory, COLUMN + INDENT, self.root)
+
+    def about(self, directory):
+        """Where a directory is, in words."""
+        epoch = self.state.epochs.get(directory)
+        if not epoch:
+            return []
+        others = [it for it in epoch.members if it != epoch.master]
+        also = f", and at {', '.join(map(str, others))}" if others else ""
+        return [(f"directory {directory} at house {epoch.master}, its master{also}", "dim")]
+
+    def add_directory(self, directory, x, parent):
+        """Adds the entries of a directory, below its row."""
+        for name in sorted(name for of, name in self.state.entries if of == directory):
+            if len(self.rows) > MOST_ROWS:
+                raise drawing.Undrawable(f"a tree of more than {MOST_ROWS} rows; choose a part with --to and --dir")
+            row = self.add_entry(directory, name, x)
+            self.branches.append((parent, row))
+            entry = self.state.entries[directory, name]
+            if entry.kind == "child" and entry.lead not in self.seen:
+                self.seen.add(entry.lead)
+                self.add_directory(entry.lead, x + INDENT, row)
+
+    def add_entry(self, directory, name, x):
+        """Adds an entry with what it has."""
+        entry = self.state.entries[directory, name]
+        pieces, lead, kind = [(short(name, 40), "house ink")], None, None
+        sign = {"child": "directory", "link": "soft"}.get(entry.kind, "object")
+        if entry.kind == "child":
+            pieces += self.about(entry.lead)
+        elif entry.kind == "link":
+            pieces, lead, kind = [*pieces, (short(entry.lead, LONGEST), "dim")], entry.lead, "link"
+        else:
+            roles = [it for it, has in (("server", entry.towers or entry.objects), ("group", entry.members), ("profile", entry.elements)) if has]
+            pieces += [(", ".join(roles), "dim")] if roles else []
+        row = Row(x, ROW, pieces, (directory, name), lead, kind, sign, f"entry {name} of directory {directory}")
+        self.rows.append(row)
+        for words, lead, kind in details(entry):
+            self.rows.append(Row(x + INDENT, DETAIL, [(short(words, LONGEST), "dim")], None, lead, kind))
+        return row
+
+
+def details(entry):
+    """What an entry has, a line each, with the name that it leads to."""
+    for interface, binding in entry.towers:
+        yield f"{binding} · interface {brief(interface)}", None, None
+    if entry.objects:
+        yield "objects " + ", ".join(brief(it) for it in entry.objects[:MOST_VALUES]) + ("…" if len(entry.objects) > MOST_VALUES else ""), None, None
+    for member in entry.members:
+        yield member, member, "member"
+    for priority, _, _, _, _, interface, note, member in entry.elements:
+        about = "any interface" if interface == "default" else f"interface {brief(interface)}"
+        yield f"priority {priority} · {about} · {member}" + (f" · {note}" if note else ""), member, "element"
+    for attribute, values in sorted(entry.values.items()):
+        if values:
+            yield f"{attribute} {' '.join(short(it, 16) for it in sorted(values)[:MOST_VALUES])}" + ("…" if len(values) > MOST_VALUES else ""), None, None
+
+
+def brief(uuid):
+    """A UUID or an interface in brief: its last eight digits, and its version."""
+    digits, _, version = uuid.partition(":")
+    return f"…{digits[-8:]}" + (f" {version}" if version else "")
+
+
+class Picture:
+    """The picture of the names of a cell."""
+
+    def __init__(self, replay, name, last, directory):
+        steps = [it for it in replay.steps if it.line <= last]
+        imports = [it for it in steps if it.command == "import" and " binding " in it.answer]
+        chosen = imports[0] if imports and last > replay.steps[-1].line else imports[-1] if imports and imports[-1].line == last else None
+        self.name, self.search = name, chosen
+        self.last = chosen.line if chosen else steps[-1].line if steps else last
+        self.state = State(replay, self.last)
+        if (directory or 1) not in self.state.epochs:
+            raise drawing.Undrawable("the script makes no root directory" if not directory else f"the script makes no directory {directory}")
+        self.tree, self.used, self.shapes = Tree(self.state, directory or 1), set(), []
+        self.numbers = {place: at for at, place in enumerate(self.searched(), 1)}
+
+    def searched(self):
+        """The entries that the search of an import comes to, if its answer is in their order; else those of its answer alone."""
+        if not self.search:
+            return []
+        bindings = [line.split()[2].split("@")[-1] for line in self.search.answer.split("\n") if " binding " in line]
+        order = self.state.order(self.search.words[2], self.search.words[3])
+        answered = []
+        for binding in bindings:
+            found = [it for it in order if binding in [one for _, one in self.state.entries[it].towers]]
+            answered += [it for it in found[:1] if it not in answered]
+        return order if answered == [it for it in order if it in answered] else answered
+
+    def draw(self):
+        """The whole picture."""
+        y = 0
+        for row in self.tree.rows:
+            y += row.height
+            row.y = y - row.height / 2
+        gutter = max(row.end() for row in self.tree.rows) + 28
+        edges = self.edges()
+        tracks = self.tracks(edges)
+        self.draw_branches()
+        for edge, track in zip(edges, tracks):
+            self.draw_edge(*edge, gutter + 8 + TRACK * track)
+        for row in self.tree.rows:
+            self.draw_row(row)
+        width = max(drawing.LEAST, gutter + TRACK * (max(tracks, default=-1) + 1) + EDGE + 16)
+        return self.whole(width, y + 12)
+
+    def edges(self):
+        """The arrows: from a row to the row of the entry that it names."""
+        rows = {row.place: row for row in self.tree.rows if row.place}
+        found = [(row, rows.get(self.state.place_of(row.lead))) for row in self.tree.rows if row.lead]
+        return [(row, target) for row, target in found if target]
+
+    def tracks(self, edges):
+        """A track for each arrow, on which no other one goes by; short ones are nearer."""
+        spans, chosen = [], {}
+        for at in sorted(range(len(edges)), key=lambda it: abs(edges[it][0].y - edges[it][1].y)):
+            low, high = sorted((edges[at][0].y, edges[at][1].y))
+            track = next((it for it, used in enumerate(spans) if all(high + 6 < one or other + 6 < low for one, other in used)), len(spans))
+            if track == len(spans):
+                spans.append([])
+            spans[track].append((low, high))
+            chosen[at] = track
+        return [chosen[at] for at in range(len(edges))]
+
+    def draw_branches(self):
+        """The lines of the tree."""
+        last = {}
+        for parent, row in self.tree.branches:
+            self.shapes.append(f'<path d="M{number(parent.x + 6)} {number(row.y)}H{number(row.x - 1)}" class="tree"/>')
+            last[parent] = row
+        for parent, row in last.items():
+            self.shapes.append(f'<path d="M{number(parent.x + 6)} {number(parent.y + 8)}V{number(row.y)}" class="tree"/>')
+
+    def draw_edge(self, row, target, x):
+        """An arrow beside the rows, from behind the words of one to behind those of another."""
+        kind = row.kind
+        self.used.add(kind)
+        # What comes in at a link's row is below what goes out.
+        y, to_y, end = row.y - (4 if kind == "link" else 0), target.y + (4 if target.lead or target.y < row.y else -4), target.end() + 6
+        turn = 6 if to_y > y else -6
+        shape = f"M{number(row.end() + 4)} {number(y)}H{number(x - 6)}q6 0 6 {turn}V{number(to_y - turn)}q0 {turn} -6 {turn}H{number(end)}"
+        soft = " soft" if kind == "link" else ""
+        arrow = drawing.head([(x, to_y), (end, to_y)], False)
+        title = f"{row.lead}: {ARROWS[kind][1]}"
+        self.shapes.append(titled(ARROWS[kind][0], title, f'<path d="{shape}" class="arrow{soft}"/>', arrow))
+
+    def draw_row(self, row):
+        """The sign and the words of a row, and its number in the search."""
+        x = row.x
+        if row.sign:
+            self.used.add(row.sign)
+            self.shapes.append(sign(row.sign, x, row.y))
+            x += 18
+        for words, kind in row.pieces:
+            self.shapes.append(text(x, row.y + 4, words, kind))
+            x += wide(words, kind) + 8
+        if row.place in self.numbers:
+            self.used.add("order")
+            self.shapes.append(ordered(EDGE + 9, row.y, self.numbers[row.place]))
+
+    def heading(self, width):
+        """The heading, what was looked for, and the legend; and how high they are."""
+        shapes = [text(EDGE, 24, f"{short(self.name, 60)}: names at line {self.last}", "title ink")]
+        y = 43
+        if self.search:
+            shapes.append(text(EDGE, y, short(f"line {self.search.line}: {self.search.text}", 128), "dim"))
+            y += 17
+        if self.state.untold:
+            untold = happened.plural(self.state.untold, "command")
+            shapes.append(text(EDGE, y, f"{untold} of the name service left out: the script does not tell at which entry", "dim"))
+            y += 17
+        y -= 14
+        for group, items in (("entries", SIGNS), ("arrows", {it: words for it, (_, words) in ARROWS.items()})):
+            used = [it for it in items.items() if it[0] in self.used]
+            x = EDGE + 70
+            if used:
+                y += 20
+                shapes.append(text(EDGE, y + 4, group, "ink group"))
+            for kind, words in used:
+                shapes += [sample(kind, x, y), text(x + 34, y + 4, words, "dim")]
+                x += 34 + width_of(words) * 0.93 + 14
+        return "\n".join(shapes), y + 18
+
+    def whole(self, width, height):
+        """The SVG, with its heading and its legend above the tree."""
+        heading, top = self.heading(width)
+        w, h = number(width), number(top + height)
+        inner = "\n".join(self.shapes)
+        return (
+            f'<svg xmlns="http://www.w3.org/2000/svg" width="{w}" height="{h}" viewBox="0 0 {w} {h}" role="img">\n'
+            f"<title>{escaped(self.name)}: a picture of its names</title>\n{drawing.styles()}\n<style>{MORE}</style>\n"
+            f'<rect width="{w}" height="{h}" class="ground"/>\n{heading}\n'
+            f'<g transform="translate(0 {number(top)})">\n{inner}\n</g>\n</svg>\n'
+        )
+
+
+def sign(kind, x, y):
+    """The sign of an entry."""
+    if kind == "directory":
+        return f'<path d="M{number(x)} {number(y - 5)}h5l2 2h6v8h-13z" class="ink"/>'
+    if kind == "soft":
+        return circle(x + 6, y, 4.5, "hollow ring")
+    return circle(x + 6, y, 4.5, "ink")
+
+
+def ordered(x, y, at):
+    """A number in the order of a search."""
+    return rect(x - 9, y - 9, 18, 18, "order", 9) + text(x, y + 4, str(at), "ordered")
+
+
+def sample(kind, x, y):
+    """What the legend shows of a kind."""
+    if kind == "order":
+        return ordered(x + 14, y, 1)
+    if kind in SIGNS:
+        return sign(kind, x + 8, y)
+    points = [(x, y), (x + 28, y)]
+    soft = " soft" if kind == "link" else ""
+    return f'<g class="{ARROWS[kind][0]}"><path d="M{number(x)} {number(y)}h26" class="arrow{soft}"/>{drawing.head(points, False)}</g>'
+
+
+def draw(replay, name, last=2**63, directory=None):
+    """The SVG of the names of a cell, as they are at a line: at the last one, or at the first import that lists bindings."""
+    return Picture(replay, name, last, directory).draw()
