@@ -49,21 +49,21 @@ spell_kind =
     spell_next (tells (λ k. rank k + 1) (λ n k w x g h. ap (λ k. rank k + 1) (sym h.0) ∙ kind_flag n g.4)) (spell_octet _)
     (λ n. spell_done (kind_of_rank (n - 1)))
 
-spell_entry : OneSpelling entry
+spell_entry : (above : Option Stamp) → OneSpelling (entry above)
 unfolding entry
-spell_entry =
+spell_entry above =
     spell_next (tells (λ e. e.kind) (λ k e w x g h. ap (λ (e : EntryCell). e.kind) (sym h.3.3.3.3.0))) spell_kind (λ k.
     spell_next (tells (λ e. e.birth) (λ s e w x g h. ap (λ (e : EntryCell). e.birth) (sym h.3.3.3.0))) (spell_stamp free) (λ birth.
-    spell_next (tells (λ e. e.death) (λ t e w x g h. ap (λ (e : EntryCell). e.death) (sym h.3.3.0))) spell_optional_stamp (λ death.
-    spell_counted nat_list_cmp_total attr_name cell attr_names_rise spell_attr_name spell_cell
+    spell_next (tells (λ e. e.death) (λ t e w x g h. ap (λ (e : EntryCell). e.death) (sym h.3.3.0))) (spell_optional_stamp above) (λ death.
+    spell_counted nat_list_cmp_total attr_name (cell above) attr_names_rise spell_attr_name (spell_cell above)
     (λ attrs. record { birth = birth; kind = k; death = death; attrs = attrs }) (λ e. e.attrs) (λ m. refl) (spell_64 free))))
 
 spell_replica : OneSpelling replica
 unfolding replica
 spell_replica =
-    spell_next (tells (λ r. r.all_up_to) (λ t r w x g h. ap (λ (r : Replica). r.all_up_to) (sym h.3.3.0))) spell_optional_stamp (λ t.
-    spell_counted nat_list_cmp_total simple_name entry simple_names_rise spell_simple_name spell_entry (λ entries. record { table = entries; all_up_to = t })
-    (λ r. r.table) (λ m. refl) (spell_64 free))
+    spell_next (tells (λ r. r.all_up_to) (λ t r w x g h. ap (λ (r : Replica). r.all_up_to) (sym h.3.3.0))) (spell_optional_stamp None) (λ t.
+    spell_counted nat_list_cmp_total simple_name (entry None) simple_names_rise spell_simple_name (spell_entry None)
+    (λ entries. record { table = entries; all_up_to = t }) (λ r. r.table) (λ m. refl) (spell_64 free))
 
 -- ---- members
 
@@ -106,7 +106,7 @@ spell_fragment : OneSpelling fragment
 unfolding fragment
 spell_fragment =
     spell_next (tells (λ f. f.name) (λ n f w x g h. ap (λ (f : Fragment). f.name) (sym h.3.0))) (spell_simple_name None) (λ n.
-    spell_last (λ e. record { name = n; entry = e }) (λ d e s. ap (λ (f : Fragment). f.entry) s) spell_entry)
+    spell_last (λ e. record { name = n; entry = e }) (λ d e s. ap (λ (f : Fragment). f.entry) s) (spell_entry None))
 
 spell_copied : OneSpelling copied
 unfolding copied

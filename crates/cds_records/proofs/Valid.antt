@@ -1,5 +1,5 @@
 -- What is read of the layouts of replicas, messages and images is valid.
-use Rattle.std.proofs.Common.{◌≡◌, ℕ, Bool, true, false, List, None, Ok, subst}
+use Rattle.std.proofs.Common.{◌≡◌, ℕ, Bool, true, false, List, Option, None, Ok, subst}
 use Rattle.std.specs.Prelude.{◌==◌}
 use Rattle.std.specs.FinMap.{get}
 use Rattle.std.specs.Cmp.Lexicographic.{nat_list_cmp_total}
@@ -24,7 +24,7 @@ use Rattle.cds_messages.specs.Dirs.{dir_cmp, dir_total}
 use Rattle.cds_records.specs.Images.{dir_number, held, dir_state, image, image_in}
 use Rattle.record_fields.specs.Layouts.{Layout, next, done, choose}
 use Rattle.record_fields.specs.Reading.{read}
-use Rattle.record_fields.specs.Fields.{free, stamp_order, number, stamp, value, attr_name, simple_name}
+use Rattle.record_fields.specs.Fields.{free, mark_rule, number, stamp, value, attr_name, simple_name}
 use Rattle.record_fields.specs.Records.{map_of, mark, cell}
 use Rattle.cds_records.specs.Records.{entry, replica, fragment, copied, joined, body, message, message_in}
 use Rattle.record_fields.proofs.LayoutLaws.{ok_is, bind_ok, stands_read, read_stands}
@@ -32,24 +32,25 @@ use Rattle.record_fields.proofs.Valid.{map_valid, mark_valid, kept_all, not_empt
 
 -- ---- cells, entries and tables
 
-cell_valid : (x : List ℕ) (c : AttrCell) (y : List ℕ) → read cell x ≡ Ok (c, y) → IsHeldCell c
+cell_valid : (above : Option Stamp) (x : List ℕ) (c : AttrCell) (y : List ℕ) → read (cell above) x ≡ Ok (c, y) → IsHeldCell c
 unfolding cell number
-cell_valid x c y e =
-    let h = read_stands cell x c y e in
-    let marks = stands_read (map_of {R = octets_cmp} value (mark h.0) h.3.0) h.3.1 h.3.3.0 h.3.3.1 h.3.3.2 in
-    let each : EachValue (λ (m : ValueMark). stamp_order h.0 m.stamp ≡ None) h.3.3.0 =
-    map_valid nat_list_cmp_total (λ m. stamp_order h.0 m.stamp ≡ None) value (mark h.0) (mark_valid h.0) h.3.0 h.3.1 h.3.3.0 h.3.3.1 marks in
-    subst IsHeldCell h.3.3.3.0 (λ v. kept_all h.0 (get h.3.3.0 v) (each v), not_empty h.0 h.3.0 h.3.1 h.3.3.0 h.3.3.1 h.3.2.4 marks)
+cell_valid above x c y e =
+    let h = read_stands (cell above) x c y e in
+    let marks = stands_read (map_of {R = octets_cmp} value (mark above h.0) h.3.0) h.3.1 h.3.3.0 h.3.3.1 h.3.3.2 in
+    let each : EachValue (λ (m : ValueMark). mark_rule above h.0 m.stamp ≡ None) h.3.3.0 =
+    map_valid nat_list_cmp_total (λ m. mark_rule above h.0 m.stamp ≡ None) value (mark above h.0) (mark_valid above h.0) h.3.0 h.3.1 h.3.3.0 h.3.3.1 marks
+    in
+    subst IsHeldCell h.3.3.3.0 (λ v. kept_all above h.0 (get h.3.3.0 v) (each v), not_empty above h.0 h.3.0 h.3.1 h.3.3.0 h.3.3.1 h.3.2.4 marks)
 
 -- an entry that is read from octets is valid
-pub entry_valid : (x : List ℕ) (d : EntryCell) (y : List ℕ) → read entry x ≡ Ok (d, y) → IsValidEntry d
+pub entry_valid : (above : Option Stamp) (x : List ℕ) (d : EntryCell) (y : List ℕ) → read (entry above) x ≡ Ok (d, y) → IsValidEntry d
 unfolding entry
-entry_valid x d y e =
-    let h = read_stands entry x d y e in
+entry_valid above x d y e =
+    let h = read_stands (entry above) x d y e in
     let attrs = h.3.3.3.3 in
     subst IsValidEntry attrs.3.0
-    (map_valid nat_list_cmp_total IsHeldCell attr_name cell cell_valid h.3.3.3.0 h.3.3.3.1 attrs.0 attrs.1
-    (stands_read (map_of {R = octets_cmp} attr_name cell h.3.3.3.0) h.3.3.3.1 attrs.0 attrs.1 attrs.2))
+    (map_valid nat_list_cmp_total IsHeldCell attr_name (cell above) (cell_valid above) h.3.3.3.0 h.3.3.3.1 attrs.0 attrs.1
+    (stands_read (map_of {R = octets_cmp} attr_name (cell above) h.3.3.3.0) h.3.3.3.1 attrs.0 attrs.1 attrs.2))
 
 pub replica_valid : (x : List ℕ) (r : Replica) (y : List ℕ) → read replica x ≡ Ok (r, y) → IsValidTable r.table
 unfolding replica
@@ -57,8 +58,8 @@ replica_valid x r y e =
     let h = read_stands replica x r y e in
     let entries = h.3.3 in
     subst (λ (r : Replica). IsValidTable r.table) entries.3.0
-    (map_valid nat_list_cmp_total IsValidEntry simple_name entry entry_valid h.3.0 h.3.1 entries.0 entries.1
-    (stands_read (map_of {R = octets_cmp} simple_name entry h.3.0) h.3.1 entries.0 entries.1 entries.2))
+    (map_valid nat_list_cmp_total IsValidEntry simple_name (entry None) (entry_valid None) h.3.0 h.3.1 entries.0 entries.1
+    (stands_read (map_of {R = octets_cmp} simple_name (entry None) h.3.0) h.3.1 entries.0 entries.1 entries.2))
 
 -- ---- messages
 
@@ -66,7 +67,7 @@ fragment_valid : (x : List ℕ) (f : Fragment) (y : List ℕ) → read fragment 
 unfolding fragment
 fragment_valid x f y e =
     let h = read_stands fragment x f y e in
-    subst (λ (f : Fragment). IsValidEntry f.entry) h.3.3.0 (entry_valid h.1 h.3.0 h.3.1 (stands_read entry h.1 h.3.0 h.3.1 h.3.2))
+    subst (λ (f : Fragment). IsValidEntry f.entry) h.3.3.0 (entry_valid None h.1 h.3.0 h.3.1 (stands_read (entry None) h.1 h.3.0 h.3.1 h.3.2))
 
 copied_valid : (x : List ℕ) (c : Stamp × Replica) (y : List ℕ) → read copied x ≡ Ok (c, y) → IsValidTable c.1.table
 unfolding copied

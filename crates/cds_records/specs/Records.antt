@@ -26,16 +26,20 @@ use Rattle.record_fields.specs.Records.{cell, map_of}
 unfoldable pub kind : Layout Kind
 kind = next (octet (outside BadFlag 1 3)) (λ n. done (kind_of_rank (n - 1)))
 
--- an entry behind its name: its kind, birth, death and attributes (own)
-unfoldable pub entry : Layout EntryCell
-entry =
-    next kind (λ k. next (stamp free) (λ birth. next optional_stamp (λ death. next (number w64 free) (λ n. next (map_of attr_name cell n) (λ attrs.
+-- an entry behind its name: its kind and birth, and its death and attributes, all of which are above (own)
+unfoldable pub entry : (above : Option Stamp) → Layout EntryCell
+entry above =
+    next kind
+    (λ k. next (stamp free)
+    (λ birth. next (optional_stamp above)
+    (λ death. next (number w64 free) (λ n. next (map_of attr_name (cell above) n) (λ attrs.
     done (record { birth = birth; kind = k; death = death; attrs = attrs }))))))
 
 -- AllUpTo, and the entries of the table (own)
 unfoldable pub replica : Layout Replica
 replica =
-    next optional_stamp (λ t. next (number w64 free) (λ n. next (map_of simple_name entry n) (λ entries. done (record { table = entries; all_up_to = t }))))
+    next (optional_stamp None) (λ t. next (number w64 free) (λ n. next (map_of simple_name (entry None) n) (λ entries.
+    done (record { table = entries; all_up_to = t }))))
 
 -- ---- members
 
@@ -68,7 +72,7 @@ members = next (octet (outside BadLength 1 most_members)) (λ n. listed n None f
 
 -- the marks of an update: the name of its entry, and the entry (own)
 unfoldable pub fragment : Layout Fragment
-fragment = next (simple_name None) (λ n. next entry (λ e. done (record { name = n; entry = e })))
+fragment = next (simple_name None) (λ n. next (entry None) (λ e. done (record { name = n; entry = e })))
 
 -- the stamp of a skulk, and a replica (own)
 unfoldable pub copied : Layout (Stamp × Replica)

@@ -23,7 +23,7 @@ fn read_fragment(reader: &mut Reader<'_>, alloc: Global) -> Result<Fragment, Rea
     ensures { Reads (λ x. x) fragment reader.old reader.new result }
 {
     let own = reader.simple_name(None)?;
-    let entry = read_entry(reader, alloc)?;
+    let entry = read_entry(reader, alloc, &None)?;
     let name = SimpleName::known(alloc, own)?;
     Ok(Fragment { name, entry })
 }

@@ -65,5 +65,7 @@ fn fault_of(rule: Rule, place: usize) -> RecordFault
         Rule::BadName => RecordFault::BadName(place),
         Rule::OutOfOrder => RecordFault::OutOfOrder(place),
         Rule::BadFlag => RecordFault::BadFlag(place),
+        Rule::NotAbove => RecordFault::NotAbove(place),
+        Rule::BadHeld => RecordFault::BadHeld(place),
     }
 }

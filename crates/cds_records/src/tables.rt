@@ -9,7 +9,7 @@ ghost use Rattle.record_fields.specs.Records.{item, ascending, map_of, cell};
 ghost use Rattle.cds_records.specs.Records.{kind, entry, replica};
 
 use attr_sets::AttrCell;
-use cds_stamps::{AttrName, SimpleName};
+use cds_stamps::{AttrName, SimpleName, Stamp};
 use directory::{AttrMap, EntryCell, Kind, Table};
 use purge_rule::Replica;
 use record_fields::{Broken, ReadError, Reader, Rule};
@@ -23,25 +23,31 @@ fn add_attr<'a>(
     reader: &mut Reader<'a>,
     alloc: Global,
     attrs: &mut AttrMap,
+    above: &Option<Stamp>,
     before: Option<&[u8]>,
 ) -> Result<&'a [u8], ReadError>
-    ensures { Adds (λ x. x.now) (item attr_name cell (option_map (λ b. b.now) before.entry)) attrs.old attrs.new reader.old reader.new result }
+    ensures { Adds (λ x. x.now) (item attr_name (cell above.now) (option_map (λ b. b.now) before.entry)) attrs.old attrs.new reader.old reader.new result }
 {
     let own = reader.attr_name(before)?;
-    let cell = reader.cell(alloc)?;
+    let cell = reader.cell(alloc, above)?;
     let name = AttrName::known(alloc, own)?;
     insert_cell(attrs, name, cell)?;
     Ok(own)
 }
 
 /// So many attributes with their cells, ascending.
-fn read_attrs(reader: &mut Reader<'_>, alloc: Global, count: u64) -> Result<AttrMap, ReadError>
-    ensures { Reads (λ x. x) (map_of attr_name cell count) reader.old reader.new result }
+fn read_attrs(
+    reader: &mut Reader<'_>,
+    alloc: Global,
+    above: &Option<Stamp>,
+    count: u64,
+) -> Result<AttrMap, ReadError>
+    ensures { Reads (λ x. x) (map_of attr_name (cell above.now) count) reader.old reader.new result }
 {
     let mut attrs = AttrMap::new(alloc);
     let mut before = None;
     for _ in 0..count {
-        let own = add_attr(reader, alloc, &mut attrs, before)?;
+        let own = add_attr(reader, alloc, &mut attrs, above, before)?;
         before = Some(own);
     }
     Ok(attrs)
@@ -56,16 +62,20 @@ fn read_kind(reader: &mut Reader<'_>) -> Result<Kind, Broken>
     Ok(kind_from(number))
 }
 
-/// An entry behind its name.
+/// An entry behind its name, of which all but its birth is above.
 #[tactic(auto, unfolding(crate::specs::Records::entry))]
-pub(crate) fn read_entry(reader: &mut Reader<'_>, alloc: Global) -> Result<EntryCell, ReadError>
-    ensures { Reads (λ x. x) entry reader.old reader.new result }
+pub(crate) fn read_entry(
+    reader: &mut Reader<'_>,
+    alloc: Global,
+    above: &Option<Stamp>,
+) -> Result<EntryCell, ReadError>
+    ensures { Reads (λ x. x) (entry above.now) reader.old reader.new result }
 {
     let kind = read_kind(reader)?;
     let birth = reader.stamp()?;
-    let death = reader.optional_stamp()?;
+    let death = reader.optional_stamp(above)?;
     let count = reader.u64()?;
-    let attrs = read_attrs(reader, alloc, count)?;
+    let attrs = read_attrs(reader, alloc, above, count)?;
     Ok(EntryCell {
         birth,
         kind,
@@ -90,13 +100,14 @@ fn push_entry<'a>(
     reader: &mut Reader<'a>,
     alloc: Global,
     entries: &mut Vec<(SimpleName, EntryCell)>,
+    above: &Option<Stamp>,
     before: Option<&[u8]>,
 ) -> Result<&'a [u8], ReadError>
-    ensures { Puts (λ x. x.now) (item simple_name entry (option_map (λ b. b.now) before.entry))
+    ensures { Puts (λ x. x.now) (item simple_name (entry above.now) (option_map (λ b. b.now) before.entry))
         entries.old.items entries.new.items reader.old reader.new result }
 {
     let own = reader.simple_name(before)?;
-    let entry = read_entry(reader, alloc)?;
+    let entry = read_entry(reader, alloc, above)?;
     let name = SimpleName::known(alloc, own)?;
     entries.push((name, entry))?;
     Ok(own)
@@ -106,14 +117,15 @@ fn push_entry<'a>(
 fn read_entries(
     reader: &mut Reader<'_>,
     alloc: Global,
+    above: &Option<Stamp>,
     count: u64,
 ) -> Result<Vec<(SimpleName, EntryCell)>, ReadError>
-    ensures { Reads (λ v. v.items) (ascending simple_name entry count None) reader.old reader.new result }
+    ensures { Reads (λ v. v.items) (ascending simple_name (entry above.now) count None) reader.old reader.new result }
 {
     let mut entries = Vec::new(alloc);
     let mut before = None;
     for _ in 0..count {
-        let own = push_entry(reader, alloc, &mut entries, before)?;
+        let own = push_entry(reader, alloc, &mut entries, above, before)?;
         before = Some(own);
     }
     Ok(entries)
@@ -122,10 +134,15 @@ fn read_entries(
 /// The table of so many entries, ascending. They are listed first, since a table is made of a list in less time than by
 /// inserting each.
 #[tactic(auto, unfolding(record_fields::specs::Records::map_of))]
-fn read_table(reader: &mut Reader<'_>, alloc: Global, count: u64) -> Result<Table, ReadError>
-    ensures { Reads (λ x. x) (map_of simple_name entry count) reader.old reader.new result }
+fn read_table(
+    reader: &mut Reader<'_>,
+    alloc: Global,
+    above: &Option<Stamp>,
+    count: u64,
+) -> Result<Table, ReadError>
+    ensures { Reads (λ x. x) (map_of simple_name (entry above.now) count) reader.old reader.new result }
 {
-    let entries = read_entries(reader, alloc, count)?;
+    let entries = read_entries(reader, alloc, above, count)?;
     let table = Table::from_pairs(alloc, entries)?;
     Ok(table)
 }
@@ -135,9 +152,9 @@ fn read_table(reader: &mut Reader<'_>, alloc: Global, count: u64) -> Result<Tabl
 pub(crate) fn read_replica(reader: &mut Reader<'_>, alloc: Global) -> Result<Replica, ReadError>
     ensures { Reads (λ x. x) replica reader.old reader.new result }
 {
-    let all_up_to = reader.optional_stamp()?;
+    let all_up_to = reader.optional_stamp(&None)?;
     let count = reader.u64()?;
-    let table = read_table(reader, alloc, count)?;
+    let table = read_table(reader, alloc, &None, count)?;
     Ok(Replica { table, all_up_to })
 }
 

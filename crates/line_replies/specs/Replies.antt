@@ -63,7 +63,7 @@ abbrev pub target_read : Reader → Result Found Refusal → Answer
 target_read reader (Ok found) = target_of found.kind (reader.values found link_target)
 target_read reader (Err r) = answer.Refused (refusal_of_walk r)
 
--- why the script says that octets begin with no message; no message has the last of these faults (own)
+-- why the script says that octets begin with no message; no message has the last two of these faults (own)
 abbrev pub refusal_of_octets : RecordFault → ScriptRefusal
 refusal_of_octets (fault.Short place) = why.Short place
 refusal_of_octets (fault.BadTag place) = why.BadTag place
@@ -71,6 +71,8 @@ refusal_of_octets (fault.BadLength place) = why.BadLength place
 refusal_of_octets (fault.BadName place) = why.BadName place
 refusal_of_octets (fault.OutOfOrder place) = why.OutOfOrder place
 refusal_of_octets (fault.BadFlag place) = why.BadFlag place
+refusal_of_octets (fault.NotAbove place) = why.NotAbove place
+refusal_of_octets (fault.BadHeld place) = why.BadLength place
 refusal_of_octets (fault.Trailing place) = why.BadLength place
 
 -- the message that octets begin with, by its tag and the number of its octets, or the first fault (own)

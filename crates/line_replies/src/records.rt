@@ -105,6 +105,8 @@ fn fault_in_script(fault: RecordFault) -> ScriptRefusal
         RecordFault::BadName(place) => ScriptRefusal::BadName(place),
         RecordFault::OutOfOrder(place) => ScriptRefusal::OutOfOrder(place),
         RecordFault::BadFlag(place) => ScriptRefusal::BadFlag(place),
+        RecordFault::NotAbove(place) => ScriptRefusal::NotAbove(place),
+        RecordFault::BadHeld(place) => ScriptRefusal::BadLength(place),
         RecordFault::Trailing(place) => ScriptRefusal::BadLength(place),
     }
 }

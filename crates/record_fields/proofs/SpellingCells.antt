@@ -11,7 +11,7 @@ use Rattle.attr_sets.specs.declared.mark.ValueMark.{ValueMark}
 use Rattle.attr_sets.specs.declared.cell.AttrCell.{AttrCell}
 use Rattle.record_fields.specs.declared.fault.Rule.TheVariants.{BadName, OutOfOrder, BadFlag}
 use Rattle.record_fields.specs.Layouts.{Stands}
-use Rattle.record_fields.specs.Fields.{free, outside, octets_order, stamp_order, octet, stamp_if, optional_stamp, octets_of, simple_name, attr_name, value}
+use Rattle.record_fields.specs.Fields.{outside, above_rule, mark_rule, octets_order, octet, stamp_if, optional_stamp, octets_of, simple_name, attr_name, value}
 use Rattle.record_fields.specs.Records.{mark, cell}
 use Rattle.record_fields.proofs.Spelling.{OneSpelling, tells, spell_next, spell_done, spell_last, spell_choose, spell_octet, spell_16, spell_64, spell_stamp}
 use Rattle.record_fields.proofs.Spelling.{spell_sized, spell_counted}
@@ -62,35 +62,36 @@ flag_of : Option Stamp → ℕ
 flag_of None = 0
 flag_of (Some s) = 1
 
-stamp_flag : (flag : ℕ) (s : Option Stamp) (x y : List ℕ) → outside BadFlag 0 1 flag ≡ None → Stands (stamp_if flag) x s y → flag_of s ≡ flag
+stamp_flag : (above : Option Stamp) (flag : ℕ) (s : Option Stamp) (x y : List ℕ) → outside BadFlag 0 1 flag ≡ None → Stands (stamp_if above flag) x s y
+    → flag_of s ≡ flag
 unfolding flag_of
-stamp_flag zero s x y e h = ap flag_of (sym h.0)
-stamp_flag (suc zero) s x y e h = ap flag_of (sym h.3.0)
-stamp_flag (suc (suc n)) s x y e h = absurd (grind (arith, e))
+stamp_flag above zero s x y e h = ap flag_of (sym h.0)
+stamp_flag above (suc zero) s x y e h = ap flag_of (sym h.3.0)
+stamp_flag above (suc (suc n)) s x y e h = absurd (grind (arith, e))
 
 -- a stamp or none has one spelling
-pub spell_optional_stamp : OneSpelling optional_stamp
+pub spell_optional_stamp : (above : Option Stamp) → OneSpelling (optional_stamp above)
 unfolding optional_stamp octet
-spell_optional_stamp =
-    spell_next (tells flag_of (λ flag s w x g h. stamp_flag flag s x [] g.4 h)) (spell_octet _) (λ flag.
-    spell_choose (flag == 0) (spell_done None) (spell_last (λ s. Some s) (λ s t e. cc) (spell_stamp free)))
+spell_optional_stamp above =
+    spell_next (tells flag_of (λ flag s w x g h. stamp_flag above flag s x [] g.4 h)) (spell_octet _) (λ flag.
+    spell_choose (flag == 0) (spell_done None) (spell_last (λ s. Some s) (λ s t e. cc) (spell_stamp (above_rule above))))
 
 present_flag : (n : ℕ) → outside BadFlag 0 1 n ≡ None → cond (n == 1) 1 0 ≡ n
 present_flag zero e = refl
 present_flag (suc zero) e = refl
 present_flag (suc (suc n)) e = absurd (grind (arith, e))
 
-spell_mark : (cleared : Option Stamp) → OneSpelling (mark cleared)
+spell_mark : (above cleared : Option Stamp) → OneSpelling (mark above cleared)
 unfolding mark octet
-spell_mark cleared =
+spell_mark above cleared =
     spell_next (tells (λ m. cond m.present 1 0) (λ n m w x g h. ap (λ (m : ValueMark). cond m.present 1 0) (sym h.3.0) ∙ present_flag n g.4)) (spell_octet _)
     (λ n.
-    spell_last (λ s. record { present = n == 1; stamp = s }) (λ s t e. ap (λ (m : ValueMark). m.stamp) e) (spell_stamp (stamp_order cleared)))
+    spell_last (λ s. record { present = n == 1; stamp = s }) (λ s t e. ap (λ (m : ValueMark). m.stamp) e) (spell_stamp (mark_rule above cleared)))
 
 -- a cell has one spelling
-pub spell_cell : OneSpelling cell
+pub spell_cell : (above : Option Stamp) → OneSpelling (cell above)
 unfolding cell
-spell_cell =
-    spell_next (tells (λ c. c.cleared) (λ t c w x g h. ap (λ (c : AttrCell). c.cleared) (sym h.3.3.0))) spell_optional_stamp (λ t.
-    spell_counted nat_list_cmp_total value (mark t) values_rise spell_value (spell_mark t) (λ marks. record { cleared = t; values = marks }) (λ c. c.values)
+spell_cell above =
+    spell_next (tells (λ c. c.cleared) (λ t c w x g h. ap (λ (c : AttrCell). c.cleared) (sym h.3.3.0))) (spell_optional_stamp above) (λ t.
+    spell_counted nat_list_cmp_total value (mark above t) values_rise spell_value (spell_mark above t) (λ marks. record { cleared = t; values = marks }) (λ c. c.values)
     (λ m. refl) (spell_64 _))

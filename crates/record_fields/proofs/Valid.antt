@@ -1,6 +1,6 @@
 -- What is read of the layouts of keyed lists and of marks is valid.
 use Rattle.std.proofs.Common.{◌≡◌, ℕ, zero, suc, Bool, true, false, cond, List, [], ◌∷◌, Option, Some, None, Ok, refl, sym, ap, subst, ◌∙◌, arith}
-use Rattle.std.specs.Prelude.{IfSome}
+use Rattle.std.specs.Prelude.{IfSome, if◌then◌else◌}
 use Rattle.std.specs.FinMap.{FinMap, empty, get, insert, get-empty, get-insert}
 use Rattle.std.specs.List.{AllByRecursion}
 use Rattle.std.specs.Ordering.{eq_by_cmp}
@@ -8,15 +8,16 @@ use Rattle.std.specs.declared.cmp.Ordering.{Ordering}
 use Rattle.std.specs.Cmp.{IsTotalOrder, tied_itself}
 use Rattle.std.specs.Cmp.Lexicographic.{nat_list_cmp_total}
 use Rattle.cds_stamps.specs.declared.stamp.Stamp.{Stamp}
-use Rattle.cds_stamps.specs.Stamps.{is_earlier}
 use Rattle.cds_stamps.specs.Octets.{octets_cmp}
 use Rattle.cds_stamps.specs.Joins.{EachValue}
 use Rattle.attr_sets.specs.declared.mark.ValueMark.{ValueMark}
 use Rattle.attr_sets.specs.declared.cell.AttrCell.{AttrCell}
+use Rattle.attr_sets.specs.CellPurges.{is_above}
 use Rattle.attr_sets.specs.Marks.{kept}
 use Rattle.record_fields.specs.Layouts.{Layout, next, done}
 use Rattle.record_fields.specs.Reading.{read}
-use Rattle.record_fields.specs.Fields.{stamp_order, stamp, value}
+use Rattle.record_fields.specs.Fields.{is_cleared, mark_rule, stamp, value}
+use Rattle.record_fields.specs.declared.fault.Rule.TheVariants.{OutOfOrder, NotAbove}
 use Rattle.record_fields.specs.Added.{add_all}
 use Rattle.record_fields.specs.Records.{item, ascending, map_of, mark, empty_cell}
 use Rattle.record_fields.proofs.LayoutLaws.{ok_is, bind_ok, read_stands}
@@ -87,27 +88,39 @@ map_filled {X} key content n x m y e none =
 
 -- ---- marks
 
--- a mark that was read is not earlier than the clear
-pub mark_valid : (cleared : Option Stamp) (x : List ℕ) (m : ValueMark) (y : List ℕ) → read (mark cleared) x ≡ Ok (m, y) → stamp_order cleared m.stamp ≡ None
+-- the stamp of a mark that was read breaks no rule
+pub mark_valid : (above cleared : Option Stamp) (x : List ℕ) (m : ValueMark) (y : List ℕ) → read (mark above cleared) x ≡ Ok (m, y)
+    → mark_rule above cleared m.stamp ≡ None
 unfolding mark stamp
-mark_valid cleared x m y e =
-    let h = read_stands (mark cleared) x m y e in
-    ap (λ (m : ValueMark). stamp_order cleared m.stamp) (sym h.3.3.0) ∙ h.3.2.4
+mark_valid above cleared x m y e =
+    let h = read_stands (mark above cleared) x m y e in
+    ap (λ (m : ValueMark). mark_rule above cleared m.stamp) (sym h.3.3.0) ∙ h.3.2.4
 
-not_earlier : (s c : Stamp) (b : Bool) → is_earlier s c ≡ b → stamp_order (Some c) s ≡ None → b ≡ false
-not_earlier s c true e h = absurd (let test = e in grind (arith, h, e))
-not_earlier s c false e h = refl
+-- a stamp that breaks no rule is not cleared, and is above
+pub lawful_mark : (above cleared : Option Stamp) (s : Stamp) → mark_rule above cleared s ≡ None → (is_cleared cleared s ≡ false) × (is_above above s ≡ true)
+lawful_mark above cleared s h = at (is_cleared cleared s) (is_above above s) h
+  where
+    at : (b c : Bool) → (if b then Some OutOfOrder else (if c then None else Some NotAbove)) ≡ None → (b ≡ false) × (c ≡ true)
+    at true c h = absurd cc
+    at false true h = (refl, refl)
+    at false false h = absurd cc
 
 -- so the clear keeps each mark
-pub kept_all : (cleared : Option Stamp) (o : Option ValueMark) → IfSome o (λ m. stamp_order cleared m.stamp ≡ None) → kept cleared o ≡ o
-kept_all cleared None h = refl
-kept_all None (Some m) h = refl
-kept_all (Some c) (Some m) h = rw (not_earlier m.stamp c _ refl h) refl
+pub kept_all : (above cleared : Option Stamp) (o : Option ValueMark) → IfSome o (λ m. mark_rule above cleared m.stamp ≡ None) → kept cleared o ≡ o
+kept_all above cleared None h = refl
+kept_all above None (Some m) h = refl
+kept_all above (Some c) (Some m) h = rw ((lawful_mark above (Some c) m.stamp h).0) refl
+
+-- and each is above
+pub above_all : (above cleared : Option Stamp) (o : Option ValueMark) → IfSome o (λ m. mark_rule above cleared m.stamp ≡ None)
+    → IfSome o (λ m. is_above above m.stamp ≡ true)
+above_all above cleared None h = tt
+above_all above cleared (Some m) h = (lawful_mark above cleared m.stamp h).1
 
 -- a cell that was read is not empty
-pub not_empty : (cleared : Option Stamp) (n : ℕ) (x : List ℕ) (marks : FinMap octets_cmp ValueMark) (y : List ℕ) → empty_cell cleared n ≡ None
-    → read (map_of {R = octets_cmp} value (mark cleared) n) x ≡ Ok (marks, y)
+pub not_empty : (above cleared : Option Stamp) (n : ℕ) (x : List ℕ) (marks : FinMap octets_cmp ValueMark) (y : List ℕ) → empty_cell cleared n ≡ None
+    → read (map_of {R = octets_cmp} value (mark above cleared) n) x ≡ Ok (marks, y)
     → ◌≡◌ {A = AttrCell} (record { cleared = cleared; values = marks }) (record { cleared = None; values = empty }) → ⊥
-not_empty None zero x marks y h e same = absurd cc
-not_empty None (suc n) x marks y h e same = map_filled value (mark None) n x marks y e (ap (λ (c : AttrCell). c.values) same)
-not_empty (Some c) n x marks y h e same = let none : Some c ≡ None = ap (λ (c : AttrCell). c.cleared) same in absurd cc
+not_empty above None zero x marks y h e same = absurd cc
+not_empty above None (suc n) x marks y h e same = map_filled value (mark above None) n x marks y e (ap (λ (c : AttrCell). c.values) same)
+not_empty above (Some c) n x marks y h e same = let none : Some c ≡ None = ap (λ (c : AttrCell). c.cleared) same in absurd cc

@@ -1,6 +1,6 @@
 -- The octets of fields and of keyed lists are the whole of them.
 use Rattle.std.proofs.Common.{◌≡◌, ℕ, ◌/◌, ◌%◌, ◌^◌, ◌<◌, ◌≤◌, Bool, true, false, T, List, [], ◌∷◌, ◌++◌, length}
-use Rattle.std.proofs.Common.{Option, Some, None, refl, sym, subst, ◌∙◌, append-nil, arith}
+use Rattle.std.proofs.Common.{Option, Some, None, refl, sym, ap, subst, ◌∙◌, append-nil, arith}
 use Rattle.std.specs.Prelude.{IfSome, IsTrue, if◌then◌else◌}
 use Rattle.std.proofs.lemmas.List.Elements.{recursion_from_All}
 use Rattle.std.proofs.lemmas.Nat.{from_be_bytes-to_be_bytes_2, from_be_bytes-to_be_bytes_4, from_be_bytes-to_be_bytes_8}
@@ -17,12 +17,13 @@ use Rattle.cds_stamps.specs.Joins.{EachValue}
 use Rattle.cds_stamps.specs.Names.{is_name_octet, is_attr_octet, longest_component, longest_attr, simple_name_fault, attr_fault}
 use Rattle.cds_stamps.specs.Octets.{octets_cmp, octets_exact}
 use Rattle.cds_stamps.proofs.NameLaws.{simple_name_laws, attr_name_laws}
+use Rattle.attr_sets.specs.CellPurges.{is_above}
 use Rattle.attr_sets.specs.Values.{value_fault, longest_value}
 use Rattle.record_fields.specs.declared.fault.Rule.{Rule}
-use Rattle.record_fields.specs.declared.fault.Rule.TheVariants.{BadLength, OutOfOrder, BadFlag}
+use Rattle.record_fields.specs.declared.fault.Rule.TheVariants.{BadLength, OutOfOrder, BadFlag, NotAbove}
 use Rattle.record_fields.specs.Layouts.{Layout, done, field, next, Stands}
 use Rattle.record_fields.specs.Decoding.{IsWhole}
-use Rattle.record_fields.specs.Fields.{free, outside, name_rule, node_of, node_octets, stamp_of, octets_order, octet, number, node, stamp, stamp_if}
+use Rattle.record_fields.specs.Fields.{free, outside, name_rule, node_of, node_octets, stamp_of, octets_order, octet, number, node, stamp, stamp_if, above_rule}
 use Rattle.record_fields.specs.Fields.{optional_stamp, octets_of, simple_name, attr_name, value}
 use Rattle.record_fields.specs.Added.{add_all}
 use Rattle.record_fields.specs.Records.{item, ascending, map_of}
@@ -102,12 +103,23 @@ stamp_whole rule s fits lawful =
     field_whole 14 stamp_of rule s (to_be_bytes w64 s.time ++ node_octets s.node) refl
     (λ i. record { time = from_be_bytes-to_be_bytes_8 s.time fits.time i; node = node_back s.node fits.node i }) lawful
 
+-- a stamp that is above breaks no rule
+pub above_lawful : (above : Option Stamp) (s : Stamp) → is_above above s ≡ true → above_rule above s ≡ None
+above_lawful above s is = ap (λ b. if b then None else Some NotAbove) is
+
 -- a flag, and a stamp if there is one
-pub optional_stamp_whole : (s : Option Stamp) → IfSome s FitsStamp → Whole optional_stamp s (optional_stamp_octets s)
+pub optional_stamp_whole : (above s : Option Stamp) → IfSome s FitsStamp → IfSome s (λ s. is_above above s ≡ true)
+    → Whole (optional_stamp above) s (optional_stamp_octets s)
 unfolding optional_stamp optional_stamp_octets
-optional_stamp_whole None fits = whole_next {second = stamp_if} {y = []} (octet_whole (outside BadFlag 0 1) 0 refl) (whole_done None)
-optional_stamp_whole (Some s) fits =
-    whole_next {second = stamp_if} (octet_whole (outside BadFlag 0 1) 1 refl) (whole_last {f = Some} (stamp_whole free s fits refl) refl)
+optional_stamp_whole above None fits is = whole_next {second = stamp_if above} {y = []} (octet_whole (outside BadFlag 0 1) 0 refl) (whole_done None)
+optional_stamp_whole above (Some s) fits is =
+    whole_next {second = stamp_if above} (octet_whole (outside BadFlag 0 1) 1 refl)
+    (whole_last {f = Some} (stamp_whole (above_rule above) s fits (above_lawful above s is)) refl)
+
+-- a stamp of any value, if there is one
+pub any_above : (s : Option Stamp) → IfSome s (λ s. is_above None s ≡ true)
+any_above None = tt
+any_above (Some s) = refl
 
 octets_whole : (rule : List ℕ → Option Rule) (o : List ℕ) → rule o ≡ None → Whole (octets_of (length o) rule) o o
 unfolding octets_of

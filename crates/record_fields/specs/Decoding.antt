@@ -8,7 +8,7 @@ use Rattle.record_fields.specs.declared.fault.Rule.{Rule}
 use Rattle.record_fields.specs.declared.fault.Rule.TheVariants as rule
 use Rattle.record_fields.specs.declared.fault.Broken.{Broken}
 use Rattle.record_fields.specs.declared.fault.RecordFault.{RecordFault}
-use Rattle.record_fields.specs.declared.fault.RecordFault.TheVariants.{Short, BadTag, BadLength, BadName, OutOfOrder, BadFlag}
+use Rattle.record_fields.specs.declared.fault.RecordFault.TheVariants.{Short, BadTag, BadLength, BadName, OutOfOrder, BadFlag, NotAbove, BadHeld}
 use Rattle.record_fields.specs.Layouts.{Layout, Stands, Breaks}
 use Rattle.record_fields.specs.Reading.{read}
 
@@ -20,6 +20,8 @@ fault_at rule.BadLength place = BadLength place
 fault_at rule.BadName place = BadName place
 fault_at rule.OutOfOrder place = OutOfOrder place
 fault_at rule.BadFlag place = BadFlag place
+fault_at rule.NotAbove place = NotAbove place
+fault_at rule.BadHeld place = BadHeld place
 
 -- a reader's error among so many octets, by its place (own)
 abbrev pub error_of : ℕ → AllocOr Broken → AllocOr RecordFault

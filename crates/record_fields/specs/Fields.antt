@@ -1,5 +1,5 @@
 -- The fields of records (own). Numbers are big-endian.
-use Rattle.std.specs.Prelude.{ℕ, ◌+◌, ◌*◌, ◌/◌, ◌%◌, ◌++◌, Bool, ◌||◌, ◌==◌, nat_lt, List, take, drop, slice_index, Option, Some, None, if◌then◌else◌}
+use Rattle.std.specs.Prelude.{ℕ, ◌+◌, ◌*◌, ◌/◌, ◌%◌, ◌++◌, Bool, false, ◌||◌, ◌==◌, nat_lt, List, take, drop, slice_index, Option, Some, None, if◌then◌else◌}
 use Rattle.std.specs.List.{list_all}
 use Rattle.std.specs.Int.{Width, byte_len, w16, w32, w64, from_be_bytes, to_be_bytes}
 use Rattle.std.specs.Ordering.{is_lt}
@@ -7,9 +7,10 @@ use Rattle.cds_stamps.specs.declared.stamp.Stamp.{Stamp}
 use Rattle.cds_stamps.specs.Stamps.{is_earlier}
 use Rattle.cds_stamps.specs.Names.{is_name_octet, is_attr_octet, longest_component, longest_attr}
 use Rattle.cds_stamps.specs.Octets.{octets_cmp}
+use Rattle.attr_sets.specs.CellPurges.{is_above}
 use Rattle.attr_sets.specs.Values.{longest_value}
 use Rattle.record_fields.specs.declared.fault.Rule.{Rule}
-use Rattle.record_fields.specs.declared.fault.Rule.TheVariants.{BadLength, BadName, OutOfOrder, BadFlag}
+use Rattle.record_fields.specs.declared.fault.Rule.TheVariants.{BadLength, BadName, OutOfOrder, BadFlag, NotAbove}
 use Rattle.record_fields.specs.Layouts.{Layout, done, field, next, choose}
 
 -- a field of any value (own)
@@ -31,9 +32,17 @@ octets_order None octets = None
 octets_order (Some before) octets = if is_lt (octets_cmp before octets) then None else Some OutOfOrder
 
 -- a stamp that is earlier than the clear (own)
-abbrev pub stamp_order : Option Stamp → Stamp → Option Rule
-stamp_order None s = None
-stamp_order (Some cleared) s = if is_earlier s cleared then Some OutOfOrder else None
+abbrev pub is_cleared : Option Stamp → Stamp → Bool
+is_cleared None s = false
+is_cleared (Some cleared) s = is_earlier s cleared
+
+-- a stamp that is not later than this one, if there is one (own)
+abbrev pub above_rule : Option Stamp → Stamp → Option Rule
+above_rule above s = if is_above above s then None else Some NotAbove
+
+-- the stamp of a mark that is earlier than the clear, or else is not above (own)
+abbrev pub mark_rule : (above cleared : Option Stamp) → Stamp → Option Rule
+mark_rule above cleared s = if is_cleared cleared s then Some OutOfOrder else above_rule above s
 
 -- octets of which one is in no name, and then those that are not above the name before (own)
 abbrev pub name_rule : (ℕ → Bool) → Option (List ℕ) → List ℕ → Option Rule
@@ -72,12 +81,12 @@ unfoldable pub stamp : (Stamp → Option Rule) → Layout Stamp
 stamp rule = field 14 stamp_of rule
 
 -- behind a flag of 1 a stamp stands, behind 0 nothing (own)
-abbrev pub stamp_if : ℕ → Layout (Option Stamp)
-stamp_if flag = choose (flag == 0) (done None) (next (stamp free) (λ s. done (Some s)))
+abbrev pub stamp_if : (above : Option Stamp) → ℕ → Layout (Option Stamp)
+stamp_if above flag = choose (flag == 0) (done None) (next (stamp (above_rule above)) (λ s. done (Some s)))
 
--- a flag, and a stamp where it is 1 (own)
-unfoldable pub optional_stamp : Layout (Option Stamp)
-optional_stamp = next (octet (outside BadFlag 0 1)) stamp_if
+-- a flag, and where it is 1 a stamp that is above (own)
+unfoldable pub optional_stamp : (above : Option Stamp) → Layout (Option Stamp)
+optional_stamp above = next (octet (outside BadFlag 0 1)) (stamp_if above)
 
 -- ---- octets behind their number
 

@@ -10,7 +10,7 @@ use Rattle.record_fields.specs.declared.fault.Rule.{Rule}
 use Rattle.record_fields.specs.declared.fault.Rule.TheVariants.{BadLength, BadFlag}
 use Rattle.record_fields.specs.Added.{add_all}
 use Rattle.record_fields.specs.Layouts.{Layout, done, next}
-use Rattle.record_fields.specs.Fields.{outside, stamp_order, octet, number, stamp, optional_stamp, value}
+use Rattle.record_fields.specs.Fields.{outside, mark_rule, octet, number, stamp, optional_stamp, value}
 
 -- ---- keyed lists
 
@@ -29,17 +29,18 @@ map_of key content n = next (ascending key content n None) (λ es. done (add_all
 
 -- ---- marks and cells
 
--- the mark of a value, which is not earlier than the clear (own)
-unfoldable pub mark : Option Stamp → Layout ValueMark
-mark cleared = next (octet (outside BadFlag 0 1)) (λ present. next (stamp (stamp_order cleared)) (λ s. done (record { present = present == 1; stamp = s })))
+-- the mark of a value, which is above and not earlier than the clear (own)
+unfoldable pub mark : (above cleared : Option Stamp) → Layout ValueMark
+mark above cleared =
+    next (octet (outside BadFlag 0 1)) (λ present. next (stamp (mark_rule above cleared)) (λ s. done (record { present = present == 1; stamp = s })))
 
 -- where there is no clear, there is a mark (own)
 abbrev pub empty_cell : Option Stamp → ℕ → Option Rule
 empty_cell None n = if n == 0 then Some BadLength else None
 empty_cell (Some cleared) n = None
 
--- the clear of an attribute, and the marks of its values (own)
-unfoldable pub cell : Layout AttrCell
-cell =
-    next optional_stamp (λ cleared. next (number w64 (empty_cell cleared)) (λ n. next (map_of value (mark cleared) n) (λ marks.
+-- the clear of an attribute, and the marks of its values, all of them above (own)
+unfoldable pub cell : (above : Option Stamp) → Layout AttrCell
+cell above =
+    next (optional_stamp above) (λ cleared. next (number w64 (empty_cell cleared)) (λ n. next (map_of value (mark above cleared) n) (λ marks.
     done (record { cleared = cleared; values = marks }))))

@@ -14,13 +14,13 @@ use cds_stamps::Stamp;
 use std::alloc::Global;
 
 impl<'a> Reader<'a> {
-    /// The mark of a value, which is not earlier than the clear.
+    /// The mark of a value, which is above and not earlier than the clear.
     #[tactic(auto, unfolding(crate::specs::Records::mark))]
-    fn mark(&mut self, cleared: &Option<Stamp>) -> Result<ValueMark, Broken>
-        ensures { ReadsSurely (λ x. x) (mark cleared.now) self.old self.new result }
+    fn mark(&mut self, above: &Option<Stamp>, cleared: &Option<Stamp>) -> Result<ValueMark, Broken>
+        ensures { ReadsSurely (λ x. x) (mark above.now cleared.now) self.old self.new result }
     {
         let present = self.octet_within(Rule::BadFlag, 0, 1)?;
-        let stamp = self.uncleared_stamp(cleared)?;
+        let stamp = self.marked_stamp(above, cleared)?;
         Ok(ValueMark {
             present: present == 1,
             stamp,
@@ -33,13 +33,14 @@ impl<'a> Reader<'a> {
         &mut self,
         alloc: Global,
         marks: &mut ValueMap,
+        above: &Option<Stamp>,
         cleared: &Option<Stamp>,
         before: Option<&[u8]>,
     ) -> Result<&'a [u8], ReadError>
-        ensures { Adds (λ x. x.now) (item value (mark cleared.now) (option_map (λ b. b.now) before.entry)) marks.old marks.new self.old self.new result }
+        ensures { Adds (λ x. x.now) (item value (mark above.now cleared.now) (option_map (λ b. b.now) before.entry)) marks.old marks.new self.old self.new result }
     {
         let own = self.value(before)?;
-        let mark = self.mark(cleared)?;
+        let mark = self.mark(above, cleared)?;
         let value = Value::known(alloc, own)?;
         marks.insert(value, mark)?;
         Ok(own)
@@ -49,15 +50,16 @@ impl<'a> Reader<'a> {
     fn marks(
         &mut self,
         alloc: Global,
+        above: &Option<Stamp>,
         cleared: &Option<Stamp>,
         count: u64,
     ) -> Result<ValueMap, ReadError>
-        ensures { Reads (λ x. x) (map_of value (mark cleared.now) count) self.old self.new result }
+        ensures { Reads (λ x. x) (map_of value (mark above.now cleared.now) count) self.old self.new result }
     {
         let mut marks = ValueMap::new(alloc);
         let mut before = None;
         for _ in 0..count {
-            let own = self.add_mark(alloc, &mut marks, cleared, before)?;
+            let own = self.add_mark(alloc, &mut marks, above, cleared, before)?;
             before = Some(own);
         }
         Ok(marks)
@@ -76,14 +78,14 @@ impl<'a> Reader<'a> {
         Ok(count)
     }
 
-    /// The cell of an attribute.
+    /// The cell of an attribute, all of it above.
     #[tactic(auto, unfolding(crate::specs::Records::cell))]
-    pub fn cell(&mut self, alloc: Global) -> Result<AttrCell, ReadError>
-        ensures { Reads (λ x. x) cell self.old self.new result }
+    pub fn cell(&mut self, alloc: Global, above: &Option<Stamp>) -> Result<AttrCell, ReadError>
+        ensures { Reads (λ x. x) (cell above.now) self.old self.new result }
     {
-        let cleared = self.optional_stamp()?;
+        let cleared = self.optional_stamp(above)?;
         let count = self.mark_count(&cleared)?;
-        let values = self.marks(alloc, &cleared, count)?;
+        let values = self.marks(alloc, above, &cleared, count)?;
         Ok(AttrCell { cleared, values })
     }
 }

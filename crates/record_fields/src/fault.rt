@@ -19,6 +19,10 @@ pub enum RecordFault {
     OutOfOrder(usize),
     #[error("a flag or a kind that is not known, at {0}")]
     BadFlag(usize),
+    #[error("a stamp that is not later than the one that the record is above, at {0}")]
+    NotAbove(usize),
+    #[error("a count that is not how much the replica holds, at {0}")]
+    BadHeld(usize),
     #[error("octets behind the image, at {0}")]
     Trailing(usize),
 }
@@ -32,6 +36,8 @@ pub enum Rule {
     BadName,
     OutOfOrder,
     BadFlag,
+    NotAbove,
+    BadHeld,
 }
 
 /// A field that breaks a rule, by the number of octets that are left from its first one on; none, where it is not whole.

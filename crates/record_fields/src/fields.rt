@@ -5,9 +5,10 @@ ghost use Rattle.std.specs.Int.{w16, w32, w64};
 ghost use Rattle.std.specs.List.{list_all};
 ghost use Rattle.std.specs.Option.{option_map};
 ghost use Rattle.cds_stamps.specs.Names.{is_name_octet, is_attr_octet, simple_name_fault, attr_fault};
+ghost use Rattle.attr_sets.specs.CellPurges.{is_above};
 ghost use Rattle.attr_sets.specs.Values.{value_fault};
 ghost use Rattle.record_fields.specs.Readers.{ReadsSurely};
-ghost use Rattle.record_fields.specs.Fields.{node_of, free, outside, stamp_order, octets_order, name_rule, octet, number, node, stamp, optional_stamp};
+ghost use Rattle.record_fields.specs.Fields.{node_of, free, outside, is_cleared, above_rule, mark_rule, octets_order, name_rule, octet, number, node, stamp, optional_stamp};
 ghost use Rattle.record_fields.specs.Fields.{octets_of, simple_name, attr_name, value};
 ghost use Rattle.record_fields.specs.declared.fault.Rule.TheVariants.{Short, OutOfOrder};
 
@@ -198,27 +199,47 @@ impl<'a> Reader<'a> {
         Ok(number)
     }
 
-    /// A stamp behind a flag of 1, or a flag of 0.
+    /// A stamp behind a flag of 1, which is above, or a flag of 0.
     #[tactic(auto, unfolding(crate::specs::Fields::optional_stamp))]
-    pub fn optional_stamp(&mut self) -> Result<Option<Stamp>, Broken>
-        ensures { ReadsSurely (λ x. x) optional_stamp self.old self.new result }
+    pub fn optional_stamp(&mut self, above: &Option<Stamp>) -> Result<Option<Stamp>, Broken>
+        ensures { ReadsSurely (λ x. x) (optional_stamp above.now) self.old self.new result }
     {
         let flag = self.octet_within(Rule::BadFlag, 0, 1)?;
         if flag == 0 {
             return Ok(None);
         }
-        Ok(Some(self.stamp()?))
+        Ok(Some(self.stamp_above(above)?))
     }
 
-    /// A stamp that is not earlier than the clear.
+    /// A stamp that is later than this one, if there is one.
     #[tactic(auto, unfolding(crate::specs::Fields::stamp))]
-    pub(crate) fn uncleared_stamp(&mut self, cleared: &Option<Stamp>) -> Result<Stamp, Broken>
-        ensures { ReadsSurely (λ x. x) (stamp (stamp_order cleared.now)) self.old self.new result }
+    fn stamp_above(&mut self, above: &Option<Stamp>) -> Result<Stamp, Broken>
+        ensures { ReadsSurely (λ x. x) (stamp (above_rule above.now)) self.old self.new result }
+    {
+        let left = self.left();
+        let stamp = self.stamp()?;
+        if !is_above(above, &stamp) {
+            return Err(broken(Rule::NotAbove, left));
+        }
+        Ok(stamp)
+    }
+
+    /// A stamp that is not earlier than the clear, and is above.
+    #[tactic(auto, unfolding(crate::specs::Fields::stamp))]
+    pub(crate) fn marked_stamp(
+        &mut self,
+        above: &Option<Stamp>,
+        cleared: &Option<Stamp>,
+    ) -> Result<Stamp, Broken>
+        ensures { ReadsSurely (λ x. x) (stamp (mark_rule above.now cleared.now)) self.old self.new result }
     {
         let left = self.left();
         let stamp = self.stamp()?;
         if is_cleared(&stamp, cleared) {
             return Err(broken(Rule::OutOfOrder, left));
+        }
+        if !is_above(above, &stamp) {
+            return Err(broken(Rule::NotAbove, left));
         }
         Ok(stamp)
     }
@@ -310,11 +331,21 @@ impl<'a> Reader<'a> {
 
 /// Whether a stamp is earlier than the clear.
 fn is_cleared(stamp: &Stamp, cleared: &Option<Stamp>) -> bool
-    ensures { stamp_order cleared.now stamp.now ≡ (if result then Some OutOfOrder else None) }
+    ensures { result ≡ is_cleared cleared.now stamp.now }
 {
     match cleared {
         Some(cleared) => *stamp < *cleared,
         None => false,
+    }
+}
+
+/// Whether a stamp is later than this one, if there is one.
+fn is_above(above: &Option<Stamp>, stamp: &Stamp) -> bool
+    ensures { result ≡ is_above above.now stamp.now }
+{
+    match above {
+        Some(above) => *above < *stamp,
+        None => true,
     }
 }
 

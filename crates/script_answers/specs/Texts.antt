@@ -117,6 +117,7 @@ refusal_name (why.BadLength place) = codes "BadLength"
 refusal_name (why.BadName place) = codes "BadName"
 refusal_name (why.OutOfOrder place) = codes "OutOfOrder"
 refusal_name (why.BadFlag place) = codes "BadFlag"
+refusal_name (why.NotAbove place) = codes "NotAbove"
 
 -- the numbers behind them (own)
 abbrev pub refusal_numbers : ScriptRefusal → List ℕ
@@ -131,6 +132,7 @@ refusal_numbers (why.BadLength place) = 32 ∷ decimal place
 refusal_numbers (why.BadName place) = 32 ∷ decimal place
 refusal_numbers (why.OutOfOrder place) = 32 ∷ decimal place
 refusal_numbers (why.BadFlag place) = 32 ∷ decimal place
+refusal_numbers (why.NotAbove place) = 32 ∷ decimal place
 refusal_numbers other = []
 
 -- the name of a message by its tag; other numbers have none (own)

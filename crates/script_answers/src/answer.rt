@@ -90,11 +90,12 @@ pub enum ScriptRefusal {
     /// The member's name and the annotation are too long together.
     ElementTooLong,
     NoSuchElement,
-    /// Octets begin with no message. This refusal and the five behind it have the place of the first fault.
+    /// Octets begin with no message. This refusal and the six behind it have the place of the first fault.
     Short(usize),
     BadTag(usize),
     BadLength(usize),
     BadName(usize),
     OutOfOrder(usize),
     BadFlag(usize),
+    NotAbove(usize),
 }

@@ -48,6 +48,7 @@ fn name_of(refusal: &ScriptRefusal) -> &'static [u8]
         ScriptRefusal::BadName(_) => b"BadName",
         ScriptRefusal::OutOfOrder(_) => b"OutOfOrder",
         ScriptRefusal::BadFlag(_) => b"BadFlag",
+        ScriptRefusal::NotAbove(_) => b"NotAbove",
     }
 }
 
@@ -71,6 +72,7 @@ fn push_numbers(line: &mut Vec<u8>, refusal: &ScriptRefusal) -> Result<(), Alloc
         ScriptRefusal::BadName(place) => push_spaced(line, *place as u64),
         ScriptRefusal::OutOfOrder(place) => push_spaced(line, *place as u64),
         ScriptRefusal::BadFlag(place) => push_spaced(line, *place as u64),
+        ScriptRefusal::NotAbove(place) => push_spaced(line, *place as u64),
         _ => Ok(()),
     }
 }

@@ -9,5 +9,5 @@ use Rattle.cds_records.proofs.tables.read_attrs.Given as goal
 
 abbrev pub invariant-loop : goal.invariant-loop
 invariant-loop l =
-    to_come attr_name cell l.attrs l.count l.counter (option_map (λ b. b.now) l.before) l.reader ≡ read
-    (map_of {R = octets_cmp} attr_name cell l.count) l.fn.reader
+    to_come attr_name (cell l.above) l.attrs l.count l.counter (option_map (λ b. b.now) l.before) l.reader ≡ read
+    (map_of {R = octets_cmp} attr_name (cell l.above) l.count) l.fn.reader

@@ -9,5 +9,5 @@ use Rattle.cds_records.proofs.tables.read_entries.Given as goal
 
 abbrev pub invariant-loop : goal.invariant-loop
 invariant-loop l =
-    behind l.entries.items (read (ascending simple_name entry (l.count - l.counter) (option_map (λ b. b.now) l.before)) l.reader) ≡ read
-    (ascending simple_name entry l.count None) l.fn.reader
+    behind l.entries.items (read (ascending simple_name (entry l.above) (l.count - l.counter) (option_map (λ b. b.now) l.before)) l.reader) ≡ read
+    (ascending simple_name (entry l.above) l.count None) l.fn.reader

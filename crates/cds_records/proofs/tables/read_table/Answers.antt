@@ -9,5 +9,5 @@ use Rattle.cds_records.proofs.tables.read_table.Goals as goal
 
 pub from_pairs-requires : goal.from_pairs-requires
 from_pairs-requires c =
-    items_valid nat_list_cmp_total IsValidEntry simple_name entry entry_valid c.args.count None c.args.reader.now c.in_ok-entries.entries.items
+    items_valid nat_list_cmp_total IsValidEntry simple_name (entry c.args.above.now) (entry_valid c.args.above.now) c.args.count None c.args.reader.now c.in_ok-entries.entries.items
     c.read_entries.new.reader c.in_ok-entries.ensures

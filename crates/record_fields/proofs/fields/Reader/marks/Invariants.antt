@@ -9,5 +9,5 @@ use Rattle.record_fields.proofs.fields.Reader.marks.Given as goal
 
 abbrev pub invariant-loop : goal.invariant-loop
 invariant-loop l =
-    to_come value (mark l.cleared) l.marks l.count l.counter (option_map (λ b. b.now) l.before) l.self ≡ read
-    (map_of {R = octets_cmp} value (mark l.cleared) l.count) l.fn.self
+    to_come value (mark l.above l.cleared) l.marks l.count l.counter (option_map (λ b. b.now) l.before) l.self ≡ read
+    (map_of {R = octets_cmp} value (mark l.above l.cleared) l.count) l.fn.self
