@@ -8,6 +8,9 @@ use crate::names;
 use crate::tables::{Attribute, Entry, Kind, Mark, Marks, Replica, Stamp};
 
 const FORMAT: u8 = 1;
+const IMAGE_FORMAT: u8 = 2;
+/// The format of images that have no counts of what their replicas hold.
+const FORMER_FORMAT: u8 = 1;
 const IMAGE: u8 = 9;
 
 /// What a message is, by its tag.
@@ -174,7 +177,7 @@ pub fn put_members(out: &mut Vec<u8>, members: &[Member]) {
 
 /// What a house keeps of itself in a crash.
 pub fn image(house: &Clearinghouse) -> Vec<u8> {
-    let mut out = vec![FORMAT, IMAGE, house.number];
+    let mut out = vec![IMAGE_FORMAT, IMAGE, house.number];
     out.extend(&house.node.to_be_bytes()[2..]);
     out.extend(house.floor.to_be_bytes());
     put_count(&mut out, house.dirs.len());
@@ -186,6 +189,7 @@ pub fn image(house: &Clearinghouse) -> Vec<u8> {
                 out.extend(held.term.epoch.to_be_bytes());
                 put_members(&mut out, &held.term.members);
                 put_replica(&mut out, &held.replica);
+                put_count(&mut out, held.replica.held());
             }
             Slot::Gone(epoch) => {
                 out.push(2);
@@ -217,7 +221,7 @@ pub fn read_message(octets: &[u8]) -> Result<(Message, usize), Fault> {
     Ok((message, octets.len() - reader.rest.len()))
 }
 
-/// The house of an image.
+/// The house of an image of either format.
 pub fn read_image(octets: &[u8]) -> Result<Clearinghouse, Fault> {
     Reader { rest: octets, size: octets.len(), latest: 0 }.image()
 }
@@ -407,7 +411,7 @@ impl<'a> Reader<'a> {
     }
 
     fn image(&mut self) -> Result<Clearinghouse, Fault> {
-        self.octet_in("BadTag", FORMAT..=FORMAT)?;
+        let format = self.octet_in("BadTag", FORMER_FORMAT..=IMAGE_FORMAT)?;
         self.octet_in("BadTag", IMAGE..=IMAGE)?;
         let number = self.octet()?;
         let node = self.node()?;
@@ -416,18 +420,22 @@ impl<'a> Reader<'a> {
         for _ in 0..self.number()? {
             let last = dirs.last_key_value().map(|(dir, _)| *dir);
             let dir = self.kept("OutOfOrder", |r| r.array().map(u32::from_be_bytes), |dir| last < Some(*dir))?;
-            dirs.insert(dir, self.slot()?);
+            dirs.insert(dir, self.slot(format)?);
         }
         Ok(Clearinghouse { number, node, floor: floor.max(self.latest), dirs })
     }
 
-    fn slot(&mut self) -> Result<Slot, Fault> {
+    fn slot(&mut self, format: u8) -> Result<Slot, Fault> {
         let state = self.octet_in("BadFlag", 1..=2)?;
         let epoch = self.number()?;
         if state == 2 {
             return Ok(Slot::Gone(epoch));
         }
         let members = self.members()?;
-        Ok(Slot::Held(Held::new(epoch, members, self.replica()?)))
+        let replica = self.replica()?;
+        if format != FORMER_FORMAT {
+            self.kept("BadHeld", Self::number, |count| *count == replica.held() as u64)?;
+        }
+        Ok(Slot::Held(Held::new(epoch, members, replica)))
     }
 }

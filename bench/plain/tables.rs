@@ -88,6 +88,10 @@ impl Attribute {
         self.cleared.is_none() && self.marks.is_empty()
     }
 
+    fn held(&self) -> usize {
+        self.marks.len() + usize::from(self.cleared.is_some())
+    }
+
     /// Keeps what is later than a stamp, and returns whether that is anything.
     fn keep_later(&mut self, stamp: Stamp) -> bool {
         self.cleared = self.cleared.filter(|cleared| stamp < *cleared);
@@ -215,6 +219,10 @@ impl Entry {
         self
     }
 
+    fn held(&self) -> usize {
+        1 + usize::from(self.death.is_some()) + self.attributes.values().map(Attribute::held).sum::<usize>()
+    }
+
     pub fn is_live(&self) -> bool {
         self.death.is_none() && (self.kind == Kind::Object || self.lead().is_some())
     }
@@ -317,6 +325,11 @@ impl Replica {
 
     pub fn entries(&self) -> &BTreeMap<Vec<u8>, Entry> {
         &self.entries
+    }
+
+    /// How many entries, deaths, clears and marks of values it holds.
+    pub fn held(&self) -> usize {
+        self.entries.values().map(Entry::held).sum()
     }
 
     /// An entry with its name.

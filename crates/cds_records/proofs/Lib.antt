@@ -6,3 +6,4 @@ pub mod WholeImages
 pub mod WritingMembers
 pub mod Mapped
 pub mod SpellingRecords
+pub mod WholeDecoding

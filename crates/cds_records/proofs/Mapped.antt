@@ -7,19 +7,19 @@ use Rattle.cds_stamps.specs.declared.numbers.HouseNo.{HouseNo}
 use Rattle.cds_messages.specs.declared.image.ImageDir.{ImageDir}
 use Rattle.cds_messages.specs.Dirs.{dir_cmp, dir_total, dir_exact}
 use Rattle.record_fields.specs.Octets.{items_octets}
-use Rattle.cds_records.specs.Octets.{dir_octets, kept_octets, image_head, image_octets_in, image_octets}
+use Rattle.cds_records.specs.Octets.{dir_octets, kept_octets, image_head, image_octets}
 use Rattle.record_fields.specs.Ranges.{ItemsFit}
 use Rattle.cds_records.specs.Ranges.{FitsDir, FitsImage}
 use Rattle.record_fields.proofs.Mapped.{len_mapped, items_mapped, entries_mapped, fits_mapped}
 
 module _ {X : Type 0} (f : X → ImageDir) (m : FinMap dir_cmp X) (house : HouseNo) (node floor : ℕ) where
   -- the head of an image and one directory after another are the octets of the image
-  pub parts_written : (out : List ℕ) → out ≡ image_head 1 house.0 node floor (len m) ++ items_octets dir_octets (λ x. kept_octets (f x)) (entries m)
+  pub parts_written : (out : List ℕ) → out ≡ image_head house.0 node floor (len m) ++ items_octets dir_octets (λ x. kept_octets (f x)) (entries m)
       → out ≡ image_octets (record { house = house; node = node; floor = floor; dirs = from_entries (map (λ e. (e.0, f e.1)) (entries m)) })
-  unfolding image_octets_in
+  unfolding image_octets
   parts_written out e =
       e ∙ (λ i.
-      image_head 1 house.0 node floor (sym (len_mapped dir_total dir_exact f m) i)
+      image_head house.0 node floor (sym (len_mapped dir_total dir_exact f m) i)
       ++ (sym (items_mapped dir_total dir_exact f dir_octets kept_octets (entries m))
       ∙ ap (items_octets dir_octets kept_octets) (sym (entries_mapped dir_total dir_exact f m))) i)
 

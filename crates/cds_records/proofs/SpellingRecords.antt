@@ -1,6 +1,6 @@
 -- Messages and images spell each value in one way.
 use Rattle.std.proofs.Common.{◌≡◌, ℕ, zero, suc, ◌+◌, ◌-◌, Bool, true, false, List, [], length, Option, Some, None, refl, sym, ap, ◌∙◌, arith}
-use Rattle.std.specs.Prelude.{◌||◌, ◌==◌}
+use Rattle.std.specs.Prelude.{◌||◌, ◌==◌, min}
 use Rattle.std.specs.declared.cmp.Ordering.TheVariants.{Less}
 use Rattle.std.specs.Cmp.{nat_cmp_is}
 use Rattle.std.specs.Cmp.Lexicographic.{nat_list_cmp_total}
@@ -11,6 +11,7 @@ use Rattle.cds_stamps.specs.declared.members.Member.{Member}
 use Rattle.cds_stamps.specs.Members.{is_master}
 use Rattle.directory.specs.declared.entry.EntryCell.{EntryCell}
 use Rattle.directory.specs.declared.entry.Fragment.{Fragment}
+use Rattle.directory.specs.Held.{held_in, most_held}
 use Rattle.directory.specs.Kinds.{rank, kind_of_rank}
 use Rattle.purge_rule.specs.declared.replica.Replica.{Replica}
 use Rattle.record_fields.specs.declared.fault.Rule.{Rule}
@@ -29,7 +30,7 @@ use Rattle.record_fields.specs.Records.{cell}
 use Rattle.cds_records.specs.Records.{kind, entry, replica, kind_rule, member_kind, member, listed, members, fragment, copied, joined, body, message}
 use Rattle.cds_records.specs.Records.{message_in}
 use Rattle.cds_messages.specs.Messages.{tag_of}
-use Rattle.cds_records.specs.Images.{dir_number, held, dir_state, image, image_in}
+use Rattle.cds_records.specs.Images.{dir_number, held_rule, held_count, held, dir_state, image_behind, image_in, image, image_1}
 use Rattle.record_fields.proofs.Spelling.{OneSpelling, tells, spell_next, spell_done, spell_last, spell_choose, spell_cons, spell_octet, spell_32, spell_64}
 use Rattle.record_fields.proofs.Spelling.{spell_node, spell_stamp, spell_counted}
 use Rattle.record_fields.proofs.SpellingCells.{spell_simple_name, spell_attr_name, simple_names_rise, attr_names_rise, spell_optional_stamp, spell_cell}
@@ -196,41 +197,63 @@ members_of (Gone e) = []
 same_replica : (epoch : ℕ) (ms : List Member) (r s : Replica) → Held (record { 0 = epoch }) ms r ≡ Held (record { 0 = epoch }) ms s → r ≡ s
 same_replica epoch ms r s e = cc
 
-spell_held : (epoch : ℕ) → OneSpelling (held epoch)
+-- a count that is lawful is how much the replica holds
+lawful_count : (r : Replica) (n : ℕ) → held_rule r n ≡ None → min (held_in r.table) most_held ≡ n
+lawful_count r n e = grind (arith, e)
+
+spell_count : (format : ℕ) (r : Replica) → OneSpelling (held_count format r)
+unfolding held_count number
+spell_count format r =
+    spell_choose (format == 1) (spell_done tt)
+    (spell_next (tells (λ _. min (held_in r.table) most_held) (λ n u w x g h. lawful_count r n g.4)) (spell_64 (held_rule r)) (λ n. spell_done tt))
+
+spell_held : (format epoch : ℕ) → OneSpelling (held format epoch)
 unfolding held members_of
-spell_held epoch =
-    spell_next (tells members_of (λ ms d w x g h. ap members_of (sym h.3.0))) spell_members (λ ms.
-    spell_last (λ r. Held (record { 0 = epoch }) ms r) (same_replica epoch ms) spell_replica)
+spell_held format epoch =
+    spell_next (tells members_of (λ ms d w x g h. ap members_of (sym h.3.3.0))) spell_members (λ ms.
+    spell_next (record { told = λ r s d w x y z g h i j. same_replica epoch ms r s (h.3.0 ∙ sym j.3.0) }) spell_replica (λ r.
+    spell_next (record { told = λ a b d w x y z g h i j. refl }) (spell_count format r) (λ _. spell_done (Held (record { 0 = epoch }) ms r))))
 
-said_epoch : (test : Bool) (epoch : ℕ) (d : ImageDir) (x y : List ℕ) → Stands (choose test (held epoch) (done (Gone (record { 0 = epoch })))) x d y
-    → epoch_of d ≡ epoch
-unfolding held epoch_of
-said_epoch true epoch d x y h = ap epoch_of (sym h.3.3.0)
-said_epoch false epoch d x y h = ap epoch_of (sym h.0)
+module _ (format : ℕ) where
+  said_epoch : (test : Bool) (epoch : ℕ) (d : ImageDir) (x y : List ℕ) → Stands (choose test (held format epoch) (done (Gone (record { 0 = epoch })))) x d y
+      → epoch_of d ≡ epoch
+  unfolding held epoch_of
+  said_epoch true epoch d x y h = ap epoch_of (sym h.3.3.3.0)
+  said_epoch false epoch d x y h = ap epoch_of (sym h.0)
 
-said_state : (state epoch : ℕ) (d : ImageDir) (x y : List ℕ) → outside BadFlag 1 2 state ≡ None
-    → Stands (choose (state == 1) (held epoch) (done (Gone (record { 0 = epoch })))) x d y → state_of d ≡ state
-unfolding held state_of
-said_state zero epoch d x y e h = absurd (grind (arith, e))
-said_state (suc zero) epoch d x y e h = ap state_of (sym h.3.3.0)
-said_state (suc (suc zero)) epoch d x y e h = ap state_of (sym h.0)
-said_state (suc (suc (suc n))) epoch d x y e h = absurd (grind (arith, e))
+  said_state : (state epoch : ℕ) (d : ImageDir) (x y : List ℕ) → outside BadFlag 1 2 state ≡ None
+      → Stands (choose (state == 1) (held format epoch) (done (Gone (record { 0 = epoch })))) x d y → state_of d ≡ state
+  unfolding held state_of
+  said_state zero epoch d x y e h = absurd (grind (arith, e))
+  said_state (suc zero) epoch d x y e h = ap state_of (sym h.3.3.3.0)
+  said_state (suc (suc zero)) epoch d x y e h = ap state_of (sym h.0)
+  said_state (suc (suc (suc n))) epoch d x y e h = absurd (grind (arith, e))
 
-spell_dir : OneSpelling dir_state
-unfolding dir_state octet
-spell_dir =
-    spell_next (tells state_of (λ state d w x g h. said_state state h.0 d h.1 [] g.4 h.3)) (spell_octet _) (λ state.
-    spell_next (tells epoch_of (λ epoch d w x g h. said_epoch (state == 1) epoch d x [] h)) (spell_64 free) (λ epoch.
-    spell_choose (state == 1) (spell_held epoch) (spell_done (Gone (record { 0 = epoch })))))
+  spell_dir : OneSpelling (dir_state format)
+  unfolding dir_state octet
+  spell_dir =
+      spell_next (tells state_of (λ state d w x g h. said_state state h.0 d h.1 [] g.4 h.3)) (spell_octet _) (λ state.
+      spell_next (tells epoch_of (λ epoch d w x g h. said_epoch (state == 1) epoch d x [] h)) (spell_64 free) (λ epoch.
+      spell_choose (state == 1) (spell_held format epoch) (spell_done (Gone (record { 0 = epoch })))))
 
--- an image has one spelling
-pub spell_image : OneSpelling image
-unfolding image image_in octet
-spell_image =
-    spell_next (tells (λ i. 1) (λ k i w x g h. the_number BadTag 1 k g.4)) (spell_octet _) (λ format.
+-- an image of one format has one spelling
+spell_image_in : (format : ℕ) → OneSpelling (image_in format format)
+unfolding image_in image_behind octet
+spell_image_in only =
+    spell_next (tells (λ i. only) (λ k i w x g h. the_number BadTag only k g.4)) (spell_octet _) (λ format.
     spell_next (tells (λ i. 9) (λ k i w x g h. the_number BadTag 9 k g.4)) (spell_octet _) (λ tag.
     spell_next (tells (λ i. i.house.0) (λ n i w x g h. ap (λ (i : Image). i.house.0) (sym h.3.3.3.3.0))) (spell_octet free) (λ house.
     spell_next (tells (λ i. i.node) (λ n i w x g h. ap (λ (i : Image). i.node) (sym h.3.3.3.0))) spell_node (λ node.
     spell_next (tells (λ i. i.floor) (λ n i w x g h. ap (λ (i : Image). i.floor) (sym h.3.3.0))) (spell_64 free) (λ floor.
-    spell_counted dir_total dir_number dir_state dirs_rise spell_dir_number spell_dir
+    spell_counted dir_total dir_number (dir_state format) dirs_rise spell_dir_number (spell_dir format)
     (λ dirs. record { house = record { 0 = house }; node = node; floor = floor; dirs = dirs }) (λ i. i.dirs) (λ m. refl) (spell_64 free))))))
+
+-- an image of format 2 has one spelling
+pub spell_image : OneSpelling image
+unfolding image
+spell_image = spell_image_in 2
+
+-- so has an image of format 1
+pub spell_image_1 : OneSpelling image_1
+unfolding image_1
+spell_image_1 = spell_image_in 1

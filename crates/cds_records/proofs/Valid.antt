@@ -21,7 +21,7 @@ use Rattle.cds_messages.specs.declared.image.ImageDir.{ImageDir}
 use Rattle.cds_messages.specs.declared.image.ImageDir.TheVariants.{Gone}
 use Rattle.cds_messages.specs.declared.image.Image.{Image}
 use Rattle.cds_messages.specs.Dirs.{dir_cmp, dir_total}
-use Rattle.cds_records.specs.Images.{dir_number, held, dir_state, image, image_in}
+use Rattle.cds_records.specs.Images.{dir_number, held, dir_state, image_behind, image_in}
 use Rattle.record_fields.specs.Layouts.{Layout, next, done, choose}
 use Rattle.record_fields.specs.Reading.{read}
 use Rattle.record_fields.specs.Fields.{free, mark_rule, number, stamp, value, attr_name, simple_name}
@@ -118,30 +118,30 @@ message_valid x m y e =
 
 -- ---- images
 
-held_is_valid : (epoch : ℕ) (x : List ℕ) (d : ImageDir) (y : List ℕ) → read (held epoch) x ≡ Ok (d, y) → IsValidDir d
+held_is_valid : (format epoch : ℕ) (x : List ℕ) (d : ImageDir) (y : List ℕ) → read (held format epoch) x ≡ Ok (d, y) → IsValidDir d
 unfolding held
-held_is_valid epoch x d y e =
-    let h = read_stands (held epoch) x d y e in
-    subst IsValidDir h.3.3.0 (replica_valid h.1 h.3.0 h.3.1 (stands_read replica h.1 h.3.0 h.3.1 h.3.2))
+held_is_valid format epoch x d y e =
+    let h = read_stands (held format epoch) x d y e in
+    subst IsValidDir h.3.3.3.0 (replica_valid h.1 h.3.0 h.3.1 (stands_read replica h.1 h.3.0 h.3.1 h.3.2))
 
-dir_valid : (x : List ℕ) (d : ImageDir) (y : List ℕ) → read dir_state x ≡ Ok (d, y) → IsValidDir d
+dir_valid : (format : ℕ) (x : List ℕ) (d : ImageDir) (y : List ℕ) → read (dir_state format) x ≡ Ok (d, y) → IsValidDir d
 unfolding dir_state
-dir_valid x d y e =
-    let h = read_stands dir_state x d y e in
-    at (h.0 == 1) h.3.0 h.3.1 d y (stands_read (choose (h.0 == 1) (held h.3.0) (done (Gone (record { 0 = h.3.0 })))) h.3.1 d y h.3.3)
+dir_valid format x d y e =
+    let h = read_stands (dir_state format) x d y e in
+    at (h.0 == 1) h.3.0 h.3.1 d y (stands_read (choose (h.0 == 1) (held format h.3.0) (done (Gone (record { 0 = h.3.0 })))) h.3.1 d y h.3.3)
   where
-    at : (t : Bool) (epoch : ℕ) (x : List ℕ) (d : ImageDir) (y : List ℕ) → read (choose t (held epoch) (done (Gone (record { 0 = epoch })))) x ≡ Ok (d, y)
+    at : (t : Bool) (epoch : ℕ) (x : List ℕ) (d : ImageDir) (y : List ℕ) → read (choose t (held format epoch) (done (Gone (record { 0 = epoch })))) x ≡ Ok (d, y)
         → IsValidDir d
-    at true epoch x d y e = held_is_valid epoch x d y e
+    at true epoch x d y e = held_is_valid format epoch x d y e
     at false epoch x d y e = subst (λ (p : ImageDir × List ℕ). IsValidDir p.0) (ok_is (Gone (record { 0 = epoch }), x) (d, y) e) tt
 
 -- an image that was read is valid
-pub image_valid : (x : List ℕ) (i : Image) (y : List ℕ) → read image x ≡ Ok (i, y) → IsValidImage i
-unfolding image image_in
-image_valid x i y e =
-    let h = read_stands image x i y e in
+pub image_valid : (least most : ℕ) (x : List ℕ) (i : Image) (y : List ℕ) → read (image_in least most) x ≡ Ok (i, y) → IsValidImage i
+unfolding image_in image_behind
+image_valid least most x i y e =
+    let h = read_stands (image_in least most) x i y e in
     let count = h.3.3.3.3.3 in
     let dirs = count.3 in
     subst IsValidImage dirs.3.0
-    (map_valid dir_total IsValidDir dir_number dir_state dir_valid count.0 count.1 dirs.0 dirs.1
-    (stands_read (map_of {R = dir_cmp} dir_number dir_state count.0) count.1 dirs.0 dirs.1 dirs.2))
+    (map_valid dir_total IsValidDir dir_number (dir_state h.0) (dir_valid h.0) count.0 count.1 dirs.0 dirs.1
+    (stands_read (map_of {R = dir_cmp} dir_number (dir_state h.0) count.0) count.1 dirs.0 dirs.1 dirs.2))

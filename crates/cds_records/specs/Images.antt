@@ -1,9 +1,12 @@
 -- The record of an image (own).
-use Rattle.std.specs.Prelude.{ℕ, ◌==◌, Option}
+use Rattle.std.specs.Prelude.{ℕ, ◌==◌, min, Option, Some, None, if◌then◌else◌}
 use Rattle.std.specs.Int.{w32, w64}
 use Rattle.std.specs.Option.{option_map}
 use Rattle.cds_stamps.specs.declared.numbers.DirId.{DirId}
-use Rattle.record_fields.specs.declared.fault.Rule.TheVariants.{BadTag, BadFlag}
+use Rattle.directory.specs.Held.{held_in, most_held}
+use Rattle.purge_rule.specs.declared.replica.Replica.{Replica}
+use Rattle.record_fields.specs.declared.fault.Rule.{Rule}
+use Rattle.record_fields.specs.declared.fault.Rule.TheVariants.{BadTag, BadFlag, BadHeld}
 use Rattle.cds_messages.specs.declared.image.ImageDir.{ImageDir}
 use Rattle.cds_messages.specs.declared.image.ImageDir.TheVariants.{Held, Gone}
 use Rattle.cds_messages.specs.declared.image.Image.{Image}
@@ -17,24 +20,46 @@ use Rattle.cds_records.specs.Records.{members, replica}
 unfoldable pub dir_number : Option DirId → Layout DirId
 dir_number before = next (number w32 (number_order (option_map (λ d. d.0) before))) (λ n. done (record { 0 = n }))
 
--- the members and the replica of a directory that is held (own)
-unfoldable pub held : ℕ → Layout ImageDir
-held epoch = next members (λ ms. next replica (λ r. done (Held (record { 0 = epoch }) ms r)))
+-- a count that is not how much the replica holds (own)
+abbrev pub held_rule : Replica → ℕ → Option Rule
+held_rule r n = if n == min (held_in r.table) most_held then None else Some BadHeld
 
--- the state of a directory: held is 1, gone 2; its epoch; and where it is held its members and replica (own)
-unfoldable pub dir_state : Layout ImageDir
-dir_state =
-    next (octet (outside BadFlag 1 2)) (λ state. next (number w64 free) (λ epoch. choose (state == 1) (held epoch) (done (Gone (record { 0 = epoch })))))
+-- behind a replica of format 2 stands how much it holds, and nothing in format 1 (own)
+unfoldable pub held_count : (format : ℕ) → Replica → Layout (Unit {0})
+held_count format r = choose (format == 1) (done tt) (next (number w64 (held_rule r)) (λ _. done tt))
 
--- format and tag, house, node, floor, and the directories (own)
-unfoldable pub image_in : (format : ℕ) → Layout Image
-image_in format =
-    next (octet (outside BadTag format format))
-    (λ _. next (octet (outside BadTag 9 9))
+-- the members and the replica of a directory that is held, and how much that holds (own)
+unfoldable pub held : (format epoch : ℕ) → Layout ImageDir
+held format epoch = next members (λ ms. next replica (λ r. next (held_count format r) (λ _. done (Held (record { 0 = epoch }) ms r))))
+
+-- the state of a directory: held is 1, gone 2; its epoch; and where it is held what the house has of it (own)
+unfoldable pub dir_state : (format : ℕ) → Layout ImageDir
+dir_state format =
+    next (octet (outside BadFlag 1 2))
+    (λ state. next (number w64 free) (λ epoch. choose (state == 1) (held format epoch) (done (Gone (record { 0 = epoch })))))
+
+-- an image of this format behind its first octet: its tag, house, node, floor, and the directories (own)
+unfoldable pub image_behind : (format : ℕ) → Layout Image
+image_behind format =
+    next (octet (outside BadTag 9 9))
     (λ _. next (octet free)
-    (λ house. next node (λ node. next (number w64 free) (λ floor. next (number w64 free) (λ n. next (map_of {R = dir_cmp} dir_number dir_state n) (λ dirs.
-    done (record { house = record { 0 = house }; node = node; floor = floor; dirs = dirs }))))))))
+    (λ house. next node
+    (λ node. next (number w64 free)
+    (λ floor. next (number w64 free) (λ n. next (map_of {R = dir_cmp} dir_number (dir_state format) n) (λ dirs.
+    done (record { house = record { 0 = house }; node = node; floor = floor; dirs = dirs })))))))
+
+-- an image of one of these formats, which is its first octet (own)
+unfoldable pub image_in : (least most : ℕ) → Layout Image
+image_in least most = next (octet (outside BadTag least most)) image_behind
+
+-- images of format 2 (own)
+unfoldable pub image : Layout Image
+image = image_in 2 2
 
 -- images of format 1 (own)
-unfoldable pub image : Layout Image
-image = image_in 1
+unfoldable pub image_1 : Layout Image
+image_1 = image_in 1 1
+
+-- images of either format (own)
+unfoldable pub either_image : Layout Image
+either_image = image_in 1 2

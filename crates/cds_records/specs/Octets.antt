@@ -1,11 +1,12 @@
 -- The octets of messages and images as functions, field by field (own). Numbers are big-endian.
-use Rattle.std.specs.Prelude.{ℕ, ◌+◌, List, [], ◌∷◌, ◌++◌, length}
+use Rattle.std.specs.Prelude.{ℕ, ◌+◌, min, List, [], ◌∷◌, ◌++◌, length}
 use Rattle.std.specs.List.{flat_map}
 use Rattle.std.specs.Int.{w32, w64, to_be_bytes}
 use Rattle.std.specs.FinMap.{len}
 use Rattle.cds_stamps.specs.declared.numbers.DirId.{DirId}
 use Rattle.cds_stamps.specs.declared.members.Member.{Member}
 use Rattle.directory.specs.declared.entry.EntryCell.{EntryCell}
+use Rattle.directory.specs.Held.{held_in, most_held}
 use Rattle.directory.specs.Kinds.{rank}
 use Rattle.purge_rule.specs.declared.replica.Replica.{Replica}
 use Rattle.cds_messages.specs.declared.image.ImageDir.{ImageDir}
@@ -77,19 +78,16 @@ message_octets = message_octets_in 1
 unfoldable pub dir_octets : DirId → List ℕ
 dir_octets d = to_be_bytes w32 d.0
 
--- what is kept of a directory: held is 1, gone 2; its epoch; and where it is held its members and replica (own)
+-- what is kept of a directory: held is 1, gone 2; its epoch; and where it is held its members and replica, and how much that holds (own)
 unfoldable pub kept_octets : ImageDir → List ℕ
-kept_octets (Held e ms r) = 1 ∷ to_be_bytes w64 e.0 ++ members_octets ms ++ replica_octets r
+kept_octets (Held e ms r) =
+    1 ∷ to_be_bytes w64 e.0 ++ members_octets ms ++ replica_octets r ++ to_be_bytes w64 (min (held_in r.table) most_held)
 kept_octets (Gone e) = 2 ∷ to_be_bytes w64 e.0
 
 -- what stands before the directories: format and tag, house, node, floor, and how many directories there are (own)
-unfoldable pub image_head : (format : ℕ) (house node floor count : ℕ) → List ℕ
-image_head format house node floor count = format ∷ 9 ∷ house ∷ node_octets node ++ to_be_bytes w64 floor ++ to_be_bytes w64 count
+unfoldable pub image_head : (house node floor count : ℕ) → List ℕ
+image_head house node floor count = 2 ∷ 9 ∷ house ∷ node_octets node ++ to_be_bytes w64 floor ++ to_be_bytes w64 count
 
--- an image: its head, and its directories (own)
-unfoldable pub image_octets_in : (format : ℕ) → Image → List ℕ
-image_octets_in format i = image_head format i.house.0 i.node i.floor (len i.dirs) ++ each_octets dir_octets kept_octets i.dirs
-
--- images of format 1 (own)
-abbrev pub image_octets : Image → List ℕ
-image_octets = image_octets_in 1
+-- an image, which is written in format 2: its head, and its directories (own)
+unfoldable pub image_octets : Image → List ℕ
+image_octets i = image_head i.house.0 i.node i.floor (len i.dirs) ++ each_octets dir_octets kept_octets i.dirs

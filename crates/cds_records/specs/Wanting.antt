@@ -16,10 +16,10 @@ message_head =
 abbrev pub takes_memory : ℕ → Bool
 takes_memory tag = (tag == 1) || ((tag == 3) || ((tag == 4) || (tag == 7)))
 
--- the head of an image, which says how many directories follow (own)
-unfoldable pub image_head : Layout ℕ
-image_head =
-    next (octet (outside BadTag 1 1))
+-- the head of an image of one of these formats, which says how many directories follow (own)
+unfoldable pub image_head : (least most : ℕ) → Layout ℕ
+image_head least most =
+    next (octet (outside BadTag least most))
     (λ _. next (octet (outside BadTag 9 9))
     (λ _. next (octet free) (λ _. next node (λ _. next (number w64 free) (λ _. next (number w64 free) (λ n. done n))))))
 
@@ -27,6 +27,6 @@ image_head =
 abbrev pub WantsForMessage : List ℕ → Type 0
 WantsForMessage octets = (tag : ℕ) × (rest : List ℕ) × Stands message_head octets tag rest × (takes_memory tag ≡ true)
 
--- a whole head of an image stands in front (own)
-abbrev pub WantsForImage : List ℕ → Type 0
-WantsForImage octets = (count : ℕ) × (rest : List ℕ) × Stands image_head octets count rest
+-- a whole head of an image of one of these formats stands in front (own)
+abbrev pub WantsForImage : (least most : ℕ) → List ℕ → Type 0
+WantsForImage least most octets = (count : ℕ) × (rest : List ℕ) × Stands (image_head least most) octets count rest

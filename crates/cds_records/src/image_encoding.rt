@@ -12,7 +12,7 @@ ghost use Rattle.cds_messages.specs.Validity.{IsValidImage};
 ghost use Rattle.cds_messages.specs.declared.image.ImageDir.TheVariants as states;
 
 use crate::encoding::put_members;
-use crate::format::{FORMAT, GONE, HELD, IMAGE};
+use crate::format::{GONE, HELD, IMAGE, IMAGE_FORMAT};
 use crate::writing::put_replica;
 use cds_messages::{Image, ImageDir, ImageDirs};
 use cds_stamps::{DirId, EpochNo, HouseNo, Members, Node};
@@ -40,12 +40,12 @@ fn begin_image(
     floor: u64,
     count: u64,
 ) -> Result<Vec<u8>, AllocError>
-    ensures octets { IfOk result (λ v. v.items ≡ image_head 1 house.0 node floor count) }
+    ensures octets { IfOk result (λ v. v.items ≡ image_head house.0 node floor count) }
     ensures node { node < 2 ^ 48 }
     ensures floor { floor < 2 ^ 64 }
 {
     let mut out = Vec::new(alloc);
-    put_octet(&mut out, FORMAT)?;
+    put_octet(&mut out, IMAGE_FORMAT)?;
     put_octet(&mut out, IMAGE)?;
     put_octet(&mut out, house.0)?;
     put_node(&mut out, node)?;
@@ -54,7 +54,7 @@ fn begin_image(
     Ok(out)
 }
 
-/// A directory that is held: its number, its epoch, its members and its replica.
+/// A directory that is held: its number, its epoch, its members, its replica, and how much that holds.
 fn put_held(
     out: &mut Vec<u8>,
     dir: DirId,
@@ -71,6 +71,7 @@ fn put_held(
     put_u64(out, epoch.0)?;
     put_members(out, members.list())?;
     put_replica(out, replica)?;
+    put_u64(out, replica.held())?;
     Ok(())
 }
 
@@ -131,7 +132,7 @@ impl ImageWriter {
         floor: u64,
         count: u64,
     ) -> Result<ImageWriter, AllocError>
-        ensures octets { IfOk result (λ w. w ≡ image_head 1 house.0 node floor count) }
+        ensures octets { IfOk result (λ w. w ≡ image_head house.0 node floor count) }
         ensures node { node < 2 ^ 48 }
         ensures floor { floor < 2 ^ 64 }
     {

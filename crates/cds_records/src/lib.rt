@@ -12,7 +12,7 @@ mod members;
 mod tables;
 mod writing;
 
-pub use decoding::{decode, decode_image};
+pub use decoding::{decode, decode_image, decode_image_1, migrate_image, whole_image};
 pub use encoding::{encode, encode_gathered, encode_join, encode_spread, encode_update};
 pub use image_encoding::{ImageWriter, encode_image};
 pub use record_fields::RecordFault;

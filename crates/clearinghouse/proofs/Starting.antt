@@ -5,63 +5,28 @@ use Rattle.std.specs.Prelude.{◌+◌, IfOk, IfSome, map, if◌then◌else◌}
 use Rattle.std.specs.Option.{option_map}
 use Rattle.std.specs.FinMap.{FinMap, entries, find, from_entries, get, get-entries}
 use Rattle.std.specs.BTreeMap.{is_at}
-use Rattle.cds_stamps.specs.declared.alloc_or.AllocOr.{AllocOr}
-use Rattle.cds_stamps.specs.declared.alloc_or.AllocOr.TheVariants.{Fault}
 use Rattle.cds_stamps.specs.declared.numbers.DirId.{DirId}
-use Rattle.cds_stamps.specs.Outcomes.{Answers}
-use Rattle.cds_stamps.proofs.Masks.{same_place, other_place}
 use Rattle.purge_rule.specs.Latest.{greatest_of, latest_time}
 use Rattle.purge_rule.proofs.Times.{latest_time-≤}
-use Rattle.record_fields.specs.Decoding.{Decodes, IsWhole, decoding, with_memory}
+use Rattle.record_fields.specs.Decoding.{IsWhole}
 use Rattle.cds_messages.specs.Dirs.{dir_cmp, dir_total, dir_exact}
-use Rattle.cds_records.specs.Images.{image}
+use Rattle.cds_records.specs.Images.{image, either_image}
 use Rattle.cds_messages.specs.Validity.{IsValidDir, IsValidImage}
-use Rattle.record_fields.specs.declared.fault.RecordFault.{RecordFault}
-use Rattle.record_fields.specs.declared.fault.RecordFault.TheVariants.{Trailing}
 use Rattle.cds_messages.specs.declared.image.Image.{Image}
 use Rattle.cds_messages.specs.declared.image.ImageDir.{ImageDir}
 use Rattle.cds_messages.specs.declared.image.ImageDir.TheVariants as kept
 use Rattle.record_fields.proofs.Mapped.{entries_mapped}
-use Rattle.std.proofs.Common.{append-nil}
 use Rattle.cds_records.specs.Octets.{image_octets}
 use Rattle.cds_records.specs.Ranges.{FitsImage}
-use Rattle.record_fields.proofs.OneDecoding.{answers_decoding, decoding_decodes}
+use Rattle.cds_records.proofs.WholeDecoding.{whole_decoded, image_in_either}
 use Rattle.cds_records.proofs.WholeImages.{the_image_whole}
 use Rattle.clearinghouse.specs.declared.house.Clearinghouse.{Clearinghouse}
-use Rattle.clearinghouse.specs.declared.images.StartFault.TheVariants.{BadImage}
 use Rattle.held_directories.specs.declared.states.DirState.{DirState}
 use Rattle.held_directories.specs.declared.states.DirState.TheVariants as state
 use Rattle.clearinghouse.specs.Imaging.{image_of, kept_of, restarted, started, started_from, started_of, starting}
 use Rattle.held_directories.specs.Lawful.{IsLawfulHeld}
 use Rattle.clearinghouse.specs.Lawful.{IsLawful}
 use Rattle.held_directories.specs.Times.{latest_in_image, latest_in_kept}
-
--- ---- answers
-
--- a fault is handed on
-pub fault_is : (octets : List ℕ) (r : Result (Image × ℕ) (AllocOr RecordFault)) (e : AllocOr RecordFault) (fault : RecordFault) → Decodes image octets r
-    → r ≡ Err e → e ≡ Fault fault
-    → started octets ≡ Err (BadImage fault)
-fault_is octets r e fault decodes is named =
-    ap (starting octets) (subst (λ r. Answers r (decoding image octets)) (is ∙ ap Err named) (answers_decoding image octets r decodes))
-
-decoded_is : (octets : List ℕ) (r : Result (Image × ℕ) (AllocOr RecordFault)) (d : Image × ℕ) → Decodes image octets r → r ≡ Ok d → decoding image octets ≡ Ok d
-decoded_is octets r d decodes is = subst (λ r. Answers r (decoding image octets)) is (answers_decoding image octets r decodes)
-
--- octets that follow are a fault
-pub trailing_is : (octets : List ℕ) (r : Result (Image × ℕ) (AllocOr RecordFault)) (d : Image × ℕ) → Decodes image octets r → r ≡ Ok d → d.1 < length octets
-    → started octets ≡ Err (BadImage (Trailing (d.1 + 1)))
-trailing_is octets r d decodes is more =
-    ap (starting octets) (decoded_is octets r d decodes is)
-    ∙ ap (λ b. if b then Ok (started_from d.0) else Err (BadImage (Trailing (d.1 + 1)))) (other_place d.1 (length octets) (λ e. absurd (omega arith)))
-
--- with none the house starts
-pub start_is : (octets : List ℕ) (r : Result (Image × ℕ) (AllocOr RecordFault)) (d : Image × ℕ) → Decodes image octets r → r ≡ Ok d → length octets ≤ d.1
-    → started octets ≡ Ok (started_from d.0)
-start_is octets r d decodes is all =
-    let within : d.1 ≤ length octets = subst (λ r. IfOk r (λ x. x.1 ≤ length octets)) is decodes.within in
-    ap (starting octets) (decoded_is octets r d decodes is)
-    ∙ ap (λ b. if b then Ok (started_from d.0) else Err (BadImage (Trailing (d.1 + 1)))) (same_place d.1 (length octets) (omega arith))
 
 -- ---- what it has
 
@@ -128,13 +93,7 @@ started_lawful i valid dir h got = at (get i.dirs dir) refl
 
 -- octets that are the whole of an image start its house
 whole_starts : (i : Image) (octets : List ℕ) → IsWhole image i octets → started octets ≡ Ok (started_from i)
-whole_starts i octets whole =
-    ap (starting octets) (by (decoding image octets) ((decoding_decodes image octets).only i octets [] whole (sym (append-nil octets))))
-    ∙ ap (λ b. if b then Ok (started_from i) else Err (BadImage (Trailing (length octets + 1)))) (same_place (length octets) (length octets) refl)
-  where
-    by : (d : Result (Image × ℕ) RecordFault) → Answers (with_memory d) (Ok (i, length octets)) → d ≡ Ok (i, length octets)
-    by (Ok y) h = sym h
-    by (Err f) h = absurd (cc)
+whole_starts i octets whole = ap starting (whole_decoded either_image i octets (image_in_either i octets whole))
 
 -- the image of a lawful house is valid
 pub image_valid : (c : Clearinghouse) → IsLawful c → IsValidImage (image_of c)

@@ -1,10 +1,8 @@
 -- What a clearinghouse keeps over a crash, and which one starts of that (own, after C705, clearinghouses).
-use Rattle.std.specs.Prelude.{ℕ, ◌+◌, ◌==◌, if◌then◌else◌, false, length, List, map, Result, Ok, Err}
+use Rattle.std.specs.Prelude.{ℕ, false, List, map, Result, Ok, Err}
 use Rattle.std.specs.FinMap.{entries, from_entries}
-use Rattle.record_fields.specs.Decoding.{decoding}
-use Rattle.cds_records.specs.Images.{image}
+use Rattle.cds_records.specs.Migration.{whole_image}
 use Rattle.record_fields.specs.declared.fault.RecordFault.{RecordFault}
-use Rattle.record_fields.specs.declared.fault.RecordFault.TheVariants.{Trailing}
 use Rattle.cds_messages.specs.declared.image.Image.{Image}
 use Rattle.cds_messages.specs.declared.image.ImageDir.{ImageDir}
 use Rattle.cds_messages.specs.declared.image.ImageDir.TheVariants as kept
@@ -45,11 +43,11 @@ started_from i =
 abbrev pub restarted : Clearinghouse → Clearinghouse
 restarted c = started_from (image_of c)
 
--- what comes of octets that are to be the whole of an image: the house that starts of it, or the first fault; that octets follow it is the last (own)
-abbrev pub starting : List ℕ → Result (Image × ℕ) RecordFault → Result Clearinghouse StartFault
-starting octets (Err fault) = Err (BadImage fault)
-starting octets (Ok (i, size)) = if size == length octets then Ok (started_from i) else Err (BadImage (Trailing (size + 1)))
+-- what comes of an image of either format, or of the first fault of octets that are none (own)
+abbrev pub starting : Result Image RecordFault → Result Clearinghouse StartFault
+starting (Err fault) = Err (BadImage fault)
+starting (Ok i) = Ok (started_from i)
 
 -- so it is of these octets (own)
 abbrev pub started : List ℕ → Result Clearinghouse StartFault
-started octets = starting octets (decoding image octets)
+started octets = starting (whole_image octets)

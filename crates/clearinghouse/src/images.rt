@@ -12,7 +12,7 @@ ghost use Rattle.clearinghouse.specs.Lawful.{IsLawful};
 
 use crate::house::Clearinghouse;
 use cds_messages::{Image, ImageDir, ImageDirs};
-use cds_records::{ImageWriter, RecordFault, decode_image};
+use cds_records::{ImageWriter, RecordFault, whole_image};
 use cds_stamps::{AllocOr, DirId, Floor};
 use held_directories::{DirState, DirStates, Held, latest_in_image};
 use skulk_core::Skulk;
@@ -89,19 +89,17 @@ impl Clearinghouse {
         Ok(image.octets())
     }
 
-    /// The house that kept these octets, with no skulk that runs; its floor is raised to the greatest time in them.
+    /// The house that kept these octets, in either format, with no skulk that runs; its floor is raised to the greatest time in
+    /// them.
     pub fn start(alloc: Global, octets: &[u8]) -> Result<Clearinghouse, AllocOr<StartFault>>
         ensures answer { Answers result (started octets.now) }
         ensures lawful { IfOk result IsLawful }
     {
-        let (image, length) = match decode_image(alloc, octets) {
-            Ok(decoded) => decoded,
+        let image = match whole_image(alloc, octets) {
+            Ok(image) => image,
             Err(AllocOr::Fault(fault)) => return Err(AllocOr::Fault(StartFault::BadImage(fault))),
             Err(AllocOr::OutOfMemory) => return Err(AllocOr::OutOfMemory),
         };
-        if length < octets.len() {
-            return Err(AllocOr::Fault(StartFault::BadImage(RecordFault::Trailing(length + 1))));
-        }
         Ok(started_house(alloc, image)?)
     }
 }

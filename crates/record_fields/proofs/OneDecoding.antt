@@ -13,7 +13,7 @@ use Rattle.record_fields.specs.Decoding.{fault_at, Decodes, decoding, with_memor
 use Rattle.record_fields.proofs.DecodingLaws.{decoded, not_decoded}
 
 -- what a reading comes to
-abbrev of_read : {A : Type 0} → ℕ → Result (A × List ℕ) Broken → Result (A × ℕ) RecordFault
+abbrev pub of_read : {A : Type 0} → ℕ → Result (A × List ℕ) Broken → Result (A × ℕ) RecordFault
 of_read len = result_map_both (λ r. (r.0, len - length r.1)) (λ b. fault_at b.rule (len - b.left + 1))
 
 -- what is answered is what the function says

@@ -8,5 +8,5 @@ use Rattle.cds_records.proofs.images.read_dirs.Given as goal
 
 abbrev pub invariant-loop : goal.invariant-loop
 invariant-loop l =
-    to_come dir_number dir_state l.dirs l.count l.counter l.before l.reader ≡ read
-    (map_of {R = dir_cmp} dir_number dir_state l.count) l.fn.reader
+    to_come dir_number (dir_state l.format) l.dirs l.count l.counter l.before l.reader ≡ read
+    (map_of {R = dir_cmp} dir_number (dir_state l.format) l.count) l.fn.reader

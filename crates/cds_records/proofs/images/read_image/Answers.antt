@@ -9,12 +9,12 @@ unfolding image_head
 returns-in_err-dirs-clause-wanting c =
     let count = c.in_ok-count.count in
     let rest = c.u64-2.new.self in
-    any_wants (WantsForImage c.args.reader.now) c.from_residual-in_err-dirs.result (
+    any_wants (WantsForImage c.args.least c.args.most c.args.reader.now) c.from_residual-in_err-dirs.result (
       count,
       rest,
-      read_stands image_head c.args.reader.now count rest
+      read_stands (image_head c.args.least c.args.most) c.args.reader.now count rest
           (rw (
-            c.in_ok-_format.ensures.read,
+            c.in_ok-format.ensures.read,
             c.in_ok-_tag.ensures.read,
             c.in_ok-house.ensures,
             c.in_ok-node.ensures,

@@ -16,7 +16,7 @@ returns-clause-octets c =
     parts_written kept_of s.dirs s.house s.node s.floor.time c.octets.result.items
     (c.octets.ensures ∙ c.in_ok-write_states.ensures.octets
     ∙ ap (λ h. h ++ items_octets dir_octets (λ x. kept_octets (kept_of x)) (entries s.dirs))
-    (c.in_ok-image.ensures.octets ∙ ap (image_head 1 s.house.0 s.node s.floor.time) c.len-count.ensures))
+    (c.in_ok-image.ensures.octets ∙ ap (image_head s.house.0 s.node s.floor.time) c.len-count.ensures))
 
 pub returns-clause-fits : goal.returns-clause-fits
 returns-clause-fits c =
