@@ -11,7 +11,7 @@ use Rattle.house_journal.specs.MemoryDisks.{FitsStep, Fits, Tears, before_step, 
 use Rattle.house_journal.specs.CrashSets.{size_after, least_size, most_size, Spares, Untouched, IsLeft}
 use Rattle.house_journal.specs.Restarts.{done_by}
 use Rattle.house_journal.specs.Clocks.{reads_left_lem}
-use Rattle.house_journal.proofs.Kept.{torn_whole, cut_whole}
+use Rattle.house_journal.proofs.WholeSteps.{torn_whole, cut_whole}
 use Rattle.house_journal.proofs.Restarting.{redone}
 
 -- ---- sizes

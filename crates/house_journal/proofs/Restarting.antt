@@ -16,7 +16,7 @@ use Rattle.house_journal.specs.Restarts.{CanBeOpened, begun_with, after_all, don
 use Rattle.house_journal.specs.Unwindings.{all_torn, torn_onto, torn_in}
 use Rattle.house_journal.specs.Clocks.{reads_left_lem}
 use Rattle.house_journal.proofs.MemorySteps.{reverse_more}
-use Rattle.house_journal.proofs.Kept.{torn_whole}
+use Rattle.house_journal.proofs.WholeSteps.{torn_whole}
 use Rattle.house_journal.proofs.MemoryCalls.{torn_none, cut_none}
 
 -- one change more

@@ -1,5 +1,4 @@
 pub mod Disks
-pub mod Past
 pub mod Records
 pub mod ListEnds
 pub mod Journals

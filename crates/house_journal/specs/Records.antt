@@ -1,5 +1,6 @@
 -- The list of images that the octets of a journal are (own).
-use Rattle.std.specs.Prelude.{◌≡◌, ◌⊎◌, ℕ, zero, suc, ◌+◌, ◌≤◌, ◌==◌, nat_le, Bool, ◌&&◌, if◌then◌else◌, List, [], ◌∷◌, ◌++◌, length, take, drop, slice_index, Option, Some, None}
+use Rattle.std.specs.Prelude.{◌≡◌, ◌⊎◌, ℕ, zero, suc, ◌+◌, ◌≤◌, ◌==◌, nat_le, Bool, ◌&&◌, if◌then◌else◌, List, [], ◌∷◌, ◌++◌, length, take, drop, slice_index, Option, None}
+use Rattle.std.specs.List.{last_or}
 use Rattle.std.specs.Int.{w64, from_be_bytes}
 
 -- how many octets the image of the record at the front has (own)
@@ -31,11 +32,6 @@ images = images_behind 0
 -- the place of the gate that ends the list (own)
 abbrev pub gate_of : List ℕ → ℕ
 gate_of = records_behind 0
-
--- the last of these images, or else this one (own)
-abbrev pub last_or : Option (List ℕ) → List (List ℕ) → Option (List ℕ)
-last_or image [] = image
-last_or image (next ∷ later) = last_or (Some next) later
 
 -- the image of the last record, if there is one (own)
 abbrev pub last_image : List ℕ → Option (List ℕ)

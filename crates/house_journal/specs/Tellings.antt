@@ -2,7 +2,7 @@
 use Rattle.std.specs.Prelude.{◌≡◌, ℕ, zero, suc, ◌+◌, ◌<◌, Bool, true, false, List, [], ◌∷◌, take, drop, Option, Some, Result, Ok, Err}
 use Rattle.house_journal.specs.declared.disk.DiskError.{DiskError}
 use Rattle.house_journal.specs.declared.disk.DiskError.TheVariants as error
-use Rattle.house_journal.specs.Disks.{Told, Wrote, Plan, plan_after, may_fail, may_answer, told_change, told_sync, written}
+use Rattle.house_journal.specs.Disks.{Told, Change, Wrote, Plan, plan_after, may_fail, may_answer, told_change, told_sync, written}
 
 -- a call that writes, or syncs (own)
 pub data Call : Type 0 where
@@ -34,6 +34,10 @@ told_failed (suc k) (call ∷ calls) file t = told_failed k calls (read_by call 
 -- the calls of a put: the record without its gate, a sync, the gate, a sync (own)
 abbrev pub put_calls : (place : ℕ) → List ℕ → List Call
 put_calls place octets = Writes (place + 1) (drop 1 octets) ∷ Syncs ∷ Writes place (take 1 octets) ∷ Syncs ∷ []
+
+-- the octets at the last sync are these, and one change came since (own)
+abbrev pub TellsOne : List ℕ → Change → Told → Type 0
+TellsOne synced change t = (t.synced ≡ synced) × (t.changes ≡ change ∷ [])
 
 -- the plan after so many calls (own)
 abbrev pub plan_after_calls : ℕ → Plan → Plan

@@ -7,7 +7,8 @@ ghost use Rattle.house_journal.specs.Disks.{Told};
 ghost use Rattle.house_journal.specs.Faults.{IsRefused, IsBreaking, HasJournalCause};
 ghost use Rattle.house_journal.specs.Faults.{IsUntried, TellsTried, fault_of};
 ghost use Rattle.house_journal.specs.Tellings.{put_calls};
-ghost use Rattle.house_journal.specs.Journals.{IsCalm, IsKept, IsListed, IsReady, LeavesOnly, Settles};
+ghost use Rattle.house_journal.specs.Journals.{IsCalm, IsKept, IsKeptSince, IsListed, IsReady};
+ghost use Rattle.house_journal.specs.Journals.{LeavesOnly, Settles};
 ghost use Rattle.house_journal.specs.Records.{HasImagesOf, IsBeforeOrAfter, IsRecordOf};
 ghost use Rattle.house_journal.specs.Records.{gate_of, images, last_image};
 
@@ -80,6 +81,7 @@ impl Journal {
         ensures any_moment { IsKept D.Disk disk.old
             → Settles D.Disk disk.old disk.new (HasImagesOf (D.reads disk.old)) result }
         ensures kept { IsKept D.Disk disk.old → IsKept D.Disk disk.new }
+        ensures kept_since { IsKept D.Disk disk.old → IsKeptSince D.Disk disk.old disk.new }
         ensures open_list { OnOk result (IsListed (D.told disk.new)) }
         ensures cause { HasJournalCause (D.faults disk.old) (D.faults disk.new) result }
         ensures calm { IsCalm (D.told disk.old)
@@ -124,7 +126,8 @@ impl Journal {
             ⊎ ((octets : List ℕ) × IsRecordOf image.now octets
             × TellsTried (put_calls self.old.place octets) (D.reads disk.old) t result
             (D.told disk.new)) }
-        ensures kept { self.old.broken ≡ false → IsKept D.Disk disk.old → IsKept D.Disk disk.new }
+        ensures kept { IsKept D.Disk disk.old → IsKept D.Disk disk.new }
+        ensures kept_since { IsKept D.Disk disk.old → IsKeptSince D.Disk disk.old disk.new }
         ensures cause { HasJournalCause (D.faults disk.old) (D.faults disk.new) result }
         ensures calm { IsCalm (D.told disk.old)
             → (result ≢ Err (Fault JournalFault.DiskFault)) × IsCalm (D.told disk.new) }

@@ -5,10 +5,10 @@
 #![tactic(auto)]
 
 mod append;
-mod at_once;
 mod close;
 mod disk;
 mod journal;
+pub mod laws;
 mod leave;
 mod list_end;
 mod memory;
@@ -16,7 +16,6 @@ mod restart;
 mod settle;
 mod step;
 
-pub use at_once::AtOnce;
 pub use disk::{Disk, DiskError};
 pub use journal::{Journal, JournalFault, MOST_OCTETS};
 pub use leave::Leave;

@@ -57,7 +57,8 @@ pub(crate) fn overwrite(octets: &mut Vec<u8>, at: usize, piece: &[u8]) -> Result
 impl MemDisk {
     /// An empty disk. Takes no memory.
     pub fn new(alloc: Global) -> MemDisk
-        ensures { result ≡ record { octets = []; steps = []; calls = 0; faults = 0; stop = Never } }
+        ensures empty { result ≡ record { octets = []; steps = []; calls = 0; faults = 0; stop = Never } }
+        ensures opens { CanBeOpened result }
     {
         MemDisk {
             alloc,

@@ -1,7 +1,8 @@
 use Rattle.std.proofs.Common.{◌≡◌, ◌+◌, ◌-◌, ◌≤◌, ℕ, List, length, drop}
 use Rattle.std.specs.Prelude.{Option, IfSome}
 use Rattle.std.specs.Option.{option_map}
-use Rattle.house_journal.specs.Records.{gate_of, images, last_or, last_image}
+use Rattle.std.specs.List.{last_or}
+use Rattle.house_journal.specs.Records.{gate_of, images, last_image}
 use Rattle.house_journal.specs.ListEnds.{IsWithin, octets_of}
 use Rattle.house_journal.specs.declared.list_end.Span.{Span}
 use Rattle.house_journal.proofs.Readings.{Reads}
