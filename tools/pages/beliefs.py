@@ -27,8 +27,13 @@ class File:
     def __init__(self, crate, path):
         self.crate, self.name, self.definitions, self.known, self.aliases = crate, os.path.basename(path)[:-5], {}, {}, {}
         self.about = ""
-        comment, last = 0, None
+        comment, last, in_module = 0, None, False
         for number, line in enumerate(sources.text_of(path).split("\n"), 1):
+            # What a module of parameters has is two places to the right.
+            if line.startswith("module ") or in_module and line[:1] not in ("", " "):
+                in_module = line.startswith("module ")
+            elif in_module:
+                line = line[2:]
             if line.startswith("--"):
                 comment, last = comment + 1, None
                 self.about = self.about or (line[3:] if number == 1 else "")
@@ -36,6 +41,8 @@ class File:
                 self.take_import(line)
                 comment = 0
             elif not line.strip():
+                comment, last = 0, None
+            elif line.startswith("module "):
                 comment, last = 0, None
             elif SIGNATURE.match(line) and "pub mod" not in line:
                 last = Definition(crate, self, SIGNATURE.match(line).group(1), number)

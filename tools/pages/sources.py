@@ -82,33 +82,36 @@ def bare(text):
 def functions_of(crate, file):
     """The functions of a file. The layout of `rt fmt` is taken for granted: a body ends at the indentation of its head."""
     lines = bare(text_of(file)).split("\n")
-    found, owner, trait, is_test = [], "", "", False
-    at = 0
+    found, owner, trait, is_test, at = [], "", "", False, 0
     while at < len(lines):
-        line = lines[at]
-        opened = re.match(r"(?:pub(?:\([^)]*\))? )?(?:impl|trait)\b(.*)", line)
-        if opened:
-            said = line
+        line = lines[at].strip()
+        if re.match(r"(?:pub(?:\([^)]*\))? )?(?:impl|trait)\b", lines[at]):
+            said = lines[at]
             while "{" not in said and at + 1 < len(lines):
                 at += 1
                 said += " " + lines[at].strip()
             owner, trait = owner_of(said)
-        elif line == "}":
+        elif lines[at] == "}":
             owner, trait = "", ""
-        if line.strip().startswith("#["):
-            is_test = is_test or line.strip() == "#[test]"
-        head = re.match(r"( *)(?:pub(?:\([^)]*\))? )?(?:const )?fn \w+", line)
+        head = re.match(r"( *)(?:pub(?:\([^)]*\))? )?(?:const )?fn \w+", lines[at])
         if head:
             end = end_of(lines, at, head.group(1))
-            whole = lines[at : end + 1]
-            first = next((it for it, text in enumerate(whole) if text == head.group(1) + "{"), None)
-            cut = first if first is not None else next((it for it, text in enumerate(whole) if text.endswith(("{", "{}", ";", "}"))), 0) + 1
-            found.append(Function(crate, file, owner, trait, "\n".join(whole[: max(cut, 1)]), "\n".join(whole[cut:]) if first is not None or len(whole) > 1 else whole[0], at + 1, is_test))
+            signature, body = parted(lines[at : end + 1], head.group(1))
+            found.append(Function(crate, file, owner, trait, signature, body, at + 1, is_test))
             is_test, at = False, end
-        elif line.strip() and not line.strip().startswith("#["):
-            is_test = False
+        elif line:
+            is_test = line.startswith("#[") and (is_test or line == "#[test]")
         at += 1
     return found
+
+
+def parted(lines, indent):
+    """The head of a function, and its body. Behind clauses the body begins at a bracket of its own."""
+    own = [at for at, text in enumerate(lines) if text == indent + "{"]
+    if own:
+        return "\n".join(lines[: own[0]]), "\n".join(lines[own[0] :])
+    last = next((at for at, text in enumerate(lines) if text.endswith(("{", "}", ";"))), 0)
+    return "\n".join(lines[: last + 1]), "\n".join(lines[last + 1 :] or lines[:1])
 
 
 def owner_of(said):
@@ -127,11 +130,8 @@ def end_of(lines, at, indent):
     """The last line of the function whose head begins at a line."""
     for place in range(at, len(lines)):
         text = lines[place]
-        if text == indent + "}" or place == at and text.endswith(("{}", ";")) or place == at and re.search(r"\{.*\}$", text):
-            return place
-        if text == "" and place > at and not any(it.strip() for it in lines[place - 1 : place]):
-            continue
-        if place > at and text.startswith(indent + ")") and text.endswith(";"):
+        is_whole = place == at and (text.endswith(";") or re.search(r"\{.*\}$", text))
+        if text == indent + "}" or is_whole or place > at and text.startswith(indent + ")") and text.endswith(";"):
             return place
         if place > at and re.match(rf"{indent}(?:pub |fn |impl |\}})", text):
             return place - 1

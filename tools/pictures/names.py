@@ -6,7 +6,11 @@ ROW, DETAIL, INDENT, TRACK = 24, 18, 20, 13
 COLUMN = EDGE + 26  # where the tree begins, behind the numbers of a search
 MOST_ROWS, MOST_VALUES, LONGEST = 4000, 3, 78
 # What the legend says: the arrows, in the colours of kinds of messages, and the signs.
-ARROWS = {"link": ("Update", "a link"), "member": ("Spread", "a member of a group"), "element": ("Gather", "an element of a profile")}
+ARROWS = {
+    "link": ("Update", "a link"),
+    "member": ("Spread", "a member of a group"),
+    "element": ("Gather", "an element of a profile"),
+}
 SIGNS = {"directory": "a directory", "object": "an object", "soft": "a link", "order": "order of the search"}
 MORE = """.soft{stroke-dasharray:5 3}.tree{fill:none;stroke:#8a939d;stroke-width:1px}.arrow{fill:none;stroke:currentColor;stroke-width:1.5px}
 .order{fill:#1f2328}.ordered{fill:#fff;font-weight:bold;text-anchor:middle}.ring{stroke:#1f2328;stroke-width:1.6px}
@@ -161,7 +165,8 @@ class Tree:
 
     def __init__(self, state, directory):
         self.state, self.rows, self.branches = state, [], []
-        self.root = Row(COLUMN, ROW, [("/.:" if directory == 1 else f"directory {directory}", "house ink"), *self.about(directory)], sign="directory")
+        name = "/.:" if directory == 1 else f"directory {directory}"
+        self.root = Row(COLUMN, ROW, [(name, "house ink"), *self.about(directory)], sign="directory")
         self.rows.append(self.root)
         self.seen = {directory}
         self.add_directory(directory, COLUMN + INDENT, self.root)
@@ -197,7 +202,8 @@ class Tree:
         elif entry.kind == "link":
             pieces, lead, kind = [*pieces, (short(entry.lead, LONGEST), "dim")], entry.lead, "link"
         else:
-            roles = [it for it, has in (("server", entry.towers or entry.objects), ("group", entry.members), ("profile", entry.elements)) if has]
+            has = {"server": entry.towers or entry.objects, "group": entry.members, "profile": entry.elements}
+            roles = [it for it, own in has.items() if own]
             pieces += [(", ".join(roles), "dim")] if roles else []
         row = Row(x, ROW, pieces, (directory, name), lead, kind, sign, f"entry {name} of directory {directory}")
         self.rows.append(row)
@@ -211,7 +217,7 @@ def details(entry):
     for interface, binding in entry.towers:
         yield f"{binding} · interface {brief(interface)}", None, None
     if entry.objects:
-        yield "objects " + ", ".join(brief(it) for it in entry.objects[:MOST_VALUES]) + ("…" if len(entry.objects) > MOST_VALUES else ""), None, None
+        yield f"objects {some_of([brief(it) for it in entry.objects], ', ')}", None, None
     for member in entry.members:
         yield member, member, "member"
     for priority, _, _, _, _, interface, note, member in entry.elements:
@@ -219,7 +225,12 @@ def details(entry):
         yield f"priority {priority} · {about} · {member}" + (f" · {note}" if note else ""), member, "element"
     for attribute, values in sorted(entry.values.items()):
         if values:
-            yield f"{attribute} {' '.join(short(it, 16) for it in sorted(values)[:MOST_VALUES])}" + ("…" if len(values) > MOST_VALUES else ""), None, None
+            yield f"{attribute} {some_of([short(it, 16) for it in sorted(values)], ' ')}", None, None
+
+
+def some_of(words, between):
+    """The first of some words."""
+    return between.join(words[:MOST_VALUES]) + ("…" if len(words) > MOST_VALUES else "")
 
 
 def brief(uuid):
@@ -234,12 +245,13 @@ class Picture:
     def __init__(self, replay, name, last, directory):
         steps = [it for it in replay.steps if it.line <= last]
         imports = [it for it in steps if it.command == "import" and " binding " in it.answer]
-        chosen = imports[0] if imports and last > replay.steps[-1].line else imports[-1] if imports and imports[-1].line == last else None
+        at_last = [it for it in imports if it.line == last]
+        chosen = next(iter(imports if last > replay.steps[-1].line else at_last), None)
         self.name, self.search = name, chosen
         self.last = chosen.line if chosen else steps[-1].line if steps else last
         self.state = State(replay, self.last)
         if (directory or 1) not in self.state.epochs:
-            raise drawing.Undrawable("the script makes no root directory" if not directory else f"the script makes no directory {directory}")
+            raise drawing.Undrawable(f"the script makes no {f'directory {directory}' if directory else 'root directory'}")
         self.tree, self.used, self.shapes = Tree(self.state, directory or 1), set(), []
         self.numbers = {place: at for at, place in enumerate(self.searched(), 1)}
 
