@@ -69,7 +69,7 @@ LEGEND = {
     },
     "lines": {
         "lane master": "house is the master",
-        "lane secondary": "house is secondary",
+        "lane secondary": "is secondary",
         "lane ": "holds a replica",
         "lane without": "holds none",
         "gap": "is down",
