@@ -74,9 +74,9 @@ def split_at_commas(text):
 
 
 def bare(text):
-    """A source without comments and without what its strings say."""
+    """A source without comments and without what its strings say, each in as many lines as it had."""
     text = re.sub(r"//[^\n]*", "", text)
-    return re.sub(r'b?"(?:[^"\\]|\\.)*"', '""', text)
+    return re.sub(r'b?"(?:[^"\\]|\\.)*"', lambda it: '""' + "\n" * it.group().count("\n"), text, flags=re.S)
 
 
 def functions_of(crate, file):
