@@ -1,11 +1,12 @@
 // What of a table is later than a stamp, and what of that another table takes.
-ghost use Rattle.std.specs.Prelude.{◌≡◌, IsTrue, IfSome, IfOk, OnOk, OnErr, Some, None, false, option_copied};
+ghost use Rattle.std.specs.Prelude.{◌≡◌, ◌&&◌, IsTrue, IfSome, IfOk, OnOk, OnErr, Some, None, false, option_copied};
 ghost use Rattle.std.specs.FinMap as map;
 ghost use Rattle.cds_stamps.specs.Semilattice.{maybe};
+ghost use Rattle.cds_stamps.specs.Stamps.{is_up_to};
 ghost use Rattle.directory.specs.Applied.{LeavesOthers};
 ghost use Rattle.directory.specs.Entries.{join_entries, join_tables, IsValidEntry, IsValidTable};
 ghost use Rattle.directory.specs.IndexWords.{IsIndexed, Keeps, KnowsAll, inserted};
-ghost use Rattle.directory.specs.Purges.{delta_entry, delta_table, holds, is_passed, take_entry, take_table};
+ghost use Rattle.directory.specs.Purges.{delta_entry, delta_table, holds, is_bare, is_passed, take_entry, take_table};
 
 use crate::deletions::Deletions;
 use crate::entry::EntryCell;
@@ -98,11 +99,17 @@ fn put_delta(
 {
     let t = &t;
     let after = entry.after(alloc, *t)?;
-    if !(*t < entry.birth) && after.is_bare() {
-        return Ok(());
+    if !is_old_birth(&after, *t) {
+        later.push((name.copy(alloc)?, after))?;
     }
-    later.push((name.copy(alloc)?, after))?;
     Ok(())
+}
+
+/// Whether an entry is a birth up to t alone.
+fn is_old_birth(entry: &EntryCell, t: Stamp) -> bool
+    ensures { result ≡ (is_up_to t entry.now.birth && is_bare entry.now) }
+{
+    !(t < entry.birth) && entry.is_bare()
 }
 
 /// Puts what is later than t of the entry of a name behind that of other names, unless it is known.

@@ -1,12 +1,12 @@
 -- What a crash leaves while the end of a journal is put in order.
-use Rattle.std.proofs.Common.{◌≡◌, ◌≢◌, ◌⊎◌, inl, inr, ⊎_elim, ℕ, zero, suc, ◌+◌, ◌≤◌, ◌<◌, ◌==◌, nat_le, min, true, false, List, [], ◌∷◌, ◌++◌, length, take, drop, slice_index, get_or}
+use Rattle.std.proofs.Common.{◌≡◌, ◌≢◌, ◌⊎◌, inl, inr, ⊎_elim, ℕ, zero, suc, ◌+◌, ◌^◌, ◌≤◌, ◌<◌, ◌==◌, nat_le, min, true, false, List, [], ◌∷◌, ◌++◌, length, take, drop, slice_index, get_or}
 use Rattle.std.specs.Prelude.{Some, None, slice_get}
 use Rattle.std.proofs.Common.{refl, sym, ◌∙◌, ap, subst, arith, append_assoc, length-append, length-drop}
 use Rattle.std.proofs.lemmas.List.{drop_all, get_or_append_left, get_or_at, nil_from_length, length-take, take_min}
 use Rattle.std.proofs.lemmas.List.Prefix.{front_from_reads}
 use Rattle.std.proofs.lemmas.Bool.{cases_eq, cases_Bool, and_parts, leb-true}
 use Rattle.house_journal.specs.Disks.{CutBack, Torn, written}
-use Rattle.house_journal.specs.Records.{length_at, is_open, images, gate_of, IsClean, IsAtRest}
+use Rattle.house_journal.specs.Records.{length_at, is_open, images, gate_of, HasImagesOf, IsClean, IsOpenable, IsAtRest}
 use Rattle.house_journal.proofs.Records.{AreRecords, joined, images_of, Parts, parts, parts_images, parts_gate, closed, uncounted, ends_images, ends_gate, closed_images, closed_clean, at_rest}
 
 -- at most one octet is no record
@@ -27,7 +27,7 @@ module _ (file : List ℕ) where
   a = joined p.records
 
   abbrev P : List ℕ → Type 0
-  P c = (images c ≡ images file) × IsClean c
+  P c = HasImagesOf file c
 
   at : gate_of file ≡ length a
   at = parts_gate file p
@@ -36,34 +36,18 @@ module _ (file : List ℕ) where
   same = parts_images file p
 
   -- the file itself
-  pub file_so : IsClean file → P file
+  pub file_so : IsOpenable file → P file
   file_so clean = (refl, clean)
 
   -- behind the records stands an octet that is no is_on gate
-  closed_so : (y : ℕ) (x c : List ℕ) → y ≢ 1 → c ≡ a ++ y ∷ x → P c
-  closed_so y x c other is = subst P (sym is) (closed_images p.records p.are y x other ∙ sym same, closed_clean p.records p.are y x other)
-
-  -- behind the records stands at most one octet, and there is one unless there are no records
-  short_so : (e c : List ℕ) → length e ≤ 1 → (0 < length e) ⊎ (p.records ≡ []) → c ≡ a ++ e → P c
-  short_so e c few some is = subst P (sym is) (⊎_elim with_one without some)
-    where
-      shut : is_open e ≡ false
-      shut = short_shut e few
-
-      with_one : 0 < length e → P (a ++ e)
-      with_one one = (
-        ends_images p.records p.are e one shut ∙ sym same,
-        λ gate. let place = ends_gate p.records p.are e one shut in let size = length-append a e in omega (arith, place, size, few),
-      )
-
-      without : p.records ≡ [] → P (a ++ e)
-      without none = (
-        ap (λ (l : List (List ℕ)). images (joined l ++ e)) none ∙ closed e shut ∙ ap images_of (sym none) ∙ sym same,
-        λ gate. let size = length-append a e in let nothing = ap (λ (l : List (List ℕ)). length (joined l)) none in omega (arith, size, nothing, few),
-      )
+  closed_so : (y : ℕ) (x c : List ℕ) → y ≢ 1 → c ≡ a ++ y ∷ x → length c ≤ 2 ^ 40 → P c
+  closed_so y x c other is small = (
+    ap images is ∙ closed_images p.records p.are y x other ∙ sym same,
+    record { clean = subst IsClean (sym is) (closed_clean p.records p.are y x other); small = small },
+  )
 
   -- in the cut
-  pub cut_torn : IsClean file → (c : List ℕ) → CutBack (min (length file) (length a + 1)) file c → P c
+  pub cut_torn : IsOpenable file → (c : List ℕ) → CutBack (min (length file) (length a + 1)) file c → P c
   cut_torn clean c cut = by_rest p.rest p.split p.some
     where
       by_rest : (rest : List ℕ) → file ≡ a ++ rest → (0 < length rest) ⊎ (p.records ≡ []) → P c
@@ -88,12 +72,12 @@ module _ (file : List ℕ) where
           (λ one.
           let gate : slice_index file (gate_of file) ≡ 1 =
           ap (slice_index file) at ∙ ap (λ (l : List ℕ). slice_index l (length a)) split ∙ get_or_at a g b 0 (length a) refl ∙ one in
-          let few = clean gate in
+          let few = clean.clean gate in
           let left = length-drop (length (a ++ g ∷ [])) c in
           let nothing : x ≡ [] = nil_from_length x (omega (arith, left, few, at, front_size, cut.within)) in
           let no_more : b ≡ [] = nil_from_length b (omega (arith, few, at, size, whole)) in
           subst P (split ∙ ap (λ (l : List ℕ). a ++ g ∷ l) (no_more ∙ sym nothing) ∙ sym c_is) (file_so clean))
-          (λ other. closed_so g x c other c_is)
+          (λ other. closed_so g x c other c_is (omega (arith, cut.within, clean.small)))
           (cases_eq g 1)
 
   -- the file cut at the gate: the records, and at most one octet
@@ -142,7 +126,8 @@ module _ (rs : List (List ℕ)) (are : AreRecords rs) (e : List ℕ) (few : leng
   short_clean gate = let size = length-append front e in let at = short_gate in omega (arith, size, at, few)
 
 -- a file whose last octet, if it has one behind the records, is the gate that ends the list: while that gate is written
-module _ (file : List ℕ) (place : ℕ) (gate : place ≡ gate_of file) (last : length file ≤ place + 1) where
+module _ (file : List ℕ) (place : ℕ) (gate : place ≡ gate_of file) (last : length file ≤ place + 1)
+    (room : place + 1 ≤ 2 ^ 40) where
   abbrev q : Parts file
   q = parts file
 
@@ -156,17 +141,19 @@ module _ (file : List ℕ) (place : ℕ) (gate : place ≡ gate_of file) (last :
   q_few = omega (arith, q_whole, last)
 
   abbrev Q : List ℕ → Type 0
-  Q c = (images c ≡ images file) × IsClean c
+  Q c = HasImagesOf file c
 
   pub gate_start : place ≤ length file
   gate_start = omega (arith, q_whole)
 
-  q_short : (e c : List ℕ) → length e ≤ 1 → (0 < length e) ⊎ (q.records ≡ []) → c ≡ joined q.records ++ e → Q c
-  q_short e c few some is =
-      subst Q (sym is) (short_images q.records q.are e few some ∙ sym (parts_images file q), short_clean q.records q.are e few some)
+  q_short : (e c : List ℕ) → length e ≤ 1 → (0 < length e) ⊎ (q.records ≡ []) → c ≡ joined q.records ++ e → length c ≤ 2 ^ 40 → Q c
+  q_short e c few some is small = (
+    ap images is ∙ short_images q.records q.are e few some ∙ sym (parts_images file q),
+    record { clean = subst IsClean (sym is) (short_clean q.records q.are e few some); small = small },
+  )
 
   pub gate_so : (c : List ℕ) → c ≡ file → Q c
-  gate_so c is = q_short q.rest c q_few q.some (is ∙ q.split)
+  gate_so c is = q_short q.rest c q_few q.some (is ∙ q.split) (omega (arith, ap length is, last, room))
 
   pub gate_torn : (c : List ℕ) → Torn place 1 file c → Q c
   gate_torn c torn =
@@ -177,6 +164,7 @@ module _ (file : List ℕ) (place : ℕ) (gate : place ≡ gate_of file) (last :
       (front_from_reads 0 c (joined q.records) (omega (arith, torn.longer, q_whole, q_size))
       (λ i lt. torn.stays i (omega (arith, lt, q_whole, q_size)) (inl (omega (arith, lt, q_size)))
       ∙ ap (λ (l : List ℕ). get_or l i 0) q.split ∙ get_or_append_left (joined q.records) q.rest 0 i lt))
+      (omega (arith, torn.within, last, room))
 
   pub gate_written : written file place (0 ∷ []) ≡ take place file ++ 0 ∷ []
   gate_written = ap (λ (l : List ℕ). take place file ++ 0 ∷ l) (drop_all (place + 1) file (omega (arith, last)))
@@ -209,12 +197,12 @@ module _ (file : List ℕ) (size place : ℕ) (all : size ≡ length file) (gate
   w_size = sym (gate ∙ parts_gate file w)
 
   abbrev W : List ℕ → Type 0
-  W c = (images c ≡ images file) × IsClean c
+  W c = HasImagesOf file c
 
   at_cut : min size (place + 1) ≡ min (length file) (length (joined w.records) + 1)
   at_cut = (λ i. min (all i) (sym w_size i + 1))
 
-  pub cut_crash : IsClean file → (c : List ℕ) → CutBack (min size (place + 1)) file c → W c
+  pub cut_crash : IsOpenable file → (c : List ℕ) → CutBack (min size (place + 1)) file c → W c
   cut_crash clean c cut = cut_torn file clean c (subst (λ (n : ℕ). CutBack n file c) at_cut cut)
 
   pub cut_file : (f : List ℕ) → f ≡ take (min size (place + 1)) file → f ≡ joined w.records ++ end file

@@ -11,7 +11,7 @@ use Rattle.house_journal.specs.Disks.{Change, Wrote, CutTo, written}
 use Rattle.house_journal.specs.Disks as disks
 use Rattle.house_journal.specs.MemoryDisks.{MemState, FitsStep, Fits, Tears, before_step, change_of, left_now, synced_in, changes_in}
 use Rattle.std.specs.Prelude.{Result, Ok, Err, OnOk, OnErr}
-use Rattle.house_journal.specs.Records.{IsClean}
+use Rattle.house_journal.specs.Records.{IsOpenable}
 use Rattle.house_journal.specs.Restarts.{CanBeOpened, begun_with, after_all, done_by, torn_by, filled_to, left_by}
 use Rattle.house_journal.specs.Unwindings.{all_torn, torn_onto, torn_in}
 use Rattle.house_journal.specs.Clocks.{reads_left_lem}
@@ -247,5 +247,5 @@ on_ok (Err e) is so = tt
 pub opens_anew : {T E : Type 0} (r : Result T E) (old new : MemState) (octets : List ℕ) → OnOk r (new ≡ begun_with octets old) → OnErr r (new ≡ old)
     → left_now old.steps old.octets octets → CanBeOpened old → CanBeOpened new
 opens_anew (Ok x) old new octets is same left clean =
-    subst CanBeOpened (sym is) (λ c here. subst IsClean (sym here) (clean octets left))
+    subst CanBeOpened (sym is) (λ c here. subst IsOpenable (sym here) (clean octets left))
 opens_anew (Err e) old new octets is same left clean = subst CanBeOpened (sym same) clean

@@ -1,5 +1,5 @@
 -- The list of images that the octets of a journal are (own).
-use Rattle.std.specs.Prelude.{◌≡◌, ◌⊎◌, ℕ, zero, suc, ◌+◌, ◌≤◌, ◌==◌, nat_le, Bool, ◌&&◌, if◌then◌else◌, List, [], ◌∷◌, ◌++◌, length, take, drop, slice_index, Option, None}
+use Rattle.std.specs.Prelude.{◌≡◌, ◌⊎◌, ℕ, zero, suc, ◌+◌, ◌^◌, ◌≤◌, ◌==◌, nat_le, Bool, ◌&&◌, if◌then◌else◌, List, [], ◌∷◌, ◌++◌, length, take, drop, slice_index, Option, None}
 use Rattle.std.specs.List.{last_or}
 use Rattle.std.specs.Int.{w64, from_be_bytes}
 
@@ -41,9 +41,14 @@ last_image file = last_or None (images file)
 abbrev pub IsClean : List ℕ → Type 0
 IsClean file = slice_index file (gate_of file) ≡ 1 → length file ≤ gate_of file + 1
 
--- these octets have the images of that file, and are clean (own)
+-- a journal of these octets can be opened: they are clean, and no more than 2 ^ 40 (own)
+pub record IsOpenable (file : List ℕ) : Type 0 where
+  pub clean : IsClean file
+  pub small : length file ≤ 2 ^ 40
+
+-- these octets have the images of that file, and can be opened (own)
 abbrev pub HasImagesOf : List ℕ → List ℕ → Type 0
-HasImagesOf file c = (images c ≡ images file) × IsClean c
+HasImagesOf file c = (images c ≡ images file) × IsOpenable c
 
 -- the gate that ends the list is closed, and is the last octet (own)
 pub record IsAtRest (file : List ℕ) (place : ℕ) : Type 0 where
@@ -53,7 +58,7 @@ pub record IsAtRest (file : List ℕ) (place : ℕ) : Type 0 where
 
 -- the images are these, or these and one more (own)
 abbrev pub IsBeforeOrAfter : List (List ℕ) → List ℕ → List ℕ → Type 0
-IsBeforeOrAfter before image c = ((images c ≡ before) ⊎ (images c ≡ before ++ image ∷ [])) × IsClean c
+IsBeforeOrAfter before image c = ((images c ≡ before) ⊎ (images c ≡ before ++ image ∷ [])) × IsOpenable c
 
 -- the octets of a record of this image, and a closed gate behind it (own)
 pub record IsRecordOf (image octets : List ℕ) : Type 0 where

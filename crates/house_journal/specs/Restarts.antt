@@ -2,7 +2,7 @@
 use Rattle.std.specs.Prelude.{ℕ, ◌+◌, ◌-◌, ◌/◌, List, [], ◌∷◌, ◌++◌, length, take, replicate}
 use Rattle.house_journal.specs.Disks.{Change, Wrote, CutTo, written}
 use Rattle.house_journal.specs.MemoryDisks.{MemState, left_now, synced_in, changes_in}
-use Rattle.house_journal.specs.Records.{IsClean}
+use Rattle.house_journal.specs.Records.{IsOpenable}
 use Rattle.house_journal.specs.declared.leave.Leave.{Leave}
 use Rattle.house_journal.specs.declared.leave.Leave.TheVariants.{Keep, Drop, Torn}
 use Rattle.house_journal.specs.declared.step.Stop.{Stop}
@@ -53,4 +53,4 @@ restarted m = restarted_by m.stop m
 
 -- a journal can be opened, whatever a crash leaves of the disk (own)
 abbrev pub CanBeOpened : MemState → Type 0
-CanBeOpened m = (c : List ℕ) → left_now m.steps m.octets c → IsClean c
+CanBeOpened m = (c : List ℕ) → left_now m.steps m.octets c → IsOpenable c

@@ -3,7 +3,7 @@ ghost use Rattle.std.specs.Prelude.{◌≡◌, ◌≢◌, ◌+◌, ◌^◌, ◌�
 ghost use Rattle.std.specs.Prelude.{Err, IfOk, OnOk};
 ghost use Rattle.house_journal.specs.Disks.{HasDiskCause, Only, OnlyReads};
 ghost use Rattle.house_journal.specs.Journals.{IsCalm, IsListed, LeavesOnly};
-ghost use Rattle.house_journal.specs.Records.{HasImagesOf, IsClean, gate_of};
+ghost use Rattle.house_journal.specs.Records.{HasImagesOf, IsOpenable, gate_of};
 
 use crate::{Disk, DiskError};
 
@@ -56,7 +56,7 @@ pub(crate) fn close<D: Disk>(disk: &mut D, size: u64, place: u64) -> Result<(), 
     requires place { place ≡ gate_of (D.reads disk.old) }
     requires only { Only (D.reads disk.old) (D.may_leave disk.old) }
     requires room { place + 1 ≤ 2 ^ 40 }
-    ensures any_moment { IsClean (D.reads disk.old)
+    ensures any_moment { IsOpenable (D.reads disk.old)
         → LeavesOnly D.Disk disk.old disk.new (HasImagesOf (D.reads disk.old)) }
     ensures rests { OnOk result (D.reads disk.new ≡ take place (D.reads disk.old) ++ 0 ∷ []) }
     ensures durable { OnOk result (Only (D.reads disk.new) (D.may_leave disk.new)) }

@@ -56,11 +56,14 @@ pub struct Journal {
 }
 
 impl Model for Journal {
+    ghost use Rattle.std.specs.Prelude.{◌<◌, ◌^◌};
     ghost use Rattle.house_journal.specs.Faults.{JournalState};
 
     ghost Value = { JournalState };
 
     ghost view = { λ j. record { place = j.place; broken = j.broken } };
+
+    ghost invariant = { λ j. j.place < 2 ^ 40 };
 }
 
 impl Journal {

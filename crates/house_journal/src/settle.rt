@@ -33,6 +33,7 @@ pub(crate) fn settle<D: Disk>(
 ) -> Result<(u64, Option<Vec<u8>>), DiskError>
     requires { length (D.reads disk.old) ≤ 2 ^ 40 }
     ensures place { IfOk result (λ r. r.0 ≡ gate_of (D.reads disk.old)) }
+    ensures room { IfOk result (λ r. r.0 + 1 ≤ 2 ^ 40) }
     ensures image { IfOk result (λ r. option_map (λ v. v.items) r.1
         ≡ last_image (D.reads disk.old)) }
     ensures rests { OnOk result (D.reads disk.new

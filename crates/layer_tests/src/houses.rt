@@ -248,7 +248,7 @@ fn answered(alloc: Global, house: &mut Clearinghouse, message: &Message) -> Resu
 }
 
 // House 2 with the root, which it holds, and the directory 2, which it has left.
-fn second_house(alloc: Global) -> Result<Clearinghouse, Fail> {
+pub fn second_house(alloc: Global) -> Result<Clearinghouse, Fail> {
     let mut house = both(alloc)?.second;
     let leave = message(DirId(2), 1, Body::Leave);
     if answered(alloc, &mut house, &leave)? != Taken::Taken {

@@ -3,6 +3,8 @@
 #![tactic(auto)]
 
 #[cfg(test)]
+mod deaths;
+#[cfg(test)]
 mod ends;
 #[cfg(test)]
 mod houses;

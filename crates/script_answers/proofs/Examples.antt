@@ -4,7 +4,7 @@ use Rattle.std.specs.Prelude.{Some, None, codes}
 use Rattle.std.specs.Fmt.{digits}
 use Rattle.std.specs.FinMap.{empty}
 use Rattle.hex.specs.Hex.{encode_with}
-use Rattle.cds_stamps.specs.declared.members.MemberKind.TheVariants.{Master, ReadOnly}
+use Rattle.cds_stamps.specs.declared.members.MemberKind.TheVariants.{Master, ReadOnly, Secondary}
 use Rattle.attr_sets.specs.declared.mark.ValueMark.{ValueMark}
 use Rattle.directory.specs.declared.entry.Kind.TheVariants.{Link}
 use Rattle.uuid.specs.Parts.{zero_bytes}
@@ -97,8 +97,9 @@ spent = refl
 
 a_dump : dump_line (record { 0 = 3 }) None
     (record { house = record { 0 = 1 }; since = record { 0 = 3 }; kind = ReadOnly }
-    ∷ record { house = record { 0 = 2 }; since = record { 0 = 1 }; kind = Master } ∷ [])
-    ≡ codes "dump epoch 3 allupto none members 1:3:r 2:1:m"
+    ∷ record { house = record { 0 = 2 }; since = record { 0 = 1 }; kind = Master }
+    ∷ record { house = record { 0 = 4 }; since = record { 0 = 2 }; kind = Secondary } ∷ [])
+    ≡ codes "dump epoch 3 allupto none members 1:3:r 2:1:m 4:2:s"
 unfolding digits
 a_dump = refl
 

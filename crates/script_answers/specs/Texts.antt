@@ -149,10 +149,11 @@ message_name tag =
 
 -- ---- dumps
 
--- the kind of a member: the master, or read-only (own)
+-- the kind of a member: the master, read-only or secondary (own)
 abbrev pub member_letter : MemberKind → List ℕ
 member_letter member.Master = codes "m"
 member_letter member.ReadOnly = codes "r"
+member_letter member.Secondary = codes "s"
 
 -- a member: its house, its since and its kind, with colons between (own)
 abbrev pub member_text : Member → List ℕ

@@ -17,6 +17,7 @@ fn letter_of(kind: MemberKind) -> &'static [u8]
     match kind {
         MemberKind::Master => b"m",
         MemberKind::ReadOnly => b"r",
+        MemberKind::Secondary => b"s",
     }
 }
 

@@ -9,7 +9,7 @@ use itoa::Buffer;
 use std::alloc::AllocError;
 
 /// A number, in decimal digits.
-pub(crate) fn push_number(line: &mut Vec<u8>, number: u64) -> Result<(), AllocError>
+pub fn push_number(line: &mut Vec<u8>, number: u64) -> Result<(), AllocError>
     ensures ok { OnOk result (line.new.items ≡ line.old.items ++ decimal number) }
     ensures err { OnErr result (take (length line.old.items) line.new.items ≡ line.old.items) }
 {
@@ -27,7 +27,7 @@ pub(crate) fn push_spaced(line: &mut Vec<u8>, number: u64) -> Result<(), AllocEr
 }
 
 /// What a line begins with: the number of the script line, and a space.
-pub(crate) fn begin_line(text: &mut Vec<u8>, number: u32) -> Result<(), AllocError>
+pub fn begin_line(text: &mut Vec<u8>, number: u32) -> Result<(), AllocError>
     ensures ok { OnOk result (text.new.items ≡ text.old.items ++ (decimal number ++ 32 ∷ [])) }
     ensures err { OnErr result (take (length text.old.items) text.new.items ≡ text.old.items) }
 {
@@ -37,7 +37,7 @@ pub(crate) fn begin_line(text: &mut Vec<u8>, number: u32) -> Result<(), AllocErr
 }
 
 /// Octets, each in two hexadecimal digits.
-pub(crate) fn push_hex(line: &mut Vec<u8>, octets: &[u8]) -> Result<(), AllocError>
+pub fn push_hex(line: &mut Vec<u8>, octets: &[u8]) -> Result<(), AllocError>
     ensures ok { OnOk result (line.new.items ≡ line.old.items ++ encode_lower octets.now) }
     ensures err { OnErr result (take (length line.old.items) line.new.items ≡ line.old.items) }
 {
@@ -51,7 +51,7 @@ pub(crate) fn push_hex(line: &mut Vec<u8>, octets: &[u8]) -> Result<(), AllocErr
 }
 
 /// A stamp: its time, `@` and its node.
-pub(crate) fn push_stamp(line: &mut Vec<u8>, stamp: &Stamp) -> Result<(), AllocError>
+pub fn push_stamp(line: &mut Vec<u8>, stamp: &Stamp) -> Result<(), AllocError>
     ensures ok { OnOk result (line.new.items ≡ line.old.items ++ stamp_text stamp.now) }
     ensures err { OnErr result (take (length line.old.items) line.new.items ≡ line.old.items) }
 {
@@ -61,7 +61,7 @@ pub(crate) fn push_stamp(line: &mut Vec<u8>, stamp: &Stamp) -> Result<(), AllocE
 }
 
 /// A stamp, or this word where there is none.
-pub(crate) fn push_stamp_or(
+pub fn push_stamp_or(
     line: &mut Vec<u8>,
     none: &[u8],
     stamp: Option<Stamp>,

@@ -1,5 +1,5 @@
-use Rattle.std.proofs.Common.{◌≡◌, ℕ, ◌+◌, ◌-◌, List, [], ◌∷◌, length, take, drop, refl, sym, ◌∙◌, ap, subst, arith, length-drop, true, false}
-use Rattle.std.proofs.lemmas.List.{take_all}
+use Rattle.std.proofs.Common.{◌≡◌, ℕ, ◌+◌, ◌-◌, ◌^◌, ◌≤◌, List, [], ◌∷◌, length, take, drop, refl, sym, ◌∙◌, ap, subst, arith, length-drop, true, false}
+use Rattle.std.proofs.lemmas.List.{take_all, length-take}
 use Rattle.std.specs.Prelude.{Option, IfSome}
 use Rattle.std.specs.Option.{option_map}
 use Rattle.house_journal.specs.Disks.{Only, Told, Wrote, told_change, told_sync, written}
@@ -14,73 +14,78 @@ use Rattle.house_journal.proofs.append.append.Goals as goal
 rest_of : (octets : List ℕ) → take (length octets - 1) (drop 1 octets) ≡ drop 1 octets
 rest_of octets = take_all (length octets - 1) (drop 1 octets) (omega (arith, length-drop 1 octets))
 
+few : (image octets : List ℕ) → IsRecordOf image octets → (place : ℕ) → place + length octets ≤ 2 ^ 40
+    → place + 1 + length (take (length octets - 1) (drop 1 octets)) ≤ 2 ^ 40
+few image octets is place room =
+    omega (arith, room, ap length is.split, length-take (length octets - 1) (drop 1 octets), length-drop 1 octets)
+
 gate_of : (image octets : List ℕ) → IsRecordOf image octets → take 1 octets ≡ 1 ∷ []
 gate_of image octets is = ap (take 1) is.split
 
 pub returns-in_err-write_at-clause-any_moment : goal.returns-in_err-write_at-clause-any_moment
 returns-in_err-write_at-clause-any_moment g c image is =
-    (after_first g.D.Disk g.met.D.Disk.only_now c.args.disk.now c.args.place c.requires.ready image c.args.octets.now is
-    c.write_at.new.self _ c.write_at.ensures.crash c.write_at.ensures.time).so_far
+    (after_first g.D.Disk g.met.D.Disk.only_now c.args.disk.now c.args.place c.requires.ready image c.args.octets.now is c.requires.room
+    c.write_at.new.self _ (few image c.args.octets.now is c.args.place c.requires.room) c.write_at.ensures.crash c.write_at.ensures.time).so_far
 
 pub returns-in_err-sync-clause-any_moment : goal.returns-in_err-sync-clause-any_moment
 returns-in_err-sync-clause-any_moment g c image is =
-    let first = after_first g.D.Disk g.met.D.Disk.only_now c.args.disk.now c.args.place c.requires.ready image c.args.octets.now is
-    c.write_at.new.self _ c.write_at.ensures.crash c.write_at.ensures.time in
-    (after_sync g.D.Disk g.met.D.Disk.only_now c.args.disk.now c.args.place c.requires.ready image c.args.octets.now is
+    let first = after_first g.D.Disk g.met.D.Disk.only_now c.args.disk.now c.args.place c.requires.ready image c.args.octets.now is c.requires.room
+    c.write_at.new.self _ (few image c.args.octets.now is c.args.place c.requires.room) c.write_at.ensures.crash c.write_at.ensures.time in
+    (after_sync g.D.Disk g.met.D.Disk.only_now c.args.disk.now c.args.place c.requires.ready image c.args.octets.now is c.requires.room
     c.write_at.new.self c.sync.new.self first c.sync.ensures.crash c.sync.ensures.time).so_far
 
 pub returns-in_err-write_at-2-clause-any_moment : goal.returns-in_err-write_at-2-clause-any_moment
 returns-in_err-write_at-2-clause-any_moment g c image is =
-    let first = after_first g.D.Disk g.met.D.Disk.only_now c.args.disk.now c.args.place c.requires.ready image c.args.octets.now is
-    c.write_at.new.self _ c.write_at.ensures.crash c.write_at.ensures.time in
-    let kept = after_sync g.D.Disk g.met.D.Disk.only_now c.args.disk.now c.args.place c.requires.ready image c.args.octets.now is
+    let first = after_first g.D.Disk g.met.D.Disk.only_now c.args.disk.now c.args.place c.requires.ready image c.args.octets.now is c.requires.room
+    c.write_at.new.self _ (few image c.args.octets.now is c.args.place c.requires.room) c.write_at.ensures.crash c.write_at.ensures.time in
+    let kept = after_sync g.D.Disk g.met.D.Disk.only_now c.args.disk.now c.args.place c.requires.ready image c.args.octets.now is c.requires.room
     c.write_at.new.self c.sync.new.self first c.sync.ensures.crash c.sync.ensures.time in
     let staged = c.in_ok-write_at.ensures.written
-    ∙ first_piece g.D.Disk g.met.D.Disk.only_now c.args.disk.now c.args.place c.requires.ready image c.args.octets.now is _ (rest_of c.args.octets.now) in
-    (after_second g.D.Disk g.met.D.Disk.only_now c.args.disk.now c.args.place c.requires.ready image c.args.octets.now is
+    ∙ first_piece g.D.Disk g.met.D.Disk.only_now c.args.disk.now c.args.place c.requires.ready image c.args.octets.now is c.requires.room _ (rest_of c.args.octets.now) in
+    (after_second g.D.Disk g.met.D.Disk.only_now c.args.disk.now c.args.place c.requires.ready image c.args.octets.now is c.requires.room
     c.sync.new.self c.write_at-2.new.self _ (ap length (gate_of image c.args.octets.now is)) kept
     (subst (λ (f : List ℕ). Only f (g.D.Disk.may_leave c.sync.new.self)) staged c.in_ok-sync.ensures.synced.1) c.write_at-2.ensures.crash
     c.write_at-2.ensures.time).so_far
 
 pub returns-in_err-sync-2-clause-any_moment : goal.returns-in_err-sync-2-clause-any_moment
 returns-in_err-sync-2-clause-any_moment g c image is =
-    let first = after_first g.D.Disk g.met.D.Disk.only_now c.args.disk.now c.args.place c.requires.ready image c.args.octets.now is
-    c.write_at.new.self _ c.write_at.ensures.crash c.write_at.ensures.time in
-    let kept = after_sync g.D.Disk g.met.D.Disk.only_now c.args.disk.now c.args.place c.requires.ready image c.args.octets.now is
+    let first = after_first g.D.Disk g.met.D.Disk.only_now c.args.disk.now c.args.place c.requires.ready image c.args.octets.now is c.requires.room
+    c.write_at.new.self _ (few image c.args.octets.now is c.args.place c.requires.room) c.write_at.ensures.crash c.write_at.ensures.time in
+    let kept = after_sync g.D.Disk g.met.D.Disk.only_now c.args.disk.now c.args.place c.requires.ready image c.args.octets.now is c.requires.room
     c.write_at.new.self c.sync.new.self first c.sync.ensures.crash c.sync.ensures.time in
     let staged = c.in_ok-write_at.ensures.written
-    ∙ first_piece g.D.Disk g.met.D.Disk.only_now c.args.disk.now c.args.place c.requires.ready image c.args.octets.now is _ (rest_of c.args.octets.now) in
-    let opened = after_second g.D.Disk g.met.D.Disk.only_now c.args.disk.now c.args.place c.requires.ready image c.args.octets.now is
+    ∙ first_piece g.D.Disk g.met.D.Disk.only_now c.args.disk.now c.args.place c.requires.ready image c.args.octets.now is c.requires.room _ (rest_of c.args.octets.now) in
+    let opened = after_second g.D.Disk g.met.D.Disk.only_now c.args.disk.now c.args.place c.requires.ready image c.args.octets.now is c.requires.room
     c.sync.new.self c.write_at-2.new.self _ (ap length (gate_of image c.args.octets.now is)) kept
     (subst (λ (f : List ℕ). Only f (g.D.Disk.may_leave c.sync.new.self)) staged c.in_ok-sync.ensures.synced.1) c.write_at-2.ensures.crash
     c.write_at-2.ensures.time in
-    (after_sync g.D.Disk g.met.D.Disk.only_now c.args.disk.now c.args.place c.requires.ready image c.args.octets.now is
+    (after_sync g.D.Disk g.met.D.Disk.only_now c.args.disk.now c.args.place c.requires.ready image c.args.octets.now is c.requires.room
     c.write_at-2.new.self c.sync-2.new.self opened c.sync-2.ensures.crash c.sync-2.ensures.time).so_far
 
 pub returns-clause-any_moment : goal.returns-clause-any_moment
 returns-clause-any_moment g c image is =
-    let first = after_first g.D.Disk g.met.D.Disk.only_now c.args.disk.now c.args.place c.requires.ready image c.args.octets.now is
-    c.write_at.new.self _ c.write_at.ensures.crash c.write_at.ensures.time in
-    let kept = after_sync g.D.Disk g.met.D.Disk.only_now c.args.disk.now c.args.place c.requires.ready image c.args.octets.now is
+    let first = after_first g.D.Disk g.met.D.Disk.only_now c.args.disk.now c.args.place c.requires.ready image c.args.octets.now is c.requires.room
+    c.write_at.new.self _ (few image c.args.octets.now is c.args.place c.requires.room) c.write_at.ensures.crash c.write_at.ensures.time in
+    let kept = after_sync g.D.Disk g.met.D.Disk.only_now c.args.disk.now c.args.place c.requires.ready image c.args.octets.now is c.requires.room
     c.write_at.new.self c.sync.new.self first c.sync.ensures.crash c.sync.ensures.time in
     let staged = c.in_ok-write_at.ensures.written
-    ∙ first_piece g.D.Disk g.met.D.Disk.only_now c.args.disk.now c.args.place c.requires.ready image c.args.octets.now is _ (rest_of c.args.octets.now) in
-    let opened = after_second g.D.Disk g.met.D.Disk.only_now c.args.disk.now c.args.place c.requires.ready image c.args.octets.now is
+    ∙ first_piece g.D.Disk g.met.D.Disk.only_now c.args.disk.now c.args.place c.requires.ready image c.args.octets.now is c.requires.room _ (rest_of c.args.octets.now) in
+    let opened = after_second g.D.Disk g.met.D.Disk.only_now c.args.disk.now c.args.place c.requires.ready image c.args.octets.now is c.requires.room
     c.sync.new.self c.write_at-2.new.self _ (ap length (gate_of image c.args.octets.now is)) kept
     (subst (λ (f : List ℕ). Only f (g.D.Disk.may_leave c.sync.new.self)) staged c.in_ok-sync.ensures.synced.1) c.write_at-2.ensures.crash
     c.write_at-2.ensures.time in
-    (after_sync g.D.Disk g.met.D.Disk.only_now c.args.disk.now c.args.place c.requires.ready image c.args.octets.now is
+    (after_sync g.D.Disk g.met.D.Disk.only_now c.args.disk.now c.args.place c.requires.ready image c.args.octets.now is c.requires.room
     c.write_at-2.new.self c.sync-2.new.self opened c.sync-2.ensures.crash c.sync-2.ensures.time).so_far
 
 pub returns-clause-ok : goal.returns-clause-ok
 returns-clause-ok g c image is =
     let d0 = c.args.disk.now in
     let staged = c.in_ok-write_at.ensures.written
-    ∙ first_piece g.D.Disk g.met.D.Disk.only_now d0 c.args.place c.requires.ready image c.args.octets.now is _ (rest_of c.args.octets.now) in
+    ∙ first_piece g.D.Disk g.met.D.Disk.only_now d0 c.args.place c.requires.ready image c.args.octets.now is c.requires.room _ (rest_of c.args.octets.now) in
     let reads = c.in_ok-sync-2.ensures.synced.0 ∙ c.in_ok-write_at-2.ensures.written
     ∙ (λ i. written ((c.in_ok-sync.ensures.synced.0 ∙ staged) i) c.args.place (gate_of image c.args.octets.now is i))
-    ∙ second_done (g.D.Disk.reads d0) c.args.place c.requires.ready.rest image c.args.octets.now is in
-    appended g.D.Disk g.met.D.Disk.only_now d0 c.args.place c.requires.ready image c.args.octets.now is c.sync-2.new.self
+    ∙ second_done (g.D.Disk.reads d0) c.args.place c.requires.ready.rest image c.args.octets.now is c.requires.room in
+    appended g.D.Disk g.met.D.Disk.only_now d0 c.args.place c.requires.ready image c.args.octets.now is c.requires.room c.sync-2.new.self
     (c.args.place + length c.args.octets.now - 1) refl reads
     (subst (λ (f : List ℕ). Only f (g.D.Disk.may_leave c.sync-2.new.self)) (sym c.in_ok-sync-2.ensures.synced.0) c.in_ok-sync-2.ensures.synced.1)
     (subst (λ (o : Option Told). IfSome o (λ t. t.changes ≡ [])) (sym c.in_ok-sync-2.ensures.told) (told_synced _ _))
