@@ -1,3 +1,4 @@
 pub mod FaultyLines
 pub mod TowerLines
 pub mod DigitValues
+pub mod LineEndLaws
