@@ -3,6 +3,7 @@ use Rattle.std.proofs.Common.{◌≡◌, ◌≢◌, ℕ, Bool, true, false, List
 use Rattle.std.specs.Prelude.{Option, Some, None, IsSome, is_none, is_some, if◌then◌else◌, nat_lt, ◌==◌, ◌||◌}
 use Rattle.std.specs.Option.{option_and_then, option_map, option_or}
 use Rattle.std.proofs.lemmas.Bool.Decides.{nat_tests}
+use Rattle.cds_stamps.specs.Firsts.{first_some}
 use Rattle.cds_stamps.specs.Members.{master_of}
 use Rattle.cds_stamps.specs.declared.numbers.DirId.{DirId}
 use Rattle.cell_names.specs.ChildPointers.{Pointer, count_place, is_child_pointer, master_place, pointer_of}
@@ -19,7 +20,7 @@ use Rattle.cds_cell.specs.declared.cell.Cell.{Cell}
 use Rattle.cds_cell.specs.declared.house.HouseState.{HouseState}
 use Rattle.cds_cell.specs.declared.house.HouseState.TheVariants as state
 use Rattle.cds_cell.specs.Accepting.{ShowsAsMaster}
-use Rattle.cds_cell.specs.Asking.{Asked, View, Views, answering, answers_with, asked, first_some}
+use Rattle.cds_cell.specs.Asking.{Asked, View, Views, answering, answers_with, asked}
 use Rattle.cds_cell.specs.AskingProofs.{asked_shows}
 use Rattle.cds_cell.specs.Houses.{is_up_state}
 use Rattle.cds_cell.specs.Readings.{child_sight, led_sight, reading, shown_sight, sight_at, slot_view, view_of, views_of}

@@ -147,9 +147,10 @@ child_leaves c d e child t ns rest few spent grows =
 
 -- ---- as commands
 
-module _ (c : Cell) (g : model.Cell) (h d m : ℕ) (n rs : List ℕ) (s : Stands c g) (none : first_refusal (refusals_of g (command.Mkdir h d n m rs)) ≡ None) where
+module _ (c : Cell) (g : model.Cell) (h d m : ℕ) (n rs ss : List ℕ) (s : Stands c g)
+    (none : first_refusal (refusals_of g (command.Mkdir h d n m rs ss)) ≡ None) where
   abbrev tests : List (Bool × command.Refusal)
-  tests = refusals_of g (command.Mkdir h d n m rs)
+  tests = refusals_of g (command.Mkdir h d n m rs ss)
 
   missing : is_missing g (h ∷ m ∷ rs) ≡ false
   missing = passed tests (is_missing g (h ∷ m ∷ rs)) command.NoHouse (inr (inl refl)) none
@@ -203,16 +204,16 @@ module _ (c : Cell) (g : model.Cell) (h d m : ℕ) (n rs : List ℕ) (s : Stands
 
   -- what is done is the command
   pub mkdir_is : (k : ℕ) (u : Change) (ms : List Member) → k ≡ g.next_dir → u ≡ updates.MakeChild n (record { dir = k; master = m; others = ascending rs })
-      → ms ≡ listing [] 1 m rs → child_outcome g h d u k ms ≡ effect g (command.Mkdir h d n m rs)
+      → ms ≡ listing [] 1 m rs ss → child_outcome g h d u k ms ≡ effect g (command.Mkdir h d n m rs ss)
   mkdir_is k u ms next is members =
-      let list : List Member = listing [] 1 m rs in
+      let list : List Member = listing [] 1 m rs ss in
       ap (λ (u : Change). child_outcome g h d u k ms) is
       ∙ ap (λ ms. child_outcome g h d (updates.MakeChild n (record { dir = k; master = m; others = ascending rs })) k ms) members
       ∙ ap (λ k. child_outcome g h d (updates.MakeChild n (record { dir = k; master = m; others = ascending rs })) k list) next
-      ∙ ap (λ x. done x) (master_new [] 1 m rs)
+      ∙ ap (λ x. done x) (master_new [] 1 m rs ss)
     where
       done : ℕ → Outcome
       done x =
           let u : Change = updates.MakeChild n (record { dir = g.next_dir; master = m; others = ascending rs }) in
           let o : Outcome = at_house g h (turns.accept h (g.house h) d u) in
-          with_directory o g.next_dir x (listing [] 1 m rs) o.answer
+          with_directory o g.next_dir x (listing [] 1 m rs ss) o.answer

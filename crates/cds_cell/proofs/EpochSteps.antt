@@ -61,11 +61,11 @@ noted_step c c' o d i e ms ns l (command.NewEpoch k ks) answered is tells s numb
 noted_step c c' o d i e ms ns l a answered is tells s number within houses directories bag spent first epoch members = absurd is
 
 -- the master at this place is asked for the next epoch of a directory, as the model's is
-pub record EpochCall (c : Cell) (g : model.Cell) (d m : ℕ) (rs : List ℕ) (at : ℕ) (e : EpochNo) (ms : List Member) (left : List ℕ) : Type 0 where
+pub record EpochCall (c : Cell) (g : model.Cell) (d m : ℕ) (rs ss : List ℕ) (at : ℕ) (e : EpochNo) (ms : List Member) (left : List ℕ) : Type 0 where
   pub place : IsPlaceOf c.houses.items m at
   pub leads : IsPlaceOf c.houses.items (master_of ms) at
   pub epoch : e.0 ≡ g.top d + 1
-  pub members : ms ≡ listing (g.present d) e.0 m rs
+  pub members : ms ≡ listing (g.present d) e.0 m rs ss
   pub gone : left ≡ leaving (g.present d) ms
   pub later : IsNewEpoch e.0 ((g.house m).slots d)
 
@@ -77,11 +77,11 @@ listing_known c g d i l s number there =
     subst (λ d. StandsListing (Some l) g d) (sym next)
     (subst (λ o. StandsListing o g (suc i)) there (s.directories (suc i)))
 
-module _ (c : Cell) (g : model.Cell) (d m : ℕ) (rs : List ℕ) (s : Stands c g) (none : first_refusal (refusals_of g (command.Epoch d m rs)) ≡ None) where
+module _ (c : Cell) (g : model.Cell) (d m : ℕ) (rs ss : List ℕ) (s : Stands c g) (none : first_refusal (refusals_of g (command.Epoch d m rs ss)) ≡ None) where
   -- the directory of a new epoch is known
   pub epoch_known : directory_of c.directories.items d ≡ None → ⊥
   epoch_known unlisted =
-      let known : is_unknown g d ≡ false = passed (refusals_of g (command.Epoch d m rs)) (is_unknown g d) command.NoDirectory (inl refl) none in
+      let known : is_unknown g d ≡ false = passed (refusals_of g (command.Epoch d m rs ss)) (is_unknown g d) command.NoDirectory (inl refl) none in
       let top : g.top d ≡ 0 = subst (λ o. StandsListing o g d) unlisted (s.stands.directories d) in
       let unknown : is_unknown g d ≡ true = rw top refl in
       cc
@@ -89,14 +89,14 @@ module _ (c : Cell) (g : model.Cell) (d m : ℕ) (rs : List ℕ) (s : Stands c g
   -- its master was made
   pub epoch_placed : house_of c.houses.items m ≡ None → ⊥
   epoch_placed unmade =
-      never_missing c g m rs s.stands (passed (refusals_of g (command.Epoch d m rs)) (is_missing g (m ∷ rs)) command.NoHouse (inr (inl refl)) none) unmade
+      never_missing c g m rs s.stands (passed (refusals_of g (command.Epoch d m rs ss)) (is_missing g (m ∷ rs)) command.NoHouse (inr (inl refl)) none) unmade
 
   -- its list is not a bad one
   pub epoch_listed : is_bad_list (m ∷ rs) ≡ false
-  epoch_listed = passed (refusals_of g (command.Epoch d m rs)) (is_bad_list (m ∷ rs)) command.BadMembers (inr (inr (inl refl))) none
+  epoch_listed = passed (refusals_of g (command.Epoch d m rs ss)) (is_bad_list (m ∷ rs)) command.BadMembers (inr (inr (inl refl))) none
 
   up : (g.house m).up ≡ true
-  up = up_where g m (passed (refusals_of g (command.Epoch d m rs)) (is_down g m) command.Down (inr (inr (inr (inr (inl refl))))) none)
+  up = up_where g m (passed (refusals_of g (command.Epoch d m rs ss)) (is_down g m) command.Down (inr (inr (inr (inr (inl refl))))) none)
 
   -- its number is above that of each epoch that is held
   pub epoch_new : (x : ℕ) → IsNewEpoch (g.top d + 1) ((g.house x).slots d)
@@ -110,14 +110,14 @@ module _ (c : Cell) (g : model.Cell) (d m : ℕ) (rs : List ℕ) (s : Stands c g
   -- the call that the console's listing leads to
   pub epoch_call : (i at : ℕ) (l : Listing) (e : EpochNo) (old older : List declared.Member) (ms : List Member) (left : List ℕ) → d ≡ i + 1
       → i < length c.directories.items → l ≡ get_or c.directories.items i l → IsPlaceOf c.houses.items m at → e.0 ≡ l.epoch.0 + 1 → old ≡ l.members
-      → older ≡ l.members → ms ≡ listing (members_of old) e.0 m rs → left ≡ leaving (members_of older) ms → EpochCall c g d m rs at e ms left
+      → older ≡ l.members → ms ≡ listing (members_of old) e.0 m rs ss → left ≡ leaving (members_of older) ms → EpochCall c g d m rs ss at e ms left
   epoch_call i at l e old older ms left number within here place next same still members gone =
       let known = listing_known c g d i l s.stands number (slice_get_read c.directories.items (length c.directories.items) i l refl within here) in
       let epoch : e.0 ≡ g.top d + 1 = next ∙ ap (λ n. n + 1) (sym known.1) in
       let present : members_of old ≡ g.present d = ap members_of same ∙ sym known.2 in
       let presently : members_of older ≡ g.present d = ap members_of still ∙ sym known.2 in
-      let list : ms ≡ listing (g.present d) e.0 m rs = members ∙ ap (λ ms. listing ms e.0 m rs) present in
-      let lead : master_of ms ≡ m = ap master_of list ∙ master_new (g.present d) e.0 m rs in
+      let list : ms ≡ listing (g.present d) e.0 m rs ss = members ∙ ap (λ ms. listing ms e.0 m rs ss) present in
+      let lead : master_of ms ≡ m = ap master_of list ∙ master_new (g.present d) e.0 m rs ss in
       record {
         place = place;
         leads = subst (λ x. IsPlaceOf c.houses.items x at) (sym lead) place;
@@ -128,14 +128,14 @@ module _ (c : Cell) (g : model.Cell) (d m : ℕ) (rs : List ℕ) (s : Stands c g
       }
 
   module _ (c' : Cell) (at : ℕ) (e : EpochNo) (ms : List Member) (left before ns : List ℕ) (first : before ≡ [])
-      (call : EpochCall c g d m rs at e ms left) where
+      (call : EpochCall c g d m rs ss at e ms left) where
     abbrev step : turns.HouseStep
     step = turns.new_epoch m (g.house m) d e.0 ms left
 
-    effect_is : effect g (command.Epoch d m rs) ≡ entered g d m e.0 ms left
+    effect_is : effect g (command.Epoch d m rs ss) ≡ entered g d m e.0 ms left
     effect_is =
         let old : List Member = g.present d in
-        ap (λ k. entered g d m k (listing old k m rs) (leaving old (listing old k m rs))) (sym call.epoch)
+        ap (λ k. entered g d m k (listing old k m rs ss) (leaving old (listing old k m rs ss))) (sym call.epoch)
         ∙ ap (λ ms. entered g d m e.0 ms (leaving old ms)) (sym call.members)
         ∙ ap (λ left. entered g d m e.0 ms left) (sym call.gone)
 
@@ -150,12 +150,12 @@ module _ (c : Cell) (g : model.Cell) (d m : ℕ) (rs : List ℕ) (s : Stands c g
     pub epoch_refused : (r : EpochRefusal) (told : ScriptRefusal) (result : Result (Unit {0}) EpochRefusal) → result ≡ Err r
         → ActsAt c c' at before ns (IsEpochAnswer e.0 (result_err result)) (g.house m) (λ h. turns.new_epoch h (g.house m) d e.0 ms left)
         → ((a : command.Answer) → IsEpochAnswer e.0 (Some r) a → script.answer_of a ≡ Some (answer.Refused told))
-        → IsStepAs (answer.Refused told) c' (effect g (command.Epoch d m rs))
+        → IsStepAs (answer.Refused told) c' (effect g (command.Epoch d m rs ss))
     epoch_refused r told result err acts answers =
         let o : Outcome = at_house g m step in
         let a = acts_in (IsEpochAnswer e.0 (Some r))
         (subst (λ q. ActsAt c c' at before ns (IsEpochAnswer e.0 (result_err q)) (g.house m) (λ h. turns.new_epoch h (g.house m) d e.0 ms left)) err acts) in
-        let is : effect g (command.Epoch d m rs) ≡ o = effect_is ∙ with_epoch-refused o d ms e.0 r o.answer a.answer in
+        let is : effect g (command.Epoch d m rs ss) ≡ o = effect_is ∙ with_epoch-refused o d ms e.0 r o.answer a.answer in
         subst (λ (o : Outcome). IsStepAs (answer.Refused told) c' o) (sym is) (record { answer = answers o.answer a.answer; stands = a.stands })
 
     -- a new epoch that its master took, and the console noted
@@ -163,7 +163,7 @@ module _ (c : Cell) (g : model.Cell) (d m : ℕ) (rs : List ℕ) (s : Stands c g
         → ActsAt c c' at before ns (IsEpochAnswer e.0 (result_err result)) (g.house m) (λ h. turns.new_epoch h (g.house m) d e.0 ms left)
         → d ≡ i + 1 → i < length c'.directories.items → c''.houses ≡ c'.houses → c''.directories.items ≡ slice_set c'.directories.items i l
         → c''.bag ≡ c'.bag → c''.spent ≡ c'.spent → l.epoch ≡ e → members_of l.members ≡ ms
-        → IsStepAs (answer.Epoch e ns) c'' (effect g (command.Epoch d m rs))
+        → IsStepAs (answer.Epoch e ns) c'' (effect g (command.Epoch d m rs ss))
     epoch_taken c'' i l result done ok acts number within houses directories bag spent of_epoch of_members =
         let o : Outcome = at_house g m step in
         let a = acts_in (IsEpochAnswer e.0 None)

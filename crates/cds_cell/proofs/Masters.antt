@@ -1,63 +1,50 @@
 -- The master of a list that a house holds accepts updates.
-use Rattle.std.proofs.Common.{◌≡◌, ℕ, ◌+◌, ◌⊎◌, inl, inr, Bool, true, false, List, [], ◌∷◌, map, refl, sym, ap, ◌∙◌, subst, arith, ⊎_elim}
+use Rattle.std.proofs.Common.{◌≡◌, ℕ, ◌+◌, ◌⊎◌, inl, inr, Bool, true, false, List, [], ◌∷◌, map, refl, sym, ap, ◌∙◌, subst, ⊎_elim}
 use Rattle.std.specs.Prelude.{Option, if◌then◌else◌, ◌==◌, ◌&&◌, ◌||◌}
-use Rattle.std.proofs.lemmas.Bool.Decides.{nat_tests}
-use Rattle.cds_stamps.specs.declared.members.MemberKind.TheVariants.{Master, ReadOnly}
-use Rattle.cds_stamps.specs.Members.{Member, is_accepting, is_listed, is_master, master_of, since_in}
+use Rattle.cds_stamps.specs.declared.members.MemberKind.TheVariants.{Master, ReadOnly, Secondary}
+use Rattle.cds_stamps.specs.Members.{Member, accepts_updates, is_accepting, is_listed, master_of, since_in}
 use Rattle.cell_model.specs.Agreement.{place_of}
 use Rattle.cell_model.specs.Cells.{Cell, IsHeld, Replica, empty_cell, put}
 use Rattle.cell_model.specs.Commands.{Accepted, Answer, Command}
 use Rattle.cell_model.specs.Reached.{IsReached}
+use Rattle.cell_model.specs.Sets.{has}
 use Rattle.cell_model.specs.Steps.{ascending, kind_among, listing, outcome, replay}
 use Rattle.cell_model.proofs.Moves.{Move, Steps, acts, clocks, crashes, crowns, founds, houses, loses, mkdirs, one, outcome_steps, starts, stays}
 use Rattle.cell_model.proofs.NeverComes.{reaching_last}
 use Rattle.cell_model.proofs.Runs.{lists_of}
 use Rattle.cell_model.proofs.Standing.{on_reached}
-use Rattle.cell_model.proofs.Terms.{master_listed}
+use Rattle.cell_model.proofs.Terms.{master_listed, master_new}
 use Rattle.cell_model.proofs.Views.{put_at}
 
 -- ---- lists
 
-not_both : (a b : Bool) → ((a && false) || b) ≡ b
-not_both true b = refl
-not_both false b = refl
-
--- where a house of a list accepts updates, its master does
-first_accepts : (ms : List Member) (x : ℕ) → is_accepting x ms ≡ true → is_accepting (master_of ms) ms ≡ true
-first_accepts [] x is = absurd (cc)
-first_accepts (y ∷ ys) x is = by_kind (is_master y.kind) (first_accepts ys x) is
-  where
-    by_kind : (b : Bool) → (is_accepting x ys ≡ true → is_accepting (master_of ys) ys ≡ true) → (((y.house == x) && b) || is_accepting x ys) ≡ true
-        → (((y.house == (if b then y.house else master_of ys)) && b) || is_accepting (if b then y.house else master_of ys) ys) ≡ true
-    by_kind true rest is = let same : (y.house == y.house) ≡ true = grind (arith, nat_tests) in rw same refl
-    by_kind false rest is =
-        not_both (y.house == master_of ys) (is_accepting (master_of ys) ys) ∙ rest (sym (not_both (y.house == x) (is_accepting x ys)) ∙ is)
-
 -- the house of this number, which a new list has as its master, accepts updates if it is listed
-named_accepts : (old : List Member) (k m : ℕ) (hs : List ℕ)
-    → is_listed m (map (λ x. record { house = x; since = since_in old x k; kind = kind_among m x }) hs) ≡ true
-    → is_accepting m (map (λ x. record { house = x; since = since_in old x k; kind = kind_among m x }) hs) ≡ true
-named_accepts old k m [] is = absurd (cc)
-named_accepts old k m (h ∷ hs) is = by_test (h == m) (named_accepts old k m hs) is
+named_accepts : (old : List Member) (k m : ℕ) (ss hs : List ℕ)
+    → is_listed m (map (λ x. record { house = x; since = since_in old x k; kind = kind_among m ss x }) hs) ≡ true
+    → is_accepting m (map (λ x. record { house = x; since = since_in old x k; kind = kind_among m ss x }) hs) ≡ true
+named_accepts old k m ss [] is = absurd (cc)
+named_accepts old k m ss (h ∷ hs) is = by_test (h == m) (named_accepts old k m ss hs) is
   where
     listed : List Member
-    listed = map (λ x. record { house = x; since = since_in old x k; kind = kind_among m x }) hs
+    listed = map (λ x. record { house = x; since = since_in old x k; kind = kind_among m ss x }) hs
 
     by_test : (b : Bool) → (is_listed m listed ≡ true → is_accepting m listed ≡ true) → (b || is_listed m listed) ≡ true
-        → ((b && is_master (if b then Master else ReadOnly)) || is_accepting m listed) ≡ true
+        → ((b && accepts_updates (if b then Master else (if has h ss then Secondary else ReadOnly))) || is_accepting m listed) ≡ true
     by_test true rest is = refl
     by_test false rest is = rest is
 
 -- so the master of a new list does
-listing_accepts : (old : List Member) (k m : ℕ) (rs : List ℕ) → is_accepting (master_of (listing old k m rs)) (listing old k m rs) ≡ true
-listing_accepts old k m rs = first_accepts (listing old k m rs) m (named_accepts old k m (ascending (m ∷ rs)) (master_listed old k m rs))
+listing_accepts : (old : List Member) (k m : ℕ) (rs ss : List ℕ) → is_accepting (master_of (listing old k m rs ss)) (listing old k m rs ss) ≡ true
+listing_accepts old k m rs ss =
+    ap (λ x. is_accepting x (listing old k m rs ss)) (master_new old k m rs ss)
+    ∙ named_accepts old k m ss (ascending (m ∷ rs)) (master_listed old k m rs ss)
 
 -- nobody is listed, or the master accepts updates
 abbrev HasMaster : List Member → Type 0
 HasMaster ms = (ms ≡ []) ⊎ (is_accepting (master_of ms) ms ≡ true)
 
-listing_has : (old : List Member) (k m : ℕ) (rs : List ℕ) → HasMaster (listing old k m rs)
-listing_has old k m rs = inr (listing_accepts old k m rs)
+listing_has : (old : List Member) (k m : ℕ) (rs ss : List ℕ) → HasMaster (listing old k m rs ss)
+listing_has old k m rs ss = inr (listing_accepts old k m rs ss)
 
 -- ---- cells
 
@@ -77,14 +64,14 @@ move_masters g g' p a n all (loses i) = all
 move_masters g g' p a n all (crashes h up) = all
 move_masters g g' p a n all (starts h made) = all
 move_masters g g' p a n all (acts h d at floor o posts b l act) = all
-move_masters g g' p a n all (founds d m rs ns root up none) = put_masters g.present d (listing [] 1 m rs) all (listing_has [] 1 m rs)
-move_masters g g' p a n all (crowns d m rs r up known at l since) =
-    put_masters g.present d (listing (g.present d) (g.top d + 1) m rs) all (listing_has (g.present d) (g.top d + 1) m rs)
+move_masters g g' p a n all (founds d m rs ss ns root up none) = put_masters g.present d (listing [] 1 m rs ss) all (listing_has [] 1 m rs ss)
+move_masters g g' p a n all (crowns d m rs ss r up known at l since) =
+    put_masters g.present d (listing (g.present d) (g.top d + 1) m rs ss) all (listing_has (g.present d) (g.top d + 1) m rs ss)
 
 step_masters : (g g' : Cell) (p : Option (ℕ × ℕ)) (a : Answer) (n : List Accepted) → HasMasters g → Steps g p g' a n → HasMasters g'
 step_masters g g' p a n all (one _ _ _ m) = move_masters g g' p a n all m
-step_masters g g' p a n all (mkdirs h d m u rs r s ns at i fine up known) =
-    put_masters g.present g.next_dir (listing [] 1 m rs) all (listing_has [] 1 m rs)
+step_masters g g' p a n all (mkdirs h d m u rs ss r s ns at i fine up known) =
+    put_masters g.present g.next_dir (listing [] 1 m rs ss) all (listing_has [] 1 m rs ss)
 
 -- and with the list of each epoch of a run
 lists_masters : (d : ℕ) (cs : List Command) (g : Cell) → HasMasters g → (e : ℕ) → HasMaster (lists_of d cs g e)

@@ -1,18 +1,20 @@
 -- Member lists as a console names them: where they have no fault, and what the loops that make them have so far.
 use Rattle.std.proofs.Common.{◌≡◌, ℕ, suc, add-one, get_or, ◌+◌, ◌≤◌, ◌<◌, Bool, true, false, cond, eqb, List, [], ◌∷◌, ◌++◌}
 use Rattle.std.proofs.Common.{length, map, drop, Some, None, refl, sym, ◌∙◌, ap, arith, append_assoc, append-nil}
-use Rattle.std.specs.Prelude.{nat_lt, is_some, ◌==◌, ◌||◌, if◌then◌else◌}
+use Rattle.std.specs.Prelude.{nat_lt, is_some, ◌==◌, ◌&&◌, ◌||◌, if◌then◌else◌}
 use Rattle.std.specs.List.{AllByRecursion, list_any, position_from}
 use Rattle.std.proofs.Math.Seq.{drop-cons}
 use Rattle.std.proofs.lemmas.Bool.Decides.{nat_tests}
 use Rattle.std.proofs.lemmas.List.{length-map, map-append}
 use Rattle.std.proofs.lemmas.List.Sums.{sum_by-cons}
 use Rattle.cds_stamps.specs.declared.members.Member as declared
-use Rattle.cds_stamps.specs.declared.members.MemberKind.TheVariants.{Master, ReadOnly}
+use Rattle.cds_stamps.specs.declared.members.MemberKind.TheVariants.{Master, ReadOnly, Secondary}
 use Rattle.cds_stamps.specs.declared.numbers.HouseNo.{HouseNo}
 use Rattle.cds_stamps.specs.Members.{Member, is_master, is_listed, since_in, members_of, masters_in, most_members, first_unordered, members_fault}
 use Rattle.cell_model.specs.Sets.{has}
 use Rattle.cell_model.specs.Steps.{ascending, is_bad_list, kind_among, leaving, listing, stands_twice}
+use Rattle.cell_script.specs.declared.lists.Listed.{Listed}
+use Rattle.cell_script.specs.Listings.{secondaries_in}
 use Rattle.held_directories.specs.Posting.{numbers_of}
 use Rattle.cds_cell.proofs.Ascending.{Rises, above_all, all_from_zero, ascending_rises, ascending_times, length_ascending, one_if, times, twice_ascending}
 
@@ -22,6 +24,17 @@ use Rattle.cds_cell.proofs.Ascending.{Rises, above_all, all_from_zero, ascending
 pub contains_number : (x : ℕ) (hs : List HouseNo) → list_any (λ (h : HouseNo). eqb h.0 x) hs ≡ has x (numbers_of hs)
 contains_number x [] = refl
 contains_number x (h ∷ hs) = let flip : eqb h.0 x ≡ (x == h.0) = grind (arith, nat_tests) in cc (flip, contains_number x hs)
+
+-- a house is a secondary one of a list exactly where its number stands among theirs
+pub secondary_number : (x : ℕ) (ls : List Listed) → list_any (λ (l : Listed). l.secondary && eqb l.house.0 x) ls ≡ has x (numbers_of (secondaries_in ls))
+secondary_number x [] = refl
+secondary_number x (l ∷ ls) = by_kind l.secondary (secondary_number x ls)
+  where
+    by_kind : (b : Bool) → list_any (λ (y : Listed). y.secondary && eqb y.house.0 x) ls ≡ has x (numbers_of (secondaries_in ls))
+        → ((b && eqb l.house.0 x) || list_any (λ (y : Listed). y.secondary && eqb y.house.0 x) ls)
+        ≡ has x (numbers_of (if b then l.house ∷ secondaries_in ls else secondaries_in ls))
+    by_kind true rest = let flip : eqb l.house.0 x ≡ (x == l.house.0) = grind (arith, nat_tests) in cc (flip, rest)
+    by_kind false rest = rest
 
 -- a house is listed exactly where a place of it is found
 pub listed_by_place : (x i : ℕ) (ms : List Member) → is_listed x ms ≡ is_some (position_from (λ (m : Member). m.house == x) i ms)
@@ -82,10 +95,10 @@ stands_first : (z : ℕ) (xs : List ℕ) → has z xs ≡ false → times z (z �
 unfolding times
 stands_first z xs out = let same : (z == z) ≡ true = grind (arith, nat_tests) in rw (same, none_stands z xs out) refl
 
-module _ (old : List Member) (k m : ℕ) where
+module _ (old : List Member) (k m : ℕ) (ss : List ℕ) where
   -- the member that a house is, in a new list
   abbrev pub listed_as : ℕ → Member
-  listed_as x = record { house = x; since = since_in old x k; kind = kind_among m x }
+  listed_as x = record { house = x; since = since_in old x k; kind = kind_among m ss x }
 
   rising_is_ordered : (place least : ℕ) (xs : List ℕ) → Rises xs → AllByRecursion (λ y. least ≤ y) xs → stands_twice xs ≡ false
       → first_unordered place least (map listed_as xs) ≡ None
@@ -101,36 +114,37 @@ module _ (old : List Member) (k m : ℕ) where
   masters_listed [] = refl
   masters_listed (x ∷ xs) =
       sum_by-cons (λ (y : Member). cond (is_master y.kind) 1 0) (listed_as x) (map listed_as xs)
-      ∙ cc (is_one (x == m), masters_listed xs)
+      ∙ cc (is_one (x == m) (has x ss), masters_listed xs)
     where
-      is_one : (b : Bool) → cond (is_master (if b then Master else ReadOnly)) 1 0 ≡ one_if b
-      is_one true = refl
-      is_one false = refl
+      is_one : (b t : Bool) → cond (is_master (if b then Master else (if t then Secondary else ReadOnly))) 1 0 ≡ one_if b
+      is_one true t = refl
+      is_one false true = refl
+      is_one false false = refl
 
   -- a list that is not bad has no fault
-  pub good_listing : (rs : List ℕ) → is_bad_list (m ∷ rs) ≡ false → members_fault (listing old k m rs) ≡ None
+  pub good_listing : (rs : List ℕ) → is_bad_list (m ∷ rs) ≡ false → members_fault (listing old k m rs ss) ≡ None
   good_listing rs good =
       let tests = neither (stands_twice (m ∷ rs)) (nat_lt most_members (length (m ∷ rs))) good in
       let lone = neither (has m rs) (stands_twice rs) tests.0 in
-      let count : length (listing old k m rs) ≡ suc (length rs) = length-map (ascending (m ∷ rs)) listed_as ∙ length_ascending (m ∷ rs) in
+      let count : length (listing old k m rs ss) ≡ suc (length rs) = length-map (ascending (m ∷ rs)) listed_as ∙ length_ascending (m ∷ rs) in
       let few = tests.1 in
-      let counted : ((length (listing old k m rs) == 0) || nat_lt most_members (length (listing old k m rs))) ≡ false = grind (arith, nat_tests, count, few) in
+      let counted : ((length (listing old k m rs ss) == 0) || nat_lt most_members (length (listing old k m rs ss))) ≡ false = grind (arith, nat_tests, count, few) in
       let ordered = rising_is_ordered 1 0 (ascending (m ∷ rs)) (ascending_rises (m ∷ rs)) (all_from_zero (ascending (m ∷ rs)))
       (twice_ascending (m ∷ rs) ∙ tests.0) in
-      let one : masters_in (listing old k m rs) ≡ 1 = masters_listed (ascending (m ∷ rs)) ∙ ascending_times m (m ∷ rs) ∙ stands_first m rs lone.0 in
+      let one : masters_in (listing old k m rs ss) ≡ 1 = masters_listed (ascending (m ∷ rs)) ∙ ascending_times m (m ∷ rs) ∙ stands_first m rs lone.0 in
       rw (counted, ordered, one) refl
 
 -- ---- loops
 
 -- the members so far, and those that the other houses are to be, are the whole list
-pub record ListsRest (old : List Member) (k m : ℕ) (rs : List ℕ) (rest : List HouseNo) (made : List declared.Member) : Type 0 where
-  pub is : members_of made ++ map (listed_as old k m) (numbers_of rest) ≡ listing old k m rs
+pub record ListsRest (old : List Member) (k m : ℕ) (rs ss : List ℕ) (rest : List HouseNo) (made : List declared.Member) : Type 0 where
+  pub is : members_of made ++ map (listed_as old k m ss) (numbers_of rest) ≡ listing old k m rs ss
 
 -- where no house is left they are the whole list
-pub lists_end : (old : List Member) (k m : ℕ) (rs : List ℕ) (rest : List HouseNo) (made : List declared.Member) → ListsRest old k m rs rest made → rest ≡ []
-    → members_of made ≡ listing old k m rs
-lists_end old k m rs rest made h none =
-    sym (append-nil (members_of made)) ∙ ap (λ hs. members_of made ++ map (listed_as old k m) (numbers_of hs)) (sym none) ∙ h.is
+pub lists_end : (old : List Member) (k m : ℕ) (rs ss : List ℕ) (rest : List HouseNo) (made : List declared.Member) → ListsRest old k m rs ss rest made → rest ≡ []
+    → members_of made ≡ listing old k m rs ss
+lists_end old k m rs ss rest made h none =
+    sym (append-nil (members_of made)) ∙ ap (λ hs. members_of made ++ map (listed_as old k m ss) (numbers_of hs)) (sym none) ∙ h.is
 
 -- the houses that leave so far, and those of the rest that do, are all that leave
 pub record LeavesRest (old now : List Member) (rest : List declared.Member) (left : List HouseNo) : Type 0 where

@@ -3,7 +3,7 @@ use Rattle.std.proofs.Common.{◌≡◌, ◌≢◌, ℕ, zero, suc, ◌+◌, ◌
 use Rattle.std.specs.Prelude.{Option, Some, None, is_some, if◌then◌else◌, ◌==◌, ◌||◌, nat_lt}
 use Rattle.std.specs.List.{Contains, flat_map, range_with_len}
 use Rattle.std.proofs.lemmas.Bool.Decides.{nat_tests}
-use Rattle.cds_stamps.proofs.ListMembers.{Contains-head, Contains-tail, Contains-map}
+use Rattle.cds_stamps.proofs.ListMembers.{Contains-flat_map, Contains-head, Contains-tail, Contains-map}
 use Rattle.directory.specs.Histories.{Birth, name_in}
 use Rattle.directory.specs.Shown.{Shown, shown}
 use Rattle.cell_model.specs.Cells.{Cell, Replica, Slot, Absent, Gone, Held}
@@ -20,7 +20,7 @@ use Rattle.cell_model.proofs.Wholes.{Plain, up_made, run_onward, empty_plain}
 use Rattle.cell_model.specs.Cells.{empty_cell}
 use Rattle.resolver.specs.Readers.{Object, ShowsOnly, object_found}
 use Rattle.cds_cell.specs.Asking.{Asked, View, asked}
-use Rattle.cds_cell.specs.AskingProofs.{Contains-flat_map, asked_shows, shown_object}
+use Rattle.cds_cell.specs.AskingProofs.{asked_shows, shown_object}
 use Rattle.cds_cell.specs.Readings.{sight_at, slot_view, view_of, views_of, reading, objects_in, objects_of}
 
 -- ---- lists

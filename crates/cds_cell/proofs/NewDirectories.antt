@@ -153,11 +153,11 @@ unlisted : (ls : List Listing) (g : model.Cell) → StandsListing (directory_of 
 unlisted [] g stands none = refl
 unlisted (l ∷ ls) g stands none = let first = stands.0 in let top = stands.1 in absurd (omega (arith, first, top, none))
 
-module _ (c : Cell) (g : model.Cell) (m : ℕ) (rs : List ℕ) (s : Stands c g) (none : first_refusal (refusals_of g (command.Root m rs)) ≡ None) where
+module _ (c : Cell) (g : model.Cell) (m : ℕ) (rs ss : List ℕ) (s : Stands c g) (none : first_refusal (refusals_of g (command.Root m rs ss)) ≡ None) where
   no_root : g.top 1 ≡ 0
   no_root =
       let known : not (is_unknown g 1) ≡ false =
-      passed (refusals_of g (command.Root m rs)) (not (is_unknown g 1)) command.DirectoryExists (inl refl) none in
+      passed (refusals_of g (command.Root m rs ss)) (not (is_unknown g 1)) command.DirectoryExists (inl refl) none in
       grind (arith, nat_tests, known)
 
   no_directory : length c.directories.items ≡ 0
@@ -165,17 +165,17 @@ module _ (c : Cell) (g : model.Cell) (m : ℕ) (rs : List ℕ) (s : Stands c g) 
 
   can : CanFound g 1 m
   can = record {
-    made = made_where g m rs (passed (refusals_of g (command.Root m rs)) (is_missing g (m ∷ rs)) command.NoHouse (inr (inl refl)) none);
-    up = up_where g m (passed (refusals_of g (command.Root m rs)) (is_down g m) command.Down (inr (inr (inr (inl refl)))) none);
+    made = made_where g m rs (passed (refusals_of g (command.Root m rs ss)) (is_missing g (m ∷ rs)) command.NoHouse (inr (inl refl)) none);
+    up = up_where g m (passed (refusals_of g (command.Root m rs ss)) (is_down g m) command.Down (inr (inr (inr (inl refl)))) none);
     absent = ((on_reached NumbersHold numbers_lem g s.reached).nothing 1 no_root).absent m;
   }
 
   -- the root, whose master holds it
-  pub root_comes : (e : Cell) (ms : List Member) (before after : List ℕ) → ms ≡ listing [] 1 m rs → before ≡ []
+  pub root_comes : (e : Cell) (ms : List Member) (before after : List ℕ) → ms ≡ listing [] 1 m rs ss → before ≡ []
       → (CanFound g 1 (master_of ms) → 1 ≡ length c.directories.items + 1 → Founds e g 1 ms before after)
-      → IsStepAs (answer.Posted after) e (effect g (command.Root m rs))
+      → IsStepAs (answer.Posted after) e (effect g (command.Root m rs ss))
   root_comes e ms before after is first founds =
-      let lead : master_of ms ≡ m = ap master_of is ∙ master_new [] 1 m rs in
+      let lead : master_of ms ≡ m = ap master_of is ∙ master_new [] 1 m rs ss in
       let f : Founds e g 1 ms before after =
       founds (subst (CanFound g 1) (sym lead) can) (sym (ap (λ n. n + 1) no_directory)) in
       let next : g.next_dir ≡ max 2 (1 + 1) = s.stands.next ∙ ap (λ n. max 2 (n + 1)) no_directory in
@@ -184,5 +184,5 @@ module _ (c : Cell) (g : model.Cell) (m : ℕ) (rs : List ℕ) (s : Stands c g) 
       f.told ∙ ap (λ ns. ns ++ serials_of g (first_joins (g.house (master_of ms)).floor 1 (master_of ms) ms)) first in
       let whole : IsStepAs (answer.Posted after) e (root g (master_of ms) ms) =
       record { answer = ap (λ ns. Some (answer.Posted ns)) (sym told); stands = made } in
-      subst (λ x. IsStepAs (answer.Posted after) e (root g x (listing [] 1 m rs))) lead
+      subst (λ x. IsStepAs (answer.Posted after) e (root g x (listing [] 1 m rs ss))) lead
       (subst (λ ms'. IsStepAs (answer.Posted after) e (root g (master_of ms) ms')) is whole)

@@ -1,6 +1,7 @@
 -- Which house is asked about a directory (own, after C705, confidence of lookups).
-use Rattle.std.specs.Prelude.{ℕ, Bool, not, ◌||◌, if◌then◌else◌, ◌==◌, List, [], ◌∷◌, Option, Some, None}
-use Rattle.std.specs.Option.{option_or, option_and_then}
+use Rattle.std.specs.Prelude.{ℕ, Bool, not, ◌||◌, if◌then◌else◌, ◌==◌, List, ◌∷◌, Option, Some, None}
+use Rattle.std.specs.Option.{option_and_then}
+use Rattle.cds_stamps.specs.Firsts.{first_some}
 use Rattle.cds_stamps.specs.Members.{Member, master_of}
 use Rattle.directory.specs.Shown.{Shown}
 use Rattle.cell_model.specs.Sets.{has}
@@ -27,11 +28,6 @@ answers_with high x v = if not high || (master_of v.members == x) then Some (rec
 -- the same of a house that shows something of the directory, if it does (own)
 abbrev pub answering : Views → (high : Bool) → (d x : ℕ) → Option Asked
 answering views high d x = option_and_then (answers_with high x) (views d x)
-
--- the first that there is (own)
-abbrev pub first_some : {A B : Type 0} → (A → Option B) → List A → Option B
-first_some f [] = None
-first_some f (x ∷ xs) = option_or (f x) (first_some f xs)
 
 -- the preferred house first, where it is listed (own)
 abbrev pub preferring : Option ℕ → List ℕ → List ℕ

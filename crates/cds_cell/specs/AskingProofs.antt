@@ -1,10 +1,8 @@
 -- Proofs alone: who is asked shows what it is asked for; and what is seen as an object shows.
 use Rattle.std.specs.Prelude.{◌≡◌, ℕ, Bool, true, false, not, ◌||◌, ◌==◌, if◌then◌else◌, List, [], ◌∷◌, Option, Some, None, is_some, refl}
-use Rattle.std.specs.List.{Contains, flat_map}
 use Rattle.std.specs.Option.{option_or, option_and_then}
-use Rattle.std.proofs.Common.{sym, ◌∙◌, subst, arith, ⊎_elim}
-use Rattle.std.proofs.lemmas.List.Elements.{Contains-append_left, Contains-append_right}
-use Rattle.cds_stamps.proofs.ListMembers.{Contains-cases}
+use Rattle.std.proofs.Common.{◌∙◌, subst}
+use Rattle.cds_stamps.specs.Firsts.{first_some}
 use Rattle.cds_stamps.specs.Members.{master_of}
 use Rattle.cell_names.specs.FullNames.{is_full_name, components_of}
 use Rattle.cell_names.specs.ChildPointers.{Pointer, pointer_of}
@@ -12,18 +10,8 @@ use Rattle.directory.specs.declared.entry.Kind.{Kind}
 use Rattle.directory.specs.declared.entry.Kind.TheVariants as kind
 use Rattle.directory.specs.Shown.{Shown, lead_of}
 use Rattle.resolver.specs.Readers.{Object, Absent, Link}
-use Rattle.cds_cell.specs.Asking.{Asked, View, Views, answers_with, answering, asked, first_some, in_turn}
+use Rattle.cds_cell.specs.Asking.{Asked, View, Views, answers_with, answering, asked, in_turn}
 use Rattle.cds_cell.specs.Readings.{child_sight, led_sight, shown_sight}
-
--- ---- lists
-
--- an item of what an item of the list gives is an item of what the list gives
-pub Contains-flat_map : {A B : Type 0} (f : A → List B) (xs : List A) (x : A) (y : B) → Contains xs x → Contains (f x) y → Contains (flat_map f xs) y
-Contains-flat_map f [] x y at there = absurd (omega (arith, at.1))
-Contains-flat_map f (z ∷ zs) x y at there = ⊎_elim
-    (λ is. Contains-append_left (f z) (flat_map f zs) y (subst (λ w. Contains (f w) y) (sym is) there))
-    (λ later. Contains-append_right (f z) (flat_map f zs) y (Contains-flat_map f zs x y later there))
-    (Contains-cases z zs x at)
 
 -- ---- who is asked
 

@@ -6,6 +6,7 @@ use Rattle.std.specs.declared.alloc.AllocError.{AllocError}
 use Rattle.directory.specs.Updates.{change_of}
 use Rattle.cell_model.specs.Commands as command
 use Rattle.cell_model.specs.Steps.{Outcome, first_refusal}
+use Rattle.cell_script.specs.Listings.{houses_in, secondaries_in}
 use Rattle.script_answers.specs.declared.answer.Answer.{Answer}
 use Rattle.script_answers.specs.declared.answer.ScriptRefusal.{ScriptRefusal}
 use Rattle.held_directories.specs.Posting.{numbers_of}
@@ -26,11 +27,11 @@ IsPlaceOf (h ∷ hs) x (suc i) = (h.house.0 ≢ x) × IsPlaceOf hs x i
 abbrev pub step_meant : Step → command.Command
 step_meant (step.House h node) = command.House h.0 node
 step_meant (step.Clock h time) = command.Clock h.0 time
-step_meant (step.Root m rs) = command.Root m.0 (numbers_of rs)
-step_meant (step.Mkdir h d n m rs) = command.Mkdir h.0 d.0 n m.0 (numbers_of rs)
+step_meant (step.Root m ls) = command.Root m.0 (numbers_of (houses_in ls)) (numbers_of (secondaries_in ls))
+step_meant (step.Mkdir h d n m ls) = command.Mkdir h.0 d.0 n m.0 (numbers_of (houses_in ls)) (numbers_of (secondaries_in ls))
 step_meant (step.Repoint h d n m rs) = command.Repoint h.0 d.0 n m.0 (numbers_of rs)
 step_meant (step.Update h d u) = command.Accept h.0 d.0 (change_of u)
-step_meant (step.Epoch d m rs) = command.Epoch d.0 m.0 (numbers_of rs)
+step_meant (step.Epoch d m ls) = command.Epoch d.0 m.0 (numbers_of (houses_in ls)) (numbers_of (secondaries_in ls))
 step_meant (step.Skulk h d) = command.Skulk h.0 d.0
 step_meant (step.Deliver n) = command.Deliver n
 step_meant (step.Lose n) = command.Lose n

@@ -6,6 +6,7 @@ use Rattle.directory.specs.Updates as updates
 use Rattle.cell_model.specs.Commands as model
 use Rattle.cell_script.specs.declared.command.Command.{Command}
 use Rattle.cell_script.specs.declared.command.Command.TheVariants as command
+use Rattle.cell_script.specs.Listings.{houses_in, secondaries_in}
 use Rattle.script_answers.specs.declared.answer.Answer.{Answer}
 use Rattle.script_answers.specs.declared.answer.Answer.TheVariants as answer
 use Rattle.script_answers.specs.declared.answer.ScriptRefusal.{ScriptRefusal}
@@ -16,8 +17,8 @@ use Rattle.held_directories.specs.Posting.{numbers_of}
 abbrev pub step_of : Command → model.Command
 step_of (command.House h node) = model.House h.0 node
 step_of (command.Clock h time) = model.Clock h.0 time
-step_of (command.Root m rs) = model.Root m.0 (numbers_of rs)
-step_of (command.Mkdir h d n m rs) = model.Mkdir h.0 d.0 n m.0 (numbers_of rs)
+step_of (command.Root m ls) = model.Root m.0 (numbers_of (houses_in ls)) (numbers_of (secondaries_in ls))
+step_of (command.Mkdir h d n m ls) = model.Mkdir h.0 d.0 n m.0 (numbers_of (houses_in ls)) (numbers_of (secondaries_in ls))
 step_of (command.Repoint h d n m rs) = model.Repoint h.0 d.0 n m.0 (numbers_of rs)
 step_of (command.Create h d n) = model.Accept h.0 d.0 (updates.Create n)
 step_of (command.Link h d n target) = model.Accept h.0 d.0 (updates.MakeLink n target)
@@ -26,7 +27,7 @@ step_of (command.Add h d n a v) = model.Accept h.0 d.0 (updates.Add n a v)
 step_of (command.Remove h d n a v) = model.Accept h.0 d.0 (updates.Remove n a v)
 step_of (command.Put h d n a v) = model.Accept h.0 d.0 (updates.Put n a v)
 step_of (command.Clear h d n a) = model.Accept h.0 d.0 (updates.Clear n a)
-step_of (command.Epoch d m rs) = model.Epoch d.0 m.0 (numbers_of rs)
+step_of (command.Epoch d m ls) = model.Epoch d.0 m.0 (numbers_of (houses_in ls)) (numbers_of (secondaries_in ls))
 step_of (command.Skulk h d) = model.Skulk h.0 d.0
 step_of (command.Deliver n) = model.Deliver n
 step_of (command.Lose n) = model.Lose n

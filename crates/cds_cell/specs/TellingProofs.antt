@@ -14,7 +14,7 @@ use Rattle.attr_sets.specs.declared.cell.AttrCell.{AttrCell}
 use Rattle.attr_sets.specs.Cells.{cell_values}
 use Rattle.attr_sets.proofs.ShownLaws.{cell_values-ascending}
 use Rattle.cds_messages.specs.Dirs.{dir_exact}
-use Rattle.cds_stamps.proofs.ListMembers.{Contains-head, Contains-tail, Contains-map}
+use Rattle.cds_stamps.proofs.ListMembers.{Contains-flat_map, Contains-head, Contains-tail, Contains-map}
 use Rattle.cds_stamps.specs.declared.numbers.DirId.{DirId}
 use Rattle.cds_stamps.specs.Keyed.{tied}
 use Rattle.cds_stamps.specs.Octets.{octets_cmp, octets_exact}
@@ -30,7 +30,7 @@ use Rattle.cds_cell.specs.declared.house.CellHouse.{CellHouse}
 use Rattle.cds_cell.specs.declared.house.HouseState.{HouseState}
 use Rattle.cds_cell.specs.declared.house.HouseState.TheVariants as state
 use Rattle.cds_cell.specs.Asking.{Asked, View, asked}
-use Rattle.cds_cell.specs.AskingProofs.{Contains-flat_map, asked_shows, shown_object}
+use Rattle.cds_cell.specs.AskingProofs.{asked_shows, shown_object}
 use Rattle.cds_cell.specs.Readings.{sight_at, values_of, values_at}
 use Rattle.cds_cell.specs.Standing.{house_of}
 use Rattle.cds_cell.specs.Telling.{dir_view, state_view, told_views, told, objects_held, objects_at, told_objects}

@@ -7,6 +7,7 @@ ghost use Rattle.cell_model.specs.Cells as model;
 ghost use Rattle.cell_model.specs.Commands as command;
 ghost use Rattle.cell_model.specs.Steps.{effect, first_refusal, refusals_of};
 ghost use Rattle.cell_model.specs.Turns as turns;
+ghost use Rattle.cell_script.specs.Listings.{houses_in, secondaries_in};
 ghost use Rattle.held_directories.specs.Posting.{numbers_of};
 ghost use Rattle.held_directories.specs.Stepping.{IsBegunAnswer, IsEpochAnswer, IsStampAnswer};
 ghost use Rattle.cds_cell.specs.declared.house.CellHouse.{CellHouse};
@@ -21,6 +22,7 @@ use crate::console::Listing;
 use crate::members::{leaving, listing};
 use crate::step::Step;
 use cds_stamps::{DirId, EpochNo, HouseNo, Members, Stamp};
+use cell_script::Listeds;
 use clearinghouse::{Begun, EpochRefusal, Outgoing};
 use directory::{Update, UpdateRefusal};
 use script_answers::{Answer, ScriptRefusal, Serials};
@@ -37,15 +39,15 @@ impl Cell {
         match step {
             Step::House(house, node) => self.make_house(alloc, house, node),
             Step::Clock(house, time) => Ok(self.set_clock(house, time)),
-            Step::Root(master, others) => self.make_root(alloc, master, others.list()),
+            Step::Root(master, others) => self.make_root(alloc, master, &others),
             Step::Mkdir(house, dir, name, master, others) => {
-                self.make_directory(alloc, house, dir, name, master, others.list())
+                self.make_directory(alloc, house, dir, name, master, &others)
             }
             Step::Repoint(house, dir, name, master, others) => {
                 self.repoint(alloc, house, dir, name, master, others.list())
             }
             Step::Update(house, dir, update) => self.accept(alloc, house, dir, &update),
-            Step::Epoch(dir, master, others) => self.new_epoch(alloc, dir, master, others.list()),
+            Step::Epoch(dir, master, others) => self.new_epoch(alloc, dir, master, &others),
             Step::Skulk(house, dir) => self.begin_skulk(alloc, house, dir),
             Step::Deliver(serial) => self.deliver(alloc, serial),
             Step::Lose(serial) => Ok(self.lose(serial)),
@@ -173,12 +175,13 @@ impl Cell {
         alloc: Global,
         dir: DirId,
         master: HouseNo,
-        others: &[HouseNo],
+        others: &Listeds,
     ) -> Result<Answer, AllocError>
         requires room { HasRoom self.old }
         ensures leaves { Leaves self.old self.new result }
-        ensures step { (g : model.Cell) → Stands self.old g → first_refusal (refusals_of g (command.Epoch dir.0 master.0 (numbers_of others.now))) ≡ None
-            → ComesTo result self.new (effect g (command.Epoch dir.0 master.0 (numbers_of others.now))) }
+        ensures step { (g : model.Cell) → Stands self.old g
+            → let epoch = command.Epoch dir.0 master.0 (numbers_of (houses_in others.now)) (numbers_of (secondaries_in others.now)) in
+            first_refusal (refusals_of g epoch) ≡ None → ComesTo result self.new (effect g epoch) }
     {
         let Some(place) = self.directory_place(dir) else {
             return Ok(Answer::Refused(ScriptRefusal::NoDirectory));

@@ -6,6 +6,7 @@ ghost use Rattle.directory.specs.Updates.{change_of};
 ghost use Rattle.cell_model.specs.Cells as model;
 ghost use Rattle.cell_model.specs.Commands as command;
 ghost use Rattle.cell_model.specs.Steps.{ascending, effect, first_refusal, is_bad_list, refusals_of};
+ghost use Rattle.cell_script.specs.Listings.{houses_in, secondaries_in};
 ghost use Rattle.held_directories.specs.Posting.{numbers_of};
 ghost use Rattle.cds_cell.specs.PrivateActs.{CanFound, Founds, GrowsByOne, KeepsRest, MasterFounds, child_outcome};
 ghost use Rattle.cds_cell.specs.PrivateSteps.{ComesTo, IsPlaceOf, IsStepAs, Leaves};
@@ -19,6 +20,7 @@ use crate::members::listing;
 use crate::pointing::house_list;
 use cds_stamps::{DirId, EpochNo, HouseNo, Members, Node, SimpleName};
 use cell_names::ChildPointer;
+use cell_script::Listeds;
 use clearinghouse::Clearinghouse;
 use directory::Update;
 use script_answers::{Answer, ScriptRefusal, Serials};
@@ -80,12 +82,13 @@ impl Cell {
         &mut self,
         alloc: Global,
         master: HouseNo,
-        others: &[HouseNo],
+        others: &Listeds,
     ) -> Result<Answer, AllocError>
         requires room { HasRoom self.old }
         ensures leaves { Leaves self.old self.new result }
-        ensures step { (g : model.Cell) → Stands self.old g → first_refusal (refusals_of g (command.Root master.0 (numbers_of others.now))) ≡ None
-            → ComesTo result self.new (effect g (command.Root master.0 (numbers_of others.now))) }
+        ensures step { (g : model.Cell) → Stands self.old g
+            → let root = command.Root master.0 (numbers_of (houses_in others.now)) (numbers_of (secondaries_in others.now)) in
+            first_refusal (refusals_of g root) ≡ None → ComesTo result self.new (effect g root) }
     {
         let Some(members) = listing(alloc, &[], EpochNo(1), master, others)? else {
             return Ok(Answer::Refused(ScriptRefusal::BadMembers));
@@ -147,13 +150,13 @@ impl Cell {
         dir: DirId,
         name: SimpleName,
         master: HouseNo,
-        others: &[HouseNo],
+        others: &Listeds,
     ) -> Result<Answer, AllocError>
         requires room { HasRoom self.old }
         ensures leaves { Leaves self.old self.new result }
         ensures step { (g : model.Cell) → Stands self.old g
-            → first_refusal (refusals_of g (command.Mkdir house.0 dir.0 name master.0 (numbers_of others.now))) ≡ None
-            → ComesTo result self.new (effect g (command.Mkdir house.0 dir.0 name master.0 (numbers_of others.now))) }
+            → let mkdir = command.Mkdir house.0 dir.0 name master.0 (numbers_of (houses_in others.now)) (numbers_of (secondaries_in others.now)) in
+            first_refusal (refusals_of g mkdir) ≡ None → ComesTo result self.new (effect g mkdir) }
     {
         let Some(at) = self.position(house) else {
             return Ok(Answer::Refused(ScriptRefusal::NoHouse));
@@ -162,7 +165,7 @@ impl Cell {
             return Ok(Answer::Refused(ScriptRefusal::BadMembers));
         };
         let child = self.next_directory();
-        let Some(update) = child_of(alloc, name, child, master, others)? else {
+        let Some(update) = child_of(alloc, name, child, master, others.houses())? else {
             return Ok(Answer::Refused(ScriptRefusal::BadMembers));
         };
         self.make_child(alloc, at, dir, &update, child, members)

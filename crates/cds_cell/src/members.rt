@@ -2,10 +2,13 @@
 ghost use Rattle.std.specs.Prelude.{◌≡◌, ◌∷◌, ◌≤◌, length, true, false, IfOk, MatchOption};
 ghost use Rattle.cds_stamps.specs.Members as members;
 ghost use Rattle.cds_stamps.specs.Members.{members_of};
+ghost use Rattle.cell_model.specs.Sets.{has};
 ghost use Rattle.cell_model.specs.Steps as model;
+ghost use Rattle.cell_script.specs.Listings.{houses_in, secondaries_in};
 ghost use Rattle.held_directories.specs.Posting.{numbers_of};
 
 use cds_stamps::{EpochNo, HouseNo, MOST_MEMBERS, Member, MemberKind, Members};
+use cell_script::{Listed, Listeds};
 use std::alloc::{AllocError, Global};
 
 /// Whether a house stands twice, or there are more than 64. Takes no memory.
@@ -36,21 +39,21 @@ pub(crate) fn listing(
     before: &[Member],
     epoch: EpochNo,
     master: HouseNo,
-    others: &[HouseNo],
+    others: &Listeds,
 ) -> Result<Option<Members>, AllocError>
-    ensures { IfOk result (λ o. MatchOption o (model.is_bad_list (master.0 ∷ numbers_of others.now) ≡ true)
-        (λ ms. (model.is_bad_list (master.0 ∷ numbers_of others.now) ≡ false)
-        × (members_of ms ≡ model.listing (members_of before.now) epoch.0 master.0 (numbers_of others.now)))) }
+    ensures { IfOk result (λ o. let rs = numbers_of (houses_in others.now) in let ss = numbers_of (secondaries_in others.now) in
+        MatchOption o (model.is_bad_list (master.0 ∷ rs) ≡ true) (λ ms. (model.is_bad_list (master.0 ∷ rs) ≡ false)
+        × (members_of ms ≡ model.listing (members_of before.now) epoch.0 master.0 rs ss))) }
 {
-    if is_bad_list(master, others) {
+    if is_bad_list(master, others.houses()) {
         return Ok(None);
     }
     let mut list = Vec::new(alloc);
-    for house in &all_in_order(alloc, master, others)? {
+    for house in &all_in_order(alloc, master, others.houses())? {
         list.push(Member {
             house: *house,
             since: since_in(before, *house, epoch),
-            kind: kind_among(master, *house),
+            kind: kind_among(master, others.list(), *house),
         })?;
     }
     Ok(Some(Members::known(alloc, &list)?))
@@ -90,15 +93,26 @@ fn since_in(before: &[Member], house: HouseNo, epoch: EpochNo) -> EpochNo
     epoch
 }
 
-// What a house is, by the master of its list.
-fn kind_among(master: HouseNo, house: HouseNo) -> MemberKind
-    ensures { result ≡ model.kind_among master.0 house.0 }
+// What a house is, by the master and the secondary houses of its list.
+fn kind_among(master: HouseNo, others: &[Listed], house: HouseNo) -> MemberKind
+    ensures { result ≡ model.kind_among master.0 (numbers_of (secondaries_in others.now)) house.0 }
 {
     if house == master {
         MemberKind::Master
+    } else if is_secondary(others, house) {
+        MemberKind::Secondary
     } else {
         MemberKind::ReadOnly
     }
+}
+
+// Whether a list has the house as a secondary one.
+fn is_secondary(others: &[Listed], house: HouseNo) -> bool
+    ensures { result ≡ has house.0 (numbers_of (secondaries_in others.now)) }
+{
+    others
+        .iter()
+        .any(|listed| listed.secondary && listed.house == house)
 }
 
 /// The houses of a list that are members no more.

@@ -1,13 +1,14 @@
 // What the cell tells a reader.
 ghost use Rattle.std.specs.Prelude.{◌≡◌, ℕ, ◌∷◌, not, ◌||◌, ◌==◌, Option, Some, None, IfOk, option_copied};
 ghost use Rattle.std.specs.Option.{option_map};
+ghost use Rattle.cds_stamps.specs.Firsts.{first_some};
 ghost use Rattle.cds_stamps.specs.Members.{master_of, members_fault, members_of, others_of};
 ghost use Rattle.cell_names.specs.ChildPointers.{pointer_of};
 ghost use Rattle.directory.specs.Shown.{shown_entry, shown_in};
 ghost use Rattle.cell_model.specs.Sets.{has};
 ghost use Rattle.resolver.specs.Readers.{sight_of};
 ghost use Rattle.held_directories.specs.Posting.{numbers_of};
-ghost use Rattle.cds_cell.specs.Asking.{answering, asked, first_some};
+ghost use Rattle.cds_cell.specs.Asking.{answering, asked};
 ghost use Rattle.cds_cell.specs.PrivateTelling.{asked_of};
 ghost use Rattle.cds_cell.specs.Readings.{child_sight, led_sight, link_sight, shown_sight, values_of};
 ghost use Rattle.cds_cell.specs.Telling.{held_view, told, told_objects, told_views};

@@ -26,15 +26,15 @@ impl Cell {
         match step {
             Step::House(house, node) => self.untaken(*house, *node),
             Step::Clock(house, _) => self.made(*house, &[]),
-            Step::Root(master, others) => self.allows_root(*master, others.list()),
+            Step::Root(master, others) => self.allows_root(*master, others.houses()),
             Step::Mkdir(house, dir, _, master, others) => {
-                self.allows_child(*house, *dir, *master, others.list())
+                self.allows_child(*house, *dir, *master, others.houses())
             }
             Step::Repoint(house, dir, _, master, others) => {
                 self.allows_repoint(*house, *dir, *master, others.list())
             }
             Step::Update(house, dir, _) => self.allows_at(*house, *dir),
-            Step::Epoch(dir, master, others) => self.allows_epoch(*dir, *master, others.list()),
+            Step::Epoch(dir, master, others) => self.allows_epoch(*dir, *master, others.houses()),
             Step::Skulk(house, dir) => self.allows_at(*house, *dir),
             Step::Deliver(_) | Step::Lose(_) => Ok(()),
             Step::Crash(house) => self.allows_crash(*house),
@@ -43,7 +43,7 @@ impl Cell {
     }
 
     fn allows_root(&self, master: HouseNo, others: &[HouseNo]) -> Result<(), ScriptRefusal>
-        ensures { (g : model.Cell) → Stands self.now g → IsAllowed result (refusals_of g (command.Root master.0 (numbers_of others.now))) }
+        ensures { (g : model.Cell) → Stands self.now g → IsAllowed result (refusals_of g (command.Root master.0 (numbers_of others.now) [])) }
     {
         if !self.is_unknown(DirId::ROOT) {
             return Err(ScriptRefusal::DirectoryExists);
@@ -60,7 +60,7 @@ impl Cell {
         others: &[HouseNo],
     ) -> Result<(), ScriptRefusal>
         ensures { (g : model.Cell) → Stands self.now g
-            → IsAllowed result (refusals_of g (command.Mkdir house.0 dir.0 [] master.0 (numbers_of others.now))) }
+            → IsAllowed result (refusals_of g (command.Mkdir house.0 dir.0 [] master.0 (numbers_of others.now) [])) }
     {
         self.pointed(house, dir, master, others)?;
         self.up(house)?;
@@ -95,7 +95,7 @@ impl Cell {
         master: HouseNo,
         others: &[HouseNo],
     ) -> Result<(), ScriptRefusal>
-        ensures { (g : model.Cell) → Stands self.now g → IsAllowed result (refusals_of g (command.Epoch dir.0 master.0 (numbers_of others.now))) }
+        ensures { (g : model.Cell) → Stands self.now g → IsAllowed result (refusals_of g (command.Epoch dir.0 master.0 (numbers_of others.now) [])) }
     {
         self.known(dir)?;
         self.listable(master, others)?;

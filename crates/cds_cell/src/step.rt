@@ -4,7 +4,7 @@ ghost use Rattle.cds_cell.specs.PrivateSteps.{step_meant};
 ghost use Rattle.cds_cell.specs.Scripted.{step_of};
 
 use cds_stamps::{DirId, HouseNo, Node, SimpleName};
-use cell_script::{Command, HouseNos};
+use cell_script::{Command, HouseNos, Listeds};
 use directory::Update;
 
 /// A step of the cell. The commands of one update are one step.
@@ -12,11 +12,11 @@ use directory::Update;
 pub(crate) enum Step {
     House(HouseNo, Node),
     Clock(HouseNo, u64),
-    Root(HouseNo, HouseNos),
-    Mkdir(HouseNo, DirId, SimpleName, HouseNo, HouseNos),
+    Root(HouseNo, Listeds),
+    Mkdir(HouseNo, DirId, SimpleName, HouseNo, Listeds),
     Repoint(HouseNo, DirId, SimpleName, HouseNo, HouseNos),
     Update(HouseNo, DirId, Update),
-    Epoch(DirId, HouseNo, HouseNos),
+    Epoch(DirId, HouseNo, Listeds),
     Skulk(HouseNo, DirId),
     Deliver(u64),
     Lose(u64),

@@ -1,6 +1,7 @@
 use Rattle.std.proofs.Common.{◌≡◌, drop}
 use Rattle.held_directories.specs.Posting.{numbers_of}
-use Rattle.cds_cell.specs.Asking.{answering, first_some}
+use Rattle.cds_stamps.specs.Firsts.{first_some}
+use Rattle.cds_cell.specs.Asking.{answering}
 use Rattle.cds_cell.specs.Telling.{told_views}
 use Rattle.cds_cell.proofs.reader.first_of.Given as goal
 
