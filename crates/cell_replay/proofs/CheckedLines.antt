@@ -4,7 +4,8 @@ use Rattle.std.specs.Prelude.{Option, Some, None, Result, Ok, Err}
 use Rattle.cell_script.specs.declared.command.ScriptLine.{ScriptLine}
 use Rattle.cell_script.specs.declared.fault.ParseFault.{ParseFault}
 use Rattle.script_answers.specs.Texts.{parse_fault_text}
-use Rattle.waiting_replies.specs.Responses.{Checking, Response, GoesOn, Stops, checked}
+use Rattle.waiting_replies.specs.Responses.{GoesOn, Stops}
+use Rattle.cell_replay.specs.LineStates.{Checking, Response, checked}
 use Rattle.cell_replay.specs.PrivateStanding.{has_command}
 
 -- a line is counted, and a command where it says one

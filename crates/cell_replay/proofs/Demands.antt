@@ -4,8 +4,7 @@ use Rattle.std.specs.Prelude.{None, Some, ◌==◌}
 use Rattle.std.proofs.lemmas.Bool.Decides.{nat_tests}
 use Rattle.cds_base.specs.declared.scan.LineFault.{LineFault}
 use Rattle.cds_base.specs.LineFaults.{fault_at, AreClean, IsLine, ShowsFault}
-use Rattle.waiting_replies.specs.Responses.{LineState}
-use Rattle.line_replies.specs.Answering.{response}
+use Rattle.cell_replay.specs.LineStates.{LineState, response}
 use Rattle.cell_replay.specs.Demand.{told_fault, at_end, then_rest, faulty_with}
 use Rattle.cell_replay.proofs.Scanning.{scanned}
 

@@ -15,7 +15,7 @@ use Rattle.tower_codec.specs.declared.fault.TowerFault.TheVariants.{EmptyLeft, S
 use Rattle.cell_replay.specs.declared.towers.StreamFault.TheVariants as stream
 use Rattle.waiting_replies.specs.TowerTexts.{tower_text, floor_said, tower_said, SaysTower, NoTower}
 use Rattle.cell_replay.specs.TowerDemand.{AtFault, PartOf, TowersDemand}
-use Rattle.waiting_replies.specs.Responses.{Replaying, Checking, Spelling}
+use Rattle.cell_replay.specs.LineStates.{Replaying, Checking, Spelling}
 use Rattle.cell_replay.specs.Demand.{Faulty, CutShort, ends_with, faulty_with, demand, demanded}
 use Rattle.cell_replay.specs.Forms.{ByLines, Loading, Reading, task_of}
 

@@ -24,7 +24,8 @@ use Rattle.cell_script.specs.Words.{words_of}
 use Rattle.waiting_replies.specs.TowerTexts.{floor_text, floors_text, floor_of_parts, floor_said, floors_said, is_dash, TowerLine, SaysNothing, SaysTower}
 use Rattle.waiting_replies.specs.TowerTexts.{short_tower, tower_in, tower_said}
 use Rattle.cell_replay.specs.Demand.{Demand, Sound, then_rest, with_front, demanded, whole}
-use Rattle.waiting_replies.specs.Responses.{Spelling, spelled}
+use Rattle.waiting_replies.specs.Responses.{in_state, spelled}
+use Rattle.cell_replay.specs.LineStates.{Spelling}
 use Rattle.cell_replay.specs.TowerDemand.{Rest, Nothing, AtFault, PartOf, AreTowers, towers_demand, TowersDemand}
 use Rattle.cell_replay.proofs.Scanning.{scanned, demanded_scanned}
 use Rattle.cell_replay.proofs.Demands.{demand_line, demand_part}
@@ -339,7 +340,7 @@ lines_again number octets (f ∷ ts) bytes are =
     let few = taken_short number f front taken in
     let later : scanned (number + 1) Spelling [] rest ≡ whole behind = lines_again (number + 1) behind ts (IsBytes-rest front behind split_bytes) are.4 in
     demand_line number Spelling (floors_text f) rest (tower_is_line number f taken.0 all few)
-    ∙ ap (λ (t : TowerLine). then_rest (spelled t) (λ next. scanned (number + 1) next [] rest)) (says_again f all few)
+    ∙ ap (λ (t : TowerLine). then_rest (in_state (λ _. Spelling) (spelled t)) (λ next. scanned (number + 1) next [] rest)) (says_again f all few)
     ∙ ap (with_front (tower_octets f)) later
     ∙ ap (λ (l : List ℕ). whole (l ++ behind)) (sym spelling)
     ∙ ap whole (sym are.2)

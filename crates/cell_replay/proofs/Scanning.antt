@@ -8,8 +8,7 @@ use Rattle.std.proofs.lemmas.Bool.Decides.{nat_tests}
 use Rattle.std.proofs.lemmas.List.Splits.{length-slice_split}
 use Rattle.cds_base.specs.declared.scan.LineFault.{LineFault}
 use Rattle.cds_base.specs.LineFaults.{fault_at, AreClean}
-use Rattle.waiting_replies.specs.Responses.{LineState}
-use Rattle.line_replies.specs.Answering.{response}
+use Rattle.cell_replay.specs.LineStates.{LineState, response}
 use Rattle.cell_replay.specs.Demand.{Demand, demand, demanded, first_fault, pieces_of, at_end, told_fault, unless_fault, then_rest}
 use Rattle.cell_replay.specs.Demand.{faulty_with}
 

@@ -6,96 +6,140 @@ use Rattle.std.specs.Io.KnownBytes.{Consumes, Appends}
 use Rattle.cds_base.specs.declared.scan.LineFault.{LineFault}
 use Rattle.cds_base.specs.LineFaults.{fault_at, AreClean, IsLine}
 use Rattle.cell_model.specs.Cells.{Cell, empty_cell}
-use Rattle.cell_script.specs.declared.command.ScriptLine.{ScriptLine}
 use Rattle.cell_script.specs.declared.fault.ParseFault.{ParseFault}
 use Rattle.cell_script.specs.Words.{words_of}
-use Rattle.cell_script.specs.Commands.{said_in}
-use Rattle.line_replies.specs.Replies.{Numbered, transcript, reply_text, cell_after}
-use Rattle.waiting_replies.specs.Responses.{LineState, Replaying, Response, GoesOn, Stops}
-use Rattle.line_replies.specs.Answering.{response, replayed}
-use Rattle.cell_replay.specs.Demand.{Demand, Sound, Faulty, demanded, told_fault}
-use Rattle.cell_replay.specs.Demand.{unless_fault, then_rest, with_front, whole}
+use Rattle.waiting_replies.specs.Responses.{GoesOn, Stops, in_state}
+use Rattle.line_replies.specs.Dialogues.{Dialogue, NumberedOf, replied, transcript_by}
+use Rattle.line_replies.specs.Replies.{Numbered, running, transcript}
+use Rattle.cell_replay.specs.LineStates.{LineState, Replaying, Response, response}
+use Rattle.cell_replay.specs.Demand.{Demand, Sound, Faulty, demanded, end_text, told_fault}
+use Rattle.cell_replay.specs.Demand.{ends_with, unless_fault, then_rest, with_front, whole}
 use Rattle.cell_replay.specs.Forms.{ByLines}
 use Rattle.cell_replay.specs.Runs.{IsFront, Wrote, IsWhole}
-use Rattle.cell_replay.specs.Scripts.{text_of, Says, IsScript, IsReplay}
+use Rattle.cell_replay.specs.Scripts.{text_of, Says, IsScript, IsScriptOf, IsReplay}
 use Rattle.cell_replay.proofs.Scanning.{scanned, demanded_scanned, clean_more, is_ten, no_ten}
 use Rattle.cell_replay.proofs.Demands.{demand_line, demand_part}
 use Rattle.cell_replay.proofs.HeadlineLaws.{converges, finds}
 
 -- ---- scripts
 
--- a script demands its transcript
-pub script_demand : (number : ℕ) (g : Cell) (lines : List (List ℕ)) (said : List Numbered) → IsScript number lines said
-    → scanned number (Replaying g) [] (text_of lines) ≡ whole (transcript g said)
-script_demand number g [] said none = demand_part number (Replaying g) [] tt ∙ ap (λ (s : List Numbered). whole (transcript g s)) (sym none)
-script_demand number g (l ∷ ls) said is =
-    demand_line number (Replaying g) l (text_of ls) is.0
-    ∙ by_saying (λ g said is. script_demand (number + 1) g ls said is) (said_in (words_of l)) is.1
-  where
-    by_saying : ((g : Cell) (said : List Numbered) → IsScript (number + 1) ls said
-        → scanned (number + 1) (Replaying g) [] (text_of ls) ≡ whole (transcript g said))
-        → (r : Result (Option ScriptLine) ParseFault) → Says number r said (IsScript (number + 1) ls)
-        → then_rest (replayed number g r) (λ next. scanned (number + 1) next [] (text_of ls)) ≡ whole (transcript g said)
-    by_saying behind (Ok None) says = ap (with_front []) (behind g said says)
-    by_saying behind (Ok (Some s)) says =
-        ap (with_front (reply_text number g s)) (behind (cell_after g s) says.0 says.2)
-        ∙ ap (λ (s : List Numbered). whole (transcript g s)) (sym says.1)
-    by_saying behind (Err fault) says = absurd says
+-- a form that answers line by line, whose state stands for a state of the program, and which says nothing at the end of its input
+module _ {S L : Type 0} (d : Dialogue S L) (state_of : S → LineState)
+    (responds : (number : ℕ) (s : S) (line : List ℕ) → response number (state_of s) line
+    ≡ in_state state_of (replied d number s (d.says (words_of line))))
+    (silent : (s : S) → end_text (state_of s) ≡ []) where
+  -- a script demands its transcript
+  pub script_demand : (number : ℕ) (s : S) (lines : List (List ℕ)) (said : List (NumberedOf L)) → IsScriptOf d.says number lines said
+      → scanned number (state_of s) [] (text_of lines) ≡ whole (transcript_by d s said)
+  script_demand number s [] said none =
+      demand_part number (state_of s) [] tt ∙ ap ends_with (silent s)
+      ∙ ap (λ (said : List (NumberedOf L)). whole (transcript_by d s said)) (sym none)
+  script_demand number s (l ∷ ls) said is =
+      demand_line number (state_of s) l (text_of ls) is.0
+      ∙ ap (λ (r : Response). then_rest r (λ next. scanned (number + 1) next [] (text_of ls))) (responds number s l)
+      ∙ by_saying (λ s said is. script_demand (number + 1) s ls said is) (d.says (words_of l)) is.1
+    where
+      by_saying : ((s : S) (said : List (NumberedOf L)) → IsScriptOf d.says (number + 1) ls said
+          → scanned (number + 1) (state_of s) [] (text_of ls) ≡ whole (transcript_by d s said))
+          → (r : Result (Option L) ParseFault) → Says number r said (IsScriptOf d.says (number + 1) ls)
+          → then_rest (in_state state_of (replied d number s r)) (λ next. scanned (number + 1) next [] (text_of ls)) ≡ whole (transcript_by d s said)
+      by_saying behind (Ok None) says = ap (with_front []) (behind s said says)
+      by_saying behind (Ok (Some x)) says =
+          ap (with_front (d.text number s x)) (behind (d.after number s x) says.0 says.2)
+          ∙ ap (λ (said : List (NumberedOf L)). whole (transcript_by d s said)) (sym says.1)
+      by_saying behind (Err fault) says = absurd says
 
--- the lines of an input of which this much of the next line has come, and what they say
-abbrev Script : ℕ → List ℕ → Type 0
-Script number octets = (lines : List (List ℕ)) × (said : List Numbered) × (octets ≡ text_of lines) × IsScript number lines said
+  -- the lines of an input of which this much of the next line has come, and what they say
+  abbrev Script : ℕ → List ℕ → Type 0
+  Script number octets = (lines : List (List ℕ)) × (said : List (NumberedOf L)) × (octets ≡ text_of lines) × IsScriptOf d.says number lines said
+
+  -- an input in which nothing is faulty is a script
+  pub demand_script : (number : ℕ) (s : S) (line octets : List ℕ) → AreClean number 1 line
+      → (scanned number (state_of s) line octets).verdict ≡ Sound → Script number (line ++ octets)
+  unfolding scanned
+  demand_script number s [] [] clean sound = ([], [], refl, refl)
+  demand_script number s (x ∷ xs) [] clean sound = absurd (cc (sound))
+  demand_script number s line (b ∷ bs) clean sound =
+      by_fault (λ s sound. demand_script (number + 1) s [] bs tt sound) (λ clean sound. demand_script number s (line ++ b ∷ []) bs clean sound)
+      (fault_at number (length line + 1) b) refl sound
+    where
+      by_saying : ((s : S) → (scanned (number + 1) (state_of s) [] bs).verdict ≡ Sound → Script (number + 1) bs) → IsLine number line → b ≡ 10
+          → (r : Result (Option L) ParseFault) → d.says (words_of line) ≡ r
+          → (then_rest (in_state state_of (replied d number s r)) (λ next. scanned (number + 1) next [] bs)).verdict ≡ Sound
+          → Script number (line ++ b ∷ bs)
+      by_saying behind is ten (Ok None) says sound =
+          let rest = behind s sound in (
+            line ∷ rest.0,
+            rest.1,
+            split rest.0 rest.2,
+            (is, subst (λ r. Says number r rest.1 (IsScriptOf d.says (number + 1) rest.0)) (sym says) rest.3),
+          )
+        where
+          split : (lines : List (List ℕ)) → bs ≡ text_of lines → line ++ b ∷ bs ≡ (line ++ 10 ∷ []) ++ text_of lines
+          split lines same = ap (λ (x : ℕ). line ++ x ∷ bs) ten ∙ ap (λ (xs : List ℕ). line ++ 10 ∷ xs) same
+              ∙ sym (append_assoc line (10 ∷ []) (text_of lines))
+      by_saying behind is ten (Ok (Some x)) says sound =
+          let rest = behind (d.after number s x) sound in (
+            line ∷ rest.0,
+            record { number = number; says = x } ∷ rest.1,
+            split rest.0 rest.2,
+            (
+              is,
+              subst (λ r. Says number r (record { number = number; says = x } ∷ rest.1) (IsScriptOf d.says (number + 1) rest.0)) (sym says)
+                  (rest.1, refl, rest.3),
+            ),
+          )
+        where
+          split : (lines : List (List ℕ)) → bs ≡ text_of lines → line ++ b ∷ bs ≡ (line ++ 10 ∷ []) ++ text_of lines
+          split lines same = ap (λ (x : ℕ). line ++ x ∷ bs) ten ∙ ap (λ (xs : List ℕ). line ++ 10 ∷ xs) same
+              ∙ sym (append_assoc line (10 ∷ []) (text_of lines))
+      by_saying behind is ten (Err fault) says sound = absurd (cc (sound))
+
+      by_ten : ((s : S) → (scanned (number + 1) (state_of s) [] bs).verdict ≡ Sound → Script (number + 1) bs)
+          → (AreClean number 1 (line ++ b ∷ []) → (scanned number (state_of s) (line ++ b ∷ []) bs).verdict ≡ Sound
+          → Script number ((line ++ b ∷ []) ++ bs))
+          → fault_at number (length line + 1) b ≡ None → (c : Bool) → (b == 10) ≡ c
+          → (if c then then_rest (response number (state_of s) line) (λ next. scanned (number + 1) next [] bs) else scanned number (state_of s)
+          (line ++ b ∷ []) bs).verdict ≡ Sound → Script number (line ++ b ∷ bs)
+      by_ten behind joined none true is sound =
+          by_saying behind (clean, subst (λ (x : ℕ). fault_at number (length line + 1) x ≡ None) (is_ten b is) none) (is_ten b is)
+          (d.says (words_of line)) refl
+          (subst (λ (r : Response). (then_rest r (λ next. scanned (number + 1) next [] bs)).verdict ≡ Sound) (responds number s line) sound)
+      by_ten behind joined none false is sound =
+          subst (Script number) (append_assoc line (b ∷ []) bs) (joined
+          (clean_more number 1 line b clean (no_ten b is) (subst (λ (n : ℕ). fault_at number n b ≡ None) (omega arith) none)) sound)
+
+      by_fault : ((s : S) → (scanned (number + 1) (state_of s) [] bs).verdict ≡ Sound → Script (number + 1) bs)
+          → (AreClean number 1 (line ++ b ∷ []) → (scanned number (state_of s) (line ++ b ∷ []) bs).verdict ≡ Sound
+          → Script number ((line ++ b ∷ []) ++ bs))
+          → (f : Option LineFault) → fault_at number (length line + 1) b ≡ f
+          → (unless_fault (state_of s) f (if b == 10 then then_rest (response number (state_of s) line)
+          (λ next. scanned (number + 1) next [] bs) else scanned number (state_of s) (line ++ b ∷ []) bs)).verdict ≡ Sound
+          → Script number (line ++ b ∷ bs)
+      by_fault behind joined None is sound = by_ten behind joined is (b == 10) refl sound
+      by_fault behind joined (Some fault) is sound = absurd (cc (sound))
+
+  -- a whole script demands its transcript
+  pub script_demanded : (s : S) (lines : List (List ℕ)) (said : List (NumberedOf L)) → IsScriptOf d.says 1 lines said
+      → demanded (state_of s) (text_of lines) ≡ whole (transcript_by d s said)
+  script_demanded s lines said is = demanded_scanned (state_of s) (text_of lines) ∙ script_demand 1 s lines said is
+
+  -- a whole input in which nothing is faulty is a script
+  pub demanded_script : (s : S) (octets : List ℕ) → (demanded (state_of s) octets).verdict ≡ Sound → Script 1 octets
+  demanded_script s octets sound = demand_script 1 s [] octets tt
+      (subst (λ (e : Demand). e.verdict ≡ Sound) (demanded_scanned (state_of s) octets) sound)
+
+-- ---- the same of `run`
+
+-- a script demands its transcript
+pub run_demanded : (g : Cell) (lines : List (List ℕ)) (said : List Numbered) → IsScript 1 lines said
+    → demanded (Replaying g) (text_of lines) ≡ whole (transcript g said)
+run_demanded = script_demanded running Replaying (λ number g line. refl) (λ g. refl)
 
 -- an input in which nothing is faulty is a script
-pub demand_script : (number : ℕ) (g : Cell) (line octets : List ℕ) → AreClean number 1 line
-    → (scanned number (Replaying g) line octets).verdict ≡ Sound → Script number (line ++ octets)
-unfolding scanned
-demand_script number g [] [] clean sound = ([], [], refl, refl)
-demand_script number g (x ∷ xs) [] clean sound = absurd (cc (sound))
-demand_script number g line (b ∷ bs) clean sound =
-    by_fault (λ g sound. demand_script (number + 1) g [] bs tt sound) (λ clean sound. demand_script number g (line ++ b ∷ []) bs clean sound)
-    (fault_at number (length line + 1) b) refl sound
-  where
-    by_saying : ((g : Cell) → (scanned (number + 1) (Replaying g) [] bs).verdict ≡ Sound → Script (number + 1) bs) → IsLine number line → b ≡ 10
-        → (r : Result (Option ScriptLine) ParseFault) → said_in (words_of line) ≡ r
-        → (then_rest (replayed number g r) (λ next. scanned (number + 1) next [] bs)).verdict ≡ Sound → Script number (line ++ b ∷ bs)
-    by_saying behind is ten (Ok None) says sound =
-        let rest = behind g sound in
-        (line ∷ rest.0, rest.1, split rest.0 rest.2, (is, subst (λ r. Says number r rest.1 (IsScript (number + 1) rest.0)) (sym says) rest.3))
-      where
-        split : (lines : List (List ℕ)) → bs ≡ text_of lines → line ++ b ∷ bs ≡ (line ++ 10 ∷ []) ++ text_of lines
-        split lines same = ap (λ (x : ℕ). line ++ x ∷ bs) ten ∙ ap (λ (xs : List ℕ). line ++ 10 ∷ xs) same ∙ sym (append_assoc line (10 ∷ []) (text_of lines))
-    by_saying behind is ten (Ok (Some s)) says sound =
-        let rest = behind (cell_after g s) sound in (
-          line ∷ rest.0,
-          record { number = number; says = s } ∷ rest.1,
-          split rest.0 rest.2,
-          (is, subst (λ r. Says number r (record { number = number; says = s } ∷ rest.1) (IsScript (number + 1) rest.0)) (sym says) (rest.1, refl, rest.3)),
-        )
-      where
-        split : (lines : List (List ℕ)) → bs ≡ text_of lines → line ++ b ∷ bs ≡ (line ++ 10 ∷ []) ++ text_of lines
-        split lines same = ap (λ (x : ℕ). line ++ x ∷ bs) ten ∙ ap (λ (xs : List ℕ). line ++ 10 ∷ xs) same ∙ sym (append_assoc line (10 ∷ []) (text_of lines))
-    by_saying behind is ten (Err fault) says sound = absurd (cc (sound))
-
-    by_ten : ((g : Cell) → (scanned (number + 1) (Replaying g) [] bs).verdict ≡ Sound → Script (number + 1) bs)
-        → (AreClean number 1 (line ++ b ∷ []) → (scanned number (Replaying g) (line ++ b ∷ []) bs).verdict ≡ Sound → Script number ((line ++ b ∷ []) ++ bs))
-        → fault_at number (length line + 1) b ≡ None → (c : Bool) → (b == 10) ≡ c
-        → (if c then then_rest (response number (Replaying g) line) (λ next. scanned (number + 1) next [] bs) else scanned number (Replaying g)
-        (line ++ b ∷ []) bs).verdict ≡ Sound → Script number (line ++ b ∷ bs)
-    by_ten behind joined none true is sound =
-        by_saying behind (clean, subst (λ (x : ℕ). fault_at number (length line + 1) x ≡ None) (is_ten b is) none) (is_ten b is)
-        (said_in (words_of line)) refl sound
-    by_ten behind joined none false is sound =
-        subst (Script number) (append_assoc line (b ∷ []) bs) (joined
-        (clean_more number 1 line b clean (no_ten b is) (subst (λ (n : ℕ). fault_at number n b ≡ None) (omega arith) none)) sound)
-
-    by_fault : ((g : Cell) → (scanned (number + 1) (Replaying g) [] bs).verdict ≡ Sound → Script (number + 1) bs)
-        → (AreClean number 1 (line ++ b ∷ []) → (scanned number (Replaying g) (line ++ b ∷ []) bs).verdict ≡ Sound → Script number ((line ++ b ∷ []) ++ bs))
-        → (f : Option LineFault) → fault_at number (length line + 1) b ≡ f
-        → (unless_fault (Replaying g) f (if b == 10 then then_rest (response number (Replaying g) line)
-        (λ next. scanned (number + 1) next [] bs) else scanned number (Replaying g) (line ++ b ∷ []) bs)).verdict ≡ Sound → Script number (line ++ b ∷ bs)
-    by_fault behind joined None is sound = by_ten behind joined is (b == 10) refl sound
-    by_fault behind joined (Some fault) is sound = absurd (cc (sound))
+pub demanded_run : (g : Cell) (octets : List ℕ) → (demanded (Replaying g) octets).verdict ≡ Sound → (lines : List (List ℕ))
+    × (said : List Numbered) × (octets ≡ text_of lines) × IsScript 1 lines said
+demanded_run = demanded_script running Replaying (λ number g line. refl) (λ g. refl)
 
 -- ---- what stays due
 
@@ -181,16 +225,6 @@ fault_stays number state line (x ∷ xs) ys faulty =
 
 -- ---- the same of whole inputs
 
--- a script demands its transcript
-pub script_demanded : (g : Cell) (lines : List (List ℕ)) (said : List Numbered) → IsScript 1 lines said
-    → demanded (Replaying g) (text_of lines) ≡ whole (transcript g said)
-script_demanded g lines said is = demanded_scanned (Replaying g) (text_of lines) ∙ script_demand 1 g lines said is
-
--- an input in which nothing is faulty is a script
-pub demanded_script : (g : Cell) (octets : List ℕ) → (demanded (Replaying g) octets).verdict ≡ Sound → (lines : List (List ℕ))
-    × (said : List Numbered) × (octets ≡ text_of lines) × IsScript 1 lines said
-demanded_script g octets sound = demand_script 1 g [] octets tt (subst (λ (d : Demand). d.verdict ≡ Sound) (demanded_scanned (Replaying g) octets) sound)
-
 -- the body of lines is due whatever follows
 pub demanded_body : (state : LineState) (xs ys : List ℕ) → IsFront (demanded state xs).body (demanded state (xs ++ ys)).body
 demanded_body state xs ys =
@@ -213,10 +247,10 @@ demanded_fault state xs ys faulty =
 -- what was written, of a whole input in which nothing is faulty, is the transcript of the script that was read
 pub is_replay : (left left' old new : Option (List ℕ)) → Wrote (ByLines (Replaying empty_cell)) left left' old new IsWhole → IsReplay left left' old new
 is_replay left left' old new wrote =
-    let script = demanded_script empty_cell wrote.read (subst (λ (d : Demand). d.verdict ≡ Sound) (sym wrote.demands) wrote.due.0) in
+    let script = demanded_run empty_cell wrote.read (subst (λ (d : Demand). d.verdict ≡ Sound) (sym wrote.demands) wrote.due.0) in
     let text = transcript empty_cell script.1 in
     let is_demand : wrote.demand ≡ whole text =
-    sym wrote.demands ∙ ap (demanded (Replaying empty_cell)) script.2 ∙ script_demanded empty_cell script.0 script.1 script.3 in
+    sym wrote.demands ∙ ap (demanded (Replaying empty_cell)) script.2 ∙ run_demanded empty_cell script.0 script.1 script.3 in
     record {
       lines = script.0;
       said = script.1;

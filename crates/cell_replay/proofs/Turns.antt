@@ -18,8 +18,8 @@ use Rattle.waiting_replies.specs.declared.replies.LineEnd.TheVariants as line
 use Rattle.cell_replay.specs.declared.endings.Status.{Status}
 use Rattle.cell_replay.specs.declared.endings.Status.TheVariants.{Ok as AllRead, BadInput, ReadFault, WriteFault, OutOfMemory}
 use Rattle.cell_replay.specs.Demand.{Demand, Faulty, demanded, at_end, end_text, told_fault, then_rest}
-use Rattle.waiting_replies.specs.Responses.{LineState, Response, GoesOn, Stops}
-use Rattle.line_replies.specs.Answering.{response}
+use Rattle.waiting_replies.specs.Responses.{GoesOn, Stops}
+use Rattle.cell_replay.specs.LineStates.{LineState, Response, response}
 use Rattle.cell_replay.specs.Demand.{faulty_with, ends_with, cut_short_with, with_front}
 use Rattle.cell_replay.specs.Forms.{ByLines, Demands}
 use Rattle.cell_replay.specs.PrivateStanding.{IsAt}

@@ -7,8 +7,8 @@ use Rattle.cds_base.specs.declared.scan.LineFault.{LineFault}
 use Rattle.cds_base.specs.declared.scan.LineFault.TheVariants.{NoLineEnd}
 use Rattle.cds_base.specs.LineFaults.{fault_at}
 use Rattle.waiting_replies.specs.Texts.{line_fault_text}
-use Rattle.waiting_replies.specs.Responses.{LineState, Replaying, Checking, Spelling, Response, GoesOn, Stops}
-use Rattle.line_replies.specs.Answering.{response}
+use Rattle.waiting_replies.specs.Responses.{GoesOn, Stops}
+use Rattle.cell_replay.specs.LineStates.{LineState, Replaying, Checking, Spelling, Response, response}
 
 -- the text that is due whatever follows, the further text where nothing follows, and whether anything is faulty: nothing;
 -- the octets show a fault, whatever follows; or it is a fault that they end here (own)

@@ -5,8 +5,8 @@ use Rattle.std.specs.Str.{bytes_eq}
 use Rattle.cell_model.specs.Cells.{empty_cell}
 use Rattle.cell_script.specs.Words.{number_to}
 use Rattle.cell_replay.specs.declared.limits.TheConstants.{MOST_ROUNDS}
+use Rattle.cell_replay.specs.LineStates.{LineState, Replaying, Checking, Spelling}
 use Rattle.cell_replay.specs.Demand.{Demand, demanded}
-use Rattle.waiting_replies.specs.Responses.{LineState, Replaying, Checking, Spelling}
 use Rattle.cell_replay.specs.TowerDemand.{TowersDemand}
 
 -- a form reads lines, or the octets of towers (own)

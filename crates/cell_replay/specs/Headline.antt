@@ -16,10 +16,11 @@ use Rattle.server_entries.specs.declared.client.Wanted.{Wanted}
 use Rattle.ns_import.specs.Imports.{IsImport}
 use Rattle.cds_cell.specs.Readings.{reading}
 use Rattle.cds_cell.specs.Scripted.{step_of}
+use Rattle.line_replies.specs.Dialogues.{NumberedOf}
 use Rattle.line_replies.specs.Replies.{Numbered, reply_to, steps_of}
 
 -- the commands of the model that lines make from a cell on, of whichever form the lines are (own)
-abbrev pub commands_from : (steps : Cell → ScriptLine → List Command) → Cell → List Numbered → List Command
+abbrev pub commands_from : {L : Type 0} → (steps : Cell → L → List Command) → Cell → List (NumberedOf L) → List Command
 commands_from steps g [] = []
 commands_from steps g (l ∷ ls) = steps g l.says ++ commands_from steps (replay_from g (steps g l.says)) ls
 

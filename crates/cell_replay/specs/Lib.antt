@@ -1,3 +1,4 @@
+pub mod LineStates
 pub mod Headline
 pub mod Demand
 pub mod TowerDemand

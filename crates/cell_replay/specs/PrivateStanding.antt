@@ -4,9 +4,10 @@ use Rattle.cell_model.specs.Cells as model
 use Rattle.cell_script.specs.declared.command.ScriptLine.{ScriptLine}
 use Rattle.cell_script.specs.declared.fault.ParseFault.{ParseFault}
 use Rattle.waiting_replies.specs.LineEnds.{Ends}
-use Rattle.line_replies.specs.Answering.{StandsAt}
-use Rattle.waiting_replies.specs.Responses.{LineState, Replaying, Checking, Spelling, Response}
 use Rattle.waiting_replies.specs.declared.replies.LineEnd.{LineEnd}
+use Rattle.cds_cell.specs.declared.cell.Cell.{Cell}
+use Rattle.cds_cell.specs.Standing.{Stands}
+use Rattle.cell_replay.specs.LineStates.{LineState, Replaying, Checking, Spelling, Response}
 use Rattle.cell_replay.specs.declared.limits.TheConstants.{MOST_ROUNDS}
 use Rattle.cell_replay.specs.Forms.{ByLines, ByTowers, Task, Reading, Loading}
 use Rattle.cell_replay.specs.declared.check.Tally.{Tally}
@@ -27,6 +28,12 @@ start_of chosen.Untowers = Reading (ByLines Spelling)
 abbrev pub IsForm : Form → Type 0
 IsForm (chosen.Load rounds) = (1 ≤ rounds) × (rounds ≤ MOST_ROUNDS)
 IsForm _ = Unit {0}
+
+-- what the cell of `run` stands for
+abbrev pub StandsAt : Cell → LineState → Type 0
+StandsAt c (Replaying g) = Stands c g
+StandsAt c (Checking lines commands) = ⊥
+StandsAt c Spelling = ⊥
 
 -- what is counted by `check`
 abbrev pub CountsTo : Tally → LineState → Type 0

@@ -3,11 +3,11 @@ use Rattle.std.specs.Prelude.{◌≡◌, ℕ, ◌+◌, List, [], ◌∷◌, ◌+
 use Rattle.std.specs.Io.KnownBytes.{Consumes, Appends}
 use Rattle.cds_base.specs.LineFaults.{IsLine}
 use Rattle.cell_model.specs.Cells.{empty_cell}
-use Rattle.cell_script.specs.declared.command.ScriptLine.{ScriptLine}
 use Rattle.cell_script.specs.declared.fault.ParseFault.{ParseFault}
 use Rattle.cell_script.specs.Words.{words_of}
 use Rattle.cell_script.specs.Commands.{said_in}
 use Rattle.cell_replay.specs.Headline.{Converges, Finds}
+use Rattle.line_replies.specs.Dialogues.{NumberedOf}
 use Rattle.line_replies.specs.Replies.{Numbered, transcript}
 
 -- lines, each with its end (own)
@@ -16,15 +16,21 @@ text_of [] = []
 text_of (l ∷ ls) = (l ++ 10 ∷ []) ++ text_of ls
 
 -- what line number says stands in front of what the lines behind it say, if it says anything (own)
-abbrev pub Says : ℕ → Result (Option ScriptLine) ParseFault → List Numbered → (List Numbered → Type 0) → Type 0
+abbrev pub Says : {L : Type 0} → ℕ → Result (Option L) ParseFault → List (NumberedOf L) → (List (NumberedOf L) → Type 0) → Type 0
 Says number (Ok None) said Behind = Behind said
-Says number (Ok (Some l)) said Behind = (rest : List Numbered) × (said ≡ record { number = number; says = l } ∷ rest) × Behind rest
+Says {L} number (Ok (Some l)) said Behind =
+    (rest : List (NumberedOf L)) × (said ≡ record { number = number; says = l } ∷ rest) × Behind rest
 Says number (Err fault) said Behind = ⊥
 
--- the lines are in order, and this is what they say, from line number on (own)
+-- the lines are in order, and this is what they say, from line number on; says tells what the words of a line say (own)
+abbrev pub IsScriptOf : {L : Type 0} → (says : List (List ℕ) → Result (Option L) ParseFault) → ℕ → (lines : List (List ℕ))
+    → List (NumberedOf L) → Type 0
+IsScriptOf says number [] said = said ≡ []
+IsScriptOf says number (l ∷ ls) said = IsLine number l × Says number (says (words_of l)) said (IsScriptOf says (number + 1) ls)
+
+-- the same of a script of commands and questions (own)
 abbrev pub IsScript : ℕ → (lines : List (List ℕ)) → List Numbered → Type 0
-IsScript number [] said = said ≡ []
-IsScript number (l ∷ ls) said = IsLine number l × Says number (said_in (words_of l)) said (IsScript (number + 1) ls)
+IsScript = IsScriptOf said_in
 
 -- a script was read, and its transcript by the model was written, from a cell without houses on; and each skulk that the transcript tells complete
 -- settles its directory (own, after C705, skulks)

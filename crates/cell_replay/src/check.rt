@@ -1,6 +1,6 @@
 // The form `check`: lines and commands are counted, and nothing is replayed.
 ghost use Rattle.std.specs.Prelude.{◌≡◌, ◌++◌, ◌+◌, ◌<◌, ◌≤◌, if◌then◌else◌, IfOk};
-ghost use Rattle.waiting_replies.specs.Responses.{Checking};
+ghost use Rattle.cell_replay.specs.LineStates.{Checking};
 ghost use Rattle.cell_replay.specs.Demand.{end_text};
 
 use std::alloc::{AllocError, Global};

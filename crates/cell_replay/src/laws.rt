@@ -8,7 +8,7 @@ ghost use Rattle.tower_codec.specs.declared.rpc.Interface.{Interface};
 ghost use Rattle.ns_commands.specs.Asks.{add_element, add_member, delete_element, delete_member, export, unexport};
 ghost use Rattle.line_replies.specs.Replies.{LacksStampsAlone, Numbered, transcript, trusted};
 ghost use Rattle.cell_replay.specs.Demand.{Demand, Sound, Faulty, demanded, whole};
-ghost use Rattle.waiting_replies.specs.Responses.{Replaying, Spelling};
+ghost use Rattle.cell_replay.specs.LineStates.{Replaying, Spelling};
 ghost use Rattle.cell_replay.specs.Forms.{FormState, ByLines, ByTowers, Demands};
 ghost use Rattle.cell_replay.specs.Runs.{IsFront};
 ghost use Rattle.cell_replay.specs.Scripts.{IsScript, text_of};

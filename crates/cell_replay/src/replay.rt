@@ -4,7 +4,7 @@ ghost use Rattle.std.specs.Io.KnownBytes.{IsAtEnd};
 ghost use Rattle.cds_base.specs.Counts.{Rose};
 ghost use Rattle.cds_base.specs.Lines.{IsFresh};
 ghost use Rattle.cell_model.specs.Cells as model;
-ghost use Rattle.waiting_replies.specs.Responses.{LineState, Replaying};
+ghost use Rattle.cell_replay.specs.LineStates.{LineState, Replaying};
 ghost use Rattle.cell_replay.specs.Demand.{end_text, told_fault};
 ghost use Rattle.cell_replay.specs.Forms.{FormState, ByLines, Loading, Reading, task_of};
 ghost use Rattle.line_replies.specs.Loading.{load_text};

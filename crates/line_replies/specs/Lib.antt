@@ -1,3 +1,4 @@
+pub mod Dialogues
 pub mod Replies
 pub mod Answering
 pub mod Loading

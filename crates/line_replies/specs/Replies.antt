@@ -17,6 +17,7 @@ use Rattle.resolver.specs.declared.refusal.Refusal.{Refusal}
 use Rattle.resolver.specs.declared.seen.Found.{Found}
 use Rattle.resolver.specs.Readers.{Reader}
 use Rattle.resolver.specs.WalkEnds.{walked}
+use Rattle.cell_script.specs.Commands.{said_in}
 use Rattle.cell_script.specs.declared.command.Question.{Question}
 use Rattle.cell_script.specs.declared.command.Question.TheVariants as question
 use Rattle.cell_script.specs.declared.command.ScriptLine.{ScriptLine}
@@ -41,6 +42,7 @@ use Rattle.record_fields.specs.declared.fault.RecordFault.TheVariants as fault
 use Rattle.cds_messages.specs.Messages.{tag_of}
 use Rattle.cds_records.specs.Records.{message}
 use Rattle.record_fields.specs.Decoding.{decoding}
+use Rattle.line_replies.specs.Dialogues.{Dialogue, NumberedOf, transcript_by}
 
 -- the values of an attribute of the entry that is found (own)
 abbrev pub values_read : Reader → (attr : List ℕ) → Result Found Refusal → Answer
@@ -189,12 +191,16 @@ reply_to g l = (said_of g l).answer
 abbrev pub reply_text : ℕ → Cell → ScriptLine → List ℕ
 reply_text number g l = option_map_or (answer_text number) (reply_to g l) []
 
+-- ---- the transcript
+
+-- what `run` answers line by line: a cell replays what each line says (own)
+abbrev pub running : Dialogue Cell ScriptLine
+running = record { says = said_in; text = reply_text; after = λ number g l. cell_after g l }
+
 -- a line of the script, by its number
-pub record Numbered : Type 0 where
-  pub number : ℕ
-  pub says : ScriptLine
+abbrev pub Numbered : Type 0
+Numbered = NumberedOf ScriptLine
 
 -- the transcript of numbered lines: the text of each reply, in order (own)
 abbrev pub transcript : Cell → List Numbered → List ℕ
-transcript g [] = []
-transcript g (l ∷ ls) = reply_text l.number g l.says ++ transcript (cell_after g l.says) ls
+transcript = transcript_by running

@@ -36,8 +36,8 @@ impl Replayer {
     ghost use Rattle.cds_cell.specs.Scripted.{step_of};
     ghost use Rattle.cds_cell.specs.Standing.{IsStep, Stands, house_of};
     ghost use Rattle.ns_commands.specs.Asks.{changes_in};
-    ghost use Rattle.line_replies.specs.Answering.{replayed};
-    ghost use Rattle.line_replies.specs.Replies.{does, reply_text, cell_after};
+    ghost use Rattle.line_replies.specs.Dialogues.{replied};
+    ghost use Rattle.line_replies.specs.Replies.{cell_after, does, reply_text, running};
     ghost use Rattle.line_replies.specs.PrivateReplies.{IsDone, IsReply};
     ghost use Rattle.line_replies.specs.Answering.{Replays};
 
@@ -70,7 +70,7 @@ impl Replayer {
         requires fewer { self.old.steps < number }
         requires most { number ≤ MOST_LINES }
         ensures reply { (g : model.Cell) → Stands self.old.cell g
-            → Replays result (replayed number g (said_in (words_of line.now))) waiting.old waiting.new self.new }
+            → Replays result (replied running number g (said_in (words_of line.now))) waiting.old waiting.new self.new }
         ensures steps { self.new.steps ≤ number }
     {
         match parse_line(alloc, line) {
@@ -89,7 +89,8 @@ impl Replayer {
         waiting: &mut Waiting,
     ) -> LineEnd
         requires few { self.old.steps < MOST_LINES }
-        ensures reply { (g : model.Cell) → Stands self.old.cell g → Replays result (replayed number g (Ok (Some line))) waiting.old waiting.new self.new }
+        ensures reply { (g : model.Cell) → Stands self.old.cell g
+            → Replays result (replied running number g (Ok (Some line))) waiting.old waiting.new self.new }
         ensures steps { self.new.steps ≤ self.old.steps + 1 }
     {
         match self.answer(alloc, number, line, waiting) {

@@ -2,11 +2,11 @@
 use Rattle.std.proofs.Common.{List, ℕ}
 use Rattle.waiting_replies.specs.declared.replies.LineEnd.{LineEnd}
 use Rattle.waiting_replies.specs.declared.replies.LineEnd.TheVariants as line
-use Rattle.waiting_replies.specs.Responses.{LineState, Stops}
+use Rattle.waiting_replies.specs.Responses.{Stops}
 use Rattle.waiting_replies.specs.LineEnds.{Ends, Faults}
 
--- whatever would follow
-pub faults_end : (end : LineEnd) (text waited waits : List ℕ) (Then : LineState → Type 0) → Faults end text waited waits
+-- in whichever state, whatever would follow
+pub faults_end : {S : Type 0} (end : LineEnd) (text waited waits : List ℕ) (Then : S → Type 0) → Faults end text waited waits
     → Ends end (Stops text) waited waits Then
 faults_end line.GoesOn text waited waits Then faults = absurd faults
 faults_end line.Stops text waited waits Then faults = faults

@@ -3,7 +3,7 @@ use Rattle.std.specs.Prelude.{None}
 use Rattle.cds_base.specs.Lines.{given, kept}
 use Rattle.cds_base.specs.declared.lines.Lines.{Lines}
 use Rattle.cell_replay.specs.declared.forms.LineForm.{LineForm}
-use Rattle.waiting_replies.specs.Responses.{LineState}
+use Rattle.cell_replay.specs.LineStates.{LineState}
 use Rattle.cell_replay.specs.PrivateStanding.{IsAt, counted}
 use Rattle.cell_replay.proofs.Turns.{IsBetween}
 use Rattle.cell_replay.proofs.replay.answer_lines.Given as goal

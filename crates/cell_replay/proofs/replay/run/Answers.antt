@@ -1,6 +1,6 @@
 use Rattle.std.proofs.Common.{◌≡◌}
 use Rattle.cell_model.specs.Cells.{empty_cell}
-use Rattle.waiting_replies.specs.Responses.{Replaying}
+use Rattle.cell_replay.specs.LineStates.{Replaying}
 use Rattle.cell_replay.specs.Forms.{ByLines, Reading}
 use Rattle.cell_replay.specs.PrivateStanding.{start_of}
 use Rattle.cell_replay.proofs.Scripts.{is_replay}

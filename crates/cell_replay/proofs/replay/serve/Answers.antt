@@ -1,5 +1,5 @@
 use Rattle.cell_model.specs.Cells.{empty_cell}
-use Rattle.waiting_replies.specs.Responses.{Replaying, Checking, Spelling}
+use Rattle.cell_replay.specs.LineStates.{Replaying, Checking, Spelling}
 use Rattle.cell_replay.proofs.Turns.{unread_lines}
 use Rattle.cell_replay.proofs.replay.serve.Goals as goal
 

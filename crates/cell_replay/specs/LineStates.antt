@@ -1,0 +1,35 @@
+-- The states of the forms that read lines, and what each form makes of a line (own).
+use Rattle.std.specs.Prelude.{ℕ, ◌+◌, List, [], Some, None, Option, Ok, Err, Result}
+use Rattle.cell_model.specs.Cells.{Cell}
+use Rattle.cell_script.specs.declared.command.ScriptLine.{ScriptLine}
+use Rattle.cell_script.specs.declared.fault.ParseFault.{ParseFault}
+use Rattle.cell_script.specs.Words.{words_of}
+use Rattle.cell_script.specs.Commands.{said_in}
+use Rattle.script_answers.specs.Texts.{parse_fault_text}
+use Rattle.waiting_replies.specs.Responses.{ResponseOf, GoesOn, Stops, in_state, spelled}
+use Rattle.waiting_replies.specs.TowerTexts.{tower_said}
+use Rattle.line_replies.specs.Dialogues.{replied}
+use Rattle.line_replies.specs.Replies.{running}
+
+-- the state of a form that reads lines, between two of them: `run` replays a cell, `check` has seen this many lines and
+-- commands, and `untowers` keeps nothing (own)
+pub data LineState : Type 0 where
+  Replaying : (g : Cell) → LineState
+  Checking : (lines commands : ℕ) → LineState
+  Spelling : LineState
+
+-- what a form makes of a whole line (own)
+abbrev pub Response : Type 0
+Response = ResponseOf LineState
+
+-- a line is counted, and a command too (own)
+abbrev pub checked : ℕ → (commands : ℕ) → Result (Option ScriptLine) ParseFault → Response
+checked number commands (Ok None) = GoesOn [] (Checking number commands)
+checked number commands (Ok (Some l)) = GoesOn [] (Checking number (commands + 1))
+checked number commands (Err fault) = Stops (parse_fault_text number fault)
+
+-- what each form makes of a line, by its number (own)
+abbrev pub response : ℕ → LineState → List ℕ → Response
+response number (Replaying g) line = in_state Replaying (replied running number g (said_in (words_of line)))
+response number (Checking lines commands) line = checked number commands (said_in (words_of line))
+response number Spelling line = in_state (λ _. Spelling) (spelled (tower_said (words_of line)))
