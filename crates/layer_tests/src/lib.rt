@@ -9,6 +9,8 @@ mod houses;
 #[cfg(test)]
 mod imports;
 #[cfg(test)]
+mod journals;
+#[cfg(test)]
 mod purges;
 #[cfg(test)]
 mod records;
