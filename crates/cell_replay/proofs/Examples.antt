@@ -17,7 +17,7 @@ use Rattle.waiting_replies.specs.TowerTexts.{tower_text, floor_said, tower_said,
 use Rattle.cell_replay.specs.TowerDemand.{AtFault, PartOf, TowersDemand}
 use Rattle.cell_replay.specs.LineStates.{Replaying, Checking, Spelling}
 use Rattle.cell_replay.specs.Demand.{Faulty, CutShort, ends_with, faulty_with, demand, demanded}
-use Rattle.cell_replay.specs.Forms.{ByLines, Loading, Reading, task_of}
+use Rattle.cell_replay.specs.Forms.{form_of, loading, replaying}
 
 -- ---- lines
 
@@ -27,25 +27,25 @@ a_line_fault = refl
 
 -- ---- whole inputs
 
-form_is : task_of (codes "run" ∷ []) ≡ Some (Reading (ByLines (Replaying empty_cell)))
+form_is : form_of (codes "run" ∷ []) ≡ Some replaying
 form_is = refl
 
-no_form : task_of (codes "run" ∷ codes "run" ∷ []) ≡ None
+no_form : form_of (codes "run" ∷ codes "run" ∷ []) ≡ None
 no_form = refl
 
-load_is : task_of (codes "load" ∷ codes "20000" ∷ []) ≡ Some (Loading 20000)
+load_is : form_of (codes "load" ∷ codes "20000" ∷ []) ≡ Some (loading 20000)
 unfolding number_of
 load_is = refl
 
-no_rounds : task_of (codes "load" ∷ codes "0" ∷ []) ≡ None
+no_rounds : form_of (codes "load" ∷ codes "0" ∷ []) ≡ None
 unfolding number_of
 no_rounds = refl
 
-leading_zero : task_of (codes "load" ∷ codes "01" ∷ []) ≡ None
+leading_zero : form_of (codes "load" ∷ codes "01" ∷ []) ≡ None
 unfolding number_of
 leading_zero = refl
 
-too_many_rounds : task_of (codes "load" ∷ codes "20001" ∷ []) ≡ None
+too_many_rounds : form_of (codes "load" ∷ codes "20001" ∷ []) ≡ None
 unfolding number_of
 too_many_rounds = refl
 

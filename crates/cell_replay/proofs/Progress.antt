@@ -12,9 +12,9 @@ use Rattle.cell_replay.specs.Forms.{FormState, Demands}
 use Rattle.cell_replay.specs.declared.endings.Status.{Status}
 use Rattle.cell_replay.specs.declared.endings.Status.TheVariants.{Ok as AllRead, Usage, BadInput, ReadFault, WriteFault, OutOfMemory}
 use Rattle.waiting_replies.specs.Waiting.{Flushes}
-use Rattle.cell_replay.specs.Runs.{IsFront, Wrote, IsWhole, IsFaulty, IsBody, CameLate, WroteAllBefore, IsPart, IsCutShort, IsTakenAtOnce, read_ahead}
-use Rattle.cell_replay.specs.Runs.{WroteSoon, AnswersFront}
-use Rattle.cell_replay.specs.PrivateEndings.{IsDue, IsQueued, Finishes, StopsWith, side, Ended}
+use Rattle.cell_replay.specs.Runs.{IsFront, Run, Wrote, IsWhole, IsFaulty, IsBody, CameLate, HasReadAll, WroteAllBefore, IsPart, IsCutShort}
+use Rattle.cell_replay.specs.Runs.{IsTakenAtOnce, read_ahead, WroteSoon, AnswersFront}
+use Rattle.cell_replay.specs.PrivateEndings.{IsDue, IsQueued, Finishes, StopsWith, side, between, EndsBetween}
 
 -- ---- fronts
 
@@ -30,28 +30,28 @@ front_self xs = ([], sym (append-nil xs))
 taken_front : (out waits : List ℕ) (k : ℕ) → IsFront (out ++ take k waits) (out ++ waits)
 taken_front out waits k = (drop k waits, ap (λ (l : List ℕ). out ++ l) (sym (take-append-drop k waits)) ∙ sym (append_assoc out (take k waits) (drop k waits)))
 
-part_of : (left : Option (List ℕ)) (d : Demand) (xs ys : List ℕ) → IsFront xs ys → IsPart left d ys → IsPart left d xs
-part_of left d xs ys front (inl part) = inl (front_over xs ys d.body front part)
-part_of left d xs ys front (inr part) = inr (part.0, front_over xs ys (d.body ++ d.end) front part.1)
+part_of : (Done : Type 0) (d : Demand) (xs ys : List ℕ) → IsFront xs ys → IsPart Done d ys → IsPart Done d xs
+part_of Done d xs ys front (inl part) = inl (front_over xs ys d.body front part)
+part_of Done d xs ys front (inr part) = inr (part.0, front_over xs ys (d.body ++ d.end) front part.1)
 
 -- a front of a part that is shorter than it is cut short
-cut_of : (left : Option (List ℕ)) (d : Demand) (xs ys : List ℕ) → IsFront xs ys → length xs < length ys → IsPart left d ys → IsCutShort left d xs
-cut_of left d xs ys front less (inl part) =
+cut_of : (Done : Type 0) (d : Demand) (xs ys : List ℕ) → IsFront xs ys → length xs < length ys → IsPart Done d ys → IsCutShort Done d xs
+cut_of Done d xs ys front less (inl part) =
     let size = ap length part.1 in
     inl (front_over xs ys d.body front part, omega (arith, less, size, length-append ys part.0))
-cut_of left d xs ys front less (inr part) =
+cut_of Done d xs ys front less (inr part) =
     let size = ap length part.1.1 in
     inr (part.0, (front_over xs ys (d.body ++ d.end) front part.1, omega (arith, less, size, length-append ys part.1.0)))
 
 -- what is due in full is due in part
-due_part : (A : List ℕ → Type 0) (left : Option (List ℕ)) (status : Status) (d : Demand) (text : List ℕ) → IsDue A left status d text → IsPart left d text
-due_part A left AllRead d text due = inr (due.0, subst (IsFront text) due.1.1 (front_self text))
-due_part A left BadInput d text (inl due) = inl (subst (IsFront text) due.1 (front_self text))
-due_part A left BadInput d text (inr due) = inr (due.1, subst (IsFront text) due.2 (front_self text))
-due_part A left OutOfMemory d text due = due.0
-due_part A left Usage d text due = absurd due
-due_part A left ReadFault d text due = absurd due
-due_part A left WriteFault d text due = absurd due
+due_part : (A : List ℕ → Type 0) (Done : Type 0) (status : Status) (d : Demand) (text : List ℕ) → IsDue A Done status d text → IsPart Done d text
+due_part A Done AllRead d text due = inr (due.0, subst (IsFront text) due.1.1 (front_self text))
+due_part A Done BadInput d text (inl due) = inl (subst (IsFront text) due.1 (front_self text))
+due_part A Done BadInput d text (inr due) = inr (due.1, subst (IsFront text) due.2 (front_self text))
+due_part A Done OutOfMemory d text due = due.0
+due_part A Done Usage d text due = absurd due
+due_part A Done ReadFault d text due = absurd due
+due_part A Done WriteFault d text due = absurd due
 
 -- ---- octets read
 
@@ -349,10 +349,14 @@ module _ (state : FormState) (first left' old new : Option (List ℕ)) (held : L
   abbrev pub all_read : List ℕ
   all_read = (now.front ++ now.since) ++ held
 
-  soon_of : (l : Option (List ℕ)) (new' : Option (List ℕ)) (one behind text : List ℕ) → Consumes l left' (now.front ++ (one ++ behind))
-      → Appends old new' text → IsFront now.demand.body text
-      → (one ≡ []) ⊎ IsTakenAtOnce state one → IfSome l (λ _. length behind ≤ read_ahead state) → WroteSoon state l left' old new'
-  soon_of None new' one behind text taken written answered at_once close = record {
+  abbrev Done : Type 0
+  Done = HasReadAll state left'
+
+  soon_of : (l : Option (List ℕ)) (new' : Option (List ℕ)) (reads reads' writes writes' : ℕ) (one behind text : List ℕ)
+      → Consumes l left' (now.front ++ (one ++ behind)) → Appends old new' text → IsFront now.demand.body text
+      → (one ≡ []) ⊎ IsTakenAtOnce state one → IfSome l (λ _. length behind ≤ read_ahead state)
+      → WroteSoon state (between (side l reads) (side left' reads') (side old writes) (side new' writes'))
+  soon_of None new' reads reads' writes writes' one behind text taken written answered at_once close = record {
     front = now.front;
     one = one;
     behind = [];
@@ -365,7 +369,7 @@ module _ (state : FormState) (first left' old new : Option (List ℕ)) (held : L
     at_once = at_once;
     soon = omega arith;
   }
-  soon_of (Some xs) new' one behind text taken written answered at_once close = record {
+  soon_of (Some xs) new' reads reads' writes writes' one behind text taken written answered at_once close = record {
     front = now.front;
     one = one;
     behind = behind;
@@ -379,8 +383,9 @@ module _ (state : FormState) (first left' old new : Option (List ℕ)) (held : L
     soon = close;
   }
 
-  soon : (new' : Option (List ℕ)) (sent : List ℕ) → Appends new new' sent → WroteSoon state first left' old new'
-  soon new' sent went = near_soon now.near
+  soon : (new' : Option (List ℕ)) (reads reads' writes writes' : ℕ) (sent : List ℕ) → Appends new new' sent
+      → WroteSoon state (between (side first reads) (side left' reads') (side old writes) (side new' writes'))
+  soon new' reads reads' writes writes' sent went = near_soon now.near
     where
       text : List ℕ
       text = now.out ++ sent
@@ -391,9 +396,10 @@ module _ (state : FormState) (first left' old new : Option (List ℕ)) (held : L
       answered : IsFront now.demand.body (now.out ++ sent)
       answered = front_more now.demand.body now.out sent now.answered
 
-      near_soon : IsNear state first now.since held → WroteSoon state first left' old new'
+      near_soon : IsNear state first now.since held
+          → WroteSoon state (between (side first reads) (side left' reads') (side old writes) (side new' writes'))
       near_soon (inl none) =
-          soon_of first new' [] held (now.out ++ sent)
+          soon_of first new' reads reads' writes writes' [] held (now.out ++ sent)
           (subst (λ (c : List ℕ). Consumes first left' (c ++ held)) (ap (λ (s : List ℕ). now.front ++ s) none ∙ append-nil now.front) now.taken)
           written answered (inl refl) (always first now.few)
         where
@@ -401,7 +407,7 @@ module _ (state : FormState) (first left' old new : Option (List ℕ)) (held : L
           always None p = tt
           always (Some x) p = p
       near_soon (inr leads) =
-          soon_of first new' leads.one (leads.more ++ held) (now.out ++ sent)
+          soon_of first new' reads reads' writes writes' leads.one (leads.more ++ held) (now.out ++ sent)
           (subst (Consumes first left')
           (ap (λ (s : List ℕ). (now.front ++ s) ++ held) leads.split ∙ append_assoc now.front (leads.one ++ leads.more) held
           ∙ ap (λ (l : List ℕ). now.front ++ l) (append_assoc leads.one leads.more held))
@@ -412,8 +418,8 @@ module _ (state : FormState) (first left' old new : Option (List ℕ)) (held : L
   module _ (d : Demand) (demands : Demands state all_read d) where
     -- a write failed, with what waited
     pub write_failed : (new' : Option (List ℕ)) (waits : List ℕ) (k : ℕ) (writes writes' : ℕ) (reads reads' : ℕ) → (k < length waits)
-        × Appends new new' (take k waits) → IsPart left' d (now.out ++ waits) → Rose writes writes' → reads' ≡ reads
-        → Ended state (side first reads) (side left' reads') (side old writes) (side new' writes') WriteFault
+        × Appends new new' (take k waits) → IsPart Done d (now.out ++ waits) → Rose writes writes' → reads' ≡ reads
+        → EndsBetween state (side first reads) (side left' reads') (side old writes) (side new' writes') WriteFault
     write_failed new' waits k writes writes' reads reads' (few, went) part rose calm = (
       record {
         read = all_read;
@@ -422,17 +428,17 @@ module _ (state : FormState) (first left' old new : Option (List ℕ)) (held : L
         taken = now.taken;
         written = appends_more old new new' now.out (take k waits) now.written went;
         demands = demands;
-        due = cut_of left' d (now.out ++ take k waits) (now.out ++ waits) (taken_front now.out waits k)
+        due = cut_of Done d (now.out ++ take k waits) (now.out ++ waits) (taken_front now.out waits k)
             (omega (arith, few, length-append now.out (take k waits), length-append now.out waits, length-take k waits)) part;
       },
-      soon new' (take k waits) went,
-      rose,
-      calm,
+      soon new' reads reads' writes writes' (take k waits) went,
+      (rose, calm),
     )
 
-    wrote : (new' : Option (List ℕ)) (waits : List ℕ) (P : Demand → List ℕ → Type 0) → Appends new new' waits → P d (now.out ++ waits)
-        → Wrote state first left' old new' P
-    wrote new' waits P went due = record {
+    wrote : (new' : Option (List ℕ)) (reads reads' writes writes' : ℕ) (waits : List ℕ) (P : Demand → List ℕ → Type 0)
+        → Appends new new' waits → P d (now.out ++ waits)
+        → Wrote state (between (side first reads) (side left' reads') (side old writes) (side new' writes')) P
+    wrote new' reads reads' writes writes' waits P went due = record {
       read = all_read;
       text = now.out ++ waits;
       demand = d;
@@ -450,22 +456,22 @@ module _ (state : FormState) (first left' old new : Option (List ℕ)) (held : L
 
     -- what waits goes out, and the run ends
     pub finishes : (new' : Option (List ℕ)) (waits : List ℕ) (status result : Status) (reads reads' writes mid writes' : ℕ)
-        → IsDue Answered left' status d (now.out ++ waits)
+        → IsDue Answered Done status d (now.out ++ waits)
         → Finishes (side new mid) (side new' writes') waits status result → reads' ≡ reads → mid ≡ writes
-        → Ended state (side first reads) (side left' reads') (side old writes) (side new' writes') result
+        → EndsBetween state (side first reads) (side left' reads') (side old writes) (side new' writes') result
     finishes new' waits status result reads reads' writes mid writes' due (inr failed) calm same =
-        subst (Ended state (side first reads) (side left' reads') (side old writes) (side new' writes')) (sym failed.0)
-        (write_failed new' waits failed.1.0 writes writes' reads reads' (failed.1.1, failed.1.2) (due_part Answered left' status d (now.out ++ waits) due)
+        subst (EndsBetween state (side first reads) (side left' reads') (side old writes) (side new' writes')) (sym failed.0)
+        (write_failed new' waits failed.1.0 writes writes' reads reads' (failed.1.1, failed.1.2) (due_part Answered Done status d (now.out ++ waits) due)
         (rose_from writes mid writes' same failed.2) calm)
     finishes new' waits status result reads reads' writes mid writes' due (inl done) calm same =
-        subst (Ended state (side first reads) (side left' reads') (side old writes) (side new' writes')) (sym done.0) (by_status status due)
+        subst (EndsBetween state (side first reads) (side left' reads') (side old writes) (side new' writes')) (sym done.0) (by_status status due)
       where
-        by_status : (s : Status) → IsDue Answered left' s d (now.out ++ waits)
-            → Ended state (side first reads) (side left' reads') (side old writes) (side new' writes') s
-        by_status AllRead due = (due.0, wrote new' waits IsWhole done.1 due.1, (calm, done.2 ∙ same))
-        by_status BadInput due = (wrote new' waits (IsFaulty left') done.1 due, (calm, done.2 ∙ same))
+        by_status : (s : Status) → IsDue Answered Done s d (now.out ++ waits)
+            → EndsBetween state (side first reads) (side left' reads') (side old writes) (side new' writes') s
+        by_status AllRead due = (due.0, wrote new' reads reads' writes writes' waits IsWhole done.1 due.1, (calm, done.2 ∙ same))
+        by_status BadInput due = (wrote new' reads reads' writes writes' waits (IsFaulty Done) done.1 due, (calm, done.2 ∙ same))
         by_status OutOfMemory due = (
-          wrote new' waits (IsPart left') done.1 due.0,
+          wrote new' reads reads' writes writes' waits (IsPart Done) done.1 due.0,
           (now.out ++ waits, appends_more old new new' now.out waits now.written done.1, due.1),
           (calm, done.2 ∙ same),
         )
@@ -475,28 +481,29 @@ module _ (state : FormState) (first left' old new : Option (List ℕ)) (held : L
 
     -- the same with a last text, where there was memory for it
     pub stops_with : (new' : Option (List ℕ)) (text waits : List ℕ) (status result : Status) (reads reads' writes mid writes' : ℕ)
-        → IsDue Answered left' status d (now.out ++ (waits ++ text)) → Answered (now.out ++ waits)
+        → IsDue Answered Done status d (now.out ++ (waits ++ text)) → Answered (now.out ++ waits)
         → StopsWith (side new mid) (side new' writes') status text waits result → reads' ≡ reads → mid ≡ writes
-        → Ended state (side first reads) (side left' reads') (side old writes) (side new' writes') result
+        → EndsBetween state (side first reads) (side left' reads') (side old writes) (side new' writes') result
     stops_with new' text waits status result reads reads' writes mid writes' due answered stops calm same = by_memory stops.2
       where
-        by_memory : IsQueued status text waits stops.1 stops.0 → Ended state (side first reads) (side left' reads') (side old writes) (side new' writes') result
+        by_memory : IsQueued status text waits stops.1 stops.0 → EndsBetween state (side first reads) (side left' reads') (side old writes) (side new' writes') result
         by_memory (inl is) =
             finishes new' stops.1 stops.0 result reads reads' writes mid writes'
-            (subst (λ (s : Status). IsDue Answered left' s d (now.out ++ stops.1)) (sym is.0)
-            (subst (λ (w : List ℕ). IsDue Answered left' status d (now.out ++ w)) (sym is.1) due)) stops.3 calm same
+            (subst (λ (s : Status). IsDue Answered Done s d (now.out ++ stops.1)) (sym is.0)
+            (subst (λ (w : List ℕ). IsDue Answered Done status d (now.out ++ w)) (sym is.1) due)) stops.3 calm same
         by_memory (inr is) =
             finishes new' stops.1 stops.0 result reads reads' writes mid writes'
-            (subst (λ (s : Status). IsDue Answered left' s d (now.out ++ stops.1)) (sym is.0)
-            (subst (λ (w : List ℕ). IsPart left' d (now.out ++ w) × Answered (now.out ++ w)) (sym is.1) (
-              part_of left' d (now.out ++ waits) (now.out ++ (waits ++ text)) (text, sym (append_assoc now.out waits text))
-                  (due_part Answered left' status d (now.out ++ (waits ++ text)) due),
+            (subst (λ (s : Status). IsDue Answered Done s d (now.out ++ stops.1)) (sym is.0)
+            (subst (λ (w : List ℕ). IsPart Done d (now.out ++ w) × Answered (now.out ++ w)) (sym is.1) (
+              part_of Done d (now.out ++ waits) (now.out ++ (waits ++ text)) (text, sym (append_assoc now.out waits text))
+                  (due_part Answered Done status d (now.out ++ (waits ++ text)) due),
               answered,
             ))) stops.3 calm same
 
     -- all of the body is out, where nothing more came
-    pub wrote_all : CameLate state all_read [] → IsBody d now.out → WroteAllBefore state first left' old new
-    wrote_all late due = record {
+    pub wrote_all : CameLate state all_read [] → IsBody d now.out → (reads reads' writes writes' : ℕ)
+        → WroteAllBefore state (between (side first reads) (side left' reads') (side old writes) (side new writes'))
+    wrote_all late due reads reads' writes writes' = record {
       octets = all_read;
       came = [];
       text = now.out;
@@ -512,9 +519,11 @@ module _ (state : FormState) (first left' old new : Option (List ℕ)) (held : L
     }
 
   -- a read failed, where nothing waited
-  pub read_failed : WroteAllBefore state first left' old new → (reads reads' writes writes' : ℕ) → Rose reads reads' → writes' ≡ writes
-      → Ended state (side first reads) (side left' reads') (side old writes) (side new writes') ReadFault
-  read_failed wrote reads reads' writes writes' rose quiet = (wrote, soon new [] (appends_none new), rose, quiet)
+  pub read_failed : (reads reads' writes writes' : ℕ)
+      → WroteAllBefore state (between (side first reads) (side left' reads') (side old writes) (side new writes')) → Rose reads reads' → writes' ≡ writes
+      → EndsBetween state (side first reads) (side left' reads') (side old writes) (side new writes') ReadFault
+  read_failed reads reads' writes writes' wrote rose quiet =
+      (wrote, soon new reads reads' writes writes' [] (appends_none new), (rose, quiet))
 
 -- what waited went out before the next line, unless that is there and little waits
 pub flushed_before : (state : FormState) (first left old new new' : Option (List ℕ)) (held waits waits' : List ℕ) (Behind : List ℕ → Demand

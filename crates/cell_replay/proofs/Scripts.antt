@@ -14,8 +14,8 @@ use Rattle.line_replies.specs.Replies.{Numbered, running, transcript}
 use Rattle.cell_replay.specs.LineStates.{LineState, Replaying, Response, response}
 use Rattle.cell_replay.specs.Demand.{Demand, Sound, Faulty, demanded, end_text, told_fault}
 use Rattle.cell_replay.specs.Demand.{ends_with, unless_fault, then_rest, with_front, whole}
-use Rattle.cell_replay.specs.Forms.{ByLines}
-use Rattle.cell_replay.specs.Runs.{IsFront, Wrote, IsWhole}
+use Rattle.cell_replay.specs.Forms.{replaying}
+use Rattle.cell_replay.specs.Runs.{IsFront, Run, Wrote, IsWhole}
 use Rattle.cell_replay.specs.Scripts.{text_of, Says, IsScript, IsScriptOf, IsReplay}
 use Rattle.cell_replay.proofs.Scanning.{scanned, demanded_scanned, clean_more, is_ten, no_ten}
 use Rattle.cell_replay.proofs.Demands.{demand_line, demand_part}
@@ -26,7 +26,7 @@ use Rattle.cell_replay.proofs.HeadlineLaws.{converges, finds}
 -- a form that answers line by line, whose state stands for a state of the program, and which says nothing at the end of its input
 module _ {S L : Type 0} (d : Dialogue S L) (state_of : S → LineState)
     (responds : (number : ℕ) (s : S) (line : List ℕ) → response number (state_of s) line
-        ≡ in_state state_of (replied d number s (d.says (words_of line))))
+    ≡ in_state state_of (replied d number s (d.says (words_of line))))
     (silent : (s : S) → end_text (state_of s) ≡ []) where
   -- a script demands its transcript
   pub script_demand : (number : ℕ) (s : S) (lines : List (List ℕ)) (said : List (NumberedOf L)) → IsScriptOf d.says number lines said
@@ -245,8 +245,8 @@ demanded_fault state xs ys faulty =
 -- ---- a run that ends Ok
 
 -- what was written, of a whole input in which nothing is faulty, is the transcript of the script that was read
-pub is_replay : (left left' old new : Option (List ℕ)) → Wrote (ByLines (Replaying empty_cell)) left left' old new IsWhole → IsReplay left left' old new
-is_replay left left' old new wrote =
+pub is_replay : (run : Run) → Wrote replaying run IsWhole → IsReplay run
+is_replay run wrote =
     let script = demanded_run empty_cell wrote.read (subst (λ (d : Demand). d.verdict ≡ Sound) (sym wrote.demands) wrote.due.0) in
     let text = transcript empty_cell script.1 in
     let is_demand : wrote.demand ≡ whole text =
@@ -255,8 +255,8 @@ is_replay left left' old new wrote =
       lines = script.0;
       said = script.1;
       script = script.3;
-      taken = subst (Consumes left left') script.2 wrote.taken;
-      written = subst (Appends old new) (wrote.due.1 ∙ ap (λ (d : Demand). d.body ++ d.end) is_demand ∙ append-nil text) wrote.written;
+      taken = subst (Consumes run.left run.left') script.2 wrote.taken;
+      written = subst (Appends run.held run.held') (wrote.due.1 ∙ ap (λ (d : Demand). d.body ++ d.end) is_demand ∙ append-nil text) wrote.written;
       settled = converges script.1;
       found = finds script.1;
     }

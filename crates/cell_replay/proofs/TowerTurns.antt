@@ -23,7 +23,7 @@ use Rattle.cell_replay.specs.Forms.{ByTowers}
 use Rattle.cell_replay.specs.PrivateSights.{TellsFault, IsUnended}
 use Rattle.cell_replay.specs.Fillings.{LeavesPart, BeginsFilling, AtFirst, Behind}
 use Rattle.cell_replay.specs.Runs.{AnswersFront}
-use Rattle.cell_replay.specs.PrivateEndings.{IsDue, Finishes, StopsWith, side, Ended}
+use Rattle.cell_replay.specs.PrivateEndings.{IsDue, Finishes, StopsWith, side, EndsBetween}
 use Rattle.cell_replay.proofs.Streams.{total, le_or_lt}
 use Rattle.cell_replay.proofs.Progress.{Pending, Reached, StopsHere, Turn, moved, started, all_out, goes_on, reached_more, more_read, write_failed}
 use Rattle.cell_replay.proofs.Progress.{finishes, stops_with, read_failed, answers_taken}
@@ -154,18 +154,18 @@ module _ (first left old new : Option (List ℕ)) (reads reads' writes writes' :
   module _ (d : Demand) (behind : BehindTowers number held d) where
     -- what is due goes out with a last text
     pub tells : (new' : Option (List ℕ)) (mid writes'' : ℕ) (text : List ℕ) (status result : Status)
-        → IsDue (AnswersFront ByTowers first left) left status (with_front (now.out ++ waits) d) (now.out ++ (waits ++ text))
+        → IsDue (AnswersFront ByTowers first left) (IsAtEnd left) status (with_front (now.out ++ waits) d) (now.out ++ (waits ++ text))
         → StopsWith (side new writes') (side new' writes'') status text waits result
-        → Ended ByTowers (side first reads) (side left reads') (side old writes) (side new' writes'') result
+        → EndsBetween ByTowers (side first reads) (side left reads') (side old writes) (side new' writes'') result
     tells new' mid writes'' text status result due stops =
         stops_with ByTowers first left old new held now (with_front (now.out ++ waits) d) (b.reached.so_far held d behind) new' text waits status
         result reads reads' writes writes' writes'' due answered stops b.calm b.quiet
 
     -- what is due goes out
     pub stops : (new' : Option (List ℕ)) (writes'' : ℕ) (status result : Status)
-        → IsDue (AnswersFront ByTowers first left) left status (with_front (now.out ++ waits) d) (now.out ++ waits)
+        → IsDue (AnswersFront ByTowers first left) (IsAtEnd left) status (with_front (now.out ++ waits) d) (now.out ++ waits)
         → Finishes (side new writes') (side new' writes'') waits status result
-        → Ended ByTowers (side first reads) (side left reads') (side old writes) (side new' writes'') result
+        → EndsBetween ByTowers (side first reads) (side left reads') (side old writes) (side new' writes'') result
     stops new' writes'' status result due finished =
         finishes ByTowers first left old new held now (with_front (now.out ++ waits) d) (b.reached.so_far held d behind) new' waits status result
         reads reads' writes writes' writes'' due finished b.calm b.quiet
@@ -173,7 +173,7 @@ module _ (first left old new : Option (List ℕ)) (reads reads' writes writes' :
   -- there was no memory for the text
   pub tower_without_memory : IsBytes held → (new' : Option (List ℕ)) (writes'' : ℕ) (waits' : List ℕ) (result : Status) → waits' ≡ waits
       → Finishes (side new writes') (side new' writes'') waits' OutOfMemory result
-      → Ended ByTowers (side first reads) (side left reads') (side old writes) (side new' writes'') result
+      → EndsBetween ByTowers (side first reads) (side left reads') (side old writes) (side new' writes'') result
   tower_without_memory bytes new' writes'' waits' result same finished =
       let d = total number held bytes in
       stops d.0 d.1 new' writes'' OutOfMemory result (inl (d.0.body, refl), answered)
@@ -182,7 +182,7 @@ module _ (first left old new : Option (List ℕ)) (reads reads' writes writes' :
   -- the input ends behind the last tower
   pub towers_end : ended ≡ true → held ≡ [] → (new' : Option (List ℕ)) (writes'' : ℕ) (result : Status)
       → Finishes (side new writes') (side new' writes'') waits AllRead result
-      → Ended ByTowers (side first reads) (side left reads') (side old writes) (side new' writes'') result
+      → EndsBetween ByTowers (side first reads) (side left reads') (side old writes) (side new' writes'') result
   towers_end end none new' writes'' result finished =
       stops (ends_with []) ([], Nothing, none, refl) new' writes'' AllRead result
       (b.stopped end, (refl, sym (append-nil ((now.out ++ waits) ++ []) ∙ append-nil (now.out ++ waits)))) finished
@@ -190,7 +190,7 @@ module _ (first left old new : Option (List ℕ)) (reads reads' writes writes' :
   -- the next tower is at fault
   pub tower_at_fault : (fault : StreamFault) → TellsFault number held ended fault → (new' : Option (List ℕ)) (writes'' : ℕ) (result : Status)
       → StopsWith (side new writes') (side new' writes'') BadInput (stream_fault_text number fault) waits result
-      → Ended ByTowers (side first reads) (side left reads') (side old writes) (side new' writes'') result
+      → EndsBetween ByTowers (side first reads) (side left reads') (side old writes) (side new' writes'') result
   tower_at_fault fault (inl shows) new' writes'' result stops =
       tells (faulty_with (stream_fault_text number fault)) ([], AtFault fault, shows, refl) new' writes' writes''
       (stream_fault_text number fault) BadInput result
@@ -209,7 +209,7 @@ module _ (first left old new : Option (List ℕ)) (reads reads' writes writes' :
 
   -- a write failed
   pub text_unwritten : IsBytes held → (new' : Option (List ℕ)) (k writes'' : ℕ) → (k < length waits) × Appends new new' (take k waits)
-      → Rose writes' writes'' → Ended ByTowers (side first reads) (side left reads') (side old writes) (side new' writes'') WriteFault
+      → Rose writes' writes'' → EndsBetween ByTowers (side first reads) (side left reads') (side old writes) (side new' writes'') WriteFault
   text_unwritten bytes new' k writes'' went rose =
       let d = total number held bytes in
       write_failed ByTowers first left old new held now (with_front (now.out ++ waits) d.0)
@@ -280,11 +280,12 @@ module _ (first left old new : Option (List ℕ)) (reads reads' writes writes' :
 
     -- a read failed while the window was filled
     pub fill_fails : IsBytes window'.octets → length window'.octets < 1025 → (reads'' writes'' : ℕ) → Rose reads' reads'' → writes'' ≡ writes'
-        → Ended ByTowers (side first reads) (side left' reads'') (side old writes) (side new' writes'') ReadFault
+        → EndsBetween ByTowers (side first reads) (side left' reads'') (side old writes) (side new' writes'') ReadFault
     fill_fails bytes few reads'' writes'' rose quiet =
         let d = total number window'.octets bytes in
         read_failed ByTowers first left' old new' window'.octets
         (more_read ByTowers first left old new' held [] (BehindTowers number) way.reached left' window'.octets grows within (inl none_waits))
+        reads reads'' writes writes''
         (record {
           octets = told ++ held;
           came = grows.read;
@@ -304,10 +305,10 @@ module _ (first left old new : Option (List ℕ)) (reads reads' writes writes' :
           later = subst (λ (l : List ℕ). TowersDemand 1 l (with_front (sent.out ++ []) d.0)) (sym joined) (way.reached.so_far window'.octets d.0 d.1);
           stays = (d.0.body, ap (λ (w : List ℕ). w ++ d.0.body) (append-nil sent.out));
         })
-        reads reads'' writes writes'' (subst (λ n. Rose n reads'') b.calm rose) (quiet ∙ b.quiet)
+        (subst (λ n. Rose n reads'') b.calm rose) (quiet ∙ b.quiet)
 
 -- nothing is read and nothing written
-pub unread_towers : (left old : Option (List ℕ)) (reads writes : ℕ) → Ended ByTowers (side left reads) (side left reads) (side old writes)
+pub unread_towers : (left old : Option (List ℕ)) (reads writes : ℕ) → EndsBetween ByTowers (side left reads) (side left reads) (side old writes)
     (side old writes) OutOfMemory
 unread_towers left old reads writes = (
   record {

@@ -26,7 +26,7 @@ use Rattle.cell_replay.specs.PrivateStanding.{IsAt}
 use Rattle.waiting_replies.specs.LineEnds.{Ends}
 use Rattle.waiting_replies.specs.Waiting.{Flushes}
 use Rattle.cell_replay.specs.Runs.{AnswersFront, IsBody, IsFaulty, IsPart, IsWhole}
-use Rattle.cell_replay.specs.PrivateEndings.{IsDue, Finishes, StopsWith, side, Ended}
+use Rattle.cell_replay.specs.PrivateEndings.{IsDue, Finishes, StopsWith, side, EndsBetween}
 use Rattle.cell_replay.proofs.Scanning.{scanned, demanded_scanned}
 use Rattle.cell_replay.proofs.Demands.{demand_line, demand_broken, demand_part}
 use Rattle.cell_replay.proofs.Progress.{Pending, Reached, StopsHere, Turn, started, flushed_before, goes_on, one_taken, demands_with, more_read}
@@ -60,7 +60,7 @@ module _ (state : LineState) (first left old new : Option (List ℕ)) (reads rea
     (waits : List ℕ) (b : IsBetween state first left old new reads reads' writes writes' lines form waits) where
   -- a write failed
   pub write_fails : (new' : Option (List ℕ)) (k writes'' : ℕ) → (k < length waits) × Appends new new' (take k waits) → Rose writes' writes''
-      → Ended (ByLines state) (side first reads) (side left reads') (side old writes) (side new' writes'') WriteFault
+      → EndsBetween (ByLines state) (side first reads) (side left reads') (side old writes) (side new' writes'') WriteFault
   write_fails new' k writes'' went rose =
       let now = b.reached.pending in
       let rest : Demand = scanned (given lines + 1) b.at [] (held lines) in
@@ -105,7 +105,7 @@ counts_on left left' lines lines' number octets x next few =
 module _ (left' : Option (List ℕ)) (out waits : List ℕ) (count : ℕ) (at : LineState) where
   -- a line is faulty
   line_due : (line r text waits' : List ℕ) → IsLine (count + 1) line → response (count + 1) at line ≡ Stops text → waits' ≡ waits ++ text
-      → BehindLines count at ((line ++ 10 ∷ []) ++ r) (faulty_with text) × IsFaulty left' (with_front (out ++ waits) (faulty_with text)) (out ++ waits')
+      → BehindLines count at ((line ++ 10 ∷ []) ++ r) (faulty_with text) × IsFaulty (IsAtEnd left') (with_front (out ++ waits) (faulty_with text)) (out ++ waits')
   line_due line r text waits' is responds waiting = (
     demand_line (count + 1) at line r is ∙ ap (λ e. then_rest e (λ next. scanned (count + 1 + 1) next [] r)) responds,
     inl (refl, ap (λ (w : List ℕ). out ++ w) waiting ∙ sym (append_assoc out waits text)),
@@ -139,7 +139,7 @@ module _ (left' : Option (List ℕ)) (out waits : List ℕ) (count : ℕ) (at : 
   -- the octets held show a fault, or the input ends within the line
   fault_due : (held' : List ℕ) (fault : LineFault) → ShowsFault (count + 1) fault held'
       ⊎ (IsAtEnd left' × AreClean (count + 1) 1 held' × (0 < length held') × (fault ≡ NoLineEnd (count + 1) (length held' + 1)))
-      → (d : Demand) × BehindLines count at held' d × IsFaulty left' (with_front (out ++ waits) d) (out ++ (waits ++ told_fault at fault))
+      → (d : Demand) × BehindLines count at held' d × IsFaulty (IsAtEnd left') (with_front (out ++ waits) d) (out ++ (waits ++ told_fault at fault))
   fault_due held' fault (inl shows) = (
     faulty_with (told_fault at fault),
     ap (scanned (count + 1) at []) (sym (append-nil held')) ∙ demand_broken (count + 1) at fault held' shows [],
@@ -234,11 +234,11 @@ module _ {S : Type 0} (left_of : S → Option (List ℕ)) (faults_of : S → ℕ
       -- the form stops at the line
       pub line_stops : (form' : LineForm) → Ends line.Stops (response number at octets) waits waits' (IsAt form')
           → Finishes (side new mid) (side new' writes') waits' BadInput result
-          → Ended (ByLines state) (side first reads) (side left' (faults_of source')) (side old writes) (side new' writes') result
+          → EndsBetween (ByLines state) (side first reads) (side left' (faults_of source')) (side old writes) (side new' writes') result
       line_stops form' ends finished = by_response (response number at octets) refl ends
         where
           by_response : (r : Response) → response number at octets ≡ r → Ends line.Stops r waits waits' (IsAt form')
-              → Ended (ByLines state) (side first reads) (side left' (faults_of source')) (side old writes) (side new' writes') result
+              → EndsBetween (ByLines state) (side first reads) (side left' (faults_of source')) (side old writes) (side new' writes') result
           by_response (GoesOn text then) is ends = absurd ends
           by_response (Stops text) is ends =
               let due = line_due left' now.out waits (given lines) at octets (held lines') text waits' is_line (responds (Stops text) is) ends in
@@ -248,7 +248,7 @@ module _ {S : Type 0} (left_of : S → Option (List ℕ)) (faults_of : S → ℕ
 
       -- there was no memory for the reply
       pub line_without_memory : waits' ≡ waits → Finishes (side new mid) (side new' writes') waits' OutOfMemory result
-          → Ended (ByLines state) (side first reads) (side left' (faults_of source')) (side old writes) (side new' writes') result
+          → EndsBetween (ByLines state) (side first reads) (side left' (faults_of source')) (side old writes) (side new' writes') result
       line_without_memory same finished =
           let rest : Demand = scanned (given lines + 1) at [] (one ++ held lines') in
           let answered : AnswersFront (ByLines state) first left' (now.out ++ waits) =
@@ -257,7 +257,7 @@ module _ {S : Type 0} (left_of : S → Option (List ℕ)) (faults_of : S → ℕ
           (inr (given lines + 1, octets, is_line, refl)) moved.few in
           finishes (ByLines state) first left' old new (held lines') taken (with_front (now.out ++ waits) rest) (demands rest refl)
           new' waits' OutOfMemory result reads (faults_of source') writes mid writes'
-          (subst (λ (w : List ℕ). IsPart left' (with_front (now.out ++ waits) rest) (now.out ++ w) × AnswersFront (ByLines state) first left' (now.out ++ w))
+          (subst (λ (w : List ℕ). IsPart (IsAtEnd left') (with_front (now.out ++ waits) rest) (now.out ++ w) × AnswersFront (ByLines state) first left' (now.out ++ w))
           (sym same) (inl (rest.body, refl), answered))
           finished (moved.cause unbroken ∙ calm) quiet
 
@@ -268,9 +268,9 @@ module _ {S : Type 0} (left_of : S → Option (List ℕ)) (faults_of : S → ℕ
 
     -- what is due goes out with a last text
     ends_so : (d : Demand) → Behind (held lines') d → (text : List ℕ) (status : Status)
-        → IsDue (AnswersFront (ByLines state) first left') left' status (with_front (now.out ++ waits) d) (now.out ++ (waits ++ text))
+        → IsDue (AnswersFront (ByLines state) first left') (IsAtEnd left') status (with_front (now.out ++ waits) d) (now.out ++ (waits ++ text))
         → (new' : Option (List ℕ)) (mid writes' : ℕ) (result : Status) → StopsWith (side new mid) (side new' writes') status text waits result
-        → faults_of source' ≡ reads → mid ≡ writes → Ended (ByLines state) (side first reads) (side left' (faults_of source')) (side old writes)
+        → faults_of source' ≡ reads → mid ≡ writes → EndsBetween (ByLines state) (side first reads) (side left' (faults_of source')) (side old writes)
         (side new' writes') result
     ends_so d behind text status due new' mid writes' result stops calm quiet =
         stops_with (ByLines state) first left' old new (held lines') read_so (with_front (now.out ++ waits) d) (t.reached.so_far (held lines') d behind)
@@ -281,18 +281,18 @@ module _ {S : Type 0} (left_of : S → Option (List ℕ)) (faults_of : S → ℕ
 
     -- a read failed, where nothing waited
     fails_so : AreClean (given lines + 1) 1 (held lines') → waits ≡ [] → (writes' : ℕ) → Rose reads (faults_of source') → writes' ≡ writes
-        → Ended (ByLines state) (side first reads) (side left' (faults_of source')) (side old writes) (side new writes') ReadFault
+        → EndsBetween (ByLines state) (side first reads) (side left' (faults_of source')) (side old writes) (side new writes') ReadFault
     fails_so clean none writes' rose quiet =
-        read_failed (ByLines state) first left' old new (held lines') read_so
+        read_failed (ByLines state) first left' old new (held lines') read_so reads (faults_of source') writes writes'
         (wrote_all (ByLines state) first left' old new (held lines') read_so (with_front (now.out ++ waits) (at_end (given lines + 1) at (held lines')))
         (t.reached.so_far (held lines') (at_end (given lines + 1) at (held lines')) (demand_part (given lines + 1) at (held lines') clean))
-        refl (body_due left' now.out waits (given lines) at (held lines') none))
-        reads (faults_of source') writes writes' rose quiet
+        refl (body_due left' now.out waits (given lines) at (held lines') none) reads (faults_of source') writes writes')
+        rose quiet
 
   module _ (new' : Option (List ℕ)) (mid writes' : ℕ) (result : Status) (quiet : mid ≡ writes) where
     -- the input ends
     pub input_ends : Moved (Ok None) → StopsWith (side new mid) (side new' writes') AllRead (end_text at) waits result
-        → Ended (ByLines state) (side first reads) (side left' (faults_of source')) (side old writes) (side new' writes') result
+        → EndsBetween (ByLines state) (side first reads) (side left' (faults_of source')) (side old writes) (side new' writes') result
     input_ends moved stops =
         let next = moved.next unbroken in
         let due = all_due left' now.out waits (given lines) at (held lines') next.answer.1 next.answer.2 in
@@ -302,7 +302,7 @@ module _ {S : Type 0} (left_of : S → Option (List ℕ)) (faults_of : S → ℕ
     -- the octets show a fault, or the input ends within a line
     pub line_breaks : (fault : LineFault) → Moved (Err fault) → fault ≢ NotRead
         → StopsWith (side new mid) (side new' writes') BadInput (told_fault at fault) waits result
-        → Ended (ByLines state) (side first reads) (side left' (faults_of source')) (side old writes) (side new' writes') result
+        → EndsBetween (ByLines state) (side first reads) (side left' (faults_of source')) (side old writes) (side new' writes') result
     line_breaks fault moved other stops =
         let next = moved.next unbroken in
         let due = fault_due left' now.out waits (given lines) at (held lines') fault
@@ -312,10 +312,10 @@ module _ {S : Type 0} (left_of : S → Option (List ℕ)) (faults_of : S → ℕ
 
   -- a read failed
   pub read_fails : (writes' : ℕ) → writes' ≡ writes → Moved (Err NotRead)
-      → Ended (ByLines state) (side first reads) (side left' (faults_of source')) (side old writes) (side new writes') ReadFault
+      → EndsBetween (ByLines state) (side first reads) (side left' (faults_of source')) (side old writes) (side new writes') ReadFault
   read_fails writes' quiet moved = by_turn t.turn
     where
-      by_turn : ((now.since ≡ []) × (waits ≡ [])) ⊎ IsReady lines → Ended (ByLines state) (side first reads) (side left' (faults_of source'))
+      by_turn : ((now.since ≡ []) × (waits ≡ [])) ⊎ IsReady lines → EndsBetween (ByLines state) (side first reads) (side left' (faults_of source'))
           (side old writes) (side new writes') ReadFault
       by_turn (inr ready) = absurd ((moved.ready ready).1 unbroken refl)
       by_turn (inl none) =
@@ -328,15 +328,15 @@ module _ {S : Type 0} (left_of : S → Option (List ℕ)) (faults_of : S → ℕ
       → written_of sink ≡ new → failed_of sink ≡ writes → Moved (Err fault)
       → (fault ≡ NotRead → (result ≡ ReadFault) × (sink' ≡ sink)) → (fault ≢ NotRead
       → StopsWith (side (written_of sink) (failed_of sink)) (side (written_of sink') (failed_of sink')) BadInput (told_fault at fault) waits result)
-      → Ended (ByLines state) (side first reads) (side left' (faults_of source')) (side old writes) (side (written_of sink') (failed_of sink')) result
+      → EndsBetween (ByLines state) (side first reads) (side left' (faults_of source')) (side old writes) (side (written_of sink') (failed_of sink')) result
   ends_at_fault written_of failed_of sink sink' result fault at_sink quiet moved read other = by_fault (is_read fault)
     where
-      by_fault : (fault ≡ NotRead) ⊎ (fault ≢ NotRead) → Ended (ByLines state) (side first reads) (side left' (faults_of source')) (side old writes)
+      by_fault : (fault ≡ NotRead) ⊎ (fault ≢ NotRead) → EndsBetween (ByLines state) (side first reads) (side left' (faults_of source')) (side old writes)
           (side (written_of sink') (failed_of sink')) result
       by_fault (inl is) =
-          subst (λ (s : Status). Ended (ByLines state) (side first reads) (side left' (faults_of source')) (side old writes)
+          subst (λ (s : Status). EndsBetween (ByLines state) (side first reads) (side left' (faults_of source')) (side old writes)
           (side (written_of sink') (failed_of sink')) s) (sym (read is).0)
-          (subst (λ (w : Option (List ℕ)). Ended (ByLines state) (side first reads) (side left' (faults_of source')) (side old writes)
+          (subst (λ (w : Option (List ℕ)). EndsBetween (ByLines state) (side first reads) (side left' (faults_of source')) (side old writes)
           (side w (failed_of sink')) ReadFault) (sym (ap written_of (read is).1 ∙ at_sink))
           (read_fails (failed_of sink') (ap failed_of (read is).1 ∙ quiet) (subst (λ (f : LineFault). Moved (Err f)) is moved)))
       by_fault (inr is) =
@@ -346,7 +346,7 @@ module _ {S : Type 0} (left_of : S → Option (List ℕ)) (faults_of : S → ℕ
 
 -- nothing is read and nothing written
 pub unread_lines : (state : LineState) (left old : Option (List ℕ)) (reads writes : ℕ)
-    → Ended (ByLines state) (side left reads) (side left reads) (side old writes) (side old writes) OutOfMemory
+    → EndsBetween (ByLines state) (side left reads) (side left reads) (side old writes) (side old writes) OutOfMemory
 unread_lines state left old reads writes = (
   record {
     read = [];

@@ -6,39 +6,45 @@ use Rattle.cell_model.specs.Cells.{empty_cell}
 use Rattle.cell_script.specs.Words.{number_to}
 use Rattle.cell_replay.specs.declared.limits.TheConstants.{MOST_ROUNDS}
 use Rattle.cell_replay.specs.LineStates.{LineState, Replaying, Checking, Spelling}
-use Rattle.cell_replay.specs.Demand.{Demand, demanded}
+use Rattle.line_replies.specs.Loading.{load_text}
+use Rattle.cell_replay.specs.Demand.{Demand, demanded, ends_with}
 use Rattle.cell_replay.specs.TowerDemand.{TowersDemand}
 
--- a form reads lines, or the octets of towers (own)
+-- a form reads lines, or the octets of towers; or it reads nothing and writes a text (own)
 pub data FormState : Type 0 where
   ByLines : (state : LineState) → FormState
   ByTowers : FormState
+  WithoutInput : (text : List ℕ) → FormState
+
+-- the form that replays a script on a cell without houses (own)
+abbrev pub replaying : FormState
+replaying = ByLines (Replaying empty_cell)
 
 -- the form that a word names, at its start (own)
 abbrev pub form_named : List ℕ → Option FormState
 form_named word =
-    if bytes_eq word (codes "run") then Some (ByLines (Replaying empty_cell))
+    if bytes_eq word (codes "run") then Some replaying
     else (if bytes_eq word (codes "check") then Some (ByLines (Checking 0 0))
     else (if bytes_eq word (codes "towers") then Some ByTowers
     else (if bytes_eq word (codes "untowers") then Some (ByLines Spelling) else None)))
 
--- what the program is to do: to read its input in a form, or to load a cell by the script with so many rounds (own)
-pub data Task : Type 0 where
-  Reading : (state : FormState) → Task
-  Loading : (rounds : ℕ) → Task
+-- a cell is loaded by the script with so many rounds, which nothing reads (own)
+abbrev pub loading : (rounds : ℕ) → FormState
+loading rounds = WithoutInput (load_text rounds)
 
--- the task that two words name: `load` and a number of rounds, at least one (own)
-abbrev pub load_named : (word number : List ℕ) → Option Task
-load_named word number = if bytes_eq word (codes "load") then option_map Loading (number_to MOST_ROUNDS number) else None
+-- the form that two words name: `load` and a number of rounds, at least one (own)
+abbrev pub load_named : (word number : List ℕ) → Option FormState
+load_named word number = if bytes_eq word (codes "load") then option_map loading (number_to MOST_ROUNDS number) else None
 
--- the task that the words of the command line name (own)
-abbrev pub task_of : List (List ℕ) → Option Task
-task_of [] = None
-task_of (word ∷ []) = option_map Reading (form_named word)
-task_of (word ∷ number ∷ []) = load_named word number
-task_of (word ∷ number ∷ third ∷ words) = None
+-- the form that the words of the command line name (own)
+abbrev pub form_of : List (List ℕ) → Option FormState
+form_of [] = None
+form_of (word ∷ []) = form_named word
+form_of (word ∷ number ∷ []) = load_named word number
+form_of (word ∷ number ∷ third ∷ words) = None
 
--- what an input demands of a form that reads it, from its start (own)
+-- what an input demands of a form that reads it, from its start. Of a form without input its text is due, whatever stands there (own)
 abbrev pub Demands : FormState → List ℕ → Demand → Type 0
 Demands (ByLines state) octets d = demanded state octets ≡ d
 Demands ByTowers octets d = TowersDemand 1 octets d
+Demands (WithoutInput text) octets d = ends_with text ≡ d

@@ -1,6 +1,5 @@
 -- Words of private contracts: what a form of the program is at, and what it makes of a line (own).
 use Rattle.std.specs.Prelude.{◌≡◌, ℕ, ◌≤◌, Bool, List, Option, Result, Ok, Err, is_some}
-use Rattle.cell_model.specs.Cells as model
 use Rattle.cell_script.specs.declared.command.ScriptLine.{ScriptLine}
 use Rattle.cell_script.specs.declared.fault.ParseFault.{ParseFault}
 use Rattle.waiting_replies.specs.LineEnds.{Ends}
@@ -9,20 +8,20 @@ use Rattle.cds_cell.specs.declared.cell.Cell.{Cell}
 use Rattle.cds_cell.specs.Standing.{Stands}
 use Rattle.cell_replay.specs.LineStates.{LineState, Replaying, Checking, Spelling, Response}
 use Rattle.cell_replay.specs.declared.limits.TheConstants.{MOST_ROUNDS}
-use Rattle.cell_replay.specs.Forms.{ByLines, ByTowers, Task, Reading, Loading}
+use Rattle.cell_replay.specs.Forms.{FormState, ByLines, ByTowers, loading, replaying}
 use Rattle.cell_replay.specs.declared.check.Tally.{Tally}
 use Rattle.cell_replay.specs.declared.forms.Form.{Form}
 use Rattle.cell_replay.specs.declared.forms.Form.TheVariants as chosen
 use Rattle.cell_replay.specs.declared.forms.LineForm.{LineForm}
 use Rattle.cell_replay.specs.declared.forms.LineForm.TheVariants as form
 
--- what a form is to do, from its start on
-abbrev pub start_of : Form → Task
-start_of chosen.Run = Reading (ByLines (Replaying model.empty_cell))
-start_of chosen.Check = Reading (ByLines (Checking 0 0))
-start_of (chosen.Load rounds) = Loading rounds
-start_of chosen.Towers = Reading ByTowers
-start_of chosen.Untowers = Reading (ByLines Spelling)
+-- a form at its start
+abbrev pub start_of : Form → FormState
+start_of chosen.Run = replaying
+start_of chosen.Check = ByLines (Checking 0 0)
+start_of (chosen.Load rounds) = loading rounds
+start_of chosen.Towers = ByTowers
+start_of chosen.Untowers = ByLines Spelling
 
 -- a script has from 1 round to MOST_ROUNDS
 abbrev pub IsForm : Form → Type 0

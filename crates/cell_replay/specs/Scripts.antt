@@ -7,6 +7,7 @@ use Rattle.cell_script.specs.declared.fault.ParseFault.{ParseFault}
 use Rattle.cell_script.specs.Words.{words_of}
 use Rattle.cell_script.specs.Commands.{said_in}
 use Rattle.cell_replay.specs.Headline.{Converges, Finds}
+use Rattle.cell_replay.specs.Runs.{Run}
 use Rattle.line_replies.specs.Dialogues.{NumberedOf}
 use Rattle.line_replies.specs.Replies.{Numbered, transcript}
 
@@ -34,11 +35,11 @@ IsScript = IsScriptOf said_in
 
 -- a script was read, and its transcript by the model was written, from a cell without houses on; and each skulk that the transcript tells complete
 -- settles its directory (own, after C705, skulks)
-pub record IsReplay (left left' old new : Option (List ℕ)) : Type 0 where
+pub record IsReplay (run : Run) : Type 0 where
   pub lines : List (List ℕ)
   pub said : List Numbered
   pub script : IsScript 1 lines said
-  pub taken : Consumes left left' (text_of lines)
-  pub written : Appends old new (transcript empty_cell said)
+  pub taken : Consumes run.left run.left' (text_of lines)
+  pub written : Appends run.held run.held' (transcript empty_cell said)
   pub settled : Converges said
   pub found : Finds said

@@ -7,7 +7,7 @@ ghost use Rattle.std.specs.Option.{option_map};
 ghost use Rattle.cds_stamps.specs.Outcomes.{Answers};
 ghost use Rattle.cell_replay.specs.LineStates.{LineState, checked, response};
 ghost use Rattle.cell_replay.specs.Demand.{end_text, told_fault};
-ghost use Rattle.cell_replay.specs.Forms.{Reading, form_named, load_named, task_of};
+ghost use Rattle.cell_replay.specs.Forms.{form_named, form_of, load_named};
 ghost use Rattle.cell_replay.specs.PrivateStanding.{IsAt, IsForm, Replies, Counts, counted, has_command, start_of};
 
 use crate::check::Tally;
@@ -40,7 +40,7 @@ pub(crate) enum LineForm {
 
 /// The form that the words of the command line name.
 pub(crate) fn form_in(words: &[String]) -> Option<Form>
-    ensures task { task_of (map string_bytes words.now) ≡ option_map start_of result }
+    ensures form { form_of (map string_bytes words.now) ≡ option_map start_of result }
     ensures sound { IfSome result IsForm }
 {
     match words {
@@ -51,7 +51,7 @@ pub(crate) fn form_in(words: &[String]) -> Option<Form>
 }
 
 fn form_by_name(word: &String) -> Option<Form>
-    ensures task { option_map Reading (form_named (string_bytes word.now)) ≡ option_map start_of result }
+    ensures form { form_named (string_bytes word.now) ≡ option_map start_of result }
     ensures sound { IfSome result IsForm }
 {
     match word.as_str() {
@@ -64,7 +64,7 @@ fn form_by_name(word: &String) -> Option<Form>
 }
 
 fn load_by_name(word: &String, number: &String) -> Option<Form>
-    ensures task { load_named (string_bytes word.now) (string_bytes number.now) ≡ option_map start_of result }
+    ensures form { load_named (string_bytes word.now) (string_bytes number.now) ≡ option_map start_of result }
     ensures sound { IfSome result IsForm }
 {
     match word.as_str() {

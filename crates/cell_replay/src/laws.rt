@@ -10,7 +10,9 @@ ghost use Rattle.line_replies.specs.Replies.{LacksStampsAlone, Numbered, transcr
 ghost use Rattle.cell_replay.specs.Demand.{Demand, Sound, Faulty, demanded, whole};
 ghost use Rattle.cell_replay.specs.LineStates.{Replaying, Spelling};
 ghost use Rattle.cell_replay.specs.Forms.{FormState, ByLines, ByTowers, Demands};
-ghost use Rattle.cell_replay.specs.Runs.{IsFront};
+ghost use Rattle.cell_replay.specs.Runs.{Ended, IsFront, NoCallFailed, Run};
+ghost use Rattle.cell_replay.specs.declared.endings.Status.{Status as Status'};
+ghost use Rattle.cds_base.specs.Counts.{Rose};
 ghost use Rattle.cell_replay.specs.Scripts.{IsScript, text_of};
 
 use crate::limits::{MOST_ROUNDS, MOST_TOWERS, TOWER_SIGHT};
@@ -49,6 +51,12 @@ pub fn bodies_stay()
 /// A fault that shows ends what is due.
 pub fn shown_faults_stay()
     ensures { (state : FormState) (xs ys : List ℕ) (d : Demand) → Demands state xs d → d.verdict ≡ Faulty → Demands state (xs ++ ys) d }
+{}
+
+/// A run in which neither count of failures rose ends as one in which no call failed.
+pub fn calm_runs_meet_no_failed_call()
+    ensures { (form : FormState) (run : Run) (status : Status') → Ended form run status → ¬ (Rose run.reads run.reads')
+        → ¬ (Rose run.writes run.writes') → NoCallFailed status }
 {}
 
 /// `untowers` gives back the octets whose text `towers` wrote.

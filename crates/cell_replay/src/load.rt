@@ -1,7 +1,8 @@
 // The form `load`: a cell replays a script that is made and not read.
 ghost use Rattle.std.specs.Prelude.{◌≡◌, ◌≤◌, IfOk};
+ghost use Rattle.cell_replay.specs.Forms.{loading};
 ghost use Rattle.line_replies.specs.Loading.{load_text};
-ghost use Rattle.cell_replay.specs.PrivateEndings.{Loaded, side_of};
+ghost use Rattle.cell_replay.specs.PrivateEndings.{EndsBetween, Side, side_of};
 ghost use Rattle.cell_replay.specs.declared.limits.TheConstants.{MOST_ROUNDS};
 
 use crate::endings::{Status, stop_with};
@@ -31,7 +32,8 @@ fn summary_line(alloc: Global, rounds: u32) -> Result<Vec<u8>, AllocError>
 pub(crate) fn load<K: Sink>(alloc: Global, rounds: u32, sink: &mut K) -> Status
     requires least { 1 ≤ rounds }
     requires most { rounds ≤ MOST_ROUNDS }
-    ensures { Loaded (load_text rounds) (side_of K.written K.faults sink.old) (side_of K.written K.faults sink.new) result }
+    ensures { (source : Side) → EndsBetween (loading rounds) source source
+        (side_of K.written K.faults sink.old) (side_of K.written K.faults sink.new) result }
 {
     let mut waiting = Waiting::new(alloc);
     stop_with(summary_line(alloc, rounds), &mut waiting, sink, Status::Ok)

@@ -1,18 +1,13 @@
 // The run over a source and a sink.
-ghost use Rattle.std.specs.Prelude.{◌≡◌, ◌≢◌, ℕ, ◌⊎◌, ◌↔◌, None, Some, map, string_bytes};
-ghost use Rattle.std.specs.Io.KnownBytes.{IsAtEnd};
-ghost use Rattle.cds_base.specs.Counts.{Rose};
+ghost use Rattle.std.specs.Prelude.{◌≡◌, ◌≢◌, ◌↔◌, None, Some, IfSome, map, string_bytes};
 ghost use Rattle.cds_base.specs.Lines.{IsFresh};
-ghost use Rattle.cell_model.specs.Cells as model;
-ghost use Rattle.cell_replay.specs.LineStates.{LineState, Replaying};
+ghost use Rattle.cell_replay.specs.LineStates.{LineState};
 ghost use Rattle.cell_replay.specs.Demand.{end_text, told_fault};
-ghost use Rattle.cell_replay.specs.Forms.{FormState, ByLines, Loading, Reading, task_of};
-ghost use Rattle.line_replies.specs.Loading.{load_text};
+ghost use Rattle.cell_replay.specs.Forms.{ByLines, form_of, replaying};
 ghost use Rattle.cell_replay.specs.Scripts.{IsReplay};
+ghost use Rattle.cell_replay.specs.Runs.{Ended, ReadsNothing, run_of};
 ghost use Rattle.cell_replay.specs.PrivateStanding.{IsAt, IsForm, counted, start_of};
-ghost use Rattle.cell_replay.specs.Runs.{LoadEnds, Wrote, WroteSoon, WroteAnswers, IsWhole, IsFaulty, WroteAllBefore, IsPart, IsCutShort};
-ghost use Rattle.cell_replay.specs.Runs.{NoCallFailed};
-ghost use Rattle.cell_replay.specs.PrivateEndings.{Did, Ended, LeavesSource, StopsWith, side_of};
+ghost use Rattle.cell_replay.specs.PrivateEndings.{StopsWith, side_of};
 
 use crate::check::Tally;
 use crate::endings::{Status, finish, stop_with};
@@ -70,8 +65,8 @@ fn answer_lines<S: Source, K: Sink>(
 ) -> Status
     requires fresh { IsFresh lines.old }
     requires start { counted form.old ≡ 0 }
-    ensures { (state : LineState) → IsAt form.old state → Ended (ByLines state) (side_of S.left S.faults source.old) (side_of S.left S.faults source.new)
-        (side_of K.written K.faults sink.old) (side_of K.written K.faults sink.new) result }
+    ensures { (state : LineState) → IsAt form.old state → Ended (ByLines state)
+        (run_of S.left S.faults K.written K.faults source.old source.new sink.old sink.new) result }
 {
     let mut waiting = Waiting::new(alloc);
     'lines: loop {
@@ -99,8 +94,8 @@ fn serve_lines<S: Source, K: Sink>(
     sink: &mut K,
 ) -> Status
     requires start { counted form ≡ 0 }
-    ensures { (state : LineState) → IsAt form state → Ended (ByLines state) (side_of S.left S.faults source.old) (side_of S.left S.faults source.new)
-        (side_of K.written K.faults sink.old) (side_of K.written K.faults sink.new) result }
+    ensures { (state : LineState) → IsAt form state → Ended (ByLines state)
+        (run_of S.left S.faults K.written K.faults source.old source.new sink.old sink.new) result }
 {
     match Lines::new(alloc) {
         Ok(mut lines) => answer_lines(alloc, &mut form, &mut lines, source, sink),
@@ -111,9 +106,9 @@ fn serve_lines<S: Source, K: Sink>(
 /// The work of a form.
 fn serve<S: Source, K: Sink>(alloc: Global, form: Form, source: &mut S, sink: &mut K) -> Status
     requires { IsForm form }
-    ensures did { Did (start_of form) (side_of S.left S.faults source.old) (side_of S.left S.faults source.new) (side_of K.written K.faults sink.old)
-        (side_of K.written K.faults sink.new) result }
-    ensures source { LeavesSource (start_of form) source.old source.new }
+    ensures ends { Ended (start_of form)
+        (run_of S.left S.faults K.written K.faults source.old source.new sink.old sink.new) result }
+    ensures unread { ReadsNothing (Some (start_of form)) → source.new ≡ source.old }
 {
     match form {
         Form::Run => serve_lines(alloc, LineForm::Run(Replayer::new(alloc)), source, sink),
@@ -134,30 +129,13 @@ pub fn run<S: Source, K: Sink>(
     source: &mut S,
     sink: &mut K,
 ) -> Status
-    ensures usage { (result ≡ Status.Usage) ↔ (task_of (map string_bytes words.now) ≡ None) }
+    ensures usage { (result ≡ Status.Usage) ↔ (form_of (map string_bytes words.now) ≡ None) }
     ensures unused { result ≡ Status.Usage → (source.new ≡ source.old) × (sink.new ≡ sink.old) }
-    ensures ok { (state : FormState) → task_of (map string_bytes words.now) ≡ Some (Reading state) → result ≡ Status.Ok → IsAtEnd (S.left source.new)
-        × Wrote state (S.left source.old) (S.left source.new) (K.written sink.old) (K.written sink.new) IsWhole }
-    ensures transcript { task_of (map string_bytes words.now) ≡ Some (Reading (ByLines (Replaying model.empty_cell))) → result ≡ Status.Ok
-        → IsReplay (S.left source.old) (S.left source.new) (K.written sink.old) (K.written sink.new) }
-    ensures bad { (state : FormState) → task_of (map string_bytes words.now) ≡ Some (Reading state) → result ≡ Status.BadInput
-        → Wrote state (S.left source.old) (S.left source.new) (K.written sink.old) (K.written sink.new) (IsFaulty (S.left source.new)) }
-    ensures read { (state : FormState) → task_of (map string_bytes words.now) ≡ Some (Reading state) → result ≡ Status.ReadFault
-        → WroteAllBefore state (S.left source.old) (S.left source.new) (K.written sink.old) (K.written sink.new) }
-    ensures write { (state : FormState) → task_of (map string_bytes words.now) ≡ Some (Reading state) → result ≡ Status.WriteFault
-        → Wrote state (S.left source.old) (S.left source.new) (K.written sink.old) (K.written sink.new) (IsCutShort (S.left source.new)) }
-    ensures soon { (state : FormState) → task_of (map string_bytes words.now) ≡ Some (Reading state) → (result ≡ Status.WriteFault)
-        ⊎ (result ≡ Status.ReadFault) → WroteSoon state (S.left source.old) (S.left source.new) (K.written sink.old) (K.written sink.new) }
-    ensures memory { (state : FormState) → task_of (map string_bytes words.now) ≡ Some (Reading state) → result ≡ Status.OutOfMemory
-        → Wrote state (S.left source.old) (S.left source.new) (K.written sink.old) (K.written sink.new) (IsPart (S.left source.new)) }
-    ensures answers { (state : FormState) → task_of (map string_bytes words.now) ≡ Some (Reading state) → result ≡ Status.OutOfMemory
-        → WroteAnswers state (S.left source.old) (S.left source.new) (K.written sink.old) (K.written sink.new) }
-    ensures load { (rounds : ℕ) → task_of (map string_bytes words.now) ≡ Some (Loading rounds) → (source.new ≡ source.old)
-        × LoadEnds (load_text rounds) (K.written sink.old) (K.written sink.new) result }
-    ensures read_cause { result ≡ Status.ReadFault → Rose (S.faults source.old) (S.faults source.new) × (K.faults sink.new ≡ K.faults sink.old) }
-    ensures write_cause { result ≡ Status.WriteFault → Rose (K.faults sink.old) (K.faults sink.new) × (S.faults source.new ≡ S.faults source.old) }
-    ensures calm { NoCallFailed result → (S.faults source.new ≡ S.faults source.old) × (K.faults sink.new ≡ K.faults sink.old) }
-    ensures complete { ¬ (Rose (S.faults source.old) (S.faults source.new)) → ¬ (Rose (K.faults sink.old) (K.faults sink.new)) → NoCallFailed result }
+    ensures unread { ReadsNothing (form_of (map string_bytes words.now)) → source.new ≡ source.old }
+    ensures ends { IfSome (form_of (map string_bytes words.now)) (λ form. Ended form
+        (run_of S.left S.faults K.written K.faults source.old source.new sink.old sink.new) result) }
+    ensures transcript { form_of (map string_bytes words.now) ≡ Some replaying → result ≡ Status.Ok
+        → IsReplay (run_of S.left S.faults K.written K.faults source.old source.new sink.old sink.new) }
 {
     match form_in(words) {
         Some(form) => serve(alloc, form, source, sink),

@@ -6,7 +6,8 @@ ghost use Rattle.cds_base.specs.Counts.{HasCause};
 ghost use Rattle.cds_base.specs.Reading.{GrowsByReading};
 ghost use Rattle.cell_replay.specs.TowerDemand.{stream_fault_text};
 ghost use Rattle.cell_replay.specs.Forms.{ByTowers};
-ghost use Rattle.cell_replay.specs.PrivateEndings.{Ended, StopsWith, side_of};
+ghost use Rattle.cell_replay.specs.Runs.{Ended, run_of};
+ghost use Rattle.cell_replay.specs.PrivateEndings.{StopsWith, side_of};
 ghost use Rattle.cell_replay.specs.PrivateSights.{Sees, seen_fault};
 
 use crate::endings::{Status, finish, stop_with};
@@ -149,8 +150,8 @@ fn print_each<S: Source, K: Sink>(
 ) -> Status
     requires empty { window.octets ≡ [] }
     requires room { window.room ≡ TOWER_SIGHT }
-    ensures { Ended ByTowers (side_of S.left S.faults source.old) (side_of S.left S.faults source.new) (side_of K.written K.faults sink.old)
-        (side_of K.written K.faults sink.new) result }
+    ensures { Ended ByTowers
+        (run_of S.left S.faults K.written K.faults source.old source.new sink.old sink.new) result }
 {
     let mut waiting = Waiting::new(alloc);
     let mut number = 1;
@@ -185,8 +186,8 @@ pub(crate) fn print_towers<S: Source, K: Sink>(
     source: &mut S,
     sink: &mut K,
 ) -> Status
-    ensures { Ended ByTowers (side_of S.left S.faults source.old) (side_of S.left S.faults source.new) (side_of K.written K.faults sink.old)
-        (side_of K.written K.faults sink.new) result }
+    ensures { Ended ByTowers
+        (run_of S.left S.faults K.written K.faults source.old source.new sink.old sink.new) result }
 {
     match Window::new(alloc, TOWER_SIGHT) {
         Ok(window) => print_each(alloc, window, source, sink),

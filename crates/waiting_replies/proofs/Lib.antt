@@ -1,4 +1,3 @@
 pub mod FaultyLines
 pub mod TowerLines
 pub mod DigitValues
-pub mod LineEndLaws

@@ -1,13 +1,17 @@
+use Rattle.cell_replay.specs.LineStates.{Checking, Spelling, Replaying}
 use Rattle.cell_model.specs.Cells.{empty_cell}
-use Rattle.cell_replay.specs.LineStates.{Replaying, Checking, Spelling}
+use Rattle.cell_replay.specs.PrivateEndings.{side_of}
 use Rattle.cell_replay.proofs.Turns.{unread_lines}
 use Rattle.cell_replay.proofs.replay.serve.Goals as goal
 
-pub returns-in-Run-clause-did : goal.returns-in-Run-clause-did
-returns-in-Run-clause-did g c = rw c.in-Run.is (c.serve_lines.ensures (Replaying empty_cell) c.new.ensures.cell)
+pub returns-in-Run-clause-ends : goal.returns-in-Run-clause-ends
+returns-in-Run-clause-ends g c = rw c.in-Run.is (c.serve_lines.ensures (Replaying empty_cell) c.new.ensures.cell)
 
-pub returns-in-Check-clause-did : goal.returns-in-Check-clause-did
-returns-in-Check-clause-did g c = rw c.in-Check.is (c.serve_lines-in-Check.ensures (Checking 0 0) (c.new-in-Check.ensures.lines, c.new-in-Check.ensures.commands))
+pub returns-in-Check-clause-ends : goal.returns-in-Check-clause-ends
+returns-in-Check-clause-ends g c = rw c.in-Check.is (c.serve_lines-in-Check.ensures (Checking 0 0) (c.new-in-Check.ensures.lines, c.new-in-Check.ensures.commands))
 
-pub returns-in-Err-clause-did : goal.returns-in-Err-clause-did
-returns-in-Err-clause-did g c = rw c.in-Untowers.is (unread_lines Spelling _ _ _ _)
+pub returns-in-Load-clause-ends : goal.returns-in-Load-clause-ends
+returns-in-Load-clause-ends g c = rw c.in-Load.is (c.load.ensures (side_of g.S.Source.left g.S.Source.faults c.args.source.now))
+
+pub returns-in-Err-clause-ends : goal.returns-in-Err-clause-ends
+returns-in-Err-clause-ends g c = rw c.in-Untowers.is (unread_lines Spelling _ _ _ _)
