@@ -1,7 +1,6 @@
 // A large replica whose many deletions go one after the other, by each call that drops some: none walks its table.
 use crate::houses::second_house;
 use crate::purges::{empty, large, object, stamp, steps_to};
-
 use cds_messages::{Body, Head, Message};
 use cds_records::{decode, encode_spread};
 use cds_stamps::{DirId, EpochNo, HouseNo};

@@ -16,7 +16,12 @@ pub fn stamp(time: u64) -> Result<Stamp, Fail> {
 }
 
 // The marks of an object of this name.
-pub fn object(alloc: Global, name: &[u8], birth: u64, death: Option<Stamp>) -> Result<Fragment, Fail> {
+pub fn object(
+    alloc: Global,
+    name: &[u8],
+    birth: u64,
+    death: Option<Stamp>,
+) -> Result<Fragment, Fail> {
     Ok(Fragment {
         name: SimpleName::parse(alloc, name)?,
         entry: EntryCell {
