@@ -45,8 +45,8 @@ impl<T: Drop> From<AllocFailed<T>> for DiskError {
     }
 }
 
-/// One file, whose owner may be stopped at any moment. Between two syncs a crash may leave any octets where something was
-/// written or cut off.
+/// One file, whose owner may be stopped at any moment. Between two syncs a crash may leave any octets where something
+/// was written or cut off.
 pub trait Disk {
     /// The octets that a read gives.
     ghost reads: { Self → List ℕ };
@@ -86,7 +86,8 @@ pub trait Disk {
         requires start { at ≤ length (reads self.old) }
         requires end { at + length piece.now ≤ 2 ^ 40 }
         ensures written { OnOk result (reads self.new ≡ written (reads self.old) at piece.now) }
-        ensures crash { Follows (Torn at (length piece.now)) (may_leave self.old) (may_leave self.new) }
+        ensures crash { Follows (Torn at (length piece.now)) (may_leave self.old)
+            (may_leave self.new) }
         ensures time { Elapses (moment self.old) (moment self.new) (left_since self.old)
             (left_since self.new) (may_leave self.new) }
         ensures told { IsDone result → told self.new
@@ -95,7 +96,7 @@ pub trait Disk {
         ensures cause { HasDiskCause (faults self.old) (faults self.new) result }
         ensures plan { PlanAllows (told self.old) (IsErrOf result why.Failed) result };
 
-    /// Cuts off what stands behind so many octets.
+    /// Cuts off all after so many octets.
     fn cut(&mut self, size: u64) -> Result<(), DiskError>
         requires { size ≤ length (reads self.old) }
         ensures cut { OnOk result (reads self.new ≡ take size (reads self.old)) }
@@ -124,8 +125,10 @@ pub trait Disk {
     ghost reads_left: { (disk : Self) → may_leave disk (reads disk) };
 
     /// This moment is one of those since an earlier one.
-    ghost counts_now: { (disk : Self) (t : ℕ) (c : List ℕ) → t ≤ moment disk → may_leave disk c → left_since disk t c };
+    ghost counts_now: { (disk : Self) (t : ℕ) (c : List ℕ) → t ≤ moment disk → may_leave disk c
+        → left_since disk t c };
 
     /// Since this moment there is no other.
-    ghost only_now: { (disk : Self) (c : List ℕ) → left_since disk (moment disk) c → may_leave disk c };
+    ghost only_now: { (disk : Self) (c : List ℕ) → left_since disk (moment disk) c
+        → may_leave disk c };
 }

@@ -67,9 +67,9 @@ impl Model for Journal {
 }
 
 impl Journal {
-    /// Opens the journal of a disk, in whatever state a crash or a failure left it, and answers the last image. From its
-    /// first sync on a crash at any moment leaves that image; a second open changes nothing. After want of memory or a
-    /// fault of the disk it can be opened again.
+    /// Opens the journal of a disk, in whatever state a crash or a failure left it, and answers the last image. From
+    /// its first sync on a crash at any moment leaves that image; a second open changes nothing. After want of memory
+    /// or a fault of the disk it can be opened again.
     pub fn open<D: Disk>(
         alloc: Global,
         disk: &mut D,
@@ -79,6 +79,7 @@ impl Journal {
             ≡ last_image (D.reads disk.old)) }
         ensures ready { IfOk result (λ r. IsReady D.Disk disk.new r.0.place
             × (r.0.broken ≡ false)) }
+        ensures size { OnOk result (length (D.reads disk.new) ≤ 2 ^ 40) }
         ensures rests { OnOk result (D.reads disk.new
             ≡ take (gate_of (D.reads disk.old)) (D.reads disk.old) ++ 0 ∷ []) }
         ensures any_moment { IsKept D.Disk disk.old
@@ -106,8 +107,9 @@ impl Journal {
         len <= MOST_OCTETS - FRAME && self.place <= MOST_OCTETS - FRAME - len
     }
 
-    /// Puts an image after the others. A crash at any moment leaves the earlier images, or those and this one; after Ok,
-    /// these. Reopen and Full change nothing; after another error the journal answers Reopen until it is opened again.
+    /// Puts an image after the others. A crash at any moment leaves the earlier images, or those and this one; after
+    /// Ok, these. Reopen and Full change nothing; after another error the journal answers Reopen until it is opened
+    /// again.
     pub fn put<D: Disk>(
         &mut self,
         alloc: Global,
@@ -121,6 +123,7 @@ impl Journal {
         ensures refused { IsRefused result → (self.new ≡ self.old) × (disk.new ≡ disk.old) }
         ensures ok { OnOk result (IsReady D.Disk disk.new self.new.place × (self.new.broken ≡ false)
             × (images (D.reads disk.new) ≡ images (D.reads disk.old) ++ image.now ∷ [])) }
+        ensures size { OnOk result (length (D.reads disk.new) ≤ 2 ^ 40) }
         ensures broken { IsBreaking result → self.new.broken ≡ true }
         ensures any_moment { self.old.broken ≡ false → LeavesOnly D.Disk disk.old disk.new
             (IsBeforeOrAfter (images (D.reads disk.old)) image.now) }

@@ -1,5 +1,5 @@
 // A disk in memory, which can be stopped at each of its writing calls and started again.
-ghost use Rattle.std.specs.Prelude.{◌≡◌, ◌+◌, ◌-◌, ◌^◌, ◌<◌, ◌≤◌, ◌↔◌, ℕ, List, [], true, false, Some, length, IsTrue, OnOk, OnErr};
+ghost use Rattle.std.specs.Prelude.{◌≡◌, ◌≤◌, ◌↔◌, ℕ, List, [], true, false, Some, length, OnOk, OnErr};
 ghost use Rattle.cds_base.specs.Counts.{HasCause};
 ghost use Rattle.house_journal.specs.Disks.{written};
 ghost use Rattle.house_journal.specs.MemoryDisks.{counted, missed, fails, has_stopped, noted_write, noted_cut, noted_sync};
@@ -18,8 +18,8 @@ use cds_stamps::Octets;
 use std::alloc::{AllocError, Global};
 use std::marker::Model;
 
-/// A disk in memory. It keeps its octets as they read, and of each write and cut the octets that it replaced: 20,000 records
-/// of a journal cost their octets once, and a few octets a step.
+/// A disk in memory. It keeps its octets as they read, and of each write and cut the octets that it replaced or cut
+/// off, so what is put at its end is kept once.
 #[derive(Drop)]
 pub struct MemDisk {
     alloc: Global,
@@ -37,7 +37,13 @@ impl Model for MemDisk {
 
     ghost Value = { MemState };
 
-    ghost view = { λ m. record { octets = m.octets.items; steps = reverse m.steps.items; calls = m.calls; faults = m.faults; stop = m.stop } };
+    ghost view = { λ m. record {
+      octets = m.octets.items;
+      steps = reverse m.steps.items;
+      calls = m.calls;
+      faults = m.faults;
+      stop = m.stop;
+    } };
 
     ghost invariant = { λ m. Fits (reverse m.steps.items) m.octets.items };
 }
@@ -57,7 +63,8 @@ pub(crate) fn overwrite(octets: &mut Vec<u8>, at: usize, piece: &[u8]) -> Result
 impl MemDisk {
     /// An empty disk. Takes no memory.
     pub fn new(alloc: Global) -> MemDisk
-        ensures empty { result ≡ record { octets = []; steps = []; calls = 0; faults = 0; stop = Never } }
+        ensures empty { result
+            ≡ record { octets = []; steps = []; calls = 0; faults = 0; stop = Never } }
         ensures opens { CanBeOpened result }
     {
         MemDisk {
@@ -70,8 +77,9 @@ impl MemDisk {
         }
     }
 
-    /// Lets the `at`-th call from now that writes, cuts or syncs fail, and all later calls. That call, if it writes or cuts,
-    /// is done and not synced; the later ones do nothing. A disk that has stopped stays so, with the new leave.
+    /// Lets the `at`-th call from now that writes, cuts or syncs fail, and all later calls. That call, if it writes
+    /// or cuts, is done and not synced; the later ones do nothing. A disk that has stopped stays so, with the new
+    /// leave.
     pub fn stop(&mut self, at: u64, leave: Leave)
         requires { 1 ≤ at }
         ensures { self.new ≡ record self.old { stop = stop_with at leave self.old.stop } }
@@ -82,9 +90,9 @@ impl MemDisk {
         };
     }
 
-    /// Ends the stop, by its leave: all that was written is there, or what was there at the last sync, or that and of each
-    /// write since then the first half, rounded down, with 255 in the rest of what lay past the end. A disk that was not told
-    /// to stop stays as it is; after want of memory it is as before.
+    /// Ends the stop, by its leave: all that was written is there, or what was there at the last sync, or that and of
+    /// each write since then the first half, rounded down, with 255 in the rest of what lay past the end. A disk that
+    /// was not told to stop stays as it is; after want of memory it is as before.
     pub fn restart(&mut self) -> Result<(), AllocError>
         ensures ok { OnOk result (self.new ≡ restarted self.old) }
         ensures lawful { OnOk result (left_now self.old.steps self.old.octets self.new.octets) }
@@ -133,9 +141,9 @@ impl MemDisk {
         self.stop = Stop::Never;
     }
 
-    /// What a crash may leave is said by its steps. It is what one sentence says: octets of a size between the least and the
-    /// greatest since the last sync, and those of that sync at each place that was there then, and was neither written nor
-    /// cut off since.
+    /// What a crash may leave is said by its steps. It is what one sentence says: octets of a size between the least
+    /// and the greatest since the last sync, and those of that sync at each place that was there then, and was
+    /// neither written nor cut off since.
     pub fn a_crash_leaves_untouched_places(&self)
         ensures { (c : List ℕ) → left_now self.now.steps self.now.octets c
             ↔ IsLeft (told_of self.now).synced (told_of self.now).changes c }

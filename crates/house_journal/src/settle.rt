@@ -10,8 +10,8 @@ use crate::list_end::{find_end, read_image};
 use crate::{Disk, DiskError};
 use std::alloc::Global;
 
-// Syncs, and answers how many octets there are. The sync is for a disk that failed in an earlier write: what it reads as
-// may be gone after a crash.
+// Syncs, and answers how many octets there are. The sync is for a disk that failed in an earlier write: what it reads
+// as may be gone after a crash.
 fn synced_size<D: Disk>(disk: &mut D) -> Result<u64, DiskError>
     ensures size { IfOk result (λ n. n ≡ length (D.reads disk.old)) }
     ensures same { OnOk result (D.reads disk.new ≡ D.reads disk.old) }

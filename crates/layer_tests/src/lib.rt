@@ -11,6 +11,8 @@ mod houses;
 #[cfg(test)]
 mod imports;
 #[cfg(test)]
+mod journals;
+#[cfg(test)]
 mod lists;
 #[cfg(test)]
 mod purges;
