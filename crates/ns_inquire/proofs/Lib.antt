@@ -1,0 +1,4 @@
+mod BatchLaws
+mod Examples
+mod InterfaceLaws
+mod Picks

@@ -1,0 +1,109 @@
+//! The elements of a profile that an inquiry asks for.
+ghost use Rattle.std.specs.Prelude.{◌≡◌, ◌++◌, map, IfOk, OnOk};
+ghost use Rattle.std.specs.Option.{option_to_list};
+ghost use Rattle.std.specs.List.{filter_map};
+ghost use Rattle.ns_inquire.specs.Inquiries.{elements_of, is_offered, is_picked, picked_in};
+
+use crate::version::Version;
+use attr_sets::{Value, all_in_order};
+use cds_stamps::AllocOr;
+use cell_names::FullName;
+use ns_profiles::Element;
+use std::alloc::{AllocError, Global};
+use tower_codec::Interface;
+
+/// Which elements of a profile are asked for.
+#[derive(Debug, PartialEq, Eq, Drop)]
+pub enum Inquiry {
+    AllElements,
+    /// The default elements.
+    Default,
+    /// Those for an interface, in a version that is meant; no default elements.
+    ByInterface(Interface, Version),
+    /// Those that lead to a member, default elements among them.
+    ByMember(FullName),
+    /// Those for an interface, in a version that is meant, that lead to a member; no default
+    /// elements.
+    ByBoth(Interface, Version, FullName),
+}
+
+impl Inquiry {
+    /// Whether it asks for an element.
+    pub fn picks(&self, element: &Element) -> bool
+        ensures { result ≡ is_picked self.now element.now }
+    {
+        match self {
+            Inquiry::AllElements => true,
+            Inquiry::Default => element.is_default(),
+            Inquiry::ByInterface(asked, version) => is_offered(asked, *version, element),
+            Inquiry::ByMember(member) => element.member == *member,
+            Inquiry::ByBoth(asked, version, member) => {
+                is_offered(asked, *version, element) && element.member == *member
+            }
+        }
+    }
+}
+
+// Whether it is an element for this interface, in a version that is meant.
+fn is_offered(asked: &Interface, version: Version, element: &Element) -> bool
+    ensures { result ≡ is_offered asked.now version element.now }
+{
+    !element.is_default() && version.allows(asked, &element.interface)
+}
+
+/// The elements among values that an inquiry asks for: by priority, and those of one priority by
+/// their octets, so default elements come last. The values may stand in any order; one that is no
+/// element is passed over, and one that stands twice counts once.
+pub fn elements(
+    alloc: Global,
+    values: &[Value],
+    inquiry: &Inquiry,
+) -> Result<Vec<Element>, AllocError>
+    ensures { IfOk result (λ v. v.items ≡ elements_of inquiry.now values.now) }
+{
+    let sorted = all_in_order(alloc, values)?;
+    picked_of(alloc, &sorted, inquiry)
+}
+
+// The elements among these values that an inquiry asks for, in the order of the values.
+fn picked_of(
+    alloc: Global,
+    values: &[&Value],
+    inquiry: &Inquiry,
+) -> Result<Vec<Element>, AllocError>
+    ensures { IfOk result (λ v. v.items
+        ≡ filter_map (picked_in inquiry.now) (map (λ value. value.now) values.now)) }
+{
+    let mut found = Vec::new(alloc);
+    for value in values {
+        push_some(&mut found, picked(alloc, value, inquiry)?)?;
+    }
+    Ok(found)
+}
+
+// Puts an element after the others, if there is one.
+fn push_some(list: &mut Vec<Element>, element: Option<Element>) -> Result<(), AllocError>
+    ensures { OnOk result (list.new.items ≡ list.old.items ++ option_to_list element) }
+{
+    match element {
+        Some(element) => Ok(list.push(element)?),
+        None => Ok(()),
+    }
+}
+
+// The element that a value is, if the inquiry asks for it.
+fn picked(alloc: Global, value: &Value, inquiry: &Inquiry) -> Result<Option<Element>, AllocError>
+    ensures { IfOk result (λ e. e ≡ picked_in inquiry.now value.now) }
+{
+    match Element::read(alloc, value) {
+        Ok(element) => {
+            if inquiry.picks(&element) {
+                Ok(Some(element))
+            } else {
+                Ok(None)
+            }
+        }
+        Err(AllocOr::Fault(_)) => Ok(None),
+        Err(AllocOr::OutOfMemory) => Err(AllocError),
+    }
+}
