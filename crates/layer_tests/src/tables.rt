@@ -111,24 +111,31 @@ fn spelled(alloc: Global, replica: &Replica) -> Result<Vec<u8>, Fail> {
 // How much is held after each kind of update: entries, deaths, clears and marks of values.
 static HELD: [u64; 9] = [1, 3, 5, 6, 7, 7, 6, 7, 8];
 
+// Has both tables take the update of this number, at the next time.
+fn take_next(
+    alloc: Global,
+    own: &mut Replica,
+    other: &mut Replica,
+    number: u64,
+) -> Result<(), Fail> {
+    let update = update(alloc, number)?;
+    let stamp = stamp(number.saturating_add(1))?;
+    both_take(alloc, &mut own.table, &mut other.table, &update, stamp)
+}
+
 #[test]
 fn each_fragment_joins_as_its_update_applies(rt: HostRuntime) -> Result<(), Fail> {
     let alloc = rt.alloc();
     let mut own = empty(alloc);
     let mut other = empty(alloc);
-    let mut time = 0;
-    for held in HELD {
-        let update = update(alloc, time)?;
-        time = (time + 1).min(9);
-        both_take(
-            alloc,
-            &mut own.table,
-            &mut other.table,
-            &update,
-            stamp(time)?,
-        )?;
-        assert_eq!(rt; (time, own.held(), other.held()), (time, held, held));
-        assert!(rt; spelled(alloc, &own)? == spelled(alloc, &other)?, "{time}");
+    for number in 0..9 {
+        take_next(alloc, &mut own, &mut other, number)?;
+        let held = HELD[number as usize];
+        assert_eq!(rt; (own.held(), other.held()), (held, held), "{number}");
+        assert!(rt;
+            spelled(alloc, &own)? == spelled(alloc, &other)?,
+            "{number}"
+        );
     }
     assert_eq!(rt; (own.table.live_entries(), own.latest_time()), (2, 9));
     Ok(())
