@@ -1,0 +1,160 @@
+"""Which answers a script can get, by command (docs/SCRIPT.md), and how often each was met."""
+
+import collections
+import re
+
+WALK = "RootName Unreachable NoSuchName NotDirectory TooManyLinks NameTooLong LinkCycle"
+# What a house that has to act may be refused, and what speaks against an update of an entry.
+ACTS = "NoDirectory NoHouse Down NoReplica NotMaster"
+UPDATES = f"ok {ACTS} StampsSpent"
+SERVICE = f"ok {WALK} NotObject StampsSpent"
+
+# The answers of each command: `ok`, or why it is refused.
+ANSWERS = {
+    "house": "ok HouseExists",
+    "clock": "ok NoHouse",
+    "root": "ok DirectoryExists NoHouse BadMembers Down",
+    "mkdir": f"{UPDATES} BadMembers EntryExists",
+    "repoint": f"{UPDATES} BadMembers NoSuchEntry WrongKind",
+    "create": f"{UPDATES} EntryExists",
+    "link": f"{UPDATES} EntryExists",
+    "delete": f"{UPDATES} NoSuchEntry WrongKind",
+    "add": f"{UPDATES} NoSuchEntry WrongKind",
+    "remove": f"{UPDATES} NoSuchEntry WrongKind",
+    "put": f"{UPDATES} NoSuchEntry WrongKind",
+    "clear": f"{UPDATES} NoSuchEntry WrongKind",
+    "epoch": "ok NoDirectory NoHouse BadMembers NotMember Down NoReplica NotJoined",
+    "skulk": f"ok complete {ACTS} StampsSpent",
+    "deliver": "NoMessage Down",
+    "lose": "ok NoMessage",
+    "crash": "ok NoHouse Down",
+    "start": "ok NoHouse Up",
+    "read": f"ok NoHouse {WALK}",
+    "readlink": f"ok NoHouse {WALK} NotLink",
+    "export": f"{SERVICE} NothingToExport",
+    "unexport": f"{SERVICE} NothingToUnexport",
+    "groupadd": SERVICE,
+    "groupdel": f"{SERVICE} NoSuchMember",
+    "profadd": f"{SERVICE} BadPriority ElementTooLong",
+    "profdel": f"{SERVICE} NoSuchElement",
+    "import": f"binding end NoHouse {WALK} NotObject",
+    "dump": "dump NoDirectory NoHouse Down NoReplica",
+    "octets": "ok NoMessage NoHouse",
+    "decode": "ok Short BadTag BadLength BadName OutOfOrder BadFlag",
+    # A delivery by the kind of its message. An Update and a Gather alone can be early, since all else comes after an answer of its
+    # receiver in that epoch, and a house goes back to no earlier one.
+    "deliver Update": "taken late early noreplica",
+    "deliver Gather": "taken late early noreplica",
+    "deliver Gathered": "taken late stale noreplica",
+    "deliver Spread": "taken late noreplica",
+    "deliver SpreadAck": "taken complete late stale noreplica",
+    "deliver Advance": "taken late noreplica",
+    "deliver Join": "taken late",
+    "deliver Leave": "taken late",
+    # The faults of a line, and how the other forms end. (A fault TooManyLines or TooManyTowers takes 16,777,216 of them.)
+    "run": "LineTooLong NotAscii NoLineEnd UnknownCommand WrongCount BadWord",
+    "check": "ok fault",
+    "load": "load",
+    "towers": "- floors ShortCount ShortLength EmptyLeft ShortPart TooLong",
+    "untowers": "ok fault",
+}
+
+
+class Kinds:
+    """What kind of message each serial number is, from the answers of a script in their order."""
+
+    def __init__(self):
+        self.kinds, self.posted = {}, 0
+
+    def learn(self, words, answer):
+        """Takes a command and its answer, which may post messages."""
+        _, is_posted, numbers = answer.partition("posted ")
+        numbers = [int(it) for it in numbers.split()] if is_posted else []
+        for at, kind in zip(numbers, self.posts(words, len(numbers))):
+            self.kinds[at] = kind
+
+    def posts(self, words, count):
+        """The kinds of the messages that a command posts."""
+        command = words[0]
+        if command == "root":
+            return ["Join"] * count
+        if command == "mkdir":
+            joins = min(len(words) - 6, count)
+            return ["Update"] * (count - joins) + ["Join"] * joins
+        if command == "epoch":
+            joins = min(len(words) - 3, count)
+            return ["Join"] * joins + ["Leave"] * (count - joins)
+        if command == "skulk":
+            return ["Gather"] * count
+        if command == "deliver":
+            behind = {"Gather": "Gathered", "Gathered": "Spread", "Spread": "SpreadAck", "SpreadAck": "Advance"}
+            return [behind.get(self.kind(words[1]), "Update")] * count
+        return ["Update"] * count
+
+    def kind(self, number):
+        return self.kinds.get(int(number))
+
+
+class Met:
+    """How often each command met each of its answers."""
+
+    def __init__(self):
+        self.counts = {it: collections.Counter() for it in ANSWERS}
+
+    def see(self, words, octets, status, output):
+        """Counts the answers of a run of the program."""
+        text, form = output.decode(errors="replace"), words[0]
+        if form == "run":
+            self.see_script(octets, text)
+        elif form == "towers":
+            self.see_towers(text)
+        elif form == "load":
+            self.add("load", text.partition(" ")[0])
+        else:
+            self.add(form, "ok" if status == 0 else "fault")
+
+    def add(self, command, answer):
+        self.counts.setdefault(command, collections.Counter())[answer] += 1
+
+    def see_script(self, octets, text):
+        lines, kinds = octets.split(b"\n"), Kinds()
+        for number, answer in re.findall(r"^(\d+) (.*)$", text, re.M):
+            words = lines[int(number) - 1].decode(errors="replace").split()
+            first, _, rest = answer.partition(" ")
+            if first == "fault":
+                self.add("run", rest.partition(" ")[0])
+            elif first == "refused":
+                self.add(words[0], rest.partition(" ")[0])
+                # (some updates of a command may have been made)
+                kinds.learn(words, answer)
+            elif words[0] == "deliver":
+                self.add(f"deliver {kinds.kind(words[1])}", rest.partition(" ")[0])
+                kinds.learn(words, answer)
+            elif words[0] == "dump":
+                # (one answer, of several lines)
+                self.add("dump", "dump") if first == "dump" else None
+            elif first != "ok":
+                self.add(words[0], first)
+            else:
+                self.add(words[0], "complete" if words[0] == "skulk" and rest.startswith("complete") else "ok")
+                kinds.learn(words, answer)
+
+    def see_towers(self, text):
+        for line in text.splitlines():
+            _, is_fault, fault = line.partition(" fault ")
+            self.add("towers", fault.partition(" ")[0] if is_fault else "-" if line == "-" else "floors")
+
+    def lacking(self):
+        """The answers that were never met, each behind its command."""
+        return [f"{command}: {answer}" for command, answers in ANSWERS.items() for answer in answers.split() if not self.counts[command][answer]]
+
+    def unknown(self):
+        """The answers that were met and that no table has."""
+        known = {command: answers.split() for command, answers in ANSWERS.items()}
+        rows = [(command, answer) for command, counts in self.counts.items() for answer in counts]
+        return [f"{command}: {answer}" for command, answer in rows if answer not in known.get(command, []) and not answer.isdigit()]
+
+    def rows(self):
+        """The table, a line for each command."""
+        for command, answers in ANSWERS.items():
+            yield f"{command:<18}" + "  ".join(f"{answer} {self.counts[command][answer]}" for answer in answers.split())
