@@ -61,17 +61,19 @@ static SCRIPTS: [(&[u8], &[u8]); 3] = [
 // The most octets of a read or a write where each of them fails in turn.
 const PIECE: usize = 64;
 
-// What a script writes that is read and written in pieces, and how it ends, where the read and the write of these numbers fail.
+// What a form writes over octets that are read and written in pieces, and how it ends, where the read and the write of these numbers
+// fail.
 fn outcome_of(
     alloc: Global,
-    script: &[u8],
+    form: &str,
+    octets: &[u8],
     most: usize,
     failing: (u64, u64),
 ) -> Result<(Vec<u8>, Status), AllocError>
     requires { 0 < most }
 {
-    let words = words_of(alloc, "run")?;
-    let mut source = MemSource::new(script.to_vec(alloc)?, vec![in alloc; failing.0]?, most);
+    let words = words_of(alloc, form)?;
+    let mut source = MemSource::new(octets.to_vec(alloc)?, vec![in alloc; failing.0]?, most);
     let mut sink = MemSink::new(alloc, ROOM, vec![in alloc; failing.1]?, most)?;
     let status = run(alloc, &words, &mut source, &mut sink);
     Ok((sink.written().to_vec(alloc)?, status))
@@ -90,7 +92,7 @@ fn runs_that_fail(
             Status::ReadFault => (call as u64, 0),
             _ => (0, call as u64),
         };
-        let (written, end) = outcome_of(alloc, script, PIECE, failing)?;
+        let (written, end) = outcome_of(alloc, "run", script, PIECE, failing)?;
         if end == Status::Ok && written.as_slice() == answers {
             return Ok(call - 1);
         }
@@ -109,6 +111,34 @@ fn each_read_and_each_write_fails_in_turn(rt: HostRuntime) -> Result<(), Fail> {
         assert_eq!(rt; reads, script.len().div_ceil(PIECE) + 1);
         let writes = runs_that_fail(alloc, script, answers, Status::WriteFault)?;
         assert!(rt; writes >= answers.len().div_ceil(PIECE));
+    }
+    Ok(())
+}
+
+// The tower of the endpoint mapper at TCP port 135 of 0.0.0.0.
+const MAPPER: &[u8] = b"\x05\0\
+    \x13\0\x0d\x08\x83\xaf\xe1\x1f\x5d\xc9\x11\x91\xa4\x08\0\x2b\x14\xa0\xfa\x03\0\x02\0\0\0\
+    \x13\0\x0d\x04\x5d\x88\x8a\xeb\x1c\xc9\x11\x9f\xe8\x08\0\x2b\x10\x48\x60\x02\0\x02\0\0\0\
+    \x01\0\x0b\x02\0\0\0\x01\0\x07\x02\0\0\x87\x01\0\x09\x04\0\0\0\0\0";
+
+// What `towers` writes of octets that come in pieces of at most so many, and how it ends.
+fn told(alloc: Global, octets: &[u8], most: usize) -> Result<(Vec<u8>, Status), AllocError>
+    requires { 0 < most }
+{
+    outcome_of(alloc, "towers", octets, most, (0, 0))
+}
+
+#[test]
+fn towers_are_one_in_any_pieces(rt: HostRuntime) -> Result<(), Fail> {
+    let alloc = rt.alloc();
+    for count in 0..=MAPPER.len() {
+        let octets = &MAPPER[..count];
+        let (text, status) = told(alloc, octets, 4_096)?;
+        let place = format!(in alloc; " {}\n", count + 1)?;
+        let is_whole = count == 0 || count == MAPPER.len();
+        assert_eq!(rt; status == Status::Ok, is_whole, "{count}");
+        assert_eq!(rt; status == Status::Fault && text.ends_with(place.as_bytes()), !is_whole, "{count}");
+        assert!(rt; told(alloc, octets, 1)? == (text, status), "{count}");
     }
     Ok(())
 }
