@@ -3,7 +3,7 @@
 use std::collections::BTreeMap;
 use std::ops::RangeInclusive;
 
-use crate::records::{self, begin_message, put_entry, put_marks, put_members, put_replica, put_stamp};
+use crate::records::{self, begin_message, put_delta, put_entry, put_marks, put_members, put_replica, put_stamp};
 use crate::records::{Body, Member, Message, Role, Sender, Tag};
 use crate::tables::{Change, Entry, Kind, LINK_TARGET, Marks, Pointer, REPLICAS, Replica, Stamp};
 
@@ -245,22 +245,22 @@ impl Held {
             }
             Body::Gather(stamp) => self.term.tell(vec![from], Tag::Gathered, me, |out| {
                 put_stamp(out, stamp);
-                put_replica(out, &self.replica);
+                put_delta(out, &self.replica.delta());
             }),
-            Body::Gathered(stamp, replica) => {
-                self.replica.join(replica);
+            Body::Gathered(stamp, delta) => {
+                self.replica.take_delta(delta);
                 if self.counts(from, false) {
                     self.skulk = Some(Skulk { stamp, spreads: true, answered: self.bit(me.house) });
                     self.term.tell_others(Tag::Spread, me, |out| {
                         put_stamp(out, stamp);
-                        put_replica(out, &self.replica);
+                        put_delta(out, &self.replica.delta());
                     })
                 } else {
                     None
                 }
             }
-            Body::Spread(stamp, replica) => {
-                self.replica.join(replica);
+            Body::Spread(stamp, delta) => {
+                self.replica.take_delta(delta);
                 self.term.tell(vec![from], Tag::SpreadAck, me, |out| put_stamp(out, stamp))
             }
             Body::SpreadAck(stamp) => {

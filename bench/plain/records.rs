@@ -5,10 +5,9 @@ use std::ops::RangeInclusive;
 
 use crate::house::{Clearinghouse, Held, Slot};
 use crate::names;
-use crate::tables::{Attribute, Entry, Kind, Mark, Marks, Replica, Stamp};
+use crate::tables::{Attribute, Delta, Entry, Kind, Mark, Marks, Replica, Stamp};
 
-const FORMAT: u8 = 1;
-const IMAGE_FORMAT: u8 = 2;
+const FORMAT: u8 = 2;
 /// The format of images that have no counts of what their replicas hold.
 const FORMER_FORMAT: u8 = 1;
 const IMAGE: u8 = 9;
@@ -61,8 +60,8 @@ pub struct Message {
 pub enum Body {
     Update(Vec<u8>, Entry),
     Gather(Stamp),
-    Gathered(Stamp, Replica),
-    Spread(Stamp, Replica),
+    Gathered(Stamp, Delta),
+    Spread(Stamp, Delta),
     SpreadAck(Stamp),
     Advance(Stamp),
     Join(Vec<Member>, Replica),
@@ -158,12 +157,20 @@ pub fn put_marks(out: &mut Vec<u8>, name: &[u8], entry: &Entry, marks: &Marks, s
     }
 }
 
-pub fn put_replica(out: &mut Vec<u8>, replica: &Replica) {
-    put_optional(out, replica.all_up_to);
-    put_count(out, replica.entries().len());
-    for (name, entry) in replica.entries() {
+fn put_table(out: &mut Vec<u8>, stamp: Option<Stamp>, entries: &BTreeMap<Vec<u8>, Entry>) {
+    put_optional(out, stamp);
+    put_count(out, entries.len());
+    for (name, entry) in entries {
         put_entry(out, name, entry);
     }
+}
+
+pub fn put_replica(out: &mut Vec<u8>, replica: &Replica) {
+    put_table(out, replica.all_up_to, replica.entries());
+}
+
+pub fn put_delta(out: &mut Vec<u8>, delta: &Delta) {
+    put_table(out, delta.above, &delta.entries);
 }
 
 pub fn put_members(out: &mut Vec<u8>, members: &[Member]) {
@@ -177,7 +184,7 @@ pub fn put_members(out: &mut Vec<u8>, members: &[Member]) {
 
 /// What a house keeps of itself in a crash.
 pub fn image(house: &Clearinghouse) -> Vec<u8> {
-    let mut out = vec![IMAGE_FORMAT, IMAGE, house.number];
+    let mut out = vec![FORMAT, IMAGE, house.number];
     out.extend(&house.node.to_be_bytes()[2..]);
     out.extend(house.floor.to_be_bytes());
     put_count(&mut out, house.dirs.len());
@@ -284,10 +291,15 @@ impl<'a> Reader<'a> {
         Ok(stamp)
     }
 
-    fn optional(&mut self) -> Result<Option<Stamp>, Fault> {
+    /// A stamp later than another one, if there is that.
+    fn later(&mut self, above: Option<Stamp>) -> Result<Stamp, Fault> {
+        self.kept("NotAbove", Self::stamp, |stamp| above < Some(*stamp))
+    }
+
+    fn optional(&mut self, above: Option<Stamp>) -> Result<Option<Stamp>, Fault> {
         match self.octet_in("BadFlag", 0..=1)? {
             0 => Ok(None),
-            _ => self.stamp().map(Some),
+            _ => self.later(above).map(Some),
         }
     }
 
@@ -334,37 +346,47 @@ impl<'a> Reader<'a> {
         keyed.collect()
     }
 
-    fn mark(&mut self, cleared: Option<Stamp>) -> Result<Mark, Fault> {
+    fn mark(&mut self, above: Option<Stamp>, cleared: Option<Stamp>) -> Result<Mark, Fault> {
         let present = self.octet_in("BadFlag", 0..=1)? == 1;
-        let stamp = self.kept("OutOfOrder", Self::stamp, |stamp| cleared <= Some(*stamp))?;
+        let in_order = |r: &mut Self| r.kept("OutOfOrder", Self::stamp, |stamp| cleared <= Some(*stamp));
+        let stamp = self.kept("NotAbove", in_order, |stamp| above < Some(*stamp))?;
         Ok(Mark { present, stamp })
     }
 
-    fn attribute(&mut self) -> Result<Attribute, Fault> {
-        let cleared = self.optional()?;
+    fn attribute(&mut self, above: Option<Stamp>) -> Result<Attribute, Fault> {
+        let cleared = self.optional(above)?;
         let count = self.kept("BadLength", Self::number, |count| *count > 0 || cleared.is_some())?;
-        let marks = self.map(count, |r, before| Ok((r.value(before)?, r.mark(cleared)?)))?;
+        let marks = self.map(count, |r, before| Ok((r.value(before)?, r.mark(above, cleared)?)))?;
         Ok(Attribute { cleared, marks })
     }
 
-    fn entry(&mut self) -> Result<Entry, Fault> {
+    /// An entry of which all but its birth is later than a stamp, if there is one.
+    fn entry(&mut self, above: Option<Stamp>) -> Result<Entry, Fault> {
         let kind = match self.octet_in("BadFlag", 1..=3)? {
             1 => Kind::Object,
             2 => Kind::Link,
             _ => Kind::Child,
         };
         let birth = self.stamp()?;
-        let death = self.optional()?;
+        let death = self.optional(above)?;
         let count = self.number()?;
-        let attributes = self.map(count, |r, before| Ok((r.attribute_name(before)?, r.attribute()?)))?;
+        let attributes = self.map(count, |r, before| Ok((r.attribute_name(before)?, r.attribute(above)?)))?;
         Ok(Entry { kind, birth, death, attributes })
     }
 
-    fn replica(&mut self) -> Result<Replica, Fault> {
-        let all_up_to = self.optional()?;
+    fn entries(&mut self, above: Option<Stamp>) -> Result<BTreeMap<Vec<u8>, Entry>, Fault> {
         let count = self.number()?;
-        let entries = self.map(count, |r, before| Ok((r.name(before)?, r.entry()?)))?;
-        Ok(Replica::new(all_up_to, entries))
+        self.map(count, |r, before| Ok((r.name(before)?, r.entry(above)?)))
+    }
+
+    fn replica(&mut self) -> Result<Replica, Fault> {
+        let all_up_to = self.optional(None)?;
+        Ok(Replica::new(all_up_to, self.entries(None)?))
+    }
+
+    fn delta(&mut self) -> Result<Delta, Fault> {
+        let above = self.optional(None)?;
+        Ok(Delta { above, entries: self.entries(above)? })
     }
 
     fn members(&mut self) -> Result<Vec<Member>, Fault> {
@@ -399,10 +421,10 @@ impl<'a> Reader<'a> {
 
     fn body(&mut self, tag: u8) -> Result<Body, Fault> {
         Ok(match tag {
-            1 => Body::Update(self.name(None)?.to_vec(), self.entry()?),
+            1 => Body::Update(self.name(None)?.to_vec(), self.entry(None)?),
             2 => Body::Gather(self.stamp()?),
-            3 => Body::Gathered(self.stamp()?, self.replica()?),
-            4 => Body::Spread(self.stamp()?, self.replica()?),
+            3 => Body::Gathered(self.stamp()?, self.delta()?),
+            4 => Body::Spread(self.stamp()?, self.delta()?),
             5 => Body::SpreadAck(self.stamp()?),
             6 => Body::Advance(self.stamp()?),
             7 => Body::Join(self.members()?, self.replica()?),
@@ -411,7 +433,7 @@ impl<'a> Reader<'a> {
     }
 
     fn image(&mut self) -> Result<Clearinghouse, Fault> {
-        let format = self.octet_in("BadTag", FORMER_FORMAT..=IMAGE_FORMAT)?;
+        let format = self.octet_in("BadTag", FORMER_FORMAT..=FORMAT)?;
         self.octet_in("BadTag", IMAGE..=IMAGE)?;
         let number = self.octet()?;
         let node = self.node()?;

@@ -99,6 +99,14 @@ impl Attribute {
         !self.is_empty()
     }
 
+    /// What is later than a stamp, if there is one, if that is anything.
+    fn above(&self, above: Option<Stamp>) -> Option<Attribute> {
+        let cleared = self.cleared.filter(|cleared| above < Some(*cleared));
+        let later = self.marks.iter().filter(|(_, mark)| above < Some(mark.stamp));
+        let attribute = Attribute { cleared, marks: later.map(|(value, mark)| (value.clone(), *mark)).collect() };
+        if attribute.is_empty() { None } else { Some(attribute) }
+    }
+
     /// The values that are present, ascending.
     pub fn values(&self) -> impl DoubleEndedIterator<Item = &[u8]> {
         self.marks.iter().filter(|(_, mark)| mark.present).map(|(value, _)| value.as_slice())
@@ -219,6 +227,17 @@ impl Entry {
         self
     }
 
+    /// What is later than a stamp, if there is one, with the birth of that; nothing where not even the birth is later.
+    fn above(&self, above: Option<Stamp>) -> Option<Entry> {
+        let death = self.death.filter(|death| above < Some(*death));
+        let later = self.attributes.iter().filter_map(|(name, attribute)| Some((name.clone(), attribute.above(above)?)));
+        let attributes: BTreeMap<_, _> = later.collect();
+        if Some(self.birth) <= above && death.is_none() && attributes.is_empty() {
+            return None;
+        }
+        Some(Entry { kind: self.kind, birth: self.birth, death, attributes })
+    }
+
     fn held(&self) -> usize {
         1 + usize::from(self.death.is_some()) + self.attributes.values().map(Attribute::held).sum::<usize>()
     }
@@ -287,6 +306,12 @@ pub struct Replica {
     room: usize,
 }
 
+/// What of a replica is later than its AllUpTo.
+pub struct Delta {
+    pub above: Option<Stamp>,
+    pub entries: BTreeMap<Vec<u8>, Entry>,
+}
+
 /// An entry that shows, to be changed.
 pub struct Live<'a> {
     pub entry: &'a mut Entry,
@@ -352,10 +377,15 @@ impl Replica {
     /// Takes in marks of an entry. What is not later than AllUpTo came before, and was deleted where it is not there.
     pub fn join_entry(&mut self, name: Vec<u8>, entry: Entry) {
         self.tidy();
-        for (stamp, what) in entry.deletions().filter(|(stamp, _)| self.all_up_to < Some(*stamp)) {
+        self.take_in(name, entry, self.all_up_to);
+    }
+
+    /// Takes in what of an entry is later than a stamp, where there is one, with the deletions of that.
+    fn take_in(&mut self, name: Vec<u8>, entry: Entry, up_to: Option<Stamp>) {
+        for (stamp, what) in entry.deletions().filter(|(stamp, _)| up_to < Some(*stamp)) {
             self.deletions.insert(Deletion { stamp, name: name.clone(), what });
         }
-        self.take(name, entry, self.all_up_to);
+        self.take(name, entry, up_to);
     }
 
     /// Takes in what of an entry is later than a stamp, where there is one.
@@ -381,6 +411,21 @@ impl Replica {
         self.deletions.extend(other.deletions.into_iter().filter(|deletion| up_to < Some(deletion.stamp)));
         for (name, entry) in other.entries {
             self.take(name, entry, up_to);
+        }
+        self.forget(up_to);
+        self.tidy();
+    }
+
+    /// What is later than AllUpTo.
+    pub fn delta(&self) -> Delta {
+        let later = self.entries.iter().filter_map(|(name, entry)| Some((name.clone(), entry.above(self.all_up_to)?)));
+        Delta { above: self.all_up_to, entries: later.collect() }
+    }
+
+    pub fn take_delta(&mut self, delta: Delta) {
+        let up_to = self.all_up_to.max(delta.above);
+        for (name, entry) in delta.entries {
+            self.take_in(name, entry, up_to);
         }
         self.forget(up_to);
         self.tidy();

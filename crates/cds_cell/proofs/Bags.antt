@@ -23,12 +23,15 @@ use Rattle.record_fields.specs.declared.fault.RecordFault.{RecordFault}
 use Rattle.cds_messages.specs.declared.message.Message.{Message}
 use Rattle.cds_messages.specs.declared.message.Body.{Body}
 use Rattle.cds_messages.specs.declared.message.Body.TheVariants as body
+use Rattle.purge_rule.specs.declared.delta.Delta.{Delta}
+use Rattle.purge_rule.specs.Replicas.{IsDelta}
+use Rattle.purge_rule.proofs.ReplicaLaws.{delta_of-valid}
 use Rattle.cell_model.specs.Cells as model
 use Rattle.cell_model.specs.Sets.{has}
 use Rattle.cell_model.specs.Steps.{message_at, serials}
 use Rattle.clearinghouse.specs.declared.letters.Letters.{Letters}
 use Rattle.held_directories.specs.declared.posted.Posted.{Posted}
-use Rattle.held_directories.specs.Posting.{StandEach, StandsBody, StandsCopy, StandsMessage, numbers_of, posts_to}
+use Rattle.held_directories.specs.Posting.{StandEach, StandsBody, StandsCopy, StandsDelta, StandsMessage, numbers_of, posts_to}
 use Rattle.clearinghouse.specs.Posting.{AreLetters}
 use Rattle.cds_cell.specs.declared.bag.Bag.{Bag}
 use Rattle.cds_cell.specs.declared.bag.Letter.{Letter}
@@ -211,11 +214,15 @@ each_at (q ∷ ps) (m ∷ ms) (suc i) p h is = each_at ps ms i p h.1 is
 copy_valid : (r : Replica) (c : model.Copy) → StandsCopy r c → IsValidTable r.table
 copy_valid r c is = subst (λ (x : Replica). IsValidTable x.table) (sym is) (purged-valid c.history c.all_up_to)
 
+-- the delta of a history is one
+copied_delta : (d : Delta) (c : model.Copy) → StandsDelta d c → IsDelta d
+copied_delta d c is = subst IsDelta (sym is) (delta_of-valid c.history c.all_up_to)
+
 -- so what a message carries that stands for one of the model is valid
 body_valid : (b : Body) (n : model.Body) → StandsBody b n → IsValidBody b
 body_valid (body.Update f) (model.Update marks) h = subst (λ o. IfSome o IsValidEntry) h.entry (entry_of-valid marks f.name)
-body_valid (body.Gathered t r) (model.Gathered u c) h = copy_valid r c h.1
-body_valid (body.Spread t r) (model.Spread u c) h = copy_valid r c h.1
+body_valid (body.Gathered t d) (model.Gathered u c) h = copied_delta d c h.1
+body_valid (body.Spread t d) (model.Spread u c) h = copied_delta d c h.1
 body_valid (body.Join ms r) (model.Join ns c) h = copy_valid r c h.1
 body_valid (body.Gather t) n h = tt
 body_valid (body.SpreadAck t) n h = tt

@@ -7,7 +7,7 @@ use Rattle.cds_stamps.specs.declared.members.Member as declared
 use Rattle.cds_stamps.specs.declared.numbers.DirId.{DirId}
 use Rattle.cds_stamps.specs.Members.{Member}
 use Rattle.directory.specs.Histories.{Mark, name_in, entry_of}
-use Rattle.purge_rule.specs.Replicas.{replica_of}
+use Rattle.purge_rule.specs.Replicas.{replica_of, delta_of}
 use Rattle.cds_records.specs.Octets.{message_octets}
 use Rattle.cds_messages.specs.declared.image.Image.{Image}
 use Rattle.cds_messages.specs.declared.image.ImageDir.{ImageDir}
@@ -34,8 +34,8 @@ update_body (m ∷ ms) = option_map (λ e. body.Update (record { name = name_in 
 abbrev pub body_of : model.Body → Option Body
 body_of (model.Update marks) = update_body marks
 body_of (model.Gather t) = Some (body.Gather t)
-body_of (model.Gathered t c) = Some (body.Gathered t (replica_of c.history c.all_up_to))
-body_of (model.Spread t c) = Some (body.Spread t (replica_of c.history c.all_up_to))
+body_of (model.Gathered t c) = Some (body.Gathered t (delta_of c.history c.all_up_to))
+body_of (model.Spread t c) = Some (body.Spread t (delta_of c.history c.all_up_to))
 body_of (model.SpreadAck t) = Some (body.SpreadAck t)
 body_of (model.Advance t) = Some (body.Advance t)
 body_of (model.Join members c) = Some (body.Join (declared_members members) (replica_of c.history c.all_up_to))

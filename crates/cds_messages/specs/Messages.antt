@@ -13,8 +13,8 @@ head_of m = record { dir = m.dir; from = m.from; epoch = m.epoch; floor = m.floo
 abbrev pub tag_of : Body → ℕ
 tag_of (Update f) = 1
 tag_of (Gather t) = 2
-tag_of (Gathered t r) = 3
-tag_of (Spread t r) = 4
+tag_of (Gathered t d) = 3
+tag_of (Spread t d) = 4
 tag_of (SpreadAck t) = 5
 tag_of (Advance t) = 6
 tag_of (Join ms r) = 7

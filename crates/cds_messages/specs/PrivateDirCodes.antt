@@ -10,6 +10,7 @@ use Rattle.cds_stamps.specs.declared.members.MemberKind.{MemberKind}
 use Rattle.cds_stamps.specs.Stamps.{stamp_code}
 use Rattle.cds_stamps.specs.Octets.{octets_code}
 use Rattle.directory.specs.Entries.{Entries, entry_code}
+use Rattle.purge_rule.specs.declared.delta.Delta.{Delta}
 use Rattle.purge_rule.specs.declared.replica.Replica.{Replica}
 use Rattle.cds_messages.specs.Kinds.{kind_in, kind_number, kind_back}
 use Rattle.cds_messages.specs.declared.image.ImageDir.{ImageDir}
@@ -34,6 +35,12 @@ abbrev pub replica_code : Coded Replica
 replica_code =
     code_by (Entries × Option Stamp) (coded× (code octets_code entry_code) (coded_option stamp_code)) (λ r. (r.table, r.all_up_to))
     (λ p. record { table = p.0; all_up_to = p.1 }) (λ _. refl)
+
+-- a delta by its table and the stamp that it is above (own)
+abbrev pub delta_code : Coded Delta
+delta_code =
+    code_by (Entries × Option Stamp) (coded× (code octets_code entry_code) (coded_option stamp_code)) (λ d. (d.table, d.above))
+    (λ p. record { table = p.0; above = p.1 }) (λ _. refl)
 
 -- the parts of what is kept of a directory, held or gone (own)
 abbrev pub parts : ImageDir → (ℕ × (List Member × Replica)) ⊎ ℕ

@@ -1,6 +1,7 @@
--- Messages and images whose entries and tables are valid (own).
+-- Messages and images whose entries, tables and deltas are valid (own).
 use Rattle.cds_stamps.specs.Joins.{EachValue}
 use Rattle.directory.specs.Entries.{IsValidEntry, IsValidTable}
+use Rattle.purge_rule.specs.Replicas.{IsDelta}
 use Rattle.cds_messages.specs.declared.image.ImageDir.{ImageDir}
 use Rattle.cds_messages.specs.declared.image.ImageDir.TheVariants.{Held, Gone}
 use Rattle.cds_messages.specs.declared.image.Image.{Image}
@@ -12,8 +13,8 @@ use Rattle.cds_messages.specs.declared.message.Body.TheVariants.{Update, Gather,
 abbrev pub IsValidBody : Body → Type 0
 IsValidBody (Update f) = IsValidEntry f.entry
 IsValidBody (Gather t) = Unit {0}
-IsValidBody (Gathered t r) = IsValidTable r.table
-IsValidBody (Spread t r) = IsValidTable r.table
+IsValidBody (Gathered t d) = IsDelta d
+IsValidBody (Spread t d) = IsDelta d
 IsValidBody (SpreadAck t) = Unit {0}
 IsValidBody (Advance t) = Unit {0}
 IsValidBody (Join ms r) = IsValidTable r.table

@@ -6,7 +6,7 @@ ghost use Rattle.cds_messages.specs.Messages.{tag_of};
 use crate::tags::{ADVANCE, GATHER, GATHERED, JOIN, LEAVE, SPREAD, SPREAD_ACK, UPDATE};
 use cds_stamps::{DirId, EpochNo, HouseNo, Members, Stamp};
 use directory::Fragment;
-use purge_rule::Replica;
+use purge_rule::{Delta, Replica};
 use std::alloc::{AllocError, Global};
 
 /// A message of one house to another about a directory.
@@ -36,10 +36,10 @@ pub enum Body {
     Update(Fragment),
     /// The first round of a skulk with this stamp begins.
     Gather(Stamp),
-    /// The answer, with the sender's replica.
-    Gathered(Stamp, Replica),
-    /// The second round begins, with the master's replica.
-    Spread(Stamp, Replica),
+    /// The answer, with the delta of the sender's replica.
+    Gathered(Stamp, Delta),
+    /// The second round begins, with the delta of the master's replica.
+    Spread(Stamp, Delta),
     /// The answer.
     SpreadAck(Stamp),
     /// The skulk with this stamp is complete.
@@ -102,8 +102,8 @@ impl Body {
         match self {
             Body::Update(fragment) => Ok(Body::Update(fragment.copy(alloc)?)),
             Body::Gather(stamp) => Ok(Body::Gather(*stamp)),
-            Body::Gathered(stamp, replica) => Ok(Body::Gathered(*stamp, replica.copy(alloc)?)),
-            Body::Spread(stamp, replica) => Ok(Body::Spread(*stamp, replica.copy(alloc)?)),
+            Body::Gathered(stamp, delta) => Ok(Body::Gathered(*stamp, delta.copy(alloc)?)),
+            Body::Spread(stamp, delta) => Ok(Body::Spread(*stamp, delta.copy(alloc)?)),
             Body::SpreadAck(stamp) => Ok(Body::SpreadAck(*stamp)),
             Body::Advance(stamp) => Ok(Body::Advance(*stamp)),
             Body::Join(members, replica) => {

@@ -13,6 +13,7 @@ use Rattle.directory.specs.declared.entry.EntryCell.{EntryCell}
 use Rattle.directory.specs.declared.entry.Fragment.{Fragment}
 use Rattle.directory.specs.Held.{held_in, most_held}
 use Rattle.directory.specs.Kinds.{rank, kind_of_rank}
+use Rattle.purge_rule.specs.declared.delta.Delta.{Delta}
 use Rattle.purge_rule.specs.declared.replica.Replica.{Replica}
 use Rattle.record_fields.specs.declared.fault.Rule.{Rule}
 use Rattle.record_fields.specs.declared.fault.Rule.TheVariants.{BadTag, BadFlag}
@@ -27,8 +28,7 @@ use Rattle.cds_messages.specs.Kinds.{kind_in, kind_number}
 use Rattle.record_fields.specs.Layouts.{done, choose, Stands}
 use Rattle.record_fields.specs.Fields.{free, outside, number_order, octet, number, simple_name, attr_name}
 use Rattle.record_fields.specs.Records.{cell}
-use Rattle.cds_records.specs.Records.{kind, entry, replica, kind_rule, member_kind, member, listed, members, fragment, copied, joined, body, message}
-use Rattle.cds_records.specs.Records.{message_in}
+use Rattle.cds_records.specs.Records.{kind, entry, replica, delta, kind_rule, member_kind, member, listed, members, fragment, copied, joined, body, message}
 use Rattle.cds_messages.specs.Messages.{tag_of}
 use Rattle.cds_records.specs.Images.{dir_number, held_rule, held_count, held, dir_state, image_behind, image_in, image, image_1}
 use Rattle.record_fields.proofs.Spelling.{OneSpelling, tells, spell_next, spell_done, spell_last, spell_choose, spell_cons, spell_octet, spell_32, spell_64}
@@ -65,6 +65,13 @@ spell_replica =
     spell_next (tells (λ r. r.all_up_to) (λ t r w x g h. ap (λ (r : Replica). r.all_up_to) (sym h.3.3.0))) (spell_optional_stamp None) (λ t.
     spell_counted nat_list_cmp_total simple_name (entry None) simple_names_rise spell_simple_name (spell_entry None)
     (λ entries. record { table = entries; all_up_to = t }) (λ r. r.table) (λ m. refl) (spell_64 free))
+
+spell_delta : OneSpelling delta
+unfolding delta
+spell_delta =
+    spell_next (tells (λ d. d.above) (λ t d w x g h. ap (λ (d : Delta). d.above) (sym h.3.3.0))) (spell_optional_stamp None) (λ t.
+    spell_counted nat_list_cmp_total simple_name (entry t) simple_names_rise spell_simple_name (spell_entry t)
+    (λ entries. record { table = entries; above = t }) (λ d. d.table) (λ m. refl) (spell_64 free))
 
 -- ---- members
 
@@ -113,8 +120,8 @@ spell_fragment =
 spell_copied : OneSpelling copied
 unfolding copied
 spell_copied =
-    spell_next (tells (λ c. c.0) (λ t c w x g h. ap (λ (c : Stamp × Replica). c.0) (sym h.3.0))) (spell_stamp free) (λ t.
-    spell_last (λ r. (t, r)) (λ r s e. ap (λ (c : Stamp × Replica). c.1) e) spell_replica)
+    spell_next (tells (λ c. c.0) (λ t c w x g h. ap (λ (c : Stamp × Delta). c.0) (sym h.3.0))) (spell_stamp free) (λ t.
+    spell_last (λ d. (t, d)) (λ d e s. ap (λ (c : Stamp × Delta). c.1) s) spell_delta)
 
 spell_joined : OneSpelling joined
 unfolding joined
@@ -156,9 +163,9 @@ the_number rule n k e = grind (arith, e)
 
 -- a message has one spelling
 pub spell_message : OneSpelling message
-unfolding message message_in octet
+unfolding message octet
 spell_message =
-    spell_next (tells (λ m. 1) (λ k m w x g h. the_number BadTag 1 k g.4)) (spell_octet _) (λ format.
+    spell_next (tells (λ m. 2) (λ k m w x g h. the_number BadTag 2 k g.4)) (spell_octet _) (λ format.
     spell_next (tells (λ m. tag_of m.body)
     (λ tag m w x g h. ap (λ (m : Message). tag_of m.body) (sym h.3.3.3.3.3.0) ∙ body_tag tag h.3.3.3.3.0 h.3.3.3.1 h.3.3.3.3.1 g.4 h.3.3.3.3.2))
     (spell_octet _) (λ tag.

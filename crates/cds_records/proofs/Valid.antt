@@ -8,9 +8,13 @@ use Rattle.cds_stamps.specs.Octets.{octets_cmp}
 use Rattle.cds_stamps.specs.Joins.{EachValue}
 use Rattle.attr_sets.specs.declared.mark.ValueMark.{ValueMark}
 use Rattle.attr_sets.specs.declared.cell.AttrCell.{AttrCell}
+use Rattle.attr_sets.specs.CellPurges.{IsAboveCell}
 use Rattle.directory.specs.declared.entry.EntryCell.{EntryCell}
 use Rattle.directory.specs.Entries.{IsHeldCell, IsValidEntry, IsValidTable}
+use Rattle.directory.specs.Purges.{IsAboveEntry}
+use Rattle.purge_rule.specs.declared.delta.Delta.{Delta}
 use Rattle.purge_rule.specs.declared.replica.Replica.{Replica}
+use Rattle.purge_rule.specs.Replicas.{IsDelta}
 use Rattle.directory.specs.declared.entry.Fragment.{Fragment}
 use Rattle.cds_stamps.specs.declared.members.Member.{Member}
 use Rattle.cds_messages.specs.declared.message.Message.{Message}
@@ -26,9 +30,9 @@ use Rattle.record_fields.specs.Layouts.{Layout, next, done, choose}
 use Rattle.record_fields.specs.Reading.{read}
 use Rattle.record_fields.specs.Fields.{free, mark_rule, number, stamp, value, attr_name, simple_name}
 use Rattle.record_fields.specs.Records.{map_of, mark, cell}
-use Rattle.cds_records.specs.Records.{entry, replica, fragment, copied, joined, body, message, message_in}
+use Rattle.cds_records.specs.Records.{entry, replica, delta, fragment, copied, joined, body, message}
 use Rattle.record_fields.proofs.LayoutLaws.{ok_is, bind_ok, stands_read, read_stands}
-use Rattle.record_fields.proofs.Valid.{map_valid, mark_valid, kept_all, not_empty}
+use Rattle.record_fields.proofs.Valid.{map_valid, mark_valid, stamp_above, kept_all, above_all, not_empty}
 
 -- ---- cells, entries and tables
 
@@ -61,6 +65,43 @@ replica_valid x r y e =
     (map_valid nat_list_cmp_total IsValidEntry simple_name (entry None) (entry_valid None) h.3.0 h.3.1 entries.0 entries.1
     (stands_read (map_of {R = octets_cmp} simple_name (entry None) h.3.0) h.3.1 entries.0 entries.1 entries.2))
 
+-- what is read above a stamp is above it
+cell_above : (above : Option Stamp) (x : List ℕ) (c : AttrCell) (y : List ℕ) → read (cell above) x ≡ Ok (c, y) → IsAboveCell above c
+unfolding cell
+cell_above above x c y e =
+    let h = read_stands (cell above) x c y e in
+    let marks = stands_read (map_of {R = octets_cmp} value (mark above h.0) h.3.0) h.3.1 h.3.3.0 h.3.3.1 h.3.3.2 in
+    let each : EachValue (λ (m : ValueMark). mark_rule above h.0 m.stamp ≡ None) h.3.3.0 =
+    map_valid nat_list_cmp_total (λ m. mark_rule above h.0 m.stamp ≡ None) value (mark above h.0) (mark_valid above h.0) h.3.0 h.3.1 h.3.3.0 h.3.3.1 marks
+    in
+    subst (IsAboveCell above) h.3.3.3.0 (record {
+      cleared = stamp_above above x h.0 h.1 h.2;
+      values = λ v. above_all above h.0 (get h.3.3.0 v) (each v);
+    })
+
+entry_above : (above : Option Stamp) (x : List ℕ) (d : EntryCell) (y : List ℕ) → read (entry above) x ≡ Ok (d, y) → IsAboveEntry above d
+unfolding entry
+entry_above above x d y e =
+    let h = read_stands (entry above) x d y e in
+    let attrs = h.3.3.3.3 in
+    subst (IsAboveEntry above) attrs.3.0 (record {
+      death = stamp_above above h.3.1 h.3.3.0 h.3.3.1 h.3.3.2;
+      attrs =
+          map_valid nat_list_cmp_total (IsAboveCell above) attr_name (cell above) (cell_above above) h.3.3.3.0 h.3.3.3.1 attrs.0 attrs.1
+          (stands_read (map_of {R = octets_cmp} attr_name (cell above) h.3.3.3.0) h.3.3.3.1 attrs.0 attrs.1 attrs.2);
+    })
+
+delta_valid : (x : List ℕ) (d : Delta) (y : List ℕ) → read delta x ≡ Ok (d, y) → IsDelta d
+unfolding delta
+delta_valid x d y e =
+    let h = read_stands delta x d y e in
+    let entries = h.3.3 in
+    let table = stands_read (map_of {R = octets_cmp} simple_name (entry h.0) h.3.0) h.3.1 entries.0 entries.1 entries.2 in
+    subst IsDelta entries.3.0 (record {
+      valid = map_valid nat_list_cmp_total IsValidEntry simple_name (entry h.0) (entry_valid h.0) h.3.0 h.3.1 entries.0 entries.1 table;
+      above = map_valid nat_list_cmp_total (IsAboveEntry h.0) simple_name (entry h.0) (entry_above h.0) h.3.0 h.3.1 entries.0 entries.1 table;
+    })
+
 -- ---- messages
 
 fragment_valid : (x : List ℕ) (f : Fragment) (y : List ℕ) → read fragment x ≡ Ok (f, y) → IsValidBody (Update f)
@@ -69,11 +110,11 @@ fragment_valid x f y e =
     let h = read_stands fragment x f y e in
     subst (λ (f : Fragment). IsValidEntry f.entry) h.3.3.0 (entry_valid None h.1 h.3.0 h.3.1 (stands_read (entry None) h.1 h.3.0 h.3.1 h.3.2))
 
-copied_valid : (x : List ℕ) (c : Stamp × Replica) (y : List ℕ) → read copied x ≡ Ok (c, y) → IsValidTable c.1.table
+copied_valid : (x : List ℕ) (c : Stamp × Delta) (y : List ℕ) → read copied x ≡ Ok (c, y) → IsDelta c.1
 unfolding copied
 copied_valid x c y e =
     let h = read_stands copied x c y e in
-    subst (λ (c : Stamp × Replica). IsValidTable c.1.table) h.3.3.0 (replica_valid h.1 h.3.0 h.3.1 (stands_read replica h.1 h.3.0 h.3.1 h.3.2))
+    subst (λ (c : Stamp × Delta). IsDelta c.1) h.3.3.0 (delta_valid h.1 h.3.0 h.3.1 (stands_read delta h.1 h.3.0 h.3.1 h.3.2))
 
 joined_valid : (x : List ℕ) (c : List Member × Replica) (y : List ℕ) → read joined x ≡ Ok (c, y) → IsValidTable c.1.table
 unfolding joined
@@ -109,7 +150,7 @@ body_valid tag =
 
 -- a message that was read is valid
 pub message_valid : (x : List ℕ) (m : Message) (y : List ℕ) → read message x ≡ Ok (m, y) → IsValidMessage m
-unfolding message message_in
+unfolding message
 message_valid x m y e =
     let h = read_stands message x m y e in
     let tag = h.3 in

@@ -21,13 +21,13 @@ use Rattle.record_fields.specs.Decoding.{IsWhole}
 use Rattle.record_fields.specs.Fields.{free, outside, number_order}
 use Rattle.cds_messages.specs.Kinds.{kind_in, kind_number, kind_back}
 use Rattle.cds_messages.specs.Messages.{tag_of}
-use Rattle.cds_records.specs.Records.{kind_rule, member_kind, member, listed, members, fragment, copied, joined, body, message, message_in}
-use Rattle.cds_records.specs.Octets.{member_octets, members_octets, body_octets, message_head, message_octets_in, message_octets, message_with}
+use Rattle.cds_records.specs.Records.{kind_rule, member_kind, member, listed, members, fragment, copied, joined, body, message}
+use Rattle.cds_records.specs.Octets.{member_octets, members_octets, body_octets, message_head, message_octets, message_with}
 use Rattle.cds_records.specs.Ranges.{FitsMembers, FitsBody, FitsHead, FitsMessage}
 use Rattle.cds_messages.specs.Validity.{IsValidBody, IsValidMessage}
 use Rattle.record_fields.proofs.WholeFields.{Whole, whole_next, whole_done, whole_last, whole_as, within_lawful, octet_whole, u32_whole, u64_whole}
 use Rattle.record_fields.proofs.WholeFields.{stamp_whole, simple_name_whole}
-use Rattle.cds_records.proofs.WholeReplicas.{entry_whole, replica_whole}
+use Rattle.cds_records.proofs.WholeReplicas.{entry_above_none, entry_whole, replica_whole, delta_whole}
 
 -- ---- a member list keeps the rules of its fields
 
@@ -130,12 +130,12 @@ body_whole : (b : Body) → IsValidBody b → FitsBody b → Whole (body (tag_of
 unfolding body fragment copied joined body_octets
 body_whole (Update f) valid fits =
     whole_last {f = Update}
-    (whole_next (simple_name_whole None f.name fits.0 refl) (whole_last (entry_whole f.entry valid fits.1) refl)) refl
+    (whole_next (simple_name_whole None f.name fits.0 refl) (whole_last (entry_whole None f.entry valid (entry_above_none f.entry) fits.1) refl)) refl
 body_whole (Gather t) valid fits = whole_last {f = Gather} (stamp_whole free t fits refl) refl
-body_whole (Gathered t r) valid fits =
-    whole_last {f = λ c. Gathered c.0 c.1} (whole_next (stamp_whole free t fits.0 refl) (whole_last (replica_whole r valid fits.1) refl)) refl
-body_whole (Spread t r) valid fits =
-    whole_last {f = λ c. Spread c.0 c.1} (whole_next (stamp_whole free t fits.0 refl) (whole_last (replica_whole r valid fits.1) refl)) refl
+body_whole (Gathered t d) valid fits =
+    whole_last {f = λ c. Gathered c.0 c.1} (whole_next (stamp_whole free t fits.0 refl) (whole_last (delta_whole d valid fits.1) refl)) refl
+body_whole (Spread t d) valid fits =
+    whole_last {f = λ c. Spread c.0 c.1} (whole_next (stamp_whole free t fits.0 refl) (whole_last (delta_whole d valid fits.1) refl)) refl
 body_whole (SpreadAck t) valid fits = whole_last {f = SpreadAck} (stamp_whole free t fits refl) refl
 body_whole (Advance t) valid fits = whole_last {f = Advance} (stamp_whole free t fits refl) refl
 body_whole (Join ms r) valid fits =
@@ -155,31 +155,29 @@ tag_lawful Leave = refl
 seven : (a b c d e f g : List ℕ) → a ++ (b ++ (c ++ (d ++ (e ++ (f ++ g))))) ≡ (a ++ b ++ c ++ (d ++ e) ++ f) ++ g
 seven a b c d e f g = simp append_assoc refl
 
--- a message
-pub message_whole : (format : ℕ) (m : Message) → IsValidMessage m → FitsMessage m → Whole (message_in format) m (message_octets_in format m)
-unfolding message_in message_octets_in message_head
-message_whole format m valid fits =
+message_whole : (m : Message) → IsValidMessage m → FitsMessage m → Whole message m (message_octets m)
+unfolding message message_octets message_head
+message_whole m valid fits =
     whole_as
-    (whole_next (octet_whole (outside BadTag format format) format (within_lawful BadTag format format format (omega arith) (omega arith)))
+    (whole_next (octet_whole (outside BadTag 2 2) 2 refl)
     (whole_next (octet_whole (outside BadTag 1 8) (tag_of m.body) (tag_lawful m.body))
     (whole_next (u32_whole free m.dir.0 fits.head.dir refl)
     (whole_next (octet_whole free m.from.0 refl)
     (whole_next (u64_whole free m.epoch.0 fits.head.epoch refl)
     (whole_next (u64_whole free m.floor fits.head.floor refl) (whole_last (body_whole m.body valid fits.body) refl)))))))
-    (seven (format ∷ []) (tag_of m.body ∷ []) (to_be_bytes w32 m.dir.0) (m.from.0 ∷ []) (to_be_bytes w64 m.epoch.0) (to_be_bytes w64 m.floor)
+    (seven (2 ∷ []) (tag_of m.body ∷ []) (to_be_bytes w32 m.dir.0) (m.from.0 ∷ []) (to_be_bytes w64 m.epoch.0) (to_be_bytes w64 m.floor)
     (body_octets m.body))
 
--- a message of format 1
+-- a message
 pub the_message_whole : (m : Message) → IsValidMessage m → FitsMessage m → IsWhole message m (message_octets m)
-unfolding message
-the_message_whole m valid fits = (message_whole 1 m valid fits).is
+the_message_whole m valid fits = (message_whole m valid fits).is
 
 -- ---- messages that are written
 
 -- what a message carries is written behind its head
-pub message_written : (h : Head) (b : Body) (out new : List ℕ) → out ≡ message_head 1 h (tag_of b) → new ≡ out ++ body_octets b
+pub message_written : (h : Head) (b : Body) (out new : List ℕ) → out ≡ message_head h (tag_of b) → new ≡ out ++ body_octets b
     → new ≡ message_octets (message_with h b)
-unfolding message_octets_in
+unfolding message_octets
 message_written h b out new e f = f ∙ ap (λ o. o ++ body_octets b) e
 
 -- what was written is the whole of it

@@ -1,13 +1,16 @@
 -- The octets of messages and images as functions, field by field (own). Numbers are big-endian.
-use Rattle.std.specs.Prelude.{ℕ, ◌+◌, min, List, [], ◌∷◌, ◌++◌, length}
+use Rattle.std.specs.Prelude.{ℕ, ◌+◌, min, Option, List, [], ◌∷◌, ◌++◌, length}
 use Rattle.std.specs.List.{flat_map}
 use Rattle.std.specs.Int.{w32, w64, to_be_bytes}
 use Rattle.std.specs.FinMap.{len}
 use Rattle.cds_stamps.specs.declared.numbers.DirId.{DirId}
+use Rattle.cds_stamps.specs.declared.stamp.Stamp.{Stamp}
 use Rattle.cds_stamps.specs.declared.members.Member.{Member}
 use Rattle.directory.specs.declared.entry.EntryCell.{EntryCell}
 use Rattle.directory.specs.Held.{held_in, most_held}
 use Rattle.directory.specs.Kinds.{rank}
+use Rattle.directory.specs.Entries.{Entries}
+use Rattle.purge_rule.specs.declared.delta.Delta.{Delta}
 use Rattle.purge_rule.specs.declared.replica.Replica.{Replica}
 use Rattle.cds_messages.specs.declared.image.ImageDir.{ImageDir}
 use Rattle.cds_messages.specs.declared.image.ImageDir.TheVariants.{Held, Gone}
@@ -29,9 +32,17 @@ entry_octets e =
     (rank e.kind + 1) ∷ stamp_octets e.birth ++ optional_stamp_octets e.death ++ to_be_bytes w64 (len e.attrs)
     ++ each_octets name_octets cell_octets e.attrs
 
--- AllUpTo, how many entries the table has, and they with their names (own)
-unfoldable pub replica_octets : Replica → List ℕ
-replica_octets r = optional_stamp_octets r.all_up_to ++ to_be_bytes w64 (len r.table) ++ each_octets name_octets entry_octets r.table
+-- a stamp or none, how many entries a table has, and they with their names (own)
+unfoldable pub stamped_table_octets : Option Stamp → Entries → List ℕ
+stamped_table_octets t table = optional_stamp_octets t ++ to_be_bytes w64 (len table) ++ each_octets name_octets entry_octets table
+
+-- AllUpTo, and the table (own)
+abbrev pub replica_octets : Replica → List ℕ
+replica_octets r = stamped_table_octets r.all_up_to r.table
+
+-- the stamp that a delta is above, and its table (own)
+abbrev pub delta_octets : Delta → List ℕ
+delta_octets d = stamped_table_octets d.above d.table
 
 -- ---- members
 
@@ -49,28 +60,24 @@ members_octets ms = length ms ∷ flat_map member_octets ms
 unfoldable pub body_octets : Body → List ℕ
 body_octets (Update f) = name_octets f.name ++ entry_octets f.entry
 body_octets (Gather t) = stamp_octets t
-body_octets (Gathered t r) = stamp_octets t ++ replica_octets r
-body_octets (Spread t r) = stamp_octets t ++ replica_octets r
+body_octets (Gathered t d) = stamp_octets t ++ delta_octets d
+body_octets (Spread t d) = stamp_octets t ++ delta_octets d
 body_octets (SpreadAck t) = stamp_octets t
 body_octets (Advance t) = stamp_octets t
 body_octets (Join ms r) = members_octets ms ++ replica_octets r
 body_octets Leave = []
 
 -- what stands before that: format and tag, the directory, the sender's house, epoch and floor (own)
-unfoldable pub message_head : (format : ℕ) → Head → (tag : ℕ) → List ℕ
-message_head format h tag = format ∷ tag ∷ to_be_bytes w32 h.dir.0 ++ h.from.0 ∷ to_be_bytes w64 h.epoch.0 ++ to_be_bytes w64 h.floor
+unfoldable pub message_head : Head → (tag : ℕ) → List ℕ
+message_head h tag = 2 ∷ tag ∷ to_be_bytes w32 h.dir.0 ++ h.from.0 ∷ to_be_bytes w64 h.epoch.0 ++ to_be_bytes w64 h.floor
 
 -- the message with this head that carries this (own)
 abbrev pub message_with : Head → Body → Message
 message_with h b = record { dir = h.dir; from = h.from; epoch = h.epoch; floor = h.floor; body = b }
 
 -- a message: its head, and what it carries (own)
-unfoldable pub message_octets_in : (format : ℕ) → Message → List ℕ
-message_octets_in format m = message_head format (head_of m) (tag_of m.body) ++ body_octets m.body
-
--- messages of format 1 (own)
-abbrev pub message_octets : Message → List ℕ
-message_octets = message_octets_in 1
+unfoldable pub message_octets : Message → List ℕ
+message_octets m = message_head (head_of m) (tag_of m.body) ++ body_octets m.body
 
 -- ---- images
 

@@ -6,6 +6,7 @@ use Rattle.cds_stamps.specs.declared.members.Member.{Member}
 use Rattle.cds_stamps.specs.Members.{members_of, members_fault}
 use Rattle.cds_stamps.specs.Names.{simple_name_fault, attr_fault}
 use Rattle.directory.specs.declared.entry.EntryCell.{EntryCell}
+use Rattle.purge_rule.specs.declared.delta.Delta.{Delta}
 use Rattle.purge_rule.specs.declared.replica.Replica.{Replica}
 use Rattle.cds_messages.specs.declared.image.ImageDir.{ImageDir}
 use Rattle.cds_messages.specs.declared.image.ImageDir.TheVariants.{Held, Gone}
@@ -28,6 +29,11 @@ pub record FitsReplica (r : Replica) : Type 0 where
   pub all_up_to : IfSome r.all_up_to FitsStamp
   pub table : FitsMap (λ n. simple_name_fault n ≡ None) FitsEntry r.table
 
+-- a delta (own)
+pub record FitsDelta (d : Delta) : Type 0 where
+  pub above : IfSome d.above FitsStamp
+  pub table : FitsMap (λ n. simple_name_fault n ≡ None) FitsEntry d.table
+
 -- members of an epoch (own)
 pub record FitsMembers (ms : List Member) : Type 0 where
   pub lawful : members_fault (members_of ms) ≡ None
@@ -37,8 +43,8 @@ pub record FitsMembers (ms : List Member) : Type 0 where
 abbrev pub FitsBody : Body → Type 0
 FitsBody (Update f) = (simple_name_fault f.name ≡ None) × FitsEntry f.entry
 FitsBody (Gather t) = FitsStamp t
-FitsBody (Gathered t r) = FitsStamp t × FitsReplica r
-FitsBody (Spread t r) = FitsStamp t × FitsReplica r
+FitsBody (Gathered t d) = FitsStamp t × FitsDelta d
+FitsBody (Spread t d) = FitsStamp t × FitsDelta d
 FitsBody (SpreadAck t) = FitsStamp t
 FitsBody (Advance t) = FitsStamp t
 FitsBody (Join ms r) = FitsMembers ms × FitsReplica r

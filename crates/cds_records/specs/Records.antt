@@ -9,6 +9,7 @@ use Rattle.directory.specs.declared.entry.Kind.{Kind}
 use Rattle.directory.specs.declared.entry.EntryCell.{EntryCell}
 use Rattle.directory.specs.declared.entry.Fragment.{Fragment}
 use Rattle.directory.specs.Kinds.{kind_of_rank}
+use Rattle.purge_rule.specs.declared.delta.Delta.{Delta}
 use Rattle.purge_rule.specs.declared.replica.Replica.{Replica}
 use Rattle.record_fields.specs.declared.fault.Rule.{Rule}
 use Rattle.record_fields.specs.declared.fault.Rule.TheVariants.{BadTag, BadLength, BadFlag}
@@ -40,6 +41,12 @@ unfoldable pub replica : Layout Replica
 replica =
     next (optional_stamp None) (λ t. next (number w64 free) (λ n. next (map_of simple_name (entry None) n) (λ entries.
     done (record { table = entries; all_up_to = t }))))
+
+-- the stamp that a delta is above, if there is one, and the entries of its table (own)
+unfoldable pub delta : Layout Delta
+delta =
+    next (optional_stamp None) (λ t. next (number w64 free) (λ n. next (map_of simple_name (entry t) n) (λ entries.
+    done (record { table = entries; above = t }))))
 
 -- ---- members
 
@@ -74,9 +81,9 @@ members = next (octet (outside BadLength 1 most_members)) (λ n. listed n None f
 unfoldable pub fragment : Layout Fragment
 fragment = next (simple_name None) (λ n. next (entry None) (λ e. done (record { name = n; entry = e })))
 
--- the stamp of a skulk, and a replica (own)
-unfoldable pub copied : Layout (Stamp × Replica)
-copied = next (stamp free) (λ t. next replica (λ r. done (t, r)))
+-- the stamp of a skulk, and a delta (own)
+unfoldable pub copied : Layout (Stamp × Delta)
+copied = next (stamp free) (λ t. next delta (λ d. done (t, d)))
 
 -- the members of an epoch, and the master's replica (own)
 unfoldable pub joined : Layout (List Member × Replica)
@@ -94,14 +101,10 @@ body tag =
     (choose (tag == 7) (next joined (λ j. done (Join j.0 j.1)))
     (done Leave)))))))
 
--- format and tag, the directory, the sender's house, epoch and floor, and what the message carries (own)
-unfoldable pub message_in : (format : ℕ) → Layout Message
-message_in format =
-    next (octet (outside BadTag format format))
+-- a message of format 2: format and tag, the directory, the sender's house, epoch and floor, and what it carries (own)
+unfoldable pub message : Layout Message
+message =
+    next (octet (outside BadTag 2 2))
     (λ _. next (octet (outside BadTag 1 8))
     (λ tag. next (number w32 free) (λ dir. next (octet free) (λ house. next (number w64 free) (λ epoch. next (number w64 free) (λ floor.
     next (body tag) (λ b. done (record { dir = record { 0 = dir }; from = record { 0 = house }; epoch = record { 0 = epoch }; floor = floor; body = b }))))))))
-
--- messages of format 1 (own)
-unfoldable pub message : Layout Message
-message = message_in 1

@@ -8,11 +8,11 @@ use Rattle.record_fields.specs.Fields.{free, outside, octet, number, node}
 -- the head of a message, which says its tag (own)
 unfoldable pub message_head : Layout ℕ
 message_head =
-    next (octet (outside BadTag 1 1))
+    next (octet (outside BadTag 2 2))
     (λ _. next (octet (outside BadTag 1 8))
     (λ tag. next (number w32 free) (λ _. next (octet free) (λ _. next (number w64 free) (λ _. next (number w64 free) (λ _. done tag))))))
 
--- a message of this tag carries what takes memory: marks, members or a replica (own)
+-- a message of this tag carries what takes memory: marks, members, a replica or a delta (own)
 abbrev pub takes_memory : ℕ → Bool
 takes_memory tag = (tag == 1) || ((tag == 3) || ((tag == 4) || (tag == 7)))
 

@@ -3,17 +3,17 @@ ghost use Rattle.std.specs.Prelude.{◌≡◌, ◌≤◌, true};
 ghost use Rattle.record_fields.specs.Readers.{Reads};
 ghost use Rattle.cds_records.specs.Wanting.{takes_memory, WantsForMessage};
 ghost use Rattle.record_fields.specs.Wanting.{IfWant};
-ghost use Rattle.cds_records.specs.Records.{fragment, copied, joined, body, message, message_in};
+ghost use Rattle.cds_records.specs.Records.{fragment, copied, joined, body, message};
 
 use crate::format::FORMAT;
 use crate::members::read_members;
-use crate::tables::{read_entry, read_replica};
+use crate::tables::{read_delta, read_entry, read_replica};
 use cds_messages::{
     ADVANCE, Body, GATHER, GATHERED, JOIN, LEAVE, Message, SPREAD, SPREAD_ACK, UPDATE,
 };
 use cds_stamps::{DirId, EpochNo, HouseNo, Members, SimpleName, Stamp};
 use directory::Fragment;
-use purge_rule::Replica;
+use purge_rule::{Delta, Replica};
 use record_fields::{ReadError, Reader, Rule};
 use std::alloc::Global;
 
@@ -28,14 +28,14 @@ fn read_fragment(reader: &mut Reader<'_>, alloc: Global) -> Result<Fragment, Rea
     Ok(Fragment { name, entry })
 }
 
-/// The stamp of a skulk, and a replica.
+/// The stamp of a skulk, and a delta.
 #[tactic(auto, unfolding(crate::specs::Records::copied))]
-fn read_copied(reader: &mut Reader<'_>, alloc: Global) -> Result<(Stamp, Replica), ReadError>
+fn read_copied(reader: &mut Reader<'_>, alloc: Global) -> Result<(Stamp, Delta), ReadError>
     ensures { Reads (λ x. x) copied reader.old reader.new result }
 {
     let stamp = reader.stamp()?;
-    let replica = read_replica(reader, alloc)?;
-    Ok((stamp, replica))
+    let delta = read_delta(reader, alloc)?;
+    Ok((stamp, delta))
 }
 
 /// The members of an epoch, and the master's replica.
@@ -65,12 +65,12 @@ fn read_body(reader: &mut Reader<'_>, alloc: Global, tag: u8) -> Result<Body, Re
             Ok(Body::Gather(stamp))
         }
         GATHERED => {
-            let (stamp, replica) = read_copied(reader, alloc)?;
-            Ok(Body::Gathered(stamp, replica))
+            let (stamp, delta) = read_copied(reader, alloc)?;
+            Ok(Body::Gathered(stamp, delta))
         }
         SPREAD => {
-            let (stamp, replica) = read_copied(reader, alloc)?;
-            Ok(Body::Spread(stamp, replica))
+            let (stamp, delta) = read_copied(reader, alloc)?;
+            Ok(Body::Spread(stamp, delta))
         }
         SPREAD_ACK => {
             let stamp = reader.stamp()?;
@@ -89,7 +89,7 @@ fn read_body(reader: &mut Reader<'_>, alloc: Global, tag: u8) -> Result<Body, Re
 }
 
 /// A message.
-#[tactic(auto, unfolding(crate::specs::Records::message, crate::specs::Records::message_in))]
+#[tactic(auto, unfolding(crate::specs::Records::message))]
 pub(crate) fn read_message(reader: &mut Reader<'_>, alloc: Global) -> Result<Message, ReadError>
     ensures read { Reads (λ x. x) message reader.old reader.new result }
     ensures wanting { IfWant (WantsForMessage reader.old) result }

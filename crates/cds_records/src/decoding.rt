@@ -11,7 +11,7 @@ ghost use Rattle.cds_records.specs.Wanting.{WantsForMessage, WantsForImage};
 ghost use Rattle.cds_messages.specs.Validity.{IsValidImage, IsValidMessage};
 
 use crate::bodies::read_message;
-use crate::format::{FORMER_FORMAT, IMAGE_FORMAT};
+use crate::format::{FORMAT, FORMER_FORMAT};
 use crate::image_encoding::encode_image;
 use crate::images::read_image;
 use cds_messages::{Image, Message};
@@ -39,7 +39,7 @@ pub fn decode_image(alloc: Global, octets: &[u8]) -> Result<(Image, usize), Allo
     ensures valid { IfOk result (λ r. IsValidImage r.0) }
     ensures wanting { IfWant (WantsForImage 2 2 octets.now) result }
 {
-    decode_image_in(alloc, octets, IMAGE_FORMAT, IMAGE_FORMAT)
+    decode_image_in(alloc, octets, FORMAT, FORMAT)
 }
 
 /// The same of an image of format 1, which has no counts of what its replicas hold.
@@ -59,7 +59,7 @@ pub fn whole_image(alloc: Global, octets: &[u8]) -> Result<Image, AllocOr<Record
     ensures valid { IfOk result IsValidImage }
     ensures wanting { IfWant (WantsForImage 1 2 octets.now) result }
 {
-    let (image, used) = decode_image_in(alloc, octets, FORMER_FORMAT, IMAGE_FORMAT)?;
+    let (image, used) = decode_image_in(alloc, octets, FORMER_FORMAT, FORMAT)?;
     if used < octets.len() {
         return Err(AllocOr::Fault(RecordFault::Trailing(used + 1)));
     }

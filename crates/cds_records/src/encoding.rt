@@ -3,30 +3,31 @@ ghost use Rattle.std.specs.Prelude.{◌≡◌, ◌++◌, ◌<◌, ◌^◌, None,
 ghost use Rattle.cds_stamps.specs.Members.{members_of, members_fault};
 ghost use Rattle.cds_stamps.specs.Names.{simple_name_fault};
 ghost use Rattle.directory.specs.Entries.{IsValidEntry, IsValidTable};
+ghost use Rattle.purge_rule.specs.Replicas.{IsDelta};
 ghost use Rattle.record_fields.specs.Decoding.{IsWhole};
 ghost use Rattle.cds_messages.specs.Kinds as kinds;
 ghost use Rattle.record_fields.specs.Octets.{name_octets, stamp_octets};
-ghost use Rattle.cds_records.specs.Octets.{entry_octets, replica_octets, member_octets, members_octets};
+ghost use Rattle.cds_records.specs.Octets.{entry_octets, replica_octets, delta_octets, member_octets, members_octets};
 ghost use Rattle.cds_records.specs.Octets.{body_octets, message_head, message_octets, message_with};
 ghost use Rattle.record_fields.specs.Ranges.{FitsStamp};
-ghost use Rattle.cds_records.specs.Ranges.{FitsEntry, FitsReplica, FitsMembers, FitsBody, FitsHead};
+ghost use Rattle.cds_records.specs.Ranges.{FitsEntry, FitsReplica, FitsDelta, FitsMembers, FitsBody, FitsHead};
 ghost use Rattle.cds_records.specs.Records as records;
 ghost use Rattle.cds_messages.specs.Validity.{IsValidMessage};
 ghost use Rattle.cds_messages.specs.declared.message.Body.TheVariants as bodies;
 
 use crate::format::FORMAT;
-use crate::writing::{put_entry, put_replica};
+use crate::writing::{put_delta, put_entry, put_replica};
 use cds_messages::{Body, GATHERED, Head, JOIN, Message, SPREAD, UPDATE};
 use cds_stamps::{Member, MemberKind, Members, Stamp};
 use directory::Fragment;
-use purge_rule::Replica;
+use purge_rule::{Delta, Replica};
 use record_fields::{put_octet, put_simple_name, put_stamp, put_u32, put_u64};
 use std::alloc::{AllocError, Global};
 
 /// Octets for which there is room at once: most messages of one mark have no more.
 const USUAL_MESSAGE: usize = 128;
 
-/// The octets of a message. They are the whole of it if its entries and tables are valid.
+/// The octets of a message. They are the whole of it if its entries, tables and deltas are valid.
 pub fn encode(alloc: Global, message: &Message) -> Result<Vec<u8>, AllocError>
     ensures octets { IfOk result (λ v. v.items ≡ message_octets message.now) }
     ensures whole { IfOk result (λ v. IsValidMessage message.now → IsWhole records.message message.now v.items) }
@@ -47,19 +48,19 @@ pub fn encode_update(alloc: Global, head: &Head, fragment: &Fragment) -> Result<
     Ok(out)
 }
 
-/// The octets of a Gathered with this head, from a borrowed replica. They are the whole of it if its table is valid.
+/// The octets of a Gathered with this head, from a borrowed delta. They are the whole of it if that is valid.
 pub fn encode_gathered(
     alloc: Global,
     head: &Head,
     t: &Stamp,
-    replica: &Replica,
+    delta: &Delta,
 ) -> Result<Vec<u8>, AllocError>
-    ensures octets { IfOk result (λ v. v.items ≡ message_octets (message_with head.now (bodies.Gathered t.now replica.now))) }
+    ensures octets { IfOk result (λ v. v.items ≡ message_octets (message_with head.now (bodies.Gathered t.now delta.now))) }
     ensures whole { IfOk result (λ v.
-        IsValidTable replica.now.table → IsWhole records.message (message_with head.now (bodies.Gathered t.now replica.now)) v.items) }
+        IsDelta delta.now → IsWhole records.message (message_with head.now (bodies.Gathered t.now delta.now)) v.items) }
 {
     let mut out = begin(alloc, head, GATHERED)?;
-    put_copied(&mut out, t, replica)?;
+    put_copied(&mut out, t, delta)?;
     Ok(out)
 }
 
@@ -68,14 +69,14 @@ pub fn encode_spread(
     alloc: Global,
     head: &Head,
     t: &Stamp,
-    replica: &Replica,
+    delta: &Delta,
 ) -> Result<Vec<u8>, AllocError>
-    ensures octets { IfOk result (λ v. v.items ≡ message_octets (message_with head.now (bodies.Spread t.now replica.now))) }
+    ensures octets { IfOk result (λ v. v.items ≡ message_octets (message_with head.now (bodies.Spread t.now delta.now))) }
     ensures whole { IfOk result (λ v.
-        IsValidTable replica.now.table → IsWhole records.message (message_with head.now (bodies.Spread t.now replica.now)) v.items) }
+        IsDelta delta.now → IsWhole records.message (message_with head.now (bodies.Spread t.now delta.now)) v.items) }
 {
     let mut out = begin(alloc, head, SPREAD)?;
-    put_copied(&mut out, t, replica)?;
+    put_copied(&mut out, t, delta)?;
     Ok(out)
 }
 
@@ -97,7 +98,7 @@ pub fn encode_join(
 
 /// What stands before what a message of this tag carries. There is room for the message of an update with short names.
 fn begin(alloc: Global, head: &Head, tag: u8) -> Result<Vec<u8>, AllocError>
-    ensures octets { IfOk result (λ v. v.items ≡ message_head 1 head.now tag) }
+    ensures octets { IfOk result (λ v. v.items ≡ message_head head.now tag) }
     ensures fits { IfOk result (λ v. FitsHead head.now) }
 {
     let mut out = Vec::with_capacity(alloc, USUAL_MESSAGE)?;
@@ -119,8 +120,8 @@ fn put_body(out: &mut Vec<u8>, body: &Body) -> Result<(), AllocError>
     match body {
         Body::Update(fragment) => put_fragment(out, fragment),
         Body::Gather(stamp) => put_stamp(out, stamp),
-        Body::Gathered(stamp, replica) => put_copied(out, stamp, replica),
-        Body::Spread(stamp, replica) => put_copied(out, stamp, replica),
+        Body::Gathered(stamp, delta) => put_copied(out, stamp, delta),
+        Body::Spread(stamp, delta) => put_copied(out, stamp, delta),
         Body::SpreadAck(stamp) => put_stamp(out, stamp),
         Body::Advance(stamp) => put_stamp(out, stamp),
         Body::Join(members, replica) => put_joined(out, members, replica),
@@ -139,13 +140,13 @@ fn put_fragment(out: &mut Vec<u8>, fragment: &Fragment) -> Result<(), AllocError
     Ok(())
 }
 
-/// The stamp of a skulk, and a replica.
-fn put_copied(out: &mut Vec<u8>, stamp: &Stamp, replica: &Replica) -> Result<(), AllocError>
-    ensures octets { OnOk result (out.new.items ≡ out.old.items ++ (stamp_octets stamp.now ++ replica_octets replica.now)) }
-    ensures fits { OnOk result (FitsStamp stamp.now × FitsReplica replica.now) }
+/// The stamp of a skulk, and a delta.
+fn put_copied(out: &mut Vec<u8>, stamp: &Stamp, delta: &Delta) -> Result<(), AllocError>
+    ensures octets { OnOk result (out.new.items ≡ out.old.items ++ (stamp_octets stamp.now ++ delta_octets delta.now)) }
+    ensures fits { OnOk result (FitsStamp stamp.now × FitsDelta delta.now) }
 {
     put_stamp(out, stamp)?;
-    put_replica(out, replica)?;
+    put_delta(out, delta)?;
     Ok(())
 }
 

@@ -1,10 +1,7 @@
 // What the records begin with.
 
-/// The format of messages.
-pub(crate) const FORMAT: u8 = 1;
-
-/// The format of images that are written.
-pub(crate) const IMAGE_FORMAT: u8 = 2;
+/// The format of messages, and of images that are written.
+pub(crate) const FORMAT: u8 = 2;
 
 /// The format of images that once were written, and still are read.
 pub(crate) const FORMER_FORMAT: u8 = 1;

@@ -12,7 +12,7 @@ ghost use Rattle.cds_messages.specs.Validity.{IsValidImage};
 ghost use Rattle.cds_messages.specs.declared.image.ImageDir.TheVariants as states;
 
 use crate::encoding::put_members;
-use crate::format::{GONE, HELD, IMAGE, IMAGE_FORMAT};
+use crate::format::{FORMAT, GONE, HELD, IMAGE};
 use crate::writing::put_replica;
 use cds_messages::{Image, ImageDir, ImageDirs};
 use cds_stamps::{DirId, EpochNo, HouseNo, Members, Node};
@@ -45,7 +45,7 @@ fn begin_image(
     ensures floor { floor < 2 ^ 64 }
 {
     let mut out = Vec::new(alloc);
-    put_octet(&mut out, IMAGE_FORMAT)?;
+    put_octet(&mut out, FORMAT)?;
     put_octet(&mut out, IMAGE)?;
     put_octet(&mut out, house.0)?;
     put_node(&mut out, node)?;

@@ -43,7 +43,7 @@ pub fn octets_decode_to_one_thing()
     ensures either { (octets : List ℕ) → Decodes either_image octets (with_memory (decoding either_image octets)) }
 {}
 
-/// The octets of a message are the whole of it, if its entries and tables are valid, its numbers fit their fields, and its
+/// The octets of a message are the whole of it, if its entries, tables and deltas are valid, its numbers fit their fields, and its
 /// names, values and members keep their rules.
 pub fn octets_of_a_message_are_whole()
     ensures { (m : Message) → IsValidMessage m → FitsMessage m → IsWhole message m (message_octets m) }

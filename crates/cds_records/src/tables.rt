@@ -6,12 +6,12 @@ ghost use Rattle.directory.specs.Kinds.{kind_of_rank};
 ghost use Rattle.record_fields.specs.Readers.{Reads, ReadsSurely, Adds, Puts};
 ghost use Rattle.record_fields.specs.Fields.{number, attr_name, simple_name};
 ghost use Rattle.record_fields.specs.Records.{item, ascending, map_of, cell};
-ghost use Rattle.cds_records.specs.Records.{kind, entry, replica};
+ghost use Rattle.cds_records.specs.Records.{kind, entry, replica, delta};
 
 use attr_sets::AttrCell;
 use cds_stamps::{AttrName, SimpleName, Stamp};
 use directory::{AttrMap, EntryCell, Kind, Table};
-use purge_rule::Replica;
+use purge_rule::{Delta, Replica};
 use record_fields::{Broken, ReadError, Reader, Rule};
 use std::alloc::{AllocError, Global};
 
@@ -92,7 +92,7 @@ fn insert_cell(attrs: &mut AttrMap, name: AttrName, cell: AttrCell) -> Result<()
     Ok(())
 }
 
-// Tables and replicas.
+// Tables, replicas and deltas.
 
 /// Puts the next entry behind those before it. The octets of its name.
 #[tactic(auto, unfolding(record_fields::specs::Records::item))]
@@ -156,6 +156,17 @@ pub(crate) fn read_replica(reader: &mut Reader<'_>, alloc: Global) -> Result<Rep
     let count = reader.u64()?;
     let table = read_table(reader, alloc, &None, count)?;
     Ok(Replica { table, all_up_to })
+}
+
+/// A delta: the stamp that it is above, if there is one, and its entries.
+#[tactic(auto, unfolding(crate::specs::Records::delta))]
+pub(crate) fn read_delta(reader: &mut Reader<'_>, alloc: Global) -> Result<Delta, ReadError>
+    ensures { Reads (λ x. x) delta reader.old reader.new result }
+{
+    let above = reader.optional_stamp(&None)?;
+    let count = reader.u64()?;
+    let table = read_table(reader, alloc, &above, count)?;
+    Ok(Delta { table, above })
 }
 
 /// The kind of a number that is not 0.

@@ -1,18 +1,18 @@
 // Writers of what stands in replicas. Each puts the octets of a value behind those before. After want of memory some of them
 // may stand there.
-ghost use Rattle.std.specs.Prelude.{◌≡◌, ◌+◌, ◌<◌, ◌++◌, None, OnOk};
+ghost use Rattle.std.specs.Prelude.{◌≡◌, ◌+◌, ◌<◌, ◌++◌, None, IfSome, OnOk};
 ghost use Rattle.std.specs.FinMap.{entries};
 ghost use Rattle.cds_stamps.specs.Names.{simple_name_fault, attr_fault};
 ghost use Rattle.directory.specs.Kinds.{rank};
 ghost use Rattle.record_fields.specs.Octets.{name_octets, each_octets, cell_octets};
-ghost use Rattle.cds_records.specs.Octets.{entry_octets, replica_octets};
-ghost use Rattle.record_fields.specs.Ranges.{ItemsFit, FitsCell};
-ghost use Rattle.cds_records.specs.Ranges.{FitsEntry, FitsReplica};
+ghost use Rattle.cds_records.specs.Octets.{entry_octets, stamped_table_octets, replica_octets, delta_octets};
+ghost use Rattle.record_fields.specs.Ranges.{ItemsFit, FitsMap, FitsStamp, FitsCell};
+ghost use Rattle.cds_records.specs.Ranges.{FitsEntry, FitsReplica, FitsDelta};
 
 use attr_sets::AttrCell;
-use cds_stamps::{AttrName, SimpleName};
+use cds_stamps::{AttrName, SimpleName, Stamp};
 use directory::{AttrMap, EntryCell, Kind, Table};
-use purge_rule::Replica;
+use purge_rule::{Delta, Replica};
 use record_fields::{
     put_attr_name, put_cell, put_octet, put_optional_stamp, put_simple_name, put_stamp, put_u64,
 };
@@ -74,7 +74,7 @@ fn put_named(out: &mut Vec<u8>, name: &SimpleName, entry: &EntryCell) -> Result<
 }
 
 /// The entries of a table.
-fn put_table(out: &mut Vec<u8>, table: &Table) -> Result<(), AllocError>
+fn put_entries(out: &mut Vec<u8>, table: &Table) -> Result<(), AllocError>
     ensures octets { OnOk result (out.new.items ≡ out.old.items ++ each_octets name_octets entry_octets table.now) }
     ensures fits { OnOk result (ItemsFit (λ n. simple_name_fault n ≡ None) FitsEntry (entries table.now)) }
 {
@@ -84,13 +84,32 @@ fn put_table(out: &mut Vec<u8>, table: &Table) -> Result<(), AllocError>
     Ok(())
 }
 
+/// A stamp or none, and the entries of a table behind their number.
+fn put_table(out: &mut Vec<u8>, stamp: &Option<Stamp>, table: &Table) -> Result<(), AllocError>
+    ensures octets { OnOk result (out.new.items ≡ out.old.items ++ stamped_table_octets stamp.now table.now) }
+    ensures stamp { OnOk result (IfSome stamp.now FitsStamp) }
+    ensures table { OnOk result (FitsMap (λ n. simple_name_fault n ≡ None) FitsEntry table.now) }
+{
+    put_optional_stamp(out, stamp)?;
+    put_u64(out, table.len() as u64)?;
+    put_entries(out, table)?;
+    Ok(())
+}
+
 /// A replica: its AllUpTo and its entries.
 pub(crate) fn put_replica(out: &mut Vec<u8>, replica: &Replica) -> Result<(), AllocError>
     ensures octets { OnOk result (out.new.items ≡ out.old.items ++ replica_octets replica.now) }
     ensures fits { OnOk result (FitsReplica replica.now) }
 {
-    put_optional_stamp(out, &replica.all_up_to)?;
-    put_u64(out, replica.table.len() as u64)?;
-    put_table(out, &replica.table)?;
+    put_table(out, &replica.all_up_to, &replica.table)?;
+    Ok(())
+}
+
+/// A delta: the stamp that it is above, if there is one, and its entries.
+pub(crate) fn put_delta(out: &mut Vec<u8>, delta: &Delta) -> Result<(), AllocError>
+    ensures octets { OnOk result (out.new.items ≡ out.old.items ++ delta_octets delta.now) }
+    ensures fits { OnOk result (FitsDelta delta.now) }
+{
+    put_table(out, &delta.above, &delta.table)?;
     Ok(())
 }

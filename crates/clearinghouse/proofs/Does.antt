@@ -10,6 +10,7 @@ use Rattle.cds_stamps.specs.declared.numbers.HouseNo.{HouseNo}
 use Rattle.cds_stamps.specs.declared.stamp.Floor.{Floor}
 use Rattle.cds_stamps.specs.declared.stamp.Stamp.{Stamp}
 use Rattle.cds_stamps.specs.Members.{members_of, place_of, since_in}
+use Rattle.purge_rule.specs.declared.delta.Delta.{Delta}
 use Rattle.purge_rule.specs.declared.replica.Replica.{Replica}
 use Rattle.skulk_core.specs.declared.skulk.Next.{Next}
 use Rattle.skulk_core.specs.declared.skulk.Next.TheVariants as next
@@ -81,7 +82,7 @@ taken_so a P is = subst (λ x. UnlessTaken x P) (sym is) tt
 completed_so : (a : Taken) (t : Stamp) (P : Type 0) → a ≡ answers.Complete t → UnlessTaken a P
 completed_so a t P is = subst (λ x. UnlessTaken x P) (sym is) tt
 
-first_same : (me : HouseNo) (from : ℕ) (t : Stamp) (r : Replica) (old new : Held) (a : Taken) (o : Option Outgoing) → TakesFirst me from t r old new a o
+first_same : (me : HouseNo) (from : ℕ) (t : Stamp) (r : Delta) (old new : Held) (a : Taken) (o : Option Outgoing) → TakesFirst me from t r old new a o
     → UnlessTaken a ((new ≡ old) × (o ≡ None))
 first_same me from t r old new a o w = by_next w.next w.after
   where

@@ -1,4 +1,4 @@
-// Messages as octets, encoded from what a house holds. Nothing is copied for them.
+// Messages as octets, encoded from what a house holds. Nothing is copied for them but what a delta has of a replica.
 ghost use Rattle.std.specs.Prelude.{◌≡◌, ◌<◌, ◌≤◌, [], false, Some, IfOk, IfSome, MatchOption, length};
 ghost use Rattle.record_fields.specs.Decoding.{IsWhole};
 ghost use Rattle.cds_records.specs.Octets.{message_octets, message_with};
@@ -114,8 +114,8 @@ fn encoded_of(
     match outgoing {
         Outgoing::Update(fragment) => encode_update(alloc, head, fragment),
         Outgoing::Gather(t) => encoded_with(alloc, head, Body::Gather(*t)),
-        Outgoing::Gathered(t, _) => encode_gathered(alloc, head, t, &held.replica),
-        Outgoing::Spread(t) => encode_spread(alloc, head, t, &held.replica),
+        Outgoing::Gathered(t, _) => encode_gathered(alloc, head, t, &held.replica.delta(alloc)?),
+        Outgoing::Spread(t) => encode_spread(alloc, head, t, &held.replica.delta(alloc)?),
         Outgoing::SpreadAck(t, _) => encoded_with(alloc, head, Body::SpreadAck(*t)),
         Outgoing::Advance(t) => encoded_with(alloc, head, Body::Advance(*t)),
         Outgoing::Join => encode_join(alloc, head, &held.members, &held.replica),

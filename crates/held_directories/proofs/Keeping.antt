@@ -8,9 +8,11 @@ use Rattle.cds_stamps.specs.Members.{members_of, place_of}
 use Rattle.cds_stamps.specs.Places.{each_place}
 use Rattle.cds_stamps.specs.Stamps.{is_stamp}
 use Rattle.directory.specs.Entries.{IsValidTable}
+use Rattle.purge_rule.specs.declared.delta.Delta.{Delta}
 use Rattle.purge_rule.specs.declared.replica.Replica.{Replica}
-use Rattle.purge_rule.specs.Latest.{ReplicaUpTo}
-use Rattle.purge_rule.proofs.Times.{latest_in_entry-≤, latest_time-≤}
+use Rattle.purge_rule.specs.Replicas.{IsDelta}
+use Rattle.purge_rule.specs.Latest.{DeltaUpTo}
+use Rattle.purge_rule.proofs.Times.{latest_in_entry-≤, latest_in_delta-≤, latest_time-≤}
 use Rattle.skulk_core.specs.declared.skulk.Skulk.{Skulk}
 use Rattle.skulk_core.specs.declared.skulk.Skulk.TheVariants as skulk
 use Rattle.skulk_core.specs.declared.skulk.Next.{Next}
@@ -28,7 +30,7 @@ use Rattle.held_directories.specs.Lawful.{IsLawfulHeld, RunsSkulk}
 use Rattle.held_directories.specs.Stepping.{is_taken}
 use Rattle.held_directories.specs.Times.{BodyUpTo, latest_in_body}
 use Rattle.held_directories.specs.Taking.{Advances, AfterGathered, AfterSpread, Answers, JoinsAnswer}
-use Rattle.held_directories.specs.Taking.{TakesFirst, TakesHere, TakesOwn, TakesReplica}
+use Rattle.held_directories.specs.Taking.{TakesDelta, TakesFirst, TakesHere, TakesOwn}
 use Rattle.held_directories.specs.Taking.{TakesSecond, place_in}
 
 -- ---- times
@@ -37,8 +39,8 @@ use Rattle.held_directories.specs.Taking.{TakesSecond, place_in}
 pub body_within : (n : ℕ) (b : Body) → latest_in_body b ≤ n → BodyUpTo n b
 body_within n (body.Update f) le = (latest_in_entry-≤ n f.entry).0 le
 body_within n (body.Gather t) le = le
-body_within n (body.Gathered t r) le = (omega (arith, le), (latest_time-≤ n r).0 (omega (arith, le)))
-body_within n (body.Spread t r) le = (omega (arith, le), (latest_time-≤ n r).0 (omega (arith, le)))
+body_within n (body.Gathered t d) le = (omega (arith, le), (latest_in_delta-≤ n d).0 (omega (arith, le)))
+body_within n (body.Spread t d) le = (omega (arith, le), (latest_in_delta-≤ n d).0 (omega (arith, le)))
 body_within n (body.SpreadAck t) le = le
 body_within n (body.Advance t) le = le
 body_within n (body.Join ms r) le = (latest_time-≤ n r).0 le
@@ -135,13 +137,13 @@ runs_own me n ms old new runs keeps own u h =
 
 -- ---- what is held
 
--- a replica is merged in, and the phase is this
-merged_lawful : (me n : ℕ) (r : Replica) (phase : Skulk) (old new : Held) → TakesReplica old.replica r new.replica
-    → new ≡ record old { replica = new.replica; skulk = phase } → IsLawfulHeld me n old → IsValidTable r.table → ReplicaUpTo n r
+-- a delta is merged in, and the phase is this
+merged_lawful : (me n : ℕ) (d : Delta) (phase : Skulk) (old new : Held) → TakesDelta old.replica d new.replica
+    → new ≡ record old { replica = new.replica; skulk = phase } → IsLawfulHeld me n old → IsDelta d → DeltaUpTo n d
     → IsOwn me n old.members phase → IsLawfulHeld me n new
-merged_lawful me n r phase old new takes rest lawful valid below runs =
+merged_lawful me n d phase old new takes rest lawful is below runs =
     subst (IsLawfulHeld me n) (sym rest)
-    (record { valid = takes.valid lawful.valid valid; replica = takes.below n lawful.valid valid lawful.replica below; skulk = runs })
+    (record { valid = takes.valid lawful.valid is.valid; replica = takes.below n lawful.valid is.valid lawful.replica below; skulk = runs })
 
 advanced_lawful : (me n : ℕ) (t : Stamp) (phase : Skulk) (old new : Held) → Advances old.replica t new.replica
     → new ≡ record old { replica = new.replica; skulk = phase } → IsLawfulHeld me n old → t.time ≤ n → IsOwn me n old.members phase
@@ -158,8 +160,8 @@ module _ (me : HouseNo) (n : ℕ) (old new : Held) (a : Taken) (o : Option Outgo
   taken_is : a ≡ answers.Taken → is_taken a ≡ true
   taken_is is = ap is_taken is
 
-  first_lawful : (from : ℕ) (t : Stamp) (r : Replica) → TakesFirst me from t r old new a o → IsValidTable r.table
-      → (is_taken a ≡ true → (t.time ≤ n) × ReplicaUpTo n r) → IsLawfulHeld me.0 n new
+  first_lawful : (from : ℕ) (t : Stamp) (r : Delta) → TakesFirst me from t r old new a o → IsDelta r
+      → (is_taken a ≡ true → (t.time ≤ n) × DeltaUpTo n r) → IsLawfulHeld me.0 n new
   first_lawful from t r w valid up = by_next w.next w.after
     where
       keeps : (place : ℕ) → place_of me.0 (members_of old.members) ≡ Some place → IsPhaseOf (length old.members) place old.skulk

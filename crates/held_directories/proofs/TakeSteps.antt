@@ -12,10 +12,12 @@ use Rattle.cds_stamps.specs.Members.{Member, members_of, members_fault, place_of
 use Rattle.directory.specs.Histories.{Mark, CanMerge, entry_of}
 use Rattle.directory.specs.declared.entry.EntryCell.{EntryCell}
 use Rattle.directory.specs.declared.entry.Fragment.{Fragment}
+use Rattle.purge_rule.specs.declared.delta.Delta.{Delta}
 use Rattle.purge_rule.specs.declared.replica.Replica.{Replica}
-use Rattle.purge_rule.specs.Replicas.{replica_of, together, IsFragmentOf}
-use Rattle.purge_rule.specs.Latest.{EntryUpTo, MarkUpTo, ReplicaUpTo, StampUpTo, latest_time}
-use Rattle.purge_rule.proofs.Times.{latest_in_entry-≤, latest_time-≤, entry_of-up_to}
+use Rattle.purge_rule.specs.Replicas.{replica_of, delta_in, delta_of, together, IsFragmentOf}
+use Rattle.purge_rule.specs.Latest.{EntryUpTo, MarkUpTo, ReplicaUpTo, DeltaUpTo, StampUpTo, latest_time, latest_in_delta}
+use Rattle.purge_rule.proofs.ReplicaLaws.{delta_in-up_to}
+use Rattle.purge_rule.proofs.Times.{latest_in_entry-≤, latest_in_delta-≤, latest_time-≤, entry_of-up_to}
 use Rattle.purge_rule.proofs.MergeLaws.{purged-up_to}
 use Rattle.skulk_core.specs.declared.skulk.Skulk.{Skulk}
 use Rattle.skulk_core.specs.declared.skulk.Next.{Next}
@@ -44,14 +46,14 @@ use Rattle.held_directories.specs.declared.outgoing.Sender.{Sender}
 use Rattle.held_directories.specs.declared.taking.Taken.{Taken}
 use Rattle.held_directories.specs.declared.taking.Taken.TheVariants as taken
 use Rattle.held_directories.specs.Posting as posting
-use Rattle.held_directories.specs.Posting.{StandsBody, StandsCopy, StandsHead, StandsMessage, LooksBody, LooksMessage, StandEach, posts_if, receivers_of}
+use Rattle.held_directories.specs.Posting.{StandsBody, StandsCopy, StandsDelta, StandsHead, StandsMessage, LooksBody, LooksMessage, StandEach, posts_if, receivers_of}
 use Rattle.held_directories.specs.Posting.{receiver_of}
 use Rattle.held_directories.specs.Standing.{LooksHeld, StandsHeld, StandsPhase}
 use Rattle.held_directories.specs.Stepping.{IsTakeAnswer}
 use Rattle.held_directories.specs.Times.{BodyUpTo, latest_in_body, latest_in_message}
 use Rattle.held_directories.specs.Turns.{HeldStep, HeldTurn, LooksAfter, floor_taken}
 use Rattle.held_directories.specs.Taking.{Advances, AfterGathered, AfterSpread, Answers, JoinsAnswer, TakesFirst, TakesFragment, TakesHere, TakesOwn}
-use Rattle.held_directories.specs.Taking.{TakesReplica, TakesSecond, place_in}
+use Rattle.held_directories.specs.Taking.{TakesDelta, TakesReplica, TakesSecond, place_in}
 use Rattle.held_directories.proofs.Phases.{GatherRow, AckRow, gather_row, ack_row, placed, unlisted, place_listed}
 use Rattle.held_directories.proofs.Phases as phases
 use Rattle.held_directories.proofs.Posts.{posts_stand}
@@ -68,6 +70,12 @@ pub replica_taken : (old other new : Replica) (h g : List Mark) (t u : Option St
     → CanMerge h g (together t u) → TakesReplica old other new → new ≡ replica_of (h ++ g) (together t u)
 replica_taken old other new h g t u is also can takes =
     (subst (λ (x : Replica). TakesReplica (replica_of h t) x new) also (subst (λ (x : Replica). TakesReplica x other new) is takes)).merged h g can refl refl
+
+-- so is one into which a delta is merged
+pub delta_taken : (old : Replica) (other : Delta) (new : Replica) (h g : List Mark) (t u : Option Stamp) → old ≡ replica_of h t → other ≡ delta_of g u
+    → CanMerge h g (together t u) → TakesDelta old other new → new ≡ replica_of (h ++ g) (together t u)
+delta_taken old other new h g t u is also can takes =
+    (subst (λ (x : Delta). TakesDelta (replica_of h t) x new) also (subst (λ (x : Replica). TakesDelta x other new) is takes)).merged h g can refl refl
 
 pub replica_advanced : (old new : Replica) (h : List Mark) (t : Option Stamp) (s : Stamp) → old ≡ replica_of h t → Advances old s new
     → new ≡ replica_of h (together t (Some s))
@@ -146,7 +154,7 @@ module _ (me : HouseNo) (dir : DirId) (sender : HouseNo) (k fl : ℕ) (now : mod
 
   -- ---- answers of the first round
 
-  first : (t : Stamp) (rep : Replica) (c : model.Copy) → TakesFirst me from t rep old new a o
+  first : (t : Stamp) (rep : Delta) (c : model.Copy) → TakesFirst me from t rep old new a o
       → Core (body.Gathered t rep) (model.Gathered t c) (take_gathered now (message (model.Gathered t c)) t c r r.phase)
   first t rep c w = by_row
       (gather_row now (message (model.Gathered t c)) t r from (place_in me old.members) (ap members_fault looks.members ∙ w.lawful)
@@ -163,7 +171,7 @@ module _ (me : HouseNo) (dir : DirId) (sender : HouseNo) (k fl : ℕ) (now : mod
           turns (record (merged r c) { phase = q }) posts command.Taken is (answered j.answer) (raises j.answer)
           (looks_as (record old { replica = new.replica; skulk = w.phase }) (record (merged r c) { phase = q }) j.rest
           (record { epoch = looks.epoch; members = looks.members; phase = phase_as w.phase q phase }))
-          (λ stands carries can held. replica_taken old.replica rep new.replica r.history c.history r.all_up_to c.all_up_to stands carries.1
+          (λ stands carries can held. delta_taken old.replica rep new.replica r.history c.history r.all_up_to c.all_up_to stands carries.1
           (can.merges r c.history (together r.all_up_to c.all_up_to) held (of_gathered t c refl epoch)) j.replica)
           each
 
@@ -182,7 +190,7 @@ module _ (me : HouseNo) (dir : DirId) (sender : HouseNo) (k fl : ℕ) (now : mod
           let j : JoinsAnswer t rep w.phase next.SendSpread old new a o = subst (λ x. AfterGathered t rep w.phase x old new a o) n w.after in
           joins next.SendSpread (model.Spreading t []) j phase (to_others now (gathered_message t c) r (model.Spread t (copy_of (merged r c)))) is
           (λ stands. posts_others (out.Spread t) (model.Gathered t c) (model.Spread t (copy_of (merged r c))) j.posts refl
-          (ap (λ (h : Held). h.epoch) j.rest) (ap (λ (h : Held). h.members) j.rest) (refl, stands))
+          (ap (λ (h : Held). h.epoch) j.rest) (ap (λ (h : Held). h.members) j.rest) (refl, ap delta_in stands))
 
   -- ---- answers of the second round
 
@@ -237,14 +245,14 @@ module _ (me : HouseNo) (dir : DirId) (sender : HouseNo) (k fl : ℕ) (now : mod
   core (body.Gather t) (model.Gather u) w z =
       turns r (reply now (message (model.Gather u)) (model.Gathered u (copy_of r))) command.Taken refl (answered z.1) (raises z.1) (same_looks z.0)
       (λ stands carries can held. ap (λ (h : Held). h.replica) z.0 ∙ stands)
-      (λ stands. posts_reply (out.Gathered t sender) (model.Gather u) (model.Gathered u (copy_of r)) z.2 refl (ap (λ (h : Held). h.epoch) z.0) (w, stands))
+      (λ stands. posts_reply (out.Gathered t sender) (model.Gather u) (model.Gathered u (copy_of r)) z.2 refl (ap (λ (h : Held). h.epoch) z.0) (w, ap delta_in stands))
   core (body.Gathered t rep) (model.Gathered u c) w z =
       subst (λ v. Core (body.Gathered v rep) (model.Gathered u c) (take_own now (message (model.Gathered u c)) r (model.Gathered u c))) (sym w)
       (first u rep c (subst (λ v. TakesFirst me from v rep old new a o) w z))
   core (body.Spread t rep) (model.Spread u c) w z =
       turns (merged r c) (reply now (message (model.Spread u c)) (model.SpreadAck u)) command.Taken refl (answered z.2) (raises z.2)
       (looks_as (record old { replica = new.replica }) (merged r c) z.1 (record { epoch = looks.epoch; members = looks.members; phase = looks.phase }))
-      (λ stands carries can held. replica_taken old.replica rep new.replica r.history c.history r.all_up_to c.all_up_to stands carries.1
+      (λ stands carries can held. delta_taken old.replica rep new.replica r.history c.history r.all_up_to c.all_up_to stands carries.1
       (can.merges r c.history (together r.all_up_to c.all_up_to) held (of_spread u c refl epoch)) z.0)
       (λ _. posts_reply (out.SpreadAck t sender) (model.Spread u c) (model.SpreadAck u) z.3 refl (ap (λ (h : Held). h.epoch) z.1) w)
   core (body.SpreadAck t) (model.SpreadAck u) w z =
@@ -459,11 +467,15 @@ stamp_up_to : (n : ℕ) (o : Option Stamp) → ((t : Stamp) → o ≡ Some t →
 stamp_up_to n None h = tt
 stamp_up_to n (Some t) h = h t refl
 
-copy_up_to : (n : ℕ) (rep : Replica) (c : model.Copy) → StandsCopy rep c → ((k : Mark) → In k c.history → MarkUpTo n k)
-    → ((t : Stamp) → c.all_up_to ≡ Some t → t.time ≤ n) → ReplicaUpTo n rep
-copy_up_to n rep c is marks up =
-    subst (ReplicaUpTo n) (sym is)
-    (record { table = purged-up_to n c.history c.all_up_to (each_mark n c.history marks); all_up_to = stamp_up_to n c.all_up_to up })
+module _ (n : ℕ) (c : model.Copy) (marks : (k : Mark) → In k c.history → MarkUpTo n k) (up : (t : Stamp) → c.all_up_to ≡ Some t → t.time ≤ n) where
+  history_up_to : ReplicaUpTo n (replica_of c.history c.all_up_to)
+  history_up_to = record { table = purged-up_to n c.history c.all_up_to (each_mark n c.history marks); all_up_to = stamp_up_to n c.all_up_to up }
+
+  copy_up_to : (rep : Replica) → StandsCopy rep c → ReplicaUpTo n rep
+  copy_up_to rep is = subst (ReplicaUpTo n) (sym is) history_up_to
+
+  delta_up_to : (d : Delta) → StandsDelta d c → DeltaUpTo n d
+  delta_up_to d is = subst (DeltaUpTo n) (sym is) (delta_in-up_to n (replica_of c.history c.all_up_to) history_up_to)
 
 some_entry : (n : ℕ) (o : Option EntryCell) (e : EntryCell) → o ≡ Some e → IfSome o (EntryUpTo n) → EntryUpTo n e
 some_entry n o e is h = subst (λ x. IfSome x (EntryUpTo n)) is h
@@ -474,13 +486,13 @@ body_up_to : (n : ℕ) (b : Body) (c : model.Body) → StandsBody b c → ((k : 
 body_up_to n (body.Update f) (model.Update ms) w marks up round =
     some_entry n (entry_of ms f.name) f.entry w.entry (entry_of-up_to n ms f.name (each_mark n ms marks))
 body_up_to n (body.Gather t) (model.Gather u) w marks up round = subst (λ (x : Stamp). x.time ≤ n) (sym w) (round u refl)
-body_up_to n (body.Gathered t rep) (model.Gathered u c) w marks up round =
-    (subst (λ (x : Stamp). x.time ≤ n) (sym w.0) (round u refl), copy_up_to n rep c w.1 marks up)
-body_up_to n (body.Spread t rep) (model.Spread u c) w marks up round =
-    (subst (λ (x : Stamp). x.time ≤ n) (sym w.0) (round u refl), copy_up_to n rep c w.1 marks up)
+body_up_to n (body.Gathered t d) (model.Gathered u c) w marks up round =
+    (subst (λ (x : Stamp). x.time ≤ n) (sym w.0) (round u refl), delta_up_to n c marks up d w.1)
+body_up_to n (body.Spread t d) (model.Spread u c) w marks up round =
+    (subst (λ (x : Stamp). x.time ≤ n) (sym w.0) (round u refl), delta_up_to n c marks up d w.1)
 body_up_to n (body.SpreadAck t) (model.SpreadAck u) w marks up round = subst (λ (x : Stamp). x.time ≤ n) (sym w) (round u refl)
 body_up_to n (body.Advance t) (model.Advance u) w marks up round = subst (λ (x : Stamp). x.time ≤ n) (sym w) (round u refl)
-body_up_to n (body.Join ms rep) (model.Join ns c) w marks up round = copy_up_to n rep c w.1 marks up
+body_up_to n (body.Join ms rep) (model.Join ns c) w marks up round = copy_up_to n c marks up rep w.1
 body_up_to n body.Leave model.Leave w marks up round = tt
 body_up_to n _ _ w marks up round = elim w [ ]
 
@@ -490,8 +502,8 @@ both_up_to a b n p q = omega (arith, p, q)
 latest_low : (n : ℕ) (b : Body) → BodyUpTo n b → latest_in_body b ≤ n
 latest_low n (body.Update f) w = (latest_in_entry-≤ n f.entry).1 w
 latest_low n (body.Gather t) w = w
-latest_low n (body.Gathered t rep) w = both_up_to t.time (latest_time rep) n w.0 ((latest_time-≤ n rep).1 w.1)
-latest_low n (body.Spread t rep) w = both_up_to t.time (latest_time rep) n w.0 ((latest_time-≤ n rep).1 w.1)
+latest_low n (body.Gathered t d) w = both_up_to t.time (latest_in_delta d) n w.0 ((latest_in_delta-≤ n d).1 w.1)
+latest_low n (body.Spread t d) w = both_up_to t.time (latest_in_delta d) n w.0 ((latest_in_delta-≤ n d).1 w.1)
 latest_low n (body.SpreadAck t) w = w
 latest_low n (body.Advance t) w = w
 latest_low n (body.Join ms rep) w = (latest_time-≤ n rep).1 w

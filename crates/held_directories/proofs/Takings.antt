@@ -4,7 +4,7 @@ use Rattle.std.specs.Prelude.{if◌then◌else◌, ◌||◌, not, is_some}
 use Rattle.cds_stamps.specs.declared.numbers.EpochNo.{EpochNo}
 use Rattle.cds_stamps.specs.declared.stamp.Stamp.{Stamp}
 use Rattle.cds_stamps.specs.Members.{Member, place_of, is_listed}
-use Rattle.purge_rule.specs.declared.replica.Replica.{Replica}
+use Rattle.purge_rule.specs.declared.delta.Delta.{Delta}
 use Rattle.skulk_core.specs.declared.skulk.Skulk.{Skulk}
 use Rattle.skulk_core.specs.declared.skulk.Next.{Next}
 use Rattle.skulk_core.specs.declared.skulk.Next.TheVariants as next
@@ -30,7 +30,7 @@ bar_is me m ms p a b none x y =
     ∙ ap (λ c. if not a || not c then Some answers.Foreign else None) y
 
 -- an answer of the first round that is not stale
-pub joins_answer : (t : Stamp) (r : Replica) (phase : Skulk) (n : Next) (old new : Held) (a : Taken) (o : Option Outgoing)
+pub joins_answer : (t : Stamp) (r : Delta) (phase : Skulk) (n : Next) (old new : Held) (a : Taken) (o : Option Outgoing)
     → ((s : Option Stamp) → n ≡ next.Stale s → ⊥) → JoinsAnswer t r phase n old new a o → AfterGathered t r phase n old new a o
 joins_answer t r phase next.Nothing old new a o fresh j = j
 joins_answer t r phase next.SendSpread old new a o fresh j = j

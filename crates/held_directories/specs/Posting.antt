@@ -7,8 +7,9 @@ use Rattle.cds_messages.specs.declared.message.Head.{Head}
 use Rattle.cds_messages.specs.declared.message.Message.{Message}
 use Rattle.cds_messages.specs.declared.message.Body.{Body}
 use Rattle.cds_messages.specs.declared.message.Body.TheVariants as body
+use Rattle.purge_rule.specs.declared.delta.Delta.{Delta}
 use Rattle.purge_rule.specs.declared.replica.Replica.{Replica}
-use Rattle.purge_rule.specs.Replicas.{replica_of, IsFragmentOf}
+use Rattle.purge_rule.specs.Replicas.{replica_of, delta_in, delta_of, IsFragmentOf}
 use Rattle.cell_model.specs.Cells as model
 use Rattle.held_directories.specs.declared.posted.Posted.{Posted}
 use Rattle.held_directories.specs.declared.outgoing.Outgoing.{Outgoing}
@@ -32,8 +33,8 @@ posts_to houses m = map (λ h. record { to = record { 0 = h }; message = m }) ho
 abbrev pub body_of : Held → Outgoing → Body
 body_of h (out.Update f) = body.Update f
 body_of h (out.Gather t) = body.Gather t
-body_of h (out.Gathered t to) = body.Gathered t h.replica
-body_of h (out.Spread t) = body.Spread t h.replica
+body_of h (out.Gathered t to) = body.Gathered t (delta_in h.replica)
+body_of h (out.Spread t) = body.Spread t (delta_in h.replica)
 body_of h (out.SpreadAck t to) = body.SpreadAck t
 body_of h (out.Advance t) = body.Advance t
 body_of h out.Join = body.Join h.members h.replica
@@ -80,12 +81,16 @@ head_from s k = record { dir = s.dir; from = s.house; epoch = k; floor = s.floor
 abbrev pub StandsCopy : Replica → model.Copy → Type 0
 StandsCopy r c = r ≡ replica_of c.history c.all_up_to
 
+-- a delta is that of a copy's history (own)
+abbrev pub StandsDelta : Delta → model.Copy → Type 0
+StandsDelta d c = d ≡ delta_of c.history c.all_up_to
+
 -- what a message carries stands for what a message of the model says (own)
 abbrev pub StandsBody : Body → model.Body → Type 0
 StandsBody (body.Update f) (model.Update marks) = IsFragmentOf marks f
 StandsBody (body.Gather t) (model.Gather u) = t ≡ u
-StandsBody (body.Gathered t r) (model.Gathered u c) = (t ≡ u) × StandsCopy r c
-StandsBody (body.Spread t r) (model.Spread u c) = (t ≡ u) × StandsCopy r c
+StandsBody (body.Gathered t d) (model.Gathered u c) = (t ≡ u) × StandsDelta d c
+StandsBody (body.Spread t d) (model.Spread u c) = (t ≡ u) × StandsDelta d c
 StandsBody (body.SpreadAck t) (model.SpreadAck u) = t ≡ u
 StandsBody (body.Advance t) (model.Advance u) = t ≡ u
 StandsBody (body.Join ms r) (model.Join ns c) = (members_of ms ≡ ns) × StandsCopy r c
@@ -96,8 +101,8 @@ StandsBody _ _ = ⊥
 abbrev pub LooksBody : Body → model.Body → Type 0
 LooksBody (body.Update f) (model.Update marks) = Unit {0}
 LooksBody (body.Gather t) (model.Gather u) = t ≡ u
-LooksBody (body.Gathered t r) (model.Gathered u c) = t ≡ u
-LooksBody (body.Spread t r) (model.Spread u c) = t ≡ u
+LooksBody (body.Gathered t d) (model.Gathered u c) = t ≡ u
+LooksBody (body.Spread t d) (model.Spread u c) = t ≡ u
 LooksBody (body.SpreadAck t) (model.SpreadAck u) = t ≡ u
 LooksBody (body.Advance t) (model.Advance u) = t ≡ u
 LooksBody (body.Join ms r) (model.Join ns c) = members_of ms ≡ ns

@@ -8,10 +8,11 @@ use Rattle.cds_stamps.specs.Stamps.{stamp_code}
 use Rattle.cds_stamps.specs.Octets.{octets_code}
 use Rattle.directory.specs.declared.entry.EntryCell.{EntryCell}
 use Rattle.directory.specs.Entries.{entry_code}
+use Rattle.purge_rule.specs.declared.delta.Delta.{Delta}
 use Rattle.purge_rule.specs.declared.replica.Replica.{Replica}
 use Rattle.cds_messages.specs.declared.message.Body.{Body}
 use Rattle.cds_messages.specs.declared.message.Body.TheVariants.{Update, Gather, Gathered, Spread, SpreadAck, Advance, Join, Leave}
-use Rattle.cds_messages.specs.PrivateDirCodes.{member_code, replica_code}
+use Rattle.cds_messages.specs.PrivateDirCodes.{member_code, replica_code, delta_code}
 use Rattle.skulk_core.specs.declared.skulk.Skulk.{Skulk}
 use Rattle.skulk_core.specs.declared.skulk.Skulk.TheVariants.{Idle, Gathering, Spreading}
 use Rattle.held_directories.specs.declared.posted.Posted.{Posted}
@@ -65,13 +66,13 @@ dir_state_code = code_by Parts (coded⊎ (coded× coded_ℕ (coded× (coded_list
 
 -- what a message carries: a number where it is nothing (own)
 abbrev pub Carried : Type 0
-Carried = (List ℕ × EntryCell) ⊎ (Stamp ⊎ ((Stamp × Replica) ⊎ ((Stamp × Replica) ⊎ (Stamp ⊎ (Stamp ⊎ ((List Member × Replica) ⊎ ℕ))))))
+Carried = (List ℕ × EntryCell) ⊎ (Stamp ⊎ ((Stamp × Delta) ⊎ ((Stamp × Delta) ⊎ (Stamp ⊎ (Stamp ⊎ ((List Member × Replica) ⊎ ℕ))))))
 
 abbrev pub carried : Body → Carried
 carried (Update f) = inl (f.name, f.entry)
 carried (Gather t) = inr (inl t)
-carried (Gathered t r) = inr (inr (inl (t, r)))
-carried (Spread t r) = inr (inr (inr (inl (t, r))))
+carried (Gathered t d) = inr (inr (inl (t, d)))
+carried (Spread t d) = inr (inr (inr (inl (t, d))))
 carried (SpreadAck t) = inr (inr (inr (inr (inl t))))
 carried (Advance t) = inr (inr (inr (inr (inr (inl t)))))
 carried (Join ms r) = inr (inr (inr (inr (inr (inr (inl (ms, r)))))))
@@ -90,15 +91,15 @@ carrying (inr (inr (inr (inr (inr (inr (inr n))))))) = Leave
 pub carried_back : (b : Body) → carrying (carried b) ≡ b
 carried_back (Update f) = refl
 carried_back (Gather t) = refl
-carried_back (Gathered t r) = refl
-carried_back (Spread t r) = refl
+carried_back (Gathered t d) = refl
+carried_back (Spread t d) = refl
 carried_back (SpreadAck t) = refl
 carried_back (Advance t) = refl
 carried_back (Join ms r) = refl
 carried_back Leave = refl
 
-abbrev pub copied_code : Coded (Stamp × Replica)
-copied_code = coded× stamp_code replica_code
+abbrev pub copied_code : Coded (Stamp × Delta)
+copied_code = coded× stamp_code delta_code
 
 abbrev pub body_code : Coded Body
 body_code =

@@ -7,6 +7,7 @@ use Rattle.cds_stamps.specs.declared.numbers.HouseNo.{HouseNo}
 use Rattle.cds_stamps.specs.declared.members.Member as declared
 use Rattle.cds_stamps.specs.Members.{Member, members_of, place_of, is_listed, members_fault}
 use Rattle.cds_stamps.specs.Octets.{is_octets}
+use Rattle.purge_rule.specs.declared.delta.Delta.{Delta}
 use Rattle.purge_rule.specs.declared.replica.Replica.{Replica}
 use Rattle.cds_messages.specs.declared.message.Message.{Message}
 use Rattle.held_directories.specs.declared.states.Held.{Held}
@@ -20,8 +21,8 @@ use Rattle.directory.specs.declared.entry.Fragment.{Fragment}
 use Rattle.directory.specs.Entries.{IsValidEntry, IsValidTable}
 use Rattle.directory.specs.Histories.{Mark, CanMerge}
 use Rattle.directory.specs.Purges.{purged_table}
-use Rattle.purge_rule.specs.Latest.{EntryUpTo, ReplicaUpTo}
-use Rattle.purge_rule.specs.Replicas.{replica_of, together, merged_entry, merged_table, IsFragmentOf}
+use Rattle.purge_rule.specs.Latest.{EntryUpTo, ReplicaUpTo, DeltaUpTo}
+use Rattle.purge_rule.specs.Replicas.{replica_of, delta_of, together, merged_entry, merged_table, IsFragmentOf}
 use Rattle.skulk_core.specs.declared.skulk.Skulk.{Skulk}
 use Rattle.skulk_core.specs.declared.skulk.Skulk.TheVariants as skulk
 use Rattle.skulk_core.specs.declared.skulk.Next.{Next}
@@ -67,6 +68,15 @@ pub record TakesReplica (old other new : Replica) : Type 0 where
   pub valid : IsValidTable old.table → IsValidTable other.table → IsValidTable new.table
   pub below : (n : ℕ) → IsValidTable old.table → IsValidTable other.table → ReplicaUpTo n old → ReplicaUpTo n other → ReplicaUpTo n new
 
+-- a replica into which a delta is merged (own)
+pub record TakesDelta (old : Replica) (other : Delta) (new : Replica) : Type 0 where
+  pub merged : (h g : List Mark) → CanMerge h g (together old.all_up_to other.above)
+      → old ≡ replica_of h old.all_up_to → other ≡ delta_of g other.above → new ≡ replica_of (h ++ g) (together old.all_up_to other.above)
+  pub joined : IsValidTable old.table → IsValidTable other.table → new.table ≡ merged_table (together old.all_up_to other.above) old.table other.table
+  pub up_to : new.all_up_to ≡ together old.all_up_to other.above
+  pub valid : IsValidTable old.table → IsValidTable other.table → IsValidTable new.table
+  pub below : (n : ℕ) → IsValidTable old.table → IsValidTable other.table → ReplicaUpTo n old → DeltaUpTo n other → ReplicaUpTo n new
+
 -- a replica whose AllUpTo is raised to this stamp: of a valid table the deletions up to it are dropped (own)
 pub record Advances (old : Replica) (t : Stamp) (new : Replica) : Type 0 where
   pub merged : (h : List Mark) → old ≡ replica_of h old.all_up_to → new ≡ replica_of h (together old.all_up_to (Some t))
@@ -84,28 +94,28 @@ second_round_of next.Nothing t = None
 second_round_of (next.Stale running) t = None
 second_round_of (next.Complete u) t = None
 
--- a replica that answers a skulk is merged in, and the phase is this (own)
-pub record JoinsAnswer (t : Stamp) (r : Replica) (phase : Skulk) (n : Next) (old new : Held) (a : Taken) (o : Option Outgoing) : Type 0 where
-  pub replica : TakesReplica old.replica r new.replica
+-- a delta that answers a skulk is merged in, and the phase is this (own)
+pub record JoinsAnswer (t : Stamp) (d : Delta) (phase : Skulk) (n : Next) (old new : Held) (a : Taken) (o : Option Outgoing) : Type 0 where
+  pub replica : TakesDelta old.replica d new.replica
   pub rest : new ≡ record old { replica = new.replica; skulk = phase }
   pub answer : a ≡ taken.Taken
   pub posts : o ≡ second_round_of n t
 
 -- what comes of an answer of the first round, by what is next: a stale one changes nothing (own)
-abbrev pub AfterGathered : (t : Stamp) → Replica → (phase : Skulk) → Next → (old new : Held) → Taken → Option Outgoing → Type 0
-AfterGathered t r phase (next.Stale running) old new a o = (new ≡ old) × (a ≡ taken.Stale t running) × (o ≡ None)
-AfterGathered t r phase next.Nothing old new a o = JoinsAnswer t r phase next.Nothing old new a o
-AfterGathered t r phase next.SendSpread old new a o = JoinsAnswer t r phase next.SendSpread old new a o
-AfterGathered t r phase (next.Complete u) old new a o = JoinsAnswer t r phase (next.Complete u) old new a o
+abbrev pub AfterGathered : (t : Stamp) → Delta → (phase : Skulk) → Next → (old new : Held) → Taken → Option Outgoing → Type 0
+AfterGathered t d phase (next.Stale running) old new a o = (new ≡ old) × (a ≡ taken.Stale t running) × (o ≡ None)
+AfterGathered t d phase next.Nothing old new a o = JoinsAnswer t d phase next.Nothing old new a o
+AfterGathered t d phase next.SendSpread old new a o = JoinsAnswer t d phase next.SendSpread old new a o
+AfterGathered t d phase (next.Complete u) old new a o = JoinsAnswer t d phase (next.Complete u) old new a o
 
--- an answer of the first round, with this replica (own)
-pub record TakesFirst (me : HouseNo) (from : ℕ) (t : Stamp) (r : Replica) (old new : Held) (a : Taken) (o : Option Outgoing) : Type 0 where
+-- an answer of the first round, with this delta (own)
+pub record TakesFirst (me : HouseNo) (from : ℕ) (t : Stamp) (d : Delta) (old new : Held) (a : Taken) (o : Option Outgoing) : Type 0 where
   pub lawful : members_fault (members_of old.members) ≡ None
   pub next : Next
   pub phase : Skulk
   pub does : TakesGathered t from (length old.members) (place_in me old.members) old.skulk phase next
   pub keeps : IsPhaseOf (length old.members) (place_in me old.members) old.skulk → IsPhaseOf (length old.members) (place_in me old.members) phase
-  pub after : AfterGathered t r phase next old new a o
+  pub after : AfterGathered t d phase next old new a o
 
 -- what comes of an answer of the second round, by what is next (own)
 abbrev pub AfterSpread : (t : Stamp) → Next → (old new : Held) → Taken → Option Outgoing → Type 0
@@ -132,9 +142,9 @@ abbrev pub TakesOwn : (me : HouseNo) → (from : ℕ) → (sender : HouseNo) →
 TakesOwn me from sender (body.Update f) old new a o =
     TakesFragment old.replica f new.replica × (new ≡ record old { replica = new.replica }) × (a ≡ taken.Taken) × (o ≡ None)
 TakesOwn me from sender (body.Gather t) old new a o = (new ≡ old) × (a ≡ taken.Taken) × (o ≡ Some (out.Gathered t sender))
-TakesOwn me from sender (body.Gathered t r) old new a o = TakesFirst me from t r old new a o
-TakesOwn me from sender (body.Spread t r) old new a o =
-    TakesReplica old.replica r new.replica × (new ≡ record old { replica = new.replica }) × (a ≡ taken.Taken) × (o ≡ Some (out.SpreadAck t sender))
+TakesOwn me from sender (body.Gathered t d) old new a o = TakesFirst me from t d old new a o
+TakesOwn me from sender (body.Spread t d) old new a o =
+    TakesDelta old.replica d new.replica × (new ≡ record old { replica = new.replica }) × (a ≡ taken.Taken) × (o ≡ Some (out.SpreadAck t sender))
 TakesOwn me from sender (body.SpreadAck t) old new a o = TakesSecond from t old new a o
 TakesOwn me from sender (body.Advance t) old new a o =
     Advances old.replica t new.replica × (new ≡ record old { replica = new.replica }) × (a ≡ taken.Taken) × (o ≡ None)

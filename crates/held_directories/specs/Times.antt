@@ -1,7 +1,7 @@
 -- The times in messages and images: no later than n, and the greatest of them (own, after C705, timestamps).
 use Rattle.std.specs.Prelude.{ℕ, ◌≤◌, max}
 use Rattle.std.specs.FinMap.{entries}
-use Rattle.purge_rule.specs.Latest.{EntryUpTo, ReplicaUpTo, greatest_of, latest_in_entry, latest_time}
+use Rattle.purge_rule.specs.Latest.{EntryUpTo, ReplicaUpTo, DeltaUpTo, greatest_of, latest_in_entry, latest_in_delta, latest_time}
 use Rattle.cds_messages.specs.declared.image.Image.{Image}
 use Rattle.cds_messages.specs.declared.image.ImageDir.{ImageDir}
 use Rattle.cds_messages.specs.declared.image.ImageDir.TheVariants as kept
@@ -13,8 +13,8 @@ use Rattle.cds_messages.specs.declared.message.Body.TheVariants.{Update, Gather,
 abbrev pub BodyUpTo : ℕ → Body → Type 0
 BodyUpTo n (Update f) = EntryUpTo n f.entry
 BodyUpTo n (Gather t) = t.time ≤ n
-BodyUpTo n (Gathered t r) = (t.time ≤ n) × ReplicaUpTo n r
-BodyUpTo n (Spread t r) = (t.time ≤ n) × ReplicaUpTo n r
+BodyUpTo n (Gathered t d) = (t.time ≤ n) × DeltaUpTo n d
+BodyUpTo n (Spread t d) = (t.time ≤ n) × DeltaUpTo n d
 BodyUpTo n (SpreadAck t) = t.time ≤ n
 BodyUpTo n (Advance t) = t.time ≤ n
 BodyUpTo n (Join ms r) = ReplicaUpTo n r
@@ -24,8 +24,8 @@ BodyUpTo n Leave = Unit {0}
 abbrev pub latest_in_body : Body → ℕ
 latest_in_body (Update f) = latest_in_entry f.entry
 latest_in_body (Gather t) = t.time
-latest_in_body (Gathered t r) = max t.time (latest_time r)
-latest_in_body (Spread t r) = max t.time (latest_time r)
+latest_in_body (Gathered t d) = max t.time (latest_in_delta d)
+latest_in_body (Spread t d) = max t.time (latest_in_delta d)
 latest_in_body (SpreadAck t) = t.time
 latest_in_body (Advance t) = t.time
 latest_in_body (Join ms r) = latest_time r

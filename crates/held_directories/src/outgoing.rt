@@ -19,11 +19,11 @@ pub enum Outgoing {
     Update(Fragment),
     /// To each other member: the first round of a skulk.
     Gather(Stamp),
-    /// To the house that asked for it in the first round: the replica.
+    /// To the house that asked for it in the first round: the delta of the replica.
     Gathered(Stamp, HouseNo),
-    /// To each other member: the second round, with the replica.
+    /// To each other member: the second round, with the delta of the replica.
     Spread(Stamp),
-    /// To the house that sent the second round: that its replica is joined in.
+    /// To the house that sent the second round: that its delta is joined in.
     SpreadAck(Stamp, HouseNo),
     /// To each other member: the skulk is complete.
     Advance(Stamp),
@@ -152,8 +152,8 @@ impl Held {
         match outgoing {
             Outgoing::Update(fragment) => Ok(Body::Update(fragment.copy(alloc)?)),
             Outgoing::Gather(t) => Ok(Body::Gather(*t)),
-            Outgoing::Gathered(t, _) => Ok(Body::Gathered(*t, self.replica.copy(alloc)?)),
-            Outgoing::Spread(t) => Ok(Body::Spread(*t, self.replica.copy(alloc)?)),
+            Outgoing::Gathered(t, _) => Ok(Body::Gathered(*t, self.replica.delta(alloc)?)),
+            Outgoing::Spread(t) => Ok(Body::Spread(*t, self.replica.delta(alloc)?)),
             Outgoing::SpreadAck(t, _) => Ok(Body::SpreadAck(*t)),
             Outgoing::Advance(t) => Ok(Body::Advance(*t)),
             Outgoing::Join => {

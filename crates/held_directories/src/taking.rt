@@ -13,7 +13,7 @@ use crate::states::{DirState, Held};
 use crate::times::latest_in_message;
 use cds_messages::{Body, Message};
 use cds_stamps::{EpochNo, HouseNo, Members, Stamp};
-use purge_rule::{Replica, Steps};
+use purge_rule::{Delta, Replica, Steps};
 use skulk_core::{Next, Skulk};
 use std::alloc::{AllocError, Global};
 use std::marker::Brand;
@@ -139,9 +139,9 @@ impl Held {
                 Ok(taken_with(None))
             }
             Body::Gather(t) => Ok(taken_with(Some(Outgoing::Gathered(*t, message.from)))),
-            Body::Gathered(t, replica) => self.take_gathered(alloc, house, from, t, replica),
-            Body::Spread(t, replica) => {
-                self.replica.take(alloc, replica)?;
+            Body::Gathered(t, delta) => self.take_gathered(alloc, house, from, t, delta),
+            Body::Spread(t, delta) => {
+                self.replica.take_delta(alloc, delta)?;
                 Ok(taken_with(Some(Outgoing::SpreadAck(*t, message.from))))
             }
             Body::SpreadAck(t) => Ok(self.take_ack(from, t)),
@@ -160,10 +160,10 @@ impl Held {
         house: HouseNo,
         from: usize,
         t: &Stamp,
-        replica: &Replica,
+        delta: &Delta,
     ) -> Result<Turn<Taken>, AllocError>
         requires from { from < length self.old.members }
-        ensures ok { IfOk result (λ turn. TakesFirst house from t.now replica.now self.old self.new turn.answer turn.outgoing) }
+        ensures ok { IfOk result (λ turn. TakesFirst house from t.now delta.now self.old self.new turn.answer turn.outgoing) }
         ensures err { OnErr result (self.new ≡ self.old) }
     {
         let me = self.own_place(house);
@@ -172,7 +172,7 @@ impl Held {
         match skulk.gathered(*t, from, count, me) {
             Next::Stale(running) => Ok(unchanged(Taken::Stale(*t, running))),
             next => {
-                self.replica.take(alloc, replica)?;
+                self.replica.take_delta(alloc, delta)?;
                 self.skulk = skulk;
                 Ok(taken_with(second_round(next, t)))
             }

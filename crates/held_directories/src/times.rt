@@ -5,7 +5,7 @@ ghost use Rattle.held_directories.specs.Times.{latest_in_body, latest_in_image, 
 use cds_messages::{Body, Image, ImageDir, Message};
 use purge_rule::latest_in_entry;
 
-/// The greatest time in a message: of its floor, of the stamp that it carries, and of its entry or its replica.
+/// The greatest time in a message: of its floor, of the stamp that it carries, and of its entry, its replica or its delta.
 pub fn latest_in_message(message: &Message) -> u64
     ensures { result ≡ latest_in_message message.now }
 {
@@ -19,7 +19,7 @@ fn latest_in_body(body: &Body) -> u64
     match body {
         Body::Update(fragment) => latest_in_entry(&fragment.entry),
         Body::Gather(t) | Body::SpreadAck(t) | Body::Advance(t) => t.time,
-        Body::Gathered(t, replica) | Body::Spread(t, replica) => t.time.max(replica.latest_time()),
+        Body::Gathered(t, delta) | Body::Spread(t, delta) => t.time.max(delta.latest_time()),
         Body::Join(_, replica) => replica.latest_time(),
         Body::Leave => 0,
     }

@@ -1,6 +1,6 @@
 -- What is read of the layouts of keyed lists and of marks is valid.
 use Rattle.std.proofs.Common.{◌≡◌, ℕ, zero, suc, Bool, true, false, cond, List, [], ◌∷◌, Option, Some, None, Ok, refl, sym, ap, subst, ◌∙◌, arith}
-use Rattle.std.specs.Prelude.{IfSome, if◌then◌else◌}
+use Rattle.std.specs.Prelude.{◌==◌, IfSome, if◌then◌else◌}
 use Rattle.std.specs.FinMap.{FinMap, empty, get, insert, get-empty, get-insert}
 use Rattle.std.specs.List.{AllByRecursion}
 use Rattle.std.specs.Ordering.{eq_by_cmp}
@@ -14,9 +14,9 @@ use Rattle.attr_sets.specs.declared.mark.ValueMark.{ValueMark}
 use Rattle.attr_sets.specs.declared.cell.AttrCell.{AttrCell}
 use Rattle.attr_sets.specs.CellPurges.{is_above}
 use Rattle.attr_sets.specs.Marks.{kept}
-use Rattle.record_fields.specs.Layouts.{Layout, next, done}
+use Rattle.record_fields.specs.Layouts.{Layout, next, done, choose, Stands}
 use Rattle.record_fields.specs.Reading.{read}
-use Rattle.record_fields.specs.Fields.{is_cleared, mark_rule, stamp, value}
+use Rattle.record_fields.specs.Fields.{above_rule, is_cleared, mark_rule, stamp, optional_stamp, value}
 use Rattle.record_fields.specs.declared.fault.Rule.TheVariants.{OutOfOrder, NotAbove}
 use Rattle.record_fields.specs.Added.{add_all}
 use Rattle.record_fields.specs.Records.{item, ascending, map_of, mark, empty_cell}
@@ -104,6 +104,21 @@ lawful_mark above cleared s h = at (is_cleared cleared s) (is_above above s) h
     at true c h = absurd cc
     at false true h = (refl, refl)
     at false false h = absurd cc
+
+-- a stamp that was read above another is above it, if there is one
+pub stamp_above : (above : Option Stamp) (x : List ℕ) (s : Option Stamp) (y : List ℕ) → Stands (optional_stamp above) x s y
+    → IfSome s (λ s. is_above above s ≡ true)
+unfolding optional_stamp stamp
+stamp_above above x s y h = by (h.0 == 0) s h.1 h.3
+  where
+    lawful : (b : Bool) → (if b then None else Some NotAbove) ≡ None → b ≡ true
+    lawful true e = refl
+    lawful false e = absurd cc
+
+    by : (test : Bool) (s : Option Stamp) (x : List ℕ) → Stands (choose test (done None) (next (stamp (above_rule above)) (λ t. done (Some t)))) x s y
+        → IfSome s (λ s. is_above above s ≡ true)
+    by true s x h = subst (λ s. IfSome s (λ s. is_above above s ≡ true)) h.0 tt
+    by false s x h = subst (λ s. IfSome s (λ s. is_above above s ≡ true)) h.3.0 (lawful (is_above above h.0) h.2.4)
 
 -- so the clear keeps each mark
 pub kept_all : (above cleared : Option Stamp) (o : Option ValueMark) → IfSome o (λ m. mark_rule above cleared m.stamp ≡ None) → kept cleared o ≡ o

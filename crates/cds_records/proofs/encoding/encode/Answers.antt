@@ -7,7 +7,7 @@ use Rattle.cds_records.proofs.encoding.encode.Goals as goal
 
 pub returns-clause-octets : goal.returns-clause-octets
 returns-clause-octets c =
-    message_written _ c.args.message.now.body _ _ (c.in_ok-out.ensures.octets ∙ (λ i. message_head 1 (c.head.ensures i) (c.tag.ensures i)))
+    message_written _ c.args.message.now.body _ _ (c.in_ok-out.ensures.octets ∙ (λ i. message_head (c.head.ensures i) (c.tag.ensures i)))
     c.in_ok-put_body.ensures.octets
 
 pub returns-clause-whole : goal.returns-clause-whole

@@ -5,8 +5,8 @@ use Rattle.cds_records.proofs.encoding.encode_gathered.Goals as goal
 
 pub returns-clause-octets : goal.returns-clause-octets
 unfolding body_octets
-returns-clause-octets c = message_written c.args.head.now (Gathered c.args.t.now c.args.replica.now) _ _ c.in_ok-out.ensures.octets c.in_ok-put_copied.ensures.octets
+returns-clause-octets c = message_written c.args.head.now (Gathered c.args.t.now c.args.delta.now) _ _ c.in_ok-out.ensures.octets c.in_ok-put_copied.ensures.octets
 
 pub returns-clause-whole : goal.returns-clause-whole
 returns-clause-whole c =
-    written_whole c.args.head.now (Gathered c.args.t.now c.args.replica.now) _ (returns-clause-octets c) c.in_ok-out.ensures.fits c.in_ok-put_copied.ensures.fits
+    written_whole c.args.head.now (Gathered c.args.t.now c.args.delta.now) _ (returns-clause-octets c) c.in_ok-out.ensures.fits c.in_ok-put_copied.ensures.fits

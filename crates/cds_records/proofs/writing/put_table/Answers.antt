@@ -1,34 +1,19 @@
-use Rattle.std.proofs.Common.{◌∙◌}
-use Rattle.std.proofs.Common.{◌≡◌, None}
-use Rattle.std.specs.FinMap.{entries}
-use Rattle.cds_stamps.specs.Names.{simple_name_fault}
-use Rattle.record_fields.specs.Octets.{name_octets}
-use Rattle.cds_records.specs.Octets.{entry_octets}
-use Rattle.cds_records.specs.Ranges.{FitsEntry}
-use Rattle.record_fields.proofs.WritingLoops.{writing_begins, writing_goes_on, writing_ends}
+use Rattle.std.proofs.Common.{◌≡◌, ◌++◌, ◌∙◌, ap, arith}
+use Rattle.std.specs.Int.{w64, to_be_bytes}
+use Rattle.std.specs.FinMap.{len}
+use Rattle.record_fields.specs.Octets.{optional_stamp_octets, name_octets, each_octets}
+use Rattle.cds_records.specs.Octets.{entry_octets, stamped_table_octets}
+use Rattle.record_fields.proofs.WritingLoops.{behind_3}
 use Rattle.cds_records.proofs.writing.put_table.Goals as goal
 
-pub loop-name-init : goal.loop-name-init
-loop-name-init c =
-    writing_begins name_octets entry_octets (λ n. simple_name_fault n ≡ None) FitsEntry
-    (entries c.args.table.now) _ c.args.out.now.items
-    (c.into_iter-name-iterator.ensures.into_iter_gives ∙ c.iter-name-items.ensures)
-
-pub loop-name-preserved : goal.loop-name-preserved
-loop-name-preserved c =
-    writing_goes_on name_octets entry_octets (λ n. simple_name_fault n ≡ None) FitsEntry
-    (entries c.args.table.now) c.loop-name.name-iterator c.next.new.self c.in-Some.name.now c.in-Some.entry.now
-    c.args.out.now.items c.loop-name.out.items c.put_named.new.out.items
-    c.in-Some.ensures.steps c.loop-name.invariant c.in_ok-put_named.ensures.octets c.in_ok-put_named.ensures.fits
-
 pub returns-clause-octets : goal.returns-clause-octets
+unfolding stamped_table_octets
 returns-clause-octets c =
-    (writing_ends name_octets entry_octets (λ n. simple_name_fault n ≡ None) FitsEntry
-    (entries c.args.table.now) c.loop-name.name-iterator
-    c.args.out.now.items c.loop-name.out.items c.in-None.ensures.steps.0 c.loop-name.invariant).0
+    let table = c.args.table.now in
+    let count : c.put_u64.new.out.items ≡ c.put_optional_stamp.new.out.items ++ to_be_bytes w64 (len table) =
+    c.in_ok-put_u64.ensures ∙ ap (λ n. c.put_optional_stamp.new.out.items ++ to_be_bytes w64 n) c.len.ensures in
+    behind_3 c.args.out.now.items (optional_stamp_octets c.args.stamp.now) (to_be_bytes w64 (len table)) (each_octets name_octets entry_octets table)
+    c.in_ok-put_optional_stamp.ensures.octets count c.in_ok-put_entries.ensures.octets
 
-pub returns-clause-fits : goal.returns-clause-fits
-returns-clause-fits c =
-    (writing_ends name_octets entry_octets (λ n. simple_name_fault n ≡ None) FitsEntry
-    (entries c.args.table.now) c.loop-name.name-iterator
-    c.args.out.now.items c.loop-name.out.items c.in-None.ensures.steps.0 c.loop-name.invariant).1
+pub returns-clause-table : goal.returns-clause-table
+returns-clause-table c = record { count = omega (arith, c.len.ensures); each = c.in_ok-put_entries.ensures.fits }

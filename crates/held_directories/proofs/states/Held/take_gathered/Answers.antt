@@ -4,8 +4,8 @@ use Rattle.held_directories.specs.Taking.{place_in}
 use Rattle.held_directories.proofs.Takings.{joins_answer}
 use Rattle.held_directories.proofs.states.Held.take_gathered.Goals as goal
 
-pub returns-in_ok-take-in_default : goal.returns-in_ok-take-in_default
-returns-in_ok-take-in_default c = record {
+pub returns-in_ok-take_delta-in_default : goal.returns-in_ok-take_delta-in_default
+returns-in_ok-take_delta-in_default c = record {
   ok = record {
     lawful = c.count-count.ensures.lawful;
     next = c.gathered.result;
@@ -18,13 +18,13 @@ returns-in_ok-take-in_default c = record {
         → IsPhaseOf n (place_in c.args.house c.args.self.now.members) c.gathered.new.self) c.count-count.ensures.count
         (subst (λ n. IsPhaseOf c.count-count.result n c.args.self.now.skulk → IsPhaseOf c.count-count.result n c.gathered.new.self)
         c.own_place-me.ensures.place c.gathered.ensures.phase);
-    after = joins_answer c.args.t.now c.args.replica.now c.gathered.new.self c.gathered.result c.args.self.now _ _ _ c.in_default.not-Stale (record {
+    after = joins_answer c.args.t.now c.args.delta.now c.gathered.new.self c.gathered.result c.args.self.now _ _ _ c.in_default.not-Stale (record {
       replica = record {
-        merged = c.in_ok-take-in_default.ensures.merged;
-        joined = c.in_ok-take-in_default.ensures.joined;
-        up_to = c.in_ok-take-in_default.ensures.all_up_to;
-        valid = c.in_ok-take-in_default.ensures.valid;
-        below = c.in_ok-take-in_default.ensures.times;
+        merged = c.in_ok-take_delta-in_default.ensures.merged;
+        joined = c.in_ok-take_delta-in_default.ensures.joined;
+        up_to = c.in_ok-take_delta-in_default.ensures.all_up_to;
+        valid = c.in_ok-take_delta-in_default.ensures.valid;
+        below = c.in_ok-take_delta-in_default.ensures.times;
       };
       rest = refl;
       answer = ap (λ t. t.answer) c.taken_with.ensures;

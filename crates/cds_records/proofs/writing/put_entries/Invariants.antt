@@ -5,7 +5,7 @@ use Rattle.record_fields.specs.Octets.{name_octets}
 use Rattle.cds_records.specs.Octets.{entry_octets}
 use Rattle.cds_records.specs.Ranges.{FitsEntry}
 use Rattle.record_fields.proofs.WritingLoops.{Written}
-use Rattle.cds_records.proofs.writing.put_table.Given as goal
+use Rattle.cds_records.proofs.writing.put_entries.Given as goal
 
 abbrev pub invariant-loop-name : goal.invariant-loop-name
 invariant-loop-name l =
