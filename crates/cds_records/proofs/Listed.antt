@@ -138,7 +138,7 @@ list_lawful secondary zero before master x ms y e =
     nothing false e = absurd cc
 list_lawful secondary (suc n) before master x ms y e =
     let a =
-    bind_ok (read (member secondary n before master) x) 
+    bind_ok (read (member secondary n before master) x)
     (λ w. read (next (listed secondary n (Some w.0.house.0) (master || is_master w.0.kind)) (λ ms. done (w.0 ∷ ms))) w.1)
     (ms, y) e in
     let m = a.0.0 in
