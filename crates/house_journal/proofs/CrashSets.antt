@@ -10,7 +10,7 @@ use Rattle.house_journal.specs.Disks.{Change, Wrote, CutTo, Torn, CutBack, writt
 use Rattle.house_journal.specs.MemoryDisks.{FitsStep, Fits, Tears, before_step, change_of, left_now, synced_in, changes_in}
 use Rattle.house_journal.specs.CrashSets.{size_after, least_size, most_size, Spares, Untouched, IsLeft}
 use Rattle.house_journal.specs.Restarts.{done_by}
-use Rattle.house_journal.specs.Clocks.{reads_left_lem}
+use Rattle.house_journal.specs.ClockProofs.{reads_left_lem}
 use Rattle.house_journal.proofs.WholeSteps.{torn_whole, cut_whole}
 use Rattle.house_journal.proofs.Restarting.{redone}
 

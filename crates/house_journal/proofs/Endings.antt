@@ -39,7 +39,7 @@ module _ (file : List ℕ) where
   pub file_so : IsOpenable file → P file
   file_so clean = (refl, clean)
 
-  -- behind the records stands an octet that is no is_on gate
+  -- after the records stands an octet that is no open gate
   closed_so : (y : ℕ) (x c : List ℕ) → y ≢ 1 → c ≡ a ++ y ∷ x → length c ≤ 2 ^ 40 → P c
   closed_so y x c other is small = (
     ap images is ∙ closed_images p.records p.are y x other ∙ sym same,
@@ -105,7 +105,7 @@ module _ (file : List ℕ) where
       take_past (x ∷ xs) ys n = let on : length (x ∷ xs) + n ≡ suc (length xs + n) = omega arith in
           ap (λ (k : ℕ). take k (x ∷ xs ++ ys)) on ∙ ap (λ (l : List ℕ). x ∷ l) (take_past xs ys n)
 
--- a file of records and at most one octet behind them, where there is one unless there are no records: while its gate is written
+-- a file of records and at most one octet after them, where there is one unless there are no records: while its gate is written
 module _ (rs : List (List ℕ)) (are : AreRecords rs) (e : List ℕ) (few : length e ≤ 1) (some : (0 < length e) ⊎ (rs ≡ [])) where
   abbrev front : List ℕ
   front = joined rs
@@ -125,7 +125,7 @@ module _ (rs : List (List ℕ)) (are : AreRecords rs) (e : List ℕ) (few : leng
   pub short_clean : IsClean (front ++ e)
   short_clean gate = let size = length-append front e in let at = short_gate in omega (arith, size, at, few)
 
--- a file whose last octet, if it has one behind the records, is the gate that ends the list: while that gate is written
+-- a file whose last octet, if it has one after the records, is the gate that ends the list: while that gate is written
 module _ (file : List ℕ) (place : ℕ) (gate : place ≡ gate_of file) (last : length file ≤ place + 1)
     (room : place + 1 ≤ 2 ^ 40) where
   abbrev q : Parts file
@@ -188,7 +188,7 @@ got_none place [] le = refl
 got_none zero (b ∷ bs) le = absurd (omega (arith, le))
 got_none (suc place) (b ∷ bs) le = got_none place bs (omega (arith, le))
 
--- the whole of it: a file, of which no other outcome is left; cut behind the gate that ends its list
+-- the whole of it: a file, of which no other outcome is left; cut after the gate that ends its list
 module _ (file : List ℕ) (size place : ℕ) (all : size ≡ length file) (gate : place ≡ gate_of file) where
   abbrev w : Parts file
   w = parts file

@@ -11,7 +11,7 @@ use Rattle.house_journal.specs.declared.step.Stop.TheVariants.{Never, After, Sto
 use Rattle.house_journal.specs.Disks.{Torn, CutBack, Follows, Elapses, Wrote, told_change, HasDiskCause, written}
 use Rattle.house_journal.specs.MemoryDisks.{MemState, FitsStep, write_of, cut_of, before_step, change_of, left_now, left_from, moment_of}
 use Rattle.house_journal.specs.MemoryDisks.{noted_write, noted_cut, counted, has_stopped, fails, told_of, synced_in, changes_in}
-use Rattle.house_journal.specs.Clocks.{reads_left_lem}
+use Rattle.house_journal.specs.ClockProofs.{reads_left_lem}
 use Rattle.house_journal.proofs.WholeSteps.{torn_whole, cut_whole}
 use Rattle.house_journal.proofs.Ticking.{before_write, before_cut, elapses_step, elapses_none}
 

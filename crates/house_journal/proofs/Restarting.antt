@@ -14,7 +14,7 @@ use Rattle.std.specs.Prelude.{Result, Ok, Err, OnOk, OnErr}
 use Rattle.house_journal.specs.Records.{IsOpenable}
 use Rattle.house_journal.specs.Restarts.{CanBeOpened, begun_with, after_all, done_by, torn_by, filled_to, left_by}
 use Rattle.house_journal.specs.Unwindings.{all_torn, torn_onto, torn_in}
-use Rattle.house_journal.specs.Clocks.{reads_left_lem}
+use Rattle.house_journal.specs.ClockProofs.{reads_left_lem}
 use Rattle.house_journal.proofs.MemorySteps.{reverse_more}
 use Rattle.house_journal.proofs.WholeSteps.{torn_whole}
 use Rattle.house_journal.proofs.MemoryCalls.{torn_none, cut_none}

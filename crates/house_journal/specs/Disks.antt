@@ -150,7 +150,7 @@ IsDone (Ok x) = Unit {0}
 IsDone (Err Failed) = Unit {0}
 IsDone (Err OutOfMemory) = ⊥
 
--- a failure is told only where the count of failures rose, which it does at no other answer (own)
+-- a call answers Failed only where the count of failures rose, which it does at no other answer (own)
 abbrev pub HasDiskCause : {T : Type 0} → (before now : ℕ) → Result T DiskError → Type 0
 HasDiskCause before now (Ok x) = now ≡ before
 HasDiskCause before now (Err Failed) = (before ≤ now) × Rose before now

@@ -32,7 +32,7 @@ IsBreaking (Err (Fault DiskFault)) = Unit {0}
 IsBreaking (Err OutOfMemory) = Unit {0}
 IsBreaking _ = ⊥
 
--- a fault of the disk is told only where the count of failures rose, which it does at no other answer (own)
+-- a call answers DiskFault only where the count of failures rose, which it does at no other answer (own)
 abbrev pub HasJournalCause : {T : Type 0} → (before now : ℕ) → Result T (AllocOr JournalFault) → Type 0
 HasJournalCause before now (Err (Fault DiskFault)) = (before ≤ now) × Rose before now
 HasJournalCause before now _ = now ≡ before

@@ -5,7 +5,7 @@ pub mod Journals
 pub mod Faults
 pub mod Tellings
 pub mod MemoryDisks
-pub mod Clocks
+pub mod ClockProofs
 pub mod CrashSets
 pub mod Restarts
 pub mod Unwindings

@@ -11,33 +11,33 @@ length_at file = from_be_bytes w64 (take 8 (drop 1 file))
 abbrev pub is_open : List ℕ → Bool
 is_open file = (slice_index file 0 == 1) && nat_le (length_at file + 10) (length file)
 
--- the images of the records that stand behind so many octets, up to the first gate that is not open (own)
-unfoldable pub images_behind : (skip : ℕ) → List ℕ → List (List ℕ)
-images_behind skip [] = []
-images_behind (suc skip) (b ∷ bs) = images_behind skip bs
-images_behind zero (b ∷ bs) =
-    if is_open (b ∷ bs) then take (length_at (b ∷ bs)) (drop 8 bs) ∷ images_behind (length_at (b ∷ bs) + 8) bs else []
+-- the images of the records after so many octets, up to the first gate that is not open (own)
+unfoldable pub images_after : (skip : ℕ) → List ℕ → List (List ℕ)
+images_after skip [] = []
+images_after (suc skip) (b ∷ bs) = images_after skip bs
+images_after zero (b ∷ bs) =
+    if is_open (b ∷ bs) then take (length_at (b ∷ bs)) (drop 8 bs) ∷ images_after (length_at (b ∷ bs) + 8) bs else []
 
 -- how many octets these records have (own)
-unfoldable pub records_behind : (skip : ℕ) → List ℕ → ℕ
-records_behind skip [] = 0
-records_behind (suc skip) (b ∷ bs) = records_behind skip bs
-records_behind zero (b ∷ bs) =
-    if is_open (b ∷ bs) then length_at (b ∷ bs) + 9 + records_behind (length_at (b ∷ bs) + 8) bs else 0
+unfoldable pub octets_after : (skip : ℕ) → List ℕ → ℕ
+octets_after skip [] = 0
+octets_after (suc skip) (b ∷ bs) = octets_after skip bs
+octets_after zero (b ∷ bs) =
+    if is_open (b ∷ bs) then length_at (b ∷ bs) + 9 + octets_after (length_at (b ∷ bs) + 8) bs else 0
 
 -- the images of a journal, the oldest first (own)
 abbrev pub images : List ℕ → List (List ℕ)
-images = images_behind 0
+images = images_after 0
 
 -- the place of the gate that ends the list (own)
 abbrev pub gate_of : List ℕ → ℕ
-gate_of = records_behind 0
+gate_of = octets_after 0
 
 -- the image of the last record, if there is one (own)
 abbrev pub last_image : List ℕ → Option (List ℕ)
 last_image file = last_or None (images file)
 
--- nothing stands behind a gate that is 1 and not open (own)
+-- no octet follows a gate that is 1 and not open (own)
 abbrev pub IsClean : List ℕ → Type 0
 IsClean file = slice_index file (gate_of file) ≡ 1 → length file ≤ gate_of file + 1
 
@@ -60,7 +60,7 @@ pub record IsAtRest (file : List ℕ) (place : ℕ) : Type 0 where
 abbrev pub IsBeforeOrAfter : List (List ℕ) → List ℕ → List ℕ → Type 0
 IsBeforeOrAfter before image c = ((images c ≡ before) ⊎ (images c ≡ before ++ image ∷ [])) × IsOpenable c
 
--- the octets of a record of this image, and a closed gate behind it (own)
+-- the octets of a record of this image, and a closed gate after it (own)
 pub record IsRecordOf (image octets : List ℕ) : Type 0 where
   pub head : List ℕ
   pub split : octets ≡ 1 ∷ (head ++ (image ++ 0 ∷ []))

@@ -1,4 +1,4 @@
-// How a record is put behind the others, call by call.
+// How a record is put after the others, call by call.
 ghost use Rattle.std.specs.Prelude.{◌≡◌, ◌≢◌, ◌+◌, ◌-◌, ◌^◌, ◌<◌, ◌≤◌, ◌++◌, ◌∷◌, [], ℕ, List};
 ghost use Rattle.std.specs.Prelude.{Some, Err, length, IfOk, OnOk};
 ghost use Rattle.house_journal.specs.Disks.{HasDiskCause, Told};

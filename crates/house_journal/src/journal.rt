@@ -68,7 +68,7 @@ impl Model for Journal {
 
 impl Journal {
     /// Opens the journal of a disk, in whatever state a crash or a failure left it, and answers the last image. From
-    /// its first sync on a crash at any moment leaves that image; a second open changes nothing. After want of memory
+    /// its first sync on a crash at any moment leaves that image; a second open changes nothing. After OutOfMemory
     /// or a fault of the disk it can be opened again.
     pub fn open<D: Disk>(
         alloc: Global,

@@ -7,7 +7,7 @@ ghost use Rattle.house_journal.specs.MemoryDisks.{left_now, left_from, moment_of
 ghost use Rattle.house_journal.specs.CrashSets.{IsLeft};
 ghost use Rattle.house_journal.specs.Restarts.{CanBeOpened, begun_with, left_of, restarted};
 ghost use Rattle.house_journal.specs.declared.leave.Leave.TheVariants.{Keep};
-ghost use Rattle.house_journal.specs.Clocks.{reads_left_lem, counts_now_lem, only_now_lem};
+ghost use Rattle.house_journal.specs.ClockProofs.{reads_left_lem, counts_now_lem, only_now_lem};
 ghost use Rattle.house_journal.specs.declared.step.Stop.TheVariants.{Never};
 
 use crate::restart::{synced, torn};
@@ -92,7 +92,7 @@ impl MemDisk {
 
     /// Ends the stop, by its leave: all that was written is there, or what was there at the last sync, or that and of
     /// each write since then the first half, rounded down, with 255 in the rest of what lay past the end. A disk that
-    /// was not told to stop stays as it is; after want of memory it is as before.
+    /// was not told to stop stays as it is; after `OutOfMemory` it is as before.
     pub fn restart(&mut self) -> Result<(), AllocError>
         ensures ok { OnOk result (self.new ≡ restarted self.old) }
         ensures lawful { OnOk result (left_now self.old.steps self.old.octets self.new.octets) }

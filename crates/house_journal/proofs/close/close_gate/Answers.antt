@@ -24,10 +24,10 @@ returns-in_err-sync-clause-any_moment g c =
     let file = g.D.Disk.reads d0 in
     let P : List ℕ → Type 0 = HasImagesOf file in
     let start = begins g.D.Disk P d0 (g.met.D.Disk.only_now d0) (λ f left. gate_so file c.args.place c.requires.place c.requires.last c.requires.room f (c.requires.only f left)) in
-    let behind = goes_on g.D.Disk P d0 d0 c.write_at.new.self start c.write_at.ensures.time
+    let after = goes_on g.D.Disk P d0 d0 c.write_at.new.self start c.write_at.ensures.time
     (λ f left. let from = c.write_at.ensures.crash f left in
     gate_torn file c.args.place c.requires.place c.requires.last c.requires.room f (subst (λ (d : List ℕ). Torn c.args.place 1 d f) (c.requires.only from.0 from.1) from.2)) in
-    (stays g.D.Disk P d0 c.write_at.new.self c.sync.new.self behind c.sync.ensures.time c.sync.ensures.crash).so_far
+    (stays g.D.Disk P d0 c.write_at.new.self c.sync.new.self after c.sync.ensures.time c.sync.ensures.crash).so_far
 
 pub returns-clause-any_moment : goal.returns-clause-any_moment
 returns-clause-any_moment g c =
@@ -35,7 +35,7 @@ returns-clause-any_moment g c =
     let file = g.D.Disk.reads d0 in
     let P : List ℕ → Type 0 = HasImagesOf file in
     let start = begins g.D.Disk P d0 (g.met.D.Disk.only_now d0) (λ f left. gate_so file c.args.place c.requires.place c.requires.last c.requires.room f (c.requires.only f left)) in
-    let behind = goes_on g.D.Disk P d0 d0 c.write_at.new.self start c.write_at.ensures.time
+    let after = goes_on g.D.Disk P d0 d0 c.write_at.new.self start c.write_at.ensures.time
     (λ f left. let from = c.write_at.ensures.crash f left in
     gate_torn file c.args.place c.requires.place c.requires.last c.requires.room f (subst (λ (d : List ℕ). Torn c.args.place 1 d f) (c.requires.only from.0 from.1) from.2)) in
-    (stays g.D.Disk P d0 c.write_at.new.self c.sync.new.self behind c.sync.ensures.time c.sync.ensures.crash).so_far
+    (stays g.D.Disk P d0 c.write_at.new.self c.sync.new.self after c.sync.ensures.time c.sync.ensures.crash).so_far

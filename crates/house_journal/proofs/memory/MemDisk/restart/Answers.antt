@@ -1,7 +1,7 @@
 use Rattle.std.proofs.Common.{reverse, sym, subst}
 use Rattle.house_journal.specs.MemoryDisks.{MemState, left_now}
 use Rattle.house_journal.specs.Restarts.{left_of}
-use Rattle.house_journal.specs.Clocks.{reads_left_lem}
+use Rattle.house_journal.specs.ClockProofs.{reads_left_lem}
 use Rattle.house_journal.proofs.Restarting.{left_lawful, on_ok, opens_anew}
 use Rattle.house_journal.proofs.memory.MemDisk.restart.Goals as goal
 
