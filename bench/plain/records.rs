@@ -389,7 +389,7 @@ impl<'a> Reader<'a> {
         Ok(Delta { above, entries: self.entries(above)? })
     }
 
-    fn members(&mut self) -> Result<Vec<Member>, Fault> {
+    fn members(&mut self, format: u8) -> Result<Vec<Member>, Fault> {
         let count = self.octet_in("BadLength", 1..=64)?;
         let mut members: Vec<Member> = Vec::with_capacity(usize::from(count));
         for behind in (0..count).rev() {
@@ -399,7 +399,8 @@ impl<'a> Reader<'a> {
             let since = self.number()?;
             let kind = self.kept("BadFlag", Self::octet, |kind| match kind {
                 1 => !has_master,
-                2 | 3 => has_master || behind > 0,
+                2 => has_master || behind > 0,
+                3 => format != FORMER_FORMAT && (has_master || behind > 0),
                 _ => false,
             })?;
             let role = [Role::Master, Role::ReadOnly, Role::Secondary][usize::from(kind) - 1];
@@ -427,7 +428,7 @@ impl<'a> Reader<'a> {
             4 => Body::Spread(self.stamp()?, self.delta()?),
             5 => Body::SpreadAck(self.stamp()?),
             6 => Body::Advance(self.stamp()?),
-            7 => Body::Join(self.members()?, self.replica()?),
+            7 => Body::Join(self.members(FORMAT)?, self.replica()?),
             _ => Body::Leave,
         })
     }
@@ -453,7 +454,7 @@ impl<'a> Reader<'a> {
         if state == 2 {
             return Ok(Slot::Gone(epoch));
         }
-        let members = self.members()?;
+        let members = self.members(format)?;
         let replica = self.replica()?;
         if format != FORMER_FORMAT {
             self.kept("BadHeld", Self::number, |count| *count == replica.held() as u64)?;

@@ -28,7 +28,7 @@ use Rattle.cds_messages.specs.Kinds.{kind_in, kind_number}
 use Rattle.record_fields.specs.Layouts.{done, choose, Stands}
 use Rattle.record_fields.specs.Fields.{free, outside, number_order, octet, number, simple_name, attr_name}
 use Rattle.record_fields.specs.Records.{cell}
-use Rattle.cds_records.specs.Records.{kind, entry, replica, delta, kind_rule, member_kind, member, listed, members, fragment, copied, joined, body, message}
+use Rattle.cds_records.specs.Records.{kind, entry, replica, delta, kind_rule, member_kind, member, listed, has_secondary, members_in, fragment, copied, joined, body, message}
 use Rattle.cds_messages.specs.Messages.{tag_of}
 use Rattle.cds_records.specs.Images.{dir_number, held_rule, held_count, held, dir_state, image_behind, image_in, image, image_1}
 use Rattle.record_fields.proofs.Spelling.{OneSpelling, tells, spell_next, spell_done, spell_last, spell_choose, spell_cons, spell_octet, spell_32, spell_64}
@@ -75,39 +75,42 @@ spell_delta =
 
 -- ---- members
 
-member_flag : (left : ℕ) (master : Bool) (n : ℕ) → kind_rule left master n ≡ None → kind_number (kind_in n) ≡ n
-member_flag left master zero e = absurd cc
-member_flag left master (suc zero) e = refl
-member_flag left master (suc (suc zero)) e = refl
-member_flag left master (suc (suc (suc zero))) e = refl
-member_flag left master (suc (suc (suc (suc n)))) e = absurd (grind (arith, e))
+member_flag : (secondary : Bool) (left : ℕ) (master : Bool) (n : ℕ) → kind_rule secondary left master n ≡ None → kind_number (kind_in n) ≡ n
+member_flag secondary left master zero e = absurd cc
+member_flag secondary left master (suc zero) e = refl
+member_flag secondary left master (suc (suc zero)) e = refl
+member_flag secondary left master (suc (suc (suc zero))) e = refl
+member_flag secondary left master (suc (suc (suc (suc n)))) e = absurd (grind (arith, e))
 
-spell_member_kind : (left : ℕ) (master : Bool) → OneSpelling (member_kind left master)
+spell_member_kind : (secondary : Bool) (left : ℕ) (master : Bool) → OneSpelling (member_kind secondary left master)
 unfolding member_kind octet
-spell_member_kind left master =
-    spell_next (tells kind_number (λ n k w x g h. ap kind_number (sym h.0) ∙ member_flag left master n g.4)) (spell_octet _) (λ n. spell_done (kind_in n))
+spell_member_kind secondary left master =
+    spell_next (tells kind_number (λ n k w x g h. ap kind_number (sym h.0) ∙ member_flag secondary left master n g.4)) (spell_octet _) (λ n. spell_done (kind_in n))
 
-spell_member : (left : ℕ) (before : Option ℕ) (master : Bool) → OneSpelling (member left before master)
+spell_member : (secondary : Bool) (left : ℕ) (before : Option ℕ) (master : Bool) → OneSpelling (member secondary left before master)
 unfolding member
-spell_member left before master =
+spell_member secondary left before master =
     spell_next (tells (λ m. m.house.0) (λ n m w x g h. ap (λ (m : Member). m.house.0) (sym h.3.3.0))) (spell_octet _) (λ house.
     spell_next (tells (λ m. m.since.0) (λ n m w x g h. ap (λ (m : Member). m.since.0) (sym h.3.0))) (spell_64 free) (λ since.
     spell_last (λ k. record { house = record { 0 = house }; since = record { 0 = since }; kind = k }) (λ k j e. ap (λ (m : Member). m.kind) e)
-    (spell_member_kind left master)))
+    (spell_member_kind secondary left master)))
 
-spell_listed : (n : ℕ) (before : Option ℕ) (master : Bool) → OneSpelling (listed n before master)
+spell_listed : (secondary : Bool) (n : ℕ) (before : Option ℕ) (master : Bool) → OneSpelling (listed secondary n before master)
 unfolding listed
-spell_listed zero before master = spell_done []
-spell_listed (suc n) before master = spell_cons (spell_member n before master) (λ m. spell_listed n (Some m.house.0) (master || is_master m.kind))
+spell_listed secondary zero before master = spell_done []
+spell_listed secondary (suc n) before master = spell_cons (spell_member secondary n before master) (λ m. spell_listed secondary n (Some m.house.0) (master || is_master m.kind))
 
-member_count : (n : ℕ) (before : Option ℕ) (master : Bool) (x : List ℕ) (ms : List Member) (y : List ℕ) → Stands (listed n before master) x ms y → length ms ≡ n
+member_count : (secondary : Bool) (n : ℕ) (before : Option ℕ) (master : Bool) (x : List ℕ) (ms : List Member) (y : List ℕ)
+    → Stands (listed secondary n before master) x ms y → length ms ≡ n
 unfolding listed
-member_count zero before master x ms y h = ap length (sym h.0)
-member_count (suc n) before master x ms y h = ap length (sym h.3.3.0) ∙ ap suc (member_count n _ _ h.1 h.3.0 h.3.1 h.3.2)
+member_count secondary zero before master x ms y h = ap length (sym h.0)
+member_count secondary (suc n) before master x ms y h = ap length (sym h.3.3.0) ∙ ap suc (member_count secondary n _ _ h.1 h.3.0 h.3.1 h.3.2)
 
-spell_members : OneSpelling members
-unfolding members
-spell_members = spell_next (tells length (λ n ms w x g h. member_count n None false x ms [] h)) (spell_octet _) (λ n. spell_listed n None false)
+spell_members : (format : ℕ) → OneSpelling (members_in format)
+unfolding members_in
+spell_members format =
+    spell_next (tells length (λ n ms w x g h. member_count (has_secondary format) n None false x ms [] h)) (spell_octet _)
+    (λ n. spell_listed (has_secondary format) n None false)
 
 -- ---- messages
 
@@ -126,7 +129,7 @@ spell_copied =
 spell_joined : OneSpelling joined
 unfolding joined
 spell_joined =
-    spell_next (tells (λ j. j.0) (λ ms j w x g h. ap (λ (j : List Member × Replica). j.0) (sym h.3.0))) spell_members (λ ms.
+    spell_next (tells (λ j. j.0) (λ ms j w x g h. ap (λ (j : List Member × Replica). j.0) (sym h.3.0))) (spell_members 2) (λ ms.
     spell_last (λ r. (ms, r)) (λ r s e. ap (λ (j : List Member × Replica). j.1) e) spell_replica)
 
 same_pair : {A B : Type 0} (c d : A × B) → c.0 ≡ d.0 → c.1 ≡ d.1 → c ≡ d
@@ -217,7 +220,7 @@ spell_count format r =
 spell_held : (format epoch : ℕ) → OneSpelling (held format epoch)
 unfolding held members_of
 spell_held format epoch =
-    spell_next (tells members_of (λ ms d w x g h. ap members_of (sym h.3.3.0))) spell_members (λ ms.
+    spell_next (tells members_of (λ ms d w x g h. ap members_of (sym h.3.3.0))) (spell_members format) (λ ms.
     spell_next (record { told = λ r s d w x y z g h i j. same_replica epoch ms r s (h.3.0 ∙ sym j.3.0) }) spell_replica (λ r.
     spell_next (record { told = λ a b d w x y z g h i j. refl }) (spell_count format r) (λ _. spell_done (Held (record { 0 = epoch }) ms r))))
 

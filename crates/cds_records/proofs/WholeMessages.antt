@@ -21,7 +21,7 @@ use Rattle.record_fields.specs.Decoding.{IsWhole}
 use Rattle.record_fields.specs.Fields.{free, outside, number_order}
 use Rattle.cds_messages.specs.Kinds.{kind_in, kind_number, kind_back}
 use Rattle.cds_messages.specs.Messages.{tag_of}
-use Rattle.cds_records.specs.Records.{kind_rule, member_kind, member, listed, members, fragment, copied, joined, body, message}
+use Rattle.cds_records.specs.Records.{kind_rule, member_kind, member, listed, members_in, fragment, copied, joined, body, message}
 use Rattle.cds_records.specs.Octets.{member_octets, members_octets, body_octets, message_head, message_octets, message_with}
 use Rattle.cds_records.specs.Ranges.{FitsMembers, FitsBody, FitsHead, FitsMessage}
 use Rattle.cds_messages.specs.Validity.{IsValidBody, IsValidMessage}
@@ -35,7 +35,7 @@ use Rattle.cds_records.proofs.WholeReplicas.{entry_above_none, entry_whole, repl
 abbrev IsListed : Option ℕ → Bool → List Member → Type 0
 IsListed before master [] = Unit {0}
 IsListed before master (m ∷ ms) =
-    (number_order before m.house.0 ≡ None) × (kind_rule (length ms) master (kind_number m.kind) ≡ None) × IsListed (Some m.house.0)
+    (number_order before m.house.0 ≡ None) × (kind_rule true (length ms) master (kind_number m.kind) ≡ None) × IsListed (Some m.house.0)
     (master || is_master m.kind) ms
 
 abbrev least_of : Option ℕ → ℕ
@@ -50,7 +50,7 @@ above None house e = refl
 above (Some b) house e = (let t : nat_lt b house ≡ true = grind (arith, e) in rw t refl)
 
 may_stand : (k : MemberKind) (n : ℕ) (master : Bool) (rest : ℕ) → (n ≡ 0 → rest ≡ 0) → (one_if (is_master k) + rest) + one_if master ≡ 1
-    → (kind_rule n master (kind_number k) ≡ None) × (rest + one_if (master || is_master k) ≡ 1)
+    → (kind_rule true n master (kind_number k) ≡ None) × (rest + one_if (master || is_master k) ≡ 1)
 may_stand Master n true rest none e = absurd (omega arith)
 may_stand Master n false rest none e = (refl, omega arith)
 may_stand ReadOnly n true rest none e = (let t : ((n == 0) && not true) ≡ false = grind arith in rw t refl, omega arith)
@@ -90,16 +90,16 @@ members_lawful ms e =
 
 -- ---- members
 
-kind_whole : (left : ℕ) (master : Bool) (k : MemberKind) → kind_rule left master (kind_number k) ≡ None
-    → Whole (member_kind left master) k (kind_number k ∷ [])
+kind_whole : (left : ℕ) (master : Bool) (k : MemberKind) → kind_rule true left master (kind_number k) ≡ None
+    → Whole (member_kind true left master) k (kind_number k ∷ [])
 unfolding member_kind
-kind_whole left master k lawful = whole_last {f = kind_in} (octet_whole (kind_rule left master) (kind_number k) lawful) (kind_back k)
+kind_whole left master k lawful = whole_last {f = kind_in} (octet_whole (kind_rule true left master) (kind_number k) lawful) (kind_back k)
 
 three : (a b c : List ℕ) → a ++ (b ++ c) ≡ a ++ b ++ c
 three a b c = sym (append_assoc a b c)
 
 member_whole : (left : ℕ) (before : Option ℕ) (master : Bool) (m : Member) → number_order before m.house.0 ≡ None
-    → kind_rule left master (kind_number m.kind) ≡ None → m.since.0 < 2 ^ 64 → Whole (member left before master) m (member_octets m)
+    → kind_rule true left master (kind_number m.kind) ≡ None → m.since.0 < 2 ^ 64 → Whole (member true left before master) m (member_octets m)
 unfolding member member_octets
 member_whole left before master m above lawful fits =
     whole_as
@@ -108,7 +108,7 @@ member_whole left before master m above lawful fits =
     (three (m.house.0 ∷ []) (to_be_bytes w64 m.since.0) (kind_number m.kind ∷ []))
 
 listed_whole : (before : Option ℕ) (master : Bool) (ms : List Member) → IsListed before master ms → AllByRecursion (λ m. m.since.0 < 2 ^ 64) ms
-    → Whole (listed (length ms) before master) ms (flat_map member_octets ms)
+    → Whole (listed true (length ms) before master) ms (flat_map member_octets ms)
 unfolding listed
 listed_whole before master [] lawful fits = whole_done []
 listed_whole before master (m ∷ ms) lawful fits =
@@ -116,11 +116,11 @@ listed_whole before master (m ∷ ms) lawful fits =
     (whole_last {f = λ ms. m ∷ ms} (listed_whole (Some m.house.0) (master || is_master m.kind) ms lawful.2 fits.1) refl)
 
 -- a member list
-pub members_whole : (ms : List Member) → FitsMembers ms → Whole members ms (members_octets ms)
-unfolding members members_octets
+pub members_whole : (ms : List Member) → FitsMembers ms → Whole (members_in 2) ms (members_octets ms)
+unfolding members_in members_octets
 members_whole ms fits =
     let l = members_lawful ms fits.lawful in
-    whole_next {second = λ n. listed n None false}
+    whole_next {second = λ n. listed true n None false}
     (octet_whole (outside BadLength 1 most_members) (length ms) (within_lawful BadLength 1 most_members (length ms) l.1 l.2))
     (listed_whole None false ms l.0 fits.since)
 

@@ -14,7 +14,7 @@ use Rattle.cds_messages.specs.Dirs.{dir_cmp}
 use Rattle.record_fields.specs.Layouts.{Layout, done, next, choose}
 use Rattle.record_fields.specs.Fields.{free, outside, number_order, octet, number, node}
 use Rattle.record_fields.specs.Records.{map_of}
-use Rattle.cds_records.specs.Records.{members, replica}
+use Rattle.cds_records.specs.Records.{members_in, replica}
 
 -- a directory above the one before it (own)
 unfoldable pub dir_number : Option DirId → Layout DirId
@@ -30,7 +30,7 @@ held_count format r = choose (format == 1) (done tt) (next (number w64 (held_rul
 
 -- the members and the replica of a directory that is held, and how much that holds (own)
 unfoldable pub held : (format epoch : ℕ) → Layout ImageDir
-held format epoch = next members (λ ms. next replica (λ r. next (held_count format r) (λ _. done (Held (record { 0 = epoch }) ms r))))
+held format epoch = next (members_in format) (λ ms. next replica (λ r. next (held_count format r) (λ _. done (Held (record { 0 = epoch }) ms r))))
 
 -- the state of a directory: held is 1, gone 2; its epoch; and where it is held what the house has of it (own)
 unfoldable pub dir_state : (format : ℕ) → Layout ImageDir

@@ -50,30 +50,35 @@ delta =
 
 -- ---- members
 
--- no kind, a second master, or a last member of a list without a master; `left` members follow (own)
-abbrev pub kind_rule : (left : ℕ) → (master : Bool) → ℕ → Option Rule
-kind_rule left master kind =
+-- format 1 has no secondary members (own)
+abbrev pub has_secondary : (format : ℕ) → Bool
+has_secondary format = not (format == 1)
+
+-- no kind, a second master, or a last member of a list without a master; `left` members follow, and there may be a secondary one or not (own)
+abbrev pub kind_rule : (secondary : Bool) → (left : ℕ) → (master : Bool) → ℕ → Option Rule
+kind_rule secondary left master kind =
     if kind == 1 then (if master then Some BadFlag else None)
-    else (if (kind == 2) || (kind == 3) then (if (left == 0) && not master then Some BadFlag else None) else Some BadFlag)
+    else (if (kind == 2) || ((kind == 3) && secondary) then (if (left == 0) && not master then Some BadFlag else None) else Some BadFlag)
 
 -- a master is 1, a read-only house 2, a secondary one 3; `left` members follow, and one before is master or none (own)
-unfoldable pub member_kind : (left : ℕ) → (master : Bool) → Layout MemberKind
-member_kind left master = next (octet (kind_rule left master)) (λ k. done (kind_in k))
+unfoldable pub member_kind : (secondary : Bool) → (left : ℕ) → (master : Bool) → Layout MemberKind
+member_kind secondary left master = next (octet (kind_rule secondary left master)) (λ k. done (kind_in k))
 
 -- a member: its house, above the one before it, its since and its kind (own)
-unfoldable pub member : (left : ℕ) → (before : Option ℕ) → (master : Bool) → Layout Member
-member left before master =
-    next (octet (number_order before)) (λ house. next (number w64 free) (λ since. next (member_kind left master) (λ kind.
+unfoldable pub member : (secondary : Bool) → (left : ℕ) → (before : Option ℕ) → (master : Bool) → Layout Member
+member secondary left before master =
+    next (octet (number_order before)) (λ house. next (number w64 free) (λ since. next (member_kind secondary left master) (λ kind.
     done (record { house = record { 0 = house }; since = record { 0 = since }; kind = kind }))))
 
 -- so many members (own)
-unfoldable pub listed : ℕ → (before : Option ℕ) → (master : Bool) → Layout (List Member)
-listed zero before master = done []
-listed (suc n) before master = next (member n before master) (λ m. next (listed n (Some m.house.0) (master || is_master m.kind)) (λ ms. done (m ∷ ms)))
+unfoldable pub listed : (secondary : Bool) → ℕ → (before : Option ℕ) → (master : Bool) → Layout (List Member)
+listed secondary zero before master = done []
+listed secondary (suc n) before master =
+    next (member secondary n before master) (λ m. next (listed secondary n (Some m.house.0) (master || is_master m.kind)) (λ ms. done (m ∷ ms)))
 
 -- 1 to 64 members, of which one is master (own)
-unfoldable pub members : Layout (List Member)
-members = next (octet (outside BadLength 1 most_members)) (λ n. listed n None false)
+unfoldable pub members_in : (format : ℕ) → Layout (List Member)
+members_in format = next (octet (outside BadLength 1 most_members)) (λ n. listed (has_secondary format) n None false)
 
 -- ---- messages
 
@@ -87,7 +92,7 @@ copied = next (stamp free) (λ t. next delta (λ d. done (t, d)))
 
 -- the members of an epoch, and the master's replica (own)
 unfoldable pub joined : Layout (List Member × Replica)
-joined = next members (λ ms. next replica (λ r. done (ms, r)))
+joined = next (members_in 2) (λ ms. next replica (λ r. done (ms, r)))
 
 -- what a message of this tag carries behind its head (own)
 unfoldable pub body : ℕ → Layout Body

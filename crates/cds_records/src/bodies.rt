@@ -43,7 +43,7 @@ fn read_copied(reader: &mut Reader<'_>, alloc: Global) -> Result<(Stamp, Delta),
 fn read_joined(reader: &mut Reader<'_>, alloc: Global) -> Result<(Members, Replica), ReadError>
     ensures { Reads (λ x. x) joined reader.old reader.new result }
 {
-    let members = read_members(reader, alloc)?;
+    let members = read_members(reader, alloc, FORMAT)?;
     let replica = read_replica(reader, alloc)?;
     Ok((members, replica))
 }

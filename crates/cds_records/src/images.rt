@@ -60,7 +60,7 @@ fn read_held_dir(
 ) -> Result<ImageDir, ReadError>
     ensures { Reads (λ x. x) (held format epoch) reader.old reader.new result }
 {
-    let members = read_members(reader, alloc)?;
+    let members = read_members(reader, alloc, format)?;
     let replica = read_replica(reader, alloc)?;
     read_held_count(reader, format, &replica)?;
     Ok(ImageDir::Held(EpochNo(epoch), members, replica))

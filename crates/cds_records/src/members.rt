@@ -4,9 +4,10 @@ ghost use Rattle.cds_stamps.specs.Members.{is_master, members_of, members_fault}
 ghost use Rattle.record_fields.specs.Readers.{Reads, ReadsSurely};
 ghost use Rattle.record_fields.specs.Fields.{number_order, octet};
 ghost use Rattle.cds_messages.specs.Kinds.{kind_in};
-ghost use Rattle.cds_records.specs.Records.{kind_rule, member_kind, member, listed, members};
+ghost use Rattle.cds_records.specs.Records.{kind_rule, member_kind, member, listed, members_in};
 ghost use Rattle.record_fields.specs.declared.fault.Rule.TheVariants.{OutOfOrder, BadFlag};
 
+use crate::format::FORMER_FORMAT;
 use cds_stamps::{EpochNo, HouseNo, MOST_MEMBERS, Member, MemberKind, Members};
 use record_fields::{Broken, ReadError, Reader, Rule, broken};
 use std::alloc::Global;
@@ -28,14 +29,15 @@ fn house_above(reader: &mut Reader<'_>, before: Option<u8>) -> Result<u8, Broken
 #[tactic(auto, unfolding(crate::specs::Records::member_kind, record_fields::specs::Fields::octet))]
 fn read_member_kind(
     reader: &mut Reader<'_>,
+    secondary: bool,
     following: u8,
     master: bool,
 ) -> Result<MemberKind, Broken>
-    ensures { ReadsSurely (λ x. x) (member_kind following master) reader.old reader.new result }
+    ensures { ReadsSurely (λ x. x) (member_kind secondary following master) reader.old reader.new result }
 {
     let left = reader.left();
     let number = reader.octet()?;
-    match kind_of(number, following, master) {
+    match kind_of(number, secondary, following, master) {
         Some(kind) => Ok(kind),
         None => Err(broken(Rule::BadFlag, left)),
     }
@@ -45,15 +47,16 @@ fn read_member_kind(
 #[tactic(auto, unfolding(crate::specs::Records::member))]
 fn read_member(
     reader: &mut Reader<'_>,
+    secondary: bool,
     following: u8,
     before: Option<u8>,
     master: bool,
 ) -> Result<Member, Broken>
-    ensures { ReadsSurely (λ x. x) (member following before master) reader.old reader.new result }
+    ensures { ReadsSurely (λ x. x) (member secondary following before master) reader.old reader.new result }
 {
     let house = house_above(reader, before)?;
     let since = reader.u64()?;
-    let kind = read_member_kind(reader, following, master)?;
+    let kind = read_member_kind(reader, secondary, following, master)?;
     Ok(Member {
         house: HouseNo(house),
         since: EpochNo(since),
@@ -62,14 +65,19 @@ fn read_member(
 }
 
 /// So many members.
-fn read_listed(reader: &mut Reader<'_>, alloc: Global, count: u8) -> Result<Vec<Member>, ReadError>
-    ensures { Reads (λ v. v.items) (listed count None false) reader.old reader.new result }
+fn read_listed(
+    reader: &mut Reader<'_>,
+    alloc: Global,
+    secondary: bool,
+    count: u8,
+) -> Result<Vec<Member>, ReadError>
+    ensures { Reads (λ v. v.items) (listed secondary count None false) reader.old reader.new result }
 {
     let mut list = Vec::new(alloc);
     let mut before = None;
     let mut master = false;
     for i in 0..count {
-        let member = read_member(reader, count - i - 1, before, master)?;
+        let member = read_member(reader, secondary, count - i - 1, before, master)?;
         list.push(member)?;
         before = Some(member.house.0);
         master = has_master(master, member.kind);
@@ -77,13 +85,17 @@ fn read_listed(reader: &mut Reader<'_>, alloc: Global, count: u8) -> Result<Vec<
     Ok(list)
 }
 
-/// A member list.
-#[tactic(auto, unfolding(crate::specs::Records::members))]
-pub(crate) fn read_members(reader: &mut Reader<'_>, alloc: Global) -> Result<Members, ReadError>
-    ensures { Reads (λ x. x) members reader.old reader.new result }
+/// A member list of this format. Format 1 has no secondary members.
+#[tactic(auto, unfolding(crate::specs::Records::members_in))]
+pub(crate) fn read_members(
+    reader: &mut Reader<'_>,
+    alloc: Global,
+    format: u8,
+) -> Result<Members, ReadError>
+    ensures { Reads (λ x. x) (members_in format) reader.old reader.new result }
 {
     let count = reader.octet_within(Rule::BadLength, 1, MOST_MEMBERS as u8)?;
-    let list = read_listed(reader, alloc, count)?;
+    let list = read_listed(reader, alloc, format != FORMER_FORMAT, count)?;
     let members = Members::known(alloc, list.as_slice())?;
     Ok(members)
 }
@@ -99,13 +111,14 @@ fn is_unordered_house(house: u8, before: Option<u8>) -> bool
 }
 
 /// The kind of a number, if it may stand there.
-fn kind_of(number: u8, following: u8, master: bool) -> Option<MemberKind>
-    ensures { MatchOption result (kind_rule following master number ≡ Some BadFlag) (λ k. (kind_rule following master number ≡ None) × (k ≡ kind_in number)) }
+fn kind_of(number: u8, secondary: bool, following: u8, master: bool) -> Option<MemberKind>
+    ensures { MatchOption result (kind_rule secondary following master number ≡ Some BadFlag)
+        (λ k. (kind_rule secondary following master number ≡ None) × (k ≡ kind_in number)) }
 {
     match number {
         1 if !master => Some(MemberKind::Master),
         2 if master || following > 0 => Some(MemberKind::ReadOnly),
-        3 if master || following > 0 => Some(MemberKind::Secondary),
+        3 if secondary && (master || following > 0) => Some(MemberKind::Secondary),
         _ => None,
     }
 }

@@ -75,9 +75,9 @@ const FORMER_IMAGE: &[u8] = b"\x01\x09\x01\0\0\0\0\0\x0a\0\0\0\0\0\0\0\0\0\0\0\0
 
 // Octets that are not one image, and the first fault of each: no octets; a format that is not known; an image of a house that holds
 // one directory with the entry e, behind which a count stands that is one too small, one too great, cut short, and right with an
-// octet behind it.
+// octet behind it; and an image of format 1 with a secondary member.
 #[rattlefmt::skip]
-static FAULTY_IMAGES: [(&[u8], RecordFault); 6] = [
+static FAULTY_IMAGES: [(&[u8], RecordFault); 7] = [
     (b"", RecordFault::Short(1)),
     (b"\x03\x09", RecordFault::BadTag(1)),
     (b"\x02\x09\x01\0\0\0\0\0\x0a\0\0\0\0\0\0\0\x01\0\0\0\0\0\0\0\x01\
@@ -96,6 +96,8 @@ static FAULTY_IMAGES: [(&[u8], RecordFault); 6] = [
     \0\0\0\x01\x01\0\0\0\0\0\0\0\x01\x01\x01\0\0\0\0\0\0\0\x01\x01\0\0\0\0\0\0\0\0\x01\
     \x01e\x01\0\0\0\0\0\0\0\x01\0\0\0\0\0\x0a\0\0\0\0\0\0\0\0\0\
     \0\0\0\0\0\0\0\x01\0", RecordFault::Trailing(93)),
+    (b"\x01\x09\x01\0\0\0\0\0\x0a\0\0\0\0\0\0\0\x01\0\0\0\0\0\0\0\x01\
+    \0\0\0\x01\x01\0\0\0\0\0\0\0\x01\x02\x01\0\0\0\0\0\0\0\x01\x01\x02\0\0\0\0\0\0\0\x01\x03", RecordFault::BadFlag(59)),
 ];
 
 // What is written of the image at the front of the octets, with a copy of its directories, and how many octets the image has.

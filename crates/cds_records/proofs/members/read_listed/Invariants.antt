@@ -5,4 +5,4 @@ use Rattle.cds_records.proofs.Listed.{behind}
 use Rattle.cds_records.proofs.members.read_listed.Given as goal
 
 abbrev pub invariant-loop-i : goal.invariant-loop-i
-invariant-loop-i l = behind l.list.items (read (listed (l.count - l.i) l.before l.master) l.reader) ≡ read (listed l.count None false) l.fn.reader
+invariant-loop-i l = behind l.list.items (read (listed l.secondary (l.count - l.i) l.before l.master) l.reader) ≡ read (listed l.secondary l.count None false) l.fn.reader
