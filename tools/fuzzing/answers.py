@@ -40,7 +40,7 @@ ANSWERS = {
     "import": f"binding end NoHouse {WALK} NotObject",
     "dump": "dump NoDirectory NoHouse Down NoReplica",
     "octets": "ok NoMessage NoHouse",
-    "decode": "ok Short BadTag BadLength BadName OutOfOrder BadFlag",
+    "decode": "ok Short BadTag BadLength BadName OutOfOrder BadFlag NotAbove",
     # A delivery by the kind of its message. An Update and a Gather alone can be early, since all else comes after an answer of its
     # receiver in that epoch, and a house goes back to no earlier one.
     "deliver Update": "taken late early noreplica",

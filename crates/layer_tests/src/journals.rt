@@ -2,8 +2,8 @@
 ghost use Rattle.std.specs.Prelude.{◌^◌, ◌≤◌, length, IfOk};
 ghost use Rattle.house_journal.specs.Restarts.{CanBeOpened};
 
-use house_journal::{Journal, JournalFault, Leave, MOST_OCTETS, MemDisk};
 use cds_stamps::AllocOr;
+use house_journal::{Journal, JournalFault, Leave, MOST_OCTETS, MemDisk};
 use std::alloc::Global;
 use std::test::Fail;
 

@@ -137,7 +137,11 @@ fn towers_are_one_in_any_pieces(rt: HostRuntime) -> Result<(), Fail> {
         let place = format!(in alloc; " {}\n", count + 1)?;
         let is_whole = count == 0 || count == MAPPER.len();
         assert_eq!(rt; status == Status::Ok, is_whole, "{count}");
-        assert_eq!(rt; status == Status::Fault && text.ends_with(place.as_bytes()), !is_whole, "{count}");
+        assert_eq!(rt;
+            status == Status::Fault && text.ends_with(place.as_bytes()),
+            !is_whole,
+            "{count}"
+        );
         assert!(rt; told(alloc, octets, 1)? == (text, status), "{count}");
     }
     Ok(())
