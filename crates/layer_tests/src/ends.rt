@@ -50,8 +50,10 @@ fn a_reader_of_std_fails_once_and_ends(rt: HostRuntime) {
 
 #[test]
 fn a_writer_of_std_that_takes_nothing_fails(rt: HostRuntime) {
+    // (The piece is longer than all that the program writes at once.)
+    let piece = [b'x'; 100_000];
     let mut sink = StdSink::new(Halting { calls: 0 });
     for wanted in [2, 1] {
-        assert_eq!(rt; put_all(&mut sink, b"xxx"), Err(PutFault(wanted)));
+        assert_eq!(rt; put_all(&mut sink, &piece), Err(PutFault(wanted)));
     }
 }

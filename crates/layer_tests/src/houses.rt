@@ -1,7 +1,16 @@
-// Two houses and a directory of both, by the calls that post messages whole (the program makes those that post octets).
-use cds_stamps::{DirId, EpochNo, HouseNo, Member, MemberKind, Members, Node, SimpleName};
-use clearinghouse::{Accepted, Clearinghouse, DirState, EpochSet, PostedList, Skulked, Taken};
-use directory::Update;
+// Two houses and a directory of both, by the calls that post messages whole (the program makes those that post octets). What no
+// script brings about: images that are damaged, messages of strangers, and epochs that are given twice.
+use cds_messages::{Body, Message};
+use cds_records::RecordFault;
+use cds_stamps::{
+    AllocOr, DirId, EpochNo, HouseNo, Member, MemberKind, Members, Node, SimpleName, Stamp,
+};
+use clearinghouse::{
+    Accepted, Clearinghouse, DirState, EpochRefusal, EpochSet, PostedList, Skulked, StartFault,
+    Taken,
+};
+use directory::{Table, Update};
+use purge_rule::Replica;
 use std::alloc::{AllocError, Global};
 use std::test::Fail;
 
@@ -211,5 +220,130 @@ fn a_house_that_is_listed_no_more_leaves(rt: HostRuntime) -> Result<(), Fail> {
     goes_alone(alloc, &mut pair.first, &mut pair.mail)?;
     assert_eq!(rt; delivered(alloc, &mut pair)?, (2, 8, Answer::Taken));
     assert_eq!(rt; entries_at(&pair.second), None);
+    Ok(())
+}
+
+// The fault of the image of a house.
+fn start_fault(alloc: Global, octets: &[u8]) -> Option<RecordFault> {
+    match Clearinghouse::start(alloc, octets) {
+        Err(AllocOr::Fault(StartFault::BadImage(fault))) => Some(fault),
+        _ => None,
+    }
+}
+
+// A message of the root, or of another directory, from this house in epoch 1.
+fn message(dir: DirId, from: u8, body: Body) -> Message {
+    Message {
+        dir,
+        from: HouseNo(from),
+        epoch: EpochNo(1),
+        floor: 7,
+        body,
+    }
+}
+
+// The answer of a house to a message.
+fn answered(alloc: Global, house: &mut Clearinghouse, message: &Message) -> Result<Taken, Fail> {
+    Ok(house.take(alloc, message)?.taken)
+}
+
+// House 2 with the root, which it holds, and the directory 2, which it has left.
+pub fn second_house(alloc: Global) -> Result<Clearinghouse, Fail> {
+    let mut house = both(alloc)?.second;
+    let leave = message(DirId(2), 1, Body::Leave);
+    if answered(alloc, &mut house, &leave)? != Taken::Taken {
+        return Err("no Leave".into());
+    }
+    Ok(house)
+}
+
+#[test]
+fn an_image_is_whole_and_nothing_more(rt: HostRuntime) -> Result<(), Fail> {
+    let alloc = rt.alloc();
+    let mut octets = second_house(alloc)?.image(alloc)?;
+    for count in 0..octets.len() {
+        let fault = start_fault(alloc, &octets[..count]);
+        assert_eq!(rt; fault, Some(RecordFault::Short(count + 1)));
+    }
+    octets.push(0)?;
+    let count = octets.len();
+    assert_eq!(rt;
+        start_fault(alloc, &octets),
+        Some(RecordFault::Trailing(count))
+    );
+    Ok(())
+}
+
+fn empty(alloc: Global) -> Replica {
+    Replica {
+        table: Table::new(alloc),
+        all_up_to: None,
+    }
+}
+
+// What a message of a stranger carries: for a member, a Join that lists its receiver and not its sender, and one that lists its sender
+// and not its receiver.
+fn strange(alloc: Global, number: u8) -> Result<Message, Fail> {
+    let t = Stamp {
+        time: 3,
+        node: Node::new(30).ok_or("a node")?,
+    };
+    match number {
+        0 => Ok(message(ROOT, 3, Body::Gather(t))),
+        1 => Ok(message(
+            ROOT,
+            3,
+            Body::Join(Members::new(alloc, &[FIRST, SECOND])?, empty(alloc)),
+        )),
+        _ => Ok(message(
+            ROOT,
+            1,
+            Body::Join(Members::new(alloc, &[FIRST])?, empty(alloc)),
+        )),
+    }
+}
+
+#[test]
+fn strangers_change_nothing(rt: HostRuntime) -> Result<(), Fail> {
+    let alloc = rt.alloc();
+    let mut house = second_house(alloc)?;
+    let before = house.image(alloc)?;
+    for number in 0..3 {
+        let strange = strange(alloc, number)?;
+        assert_eq!(rt; answered(alloc, &mut house, &strange)?, Taken::Foreign);
+        assert!(rt; house.image(alloc)? == before);
+    }
+    Ok(())
+}
+
+// Why a house does not take an epoch of which it is the only member.
+fn epoch_refusal(
+    alloc: Global,
+    house: &mut Clearinghouse,
+    dir: DirId,
+) -> Result<Option<EpochRefusal>, Fail> {
+    let members = Members::new(alloc, &[FIRST])?;
+    if members.master() != house.number() {
+        return Err("another master".into());
+    }
+    match house.new_epoch(alloc, dir, EpochNo(1), &members, &[])? {
+        EpochSet::Done(_) => Ok(None),
+        EpochSet::Refused(refusal) => Ok(Some(refusal)),
+    }
+}
+
+#[test]
+fn an_epoch_has_to_be_later(rt: HostRuntime) -> Result<(), Fail> {
+    let alloc = rt.alloc();
+    let mut house = both(alloc)?.first;
+    let stale = EpochRefusal::StaleEpoch {
+        held: EpochNo(1),
+        given: EpochNo(1),
+    };
+    assert_eq!(rt; epoch_refusal(alloc, &mut house, ROOT)?, Some(stale));
+    assert_eq!(rt;
+        epoch_refusal(alloc, &mut house, DirId(2))?,
+        Some(EpochRefusal::NoReplica)
+    );
     Ok(())
 }

@@ -1,17 +1,19 @@
-// Imports over two entries in memory.
+// Imports over two entries in memory, and the bindings of towers in any order.
 ghost use Rattle.std.specs.Prelude.{◌≡◌, true, IfOk};
 ghost use Rattle.resolver.specs.ListedReaders.{objects_in};
+ghost use Rattle.resolver.specs.Nears.{Knows};
 ghost use Rattle.resolver.specs.ListedReaderProofs.{listed_shows_only};
 ghost use Rattle.layer_tests.specs.PairReaders.{entries, pair, value_of};
 
 use attr_sets::Value;
 use cds_stamps::{AttrName, DirId, HouseNo, SimpleName};
-use cell_names::{ChildPointer, FullName, HouseList};
+use cell_names::{ChildPointer, FullName, HouseList, LentName};
 use ns_groups::GROUP;
 use ns_import::Importer;
-use resolver::{EntryReader, Found, Seen};
-use server_entries::{TOWERS, Wanted, tower_of_value};
+use resolver::{EntryReader, Found, Near, Seen, resolve_near};
+use server_entries::{TOWERS, Wanted, bindings, tower_of_value};
 use std::alloc::{AllocError, Global};
+use std::cell::Cell;
 use std::test::Fail;
 use tower_codec::read_uuid;
 
@@ -19,12 +21,13 @@ use tower_codec::read_uuid;
 const HOUSE: HouseNo = HouseNo(1);
 
 // A reader of two objects of the root directory, `a` and `b`. Each has this tower and this member of a group. Memory may be
-// wanting for what `b` has.
+// wanting for what `b` has. It counts how often it is asked where the root directory is.
 #[derive(Drop)]
 struct Pair {
     tower: Value,
     member: Value,
     wanting: bool,
+    asked: Cell<u32>,
 }
 
 impl EntryReader for Pair {
@@ -35,6 +38,7 @@ impl EntryReader for Pair {
     ghost shows_only = { λ r. listed_shows_only true entries };
 
     fn root(&self, alloc: Global) -> Result<Option<ChildPointer>, AllocError> {
+        self.asked.set(self.asked.get().saturating_add(1));
         Ok(Some(ChildPointer {
             dir: DirId::ROOT,
             houses: HouseList::alone(alloc, HOUSE)?,
@@ -96,13 +100,19 @@ fn wanted(tower: &Value) -> Result<Wanted, Fail> {
     })
 }
 
-// How many bindings an import of `a` gives, up to its end or to want of memory, and whether it is spent then.
-fn given(alloc: Global, wanting: bool) -> Result<(usize, bool), Fail> {
-    let reader = Pair {
+// The two objects.
+fn pair_of(alloc: Global, wanting: bool) -> Result<Pair, Fail> {
+    Ok(Pair {
         tower: Value::new(alloc, TOWER)?,
         member: Value::new(alloc, b"/.:/b")?,
         wanting,
-    };
+        asked: Cell::new(0),
+    })
+}
+
+// How many bindings an import of `a` gives, up to its end or to want of memory, and whether it is spent then.
+fn given(alloc: Global, wanting: bool) -> Result<(usize, bool), Fail> {
+    let reader = pair_of(alloc, wanting)?;
     let wanted = wanted(&reader.tower)?;
     let name = FullName::parse(alloc, b"/.:/a")?;
     let mut import = Importer::begin(alloc, &reader, &name, wanted)?;
@@ -120,5 +130,60 @@ fn bindings_come_before_memory_is_wanting(rt: HostRuntime) -> Result<(), Fail> {
     // The group of `b` has `b` alone.
     assert_eq!(rt; given(rt.alloc(), false)?, (2, false));
     assert_eq!(rt; given(rt.alloc(), true)?, (1, true));
+    Ok(())
+}
+
+// The house that shows the object of a name, by the directory that is near.
+fn house_near(
+    alloc: Global,
+    reader: &Pair,
+    near: &mut Option<Near>,
+    name: &[u8],
+) -> Result<HouseNo, Fail>
+    requires { Knows (pair reader.now.tower reader.now.member) near.old }
+    ensures { Knows (pair reader.now.tower reader.now.member) near.new }
+{
+    let name = LentName::of(name)?;
+    Ok(resolve_near(alloc, reader, near, &name)?.house)
+}
+
+#[test]
+fn the_directory_of_a_name_is_kept_for_the_next(rt: HostRuntime) -> Result<(), Fail> {
+    let alloc = rt.alloc();
+    let reader = pair_of(alloc, false)?;
+    let mut near = None;
+    assert_eq!(rt; house_near(alloc, &reader, &mut near, b"/.:/a")?, HOUSE);
+    assert_eq!(rt; house_near(alloc, &reader, &mut near, b"/.:/b")?, HOUSE);
+    assert_eq!(rt; reader.asked.get(), 1);
+    Ok(())
+}
+
+// The tower at an address with this last part.
+fn tower_at(alloc: Global, last: u8) -> Result<Value, Fail> {
+    let mut octets = TOWER.to_vec(alloc)?;
+    if let Some(place) = octets.last_mut() {
+        *place = last;
+    }
+    Ok(Value::new(alloc, &octets)?)
+}
+
+#[test]
+fn bindings_go_by_the_octets_of_towers(rt: HostRuntime) -> Result<(), Fail> {
+    let alloc = rt.alloc();
+    let towers = [
+        tower_at(alloc, 3)?,
+        tower_at(alloc, 1)?,
+        tower_at(alloc, 2)?,
+    ];
+    let wanted = wanted(&towers[0])?;
+    let found = bindings(alloc, &towers, &[], &wanted)?;
+    let mut text = Vec::new(alloc);
+    for binding in &found {
+        text.extend_from_slice(&binding.print(alloc)?)?;
+    }
+    assert!(rt;
+        text.as_slice()
+            == b"ncacn_ip_tcp:0.0.0.1[135]ncacn_ip_tcp:0.0.0.2[135]ncacn_ip_tcp:0.0.0.3[135]".as_slice()
+    );
     Ok(())
 }

@@ -3,11 +3,15 @@
 #![tactic(auto)]
 
 #[cfg(test)]
+mod deaths;
+#[cfg(test)]
 mod ends;
 #[cfg(test)]
 mod houses;
 #[cfg(test)]
 mod imports;
+#[cfg(test)]
+mod lists;
 #[cfg(test)]
 mod purges;
 #[cfg(test)]

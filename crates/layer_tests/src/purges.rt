@@ -10,13 +10,18 @@ use std::marker::Brand;
 use std::sync::ledger::{Blank, Ledger};
 use std::test::Fail;
 
-fn stamp(time: u64) -> Result<Stamp, Fail> {
+pub fn stamp(time: u64) -> Result<Stamp, Fail> {
     let node = Node::new(10).ok_or("a node")?;
     Ok(Stamp { time, node })
 }
 
 // The marks of an object of this name.
-fn object(alloc: Global, name: &[u8], birth: u64, death: Option<Stamp>) -> Result<Fragment, Fail> {
+pub fn object(
+    alloc: Global,
+    name: &[u8],
+    birth: u64,
+    death: Option<Stamp>,
+) -> Result<Fragment, Fail> {
     Ok(Fragment {
         name: SimpleName::parse(alloc, name)?,
         entry: EntryCell {
@@ -40,7 +45,7 @@ fn deletions(alloc: Global) -> Result<AttrMap, Fail> {
     Ok(attrs)
 }
 
-fn empty(alloc: Global) -> Replica {
+pub fn empty(alloc: Global) -> Replica {
     Replica {
         table: Table::new(alloc),
         all_up_to: None,
@@ -58,7 +63,7 @@ fn small(alloc: Global) -> Result<Replica, Fail> {
 }
 
 // How many steps it takes to advance to these times, one after the other.
-fn steps_to<L: Ledger>(
+pub fn steps_to<L: Ledger>(
     replica: &mut Replica,
     first: u64,
     last: u64,
@@ -76,7 +81,7 @@ fn steps_to<L: Ledger>(
 }
 
 // A replica of so many births, at the times 1, 2 and so on. The first one is dead.
-fn large(alloc: Global, count: u64, death: u64) -> Result<Replica, Fail>
+pub fn large(alloc: Global, count: u64, death: u64) -> Result<Replica, Fail>
     requires { count < 1000000 }
 {
     let mut own = empty(alloc);

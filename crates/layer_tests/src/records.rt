@@ -1,6 +1,8 @@
-// Messages and images that are copied and written again whole, as the program does in parts.
+// Messages and images that are copied and written again whole, as the program does in parts; with one octet more behind them, and with
+// each of their octets damaged.
 use cds_messages::Image;
-use cds_records::{decode, decode_image, encode, encode_image};
+use cds_records::{RecordFault, decode, decode_image, encode, encode_image};
+use cds_stamps::AllocOr;
 use std::alloc::Global;
 use std::test::Fail;
 
@@ -33,40 +35,106 @@ static MESSAGES: [&[u8]; 9] = [
     b"\x01\x08\0\0\0\x01\x01\0\0\0\0\0\0\0\x01\0\0\0\0\0\0\0\x02",
 ];
 
-// What is written of the copy of the message at the front of the octets.
-fn message_again(alloc: Global, octets: &[u8]) -> Result<Vec<u8>, Fail> {
-    let (read, _used) = decode(alloc, octets)?;
-    Ok(encode(alloc, &read.copy(alloc)?)?)
+// What is written of the copy of the message at the front of the octets, and how many octets the message has.
+fn message_again(alloc: Global, octets: &[u8]) -> Result<(Vec<u8>, usize), Fail> {
+    let (read, used) = decode(alloc, octets)?;
+    Ok((encode(alloc, &read.copy(alloc)?)?, used))
+}
+
+// These octets with one behind them.
+fn longer(alloc: Global, octets: &[u8]) -> Result<Vec<u8>, Fail> {
+    let mut more = octets.to_vec(alloc)?;
+    more.push(1)?;
+    Ok(more)
 }
 
 #[test]
 fn messages_are_copied_and_written_again(rt: HostRuntime) -> Result<(), Fail> {
+    let alloc = rt.alloc();
     for octets in MESSAGES {
-        assert!(rt; message_again(rt.alloc(), octets)?.as_slice() == octets);
+        for given in [octets.to_vec(alloc)?, longer(alloc, octets)?] {
+            let (again, used) = message_again(alloc, &given)?;
+            assert!(rt; again.as_slice() == octets && used == octets.len());
+        }
     }
     Ok(())
 }
 
 // The image of house 1 at node 10 with floor 0, which holds the directory 1 in epoch 1 alone, with an empty table, and left the
-// directory 2 in epoch 3.
-const IMAGE: &[u8] = b"\x01\x09\x01\0\0\0\0\0\x0a\0\0\0\0\0\0\0\0\0\0\0\0\0\0\0\x02\
+// directories 2 and 3 in epoch 3.
+const IMAGE: &[u8] = b"\x01\x09\x01\0\0\0\0\0\x0a\0\0\0\0\0\0\0\0\0\0\0\0\0\0\0\x03\
     \0\0\0\x01\x01\0\0\0\0\0\0\0\x01\x01\x01\0\0\0\0\0\0\0\x01\x01\0\0\0\0\0\0\0\0\0\
-    \0\0\0\x02\x02\0\0\0\0\0\0\0\x03";
+    \0\0\0\x02\x02\0\0\0\0\0\0\0\x03\0\0\0\x03\x02\0\0\0\0\0\0\0\x03";
 
-// What is written of the image at the front of the octets, with a copy of its directories.
-fn image_again(alloc: Global, octets: &[u8]) -> Result<Vec<u8>, Fail> {
-    let (image, _used) = decode_image(alloc, octets)?;
+// What is written of the image at the front of the octets, with a copy of its directories, and how many octets the image has.
+fn image_again(alloc: Global, octets: &[u8]) -> Result<(Vec<u8>, usize), Fail> {
+    let (image, used) = decode_image(alloc, octets)?;
     let copied = Image {
         house: image.house,
         node: image.node,
         floor: image.floor,
         dirs: image.dirs.copy(alloc)?,
     };
-    Ok(encode_image(alloc, &copied)?)
+    Ok((encode_image(alloc, &copied)?, used))
 }
 
 #[test]
 fn an_image_is_copied_and_written_again(rt: HostRuntime) -> Result<(), Fail> {
-    assert!(rt; image_again(rt.alloc(), IMAGE)?.as_slice() == IMAGE);
+    let alloc = rt.alloc();
+    for given in [IMAGE.to_vec(alloc)?, longer(alloc, IMAGE)?] {
+        let (again, used) = image_again(alloc, &given)?;
+        assert!(rt; again.as_slice() == IMAGE && used == IMAGE.len());
+    }
+    Ok(())
+}
+
+// The fault of octets, if any: of a message, or of an image.
+fn fault_of(
+    alloc: Global,
+    octets: &[u8],
+    is_image: bool,
+) -> Result<Option<RecordFault>, AllocOr<RecordFault>> {
+    let used = if is_image {
+        decode_image(alloc, octets).map(|read| read.1)
+    } else {
+        decode(alloc, octets).map(|read| read.1)
+    };
+    match used {
+        Ok(_) => Ok(None),
+        Err(AllocOr::Fault(fault)) => Ok(Some(fault)),
+        Err(AllocOr::OutOfMemory) => Err(AllocOr::OutOfMemory),
+    }
+}
+
+// Octets are cut behind each of them: all of the faults are Short, one place behind what is left. And each octet is damaged, in turn to
+// 0 and to 0xFF, which is no length, count, flag or kind: none of these wants memory. How many of the damaged ones are faulty.
+fn damaged(alloc: Global, octets: &[u8], is_image: bool) -> Result<usize, Fail> {
+    let mut faulty = 0usize;
+    for at in 0..octets.len() {
+        if fault_of(alloc, &octets[..at], is_image)?
+            != Some(RecordFault::Short(at.saturating_add(1)))
+        {
+            return Err("another fault".into());
+        }
+        for octet in [0, 0xff] {
+            let mut found = octets.to_vec(alloc)?;
+            if let Some(place) = found.get_mut(at) {
+                *place = octet;
+            }
+            if fault_of(alloc, &found, is_image)?.is_some() {
+                faulty = faulty.saturating_add(1);
+            }
+        }
+    }
+    Ok(faulty)
+}
+
+#[test]
+fn damaged_records_are_faulty_or_others(rt: HostRuntime) -> Result<(), Fail> {
+    let alloc = rt.alloc();
+    for octets in MESSAGES {
+        assert!(rt; damaged(alloc, octets, false)? > 0);
+    }
+    assert!(rt; damaged(alloc, IMAGE, true)? > 0);
     Ok(())
 }
