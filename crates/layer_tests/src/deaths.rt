@@ -36,7 +36,7 @@ fn buried(alloc: Global) -> Result<Replica, Fail> {
     Ok(own)
 }
 
-// The replica of a message, as it is read of its octets.
+// The replica that the delta of a message makes of an empty one, as it is read of its octets.
 fn sent(alloc: Global, replica: &Replica) -> Result<Replica, Fail> {
     let head = Head {
         dir: DirId::ROOT,
@@ -44,9 +44,12 @@ fn sent(alloc: Global, replica: &Replica) -> Result<Replica, Fail> {
         epoch: EpochNo(1),
         floor: 0,
     };
-    let octets = encode_spread(alloc, &head, &stamp(1)?, replica)?;
+    let octets = encode_spread(alloc, &head, &stamp(1)?, &replica.delta(alloc)?)?;
     match decode(alloc, &octets)?.0.body {
-        Body::Spread(_, replica) => Ok(replica),
+        Body::Spread(_, delta) => Ok(Replica {
+            table: delta.table,
+            all_up_to: delta.above,
+        }),
         _ => Err("another message".into()),
     }
 }
@@ -108,7 +111,7 @@ fn told(alloc: Global, house: &mut Clearinghouse, body: Body) -> Result<Taken, F
 fn each_advance_drops_one_death(rt: HostRuntime) -> Result<(), Fail> {
     let alloc = rt.alloc();
     let mut house = second_house(alloc)?;
-    let whole = Body::Spread(stamp(1)?, buried(alloc)?);
+    let whole = Body::Spread(stamp(1)?, buried(alloc)?.delta(alloc)?);
     assert_eq!(rt; told(alloc, &mut house, whole)?, Taken::Taken);
     assert_eq!(rt; held_at(&house), WHOLE);
     for time in FIRST..=LAST {

@@ -8,7 +8,6 @@ use record_fields::put_cell;
 use script_answers::Values;
 use std::alloc::Global;
 use std::test::Fail;
-use tower_codec::{TowerView, TowerWriter};
 
 #[test]
 fn lists_take_what_is_pushed(rt: HostRuntime) -> Result<(), Fail> {
@@ -87,25 +86,6 @@ fn members_are_listed(rt: HostRuntime) -> Result<(), Fail> {
             (usize::from(count), HouseNo(count))
         );
     }
-    Ok(())
-}
-
-// A tower of so many floors.
-fn written(alloc: Global, floors: u16) -> Result<TowerWriter, Fail> {
-    let mut writer = TowerWriter::new(alloc)?;
-    let mut count = 0;
-    while count < floors {
-        writer.push(&[7], &[])?;
-        count += 1;
-    }
-    Ok(writer)
-}
-
-#[test]
-fn many_floors_are_written(rt: HostRuntime) -> Result<(), Fail> {
-    let writer = written(rt.alloc(), 300)?;
-    let (tower, used) = TowerView::read(writer.octets())?;
-    assert_eq!(rt; (tower.floors(), used), (300, 1_502));
     Ok(())
 }
 

@@ -97,7 +97,7 @@ fn empty(alloc: Global) -> Replica {
     }
 }
 
-// The octets of a message with a copy of the replica.
+// The octets of a message with the delta of the replica.
 fn spelled(alloc: Global, replica: &Replica) -> Result<Vec<u8>, Fail> {
     let head = Head {
         dir: DirId(1),
@@ -105,7 +105,7 @@ fn spelled(alloc: Global, replica: &Replica) -> Result<Vec<u8>, Fail> {
         epoch: EpochNo(1),
         floor: 0,
     };
-    Ok(encode_spread(alloc, &head, &stamp(1)?, &replica.copy(alloc)?)?)
+    Ok(encode_spread(alloc, &head, &stamp(1)?, &replica.delta(alloc)?)?)
 }
 
 // How much is held after each kind of update: entries, deaths, clears and marks of values.

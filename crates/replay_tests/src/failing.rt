@@ -138,7 +138,7 @@ fn towers_are_one_in_any_pieces(rt: HostRuntime) -> Result<(), Fail> {
         let is_whole = count == 0 || count == MAPPER.len();
         assert_eq!(rt; status == Status::Ok, is_whole, "{count}");
         assert_eq!(rt;
-            status == Status::Fault && text.ends_with(place.as_bytes()),
+            status == Status::BadInput && text.ends_with(place.as_bytes()),
             !is_whole,
             "{count}"
         );
