@@ -11,6 +11,7 @@
     generate.py bag N        a directory at three houses, and N updates whose messages are delivered twice and then lost
     generate.py two_masters N  N updates at a master and two secondary members in turn, each told to the others, with a skulk each thousand
     generate.py skulks N     a directory of 10,000 entries with four values each at four houses, and N skulks of it
+    generate.py quiet N      the same, but that each update comes through to each house before the skulk
     generate.py crashes N    a house with 10,000 entries that goes down and starts again N times
     generate.py purges N     an entry that gets N values and loses them again, with a skulk each thousand lines
     generate.py deaths N     N entries at three houses, each created and deleted, with a skulk each thousand lines
@@ -151,7 +152,8 @@ def two_masters(count):
 ENTRIES = 10_000
 
 
-def skulks(count):
+def skulks(count, told=1):
+    """Of each update so many other houses get the message at once, and the rest by the skulk alone."""
     yield from houses(4)
     for i in mixed(ENTRIES):
         yield f"create 1 1 entry-{i:08}\n"
@@ -161,12 +163,11 @@ def skulks(count):
     serial = 4
     random = pseudorandom(count)
     for _ in range(count):
-        # Of each update the first other house gets the message at once, and the two others by the skulk alone.
         for _ in range(4):
             x = next(random)
             yield f"{'add' if x & 3 else 'remove'} 1 1 entry-{x:08} Attribute {x:08x}{x >> 2 & 3:02x}\n"
-            yield from delivered([serial], 1)
-            yield from delivered(range(serial + 1, serial + 3), 0)
+            yield from delivered(range(serial, serial + told), 1)
+            yield from delivered(range(serial + told, serial + 3), 0)
             serial += 3
         yield "skulk 1 1\n"
         # The two rounds with their answers, and what follows the last.
@@ -341,6 +342,7 @@ KINDS = {
     "bag": lambda count: encoded(bag(count)),
     "two_masters": lambda count: encoded(two_masters(count)),
     "skulks": lambda count: encoded(skulks(count)),
+    "quiet": lambda count: encoded(skulks(count, 3)),
     "crashes": lambda count: encoded(crashes(count)),
     "purges": lambda count: encoded(purges(count)),
     "deaths": lambda count: encoded(deaths(count)),

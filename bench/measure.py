@@ -38,6 +38,7 @@ SIZES = {
     "bag": 100_000,
     "two_masters": 100_000,
     "skulks": 200,
+    "quiet": 1_000,
     "crashes": 1_000,
     "purges": 100_000,
     "deaths": 100_000,
