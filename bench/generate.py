@@ -17,6 +17,7 @@
     generate.py deaths N     N entries at three houses, each created and deleted, with a skulk each thousand lines
     generate.py exports N    N servers, each exported with three bindings and an object
     generate.py imports N    a profile of 200 elements over 50 groups of 200 members, and N imports from it
+    generate.py migrate N    the image, in format 1, of a house with N entries of four values each, for the form `migrate`
     generate.py script N     the script of the form `load` with N rounds, as text; `loads N` is the same
 
 The same kind and size is the same input, always.
@@ -327,6 +328,23 @@ def untowers(count):
         yield (" ".join(f"{left.hex()}:{right.hex()}" for left, right in tower) + "\n").encode()
 
 
+def stamp(time):
+    return time.to_bytes(8, "big") + bytes.fromhex("00000000000a")
+
+
+def migrate(count):
+    """An entry in each piece, the first one behind the head of the image. The house is the only member, and has no AllUpTo."""
+    member = b"\x01\x01" + (1).to_bytes(8, "big") + b"\x01"
+    head = b"\x01\x09\x01" + bytes.fromhex("00000000000a") + (5 * count).to_bytes(8, "big") + (1).to_bytes(8, "big") + (1).to_bytes(4, "big")
+    head += b"\x01" + (1).to_bytes(8, "big") + member + b"\0" + count.to_bytes(8, "big")
+    for i in range(count):
+        name, time = f"entry-{i:08}".encode(), 5 * i + 1
+        entry = len(name).to_bytes(1, "big") + name + b"\x01" + stamp(time) + b"\0" + (1).to_bytes(8, "big")
+        entry += b"\x09Attribute\0" + (4).to_bytes(8, "big")
+        marks = (b"\0\x04" + (4 * i + j).to_bytes(4, "big") + b"\x01" + stamp(time + 1 + j) for j in range(4))
+        yield (b"" if i else head) + entry + b"".join(marks)
+
+
 def encoded(texts):
     return (text.encode() for text in texts)
 
@@ -348,13 +366,14 @@ KINDS = {
     "deaths": lambda count: encoded(deaths(count)),
     "exports": lambda count: encoded(exports(count)),
     "imports": lambda count: encoded(imports(count)),
+    "migrate": migrate,
     "script": lambda count: encoded(script(count)),
     "loads": lambda count: encoded(script(count)),
 }
 
 
 def write(kind, count, out):
-    """Writes the input, in pieces, and gives the number of its lines or towers."""
+    """Writes the input, in pieces, and gives the number of its lines, towers or entries."""
     piece, items = [], 0
     for text in KINDS[kind](count):
         piece.append(text)
@@ -367,7 +386,7 @@ def write(kind, count, out):
 
 
 def items_in(kind, piece):
-    return len(piece) if kind == "towers" else sum(text.count(b"\n") for text in piece)
+    return len(piece) if kind in ("towers", "migrate") else sum(text.count(b"\n") for text in piece)
 
 
 def main():

@@ -44,10 +44,11 @@ SIZES = {
     "deaths": 100_000,
     "exports": 100_000,
     "imports": 200,
+    "migrate": 115_000,
     "script": 20_000,
     "loads": 20_000,
 }
-FORMS = {"check": ["check"], "towers": ["towers"], "untowers": ["untowers"]}
+FORMS = {it: [it] for it in ("check", "towers", "untowers", "migrate")}
 # GNU time has a small peak of its own; this process would lend its children a greater one.
 TIME = shutil.which("time")
 

@@ -1,5 +1,5 @@
-//! The work of `cdsreplay run`, `check`, `load`, `towers` and `untowers` in plain Rust: what a proved program is to be compared with.
-//! It aborts where there is no memory.
+//! The work of `cdsreplay run`, `check`, `load`, `towers`, `untowers` and `migrate` in plain Rust: what a proved program is to be
+//! compared with. It aborts where there is no memory.
 
 #[path = "plain/answers.rs"]
 mod answers;
@@ -33,6 +33,9 @@ use script::{Fault, each_line};
 
 /// How many octets of answers wait at most.
 const MOST_WAITING: usize = 65_536;
+
+/// How many octets an input that is read whole has at most.
+const MOST_WHOLE: u64 = 16_777_216;
 
 /// Answers each line up to the first faulty one; false where there is one.
 fn run(source: impl Read, mut sink: impl Write) -> io::Result<bool> {
@@ -72,6 +75,21 @@ fn check(source: impl Read, mut sink: impl Write) -> io::Result<bool> {
     Ok(whole)
 }
 
+/// Writes an image in today's format, where the whole input is one; false where it is not.
+fn migrate(source: impl Read, mut sink: impl Write) -> io::Result<bool> {
+    let mut octets = Vec::new();
+    source.take(MOST_WHOLE + 1).read_to_end(&mut octets)?;
+    if octets.len() as u64 > MOST_WHOLE {
+        return Ok(false);
+    }
+    let Some(image) = records::migrated(&octets) else {
+        return Ok(false);
+    };
+    sink.write_all(&image)?;
+    sink.flush()?;
+    Ok(true)
+}
+
 /// A source that tells whether its last read failed.
 struct Source<'a, R> {
     reader: R,
@@ -107,6 +125,7 @@ fn main() -> ExitCode {
         },
         ["towers"] => towers::towers(source, sink),
         ["untowers"] => towers::untowers(source, sink),
+        ["migrate"] => migrate(source, sink),
         _ => return ExitCode::from(2),
     };
     ExitCode::from(match ended {

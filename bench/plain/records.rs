@@ -228,9 +228,18 @@ pub fn read_message(octets: &[u8]) -> Result<(Message, usize), Fault> {
     Ok((message, octets.len() - reader.rest.len()))
 }
 
-/// The house of an image of either format.
+/// The house that starts of an image of either format.
 pub fn read_image(octets: &[u8]) -> Result<Clearinghouse, Fault> {
-    Reader { rest: octets, size: octets.len(), latest: 0 }.image()
+    let mut reader = Reader { rest: octets, size: octets.len(), latest: 0 };
+    let house = reader.image()?;
+    Ok(Clearinghouse { floor: house.floor.max(reader.latest), ..house })
+}
+
+/// The octets of the same image in today's format, where these are one image and nothing else.
+pub fn migrated(octets: &[u8]) -> Option<Vec<u8>> {
+    let mut reader = Reader { rest: octets, size: octets.len(), latest: 0 };
+    let house = reader.image().ok()?;
+    reader.rest.is_empty().then(|| image(&house))
 }
 
 impl<'a> Reader<'a> {
@@ -445,7 +454,7 @@ impl<'a> Reader<'a> {
             let dir = self.kept("OutOfOrder", |r| r.array().map(u32::from_be_bytes), |dir| last < Some(*dir))?;
             dirs.insert(dir, self.slot(format)?);
         }
-        Ok(Clearinghouse { number, node, floor: floor.max(self.latest), dirs })
+        Ok(Clearinghouse { number, node, floor, dirs })
     }
 
     fn slot(&mut self, format: u8) -> Result<Slot, Fault> {

@@ -57,6 +57,7 @@ ANSWERS = {
     "load": "load",
     "towers": "- floors ShortCount ShortLength EmptyLeft ShortPart TooLong",
     "untowers": "ok fault",
+    "migrate": "ok fault",
 }
 
 

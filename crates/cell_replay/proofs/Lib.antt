@@ -5,6 +5,7 @@ pub mod Turns
 pub mod Streams
 pub mod TowerTurns
 pub mod TowerLaws
+pub mod WholeTurns
 pub mod AllForms
 pub mod RoundTrip
 mod HeadlineLaws

@@ -9,11 +9,14 @@ use Rattle.cell_replay.specs.LineStates.{LineState, Replaying, Checking, Spellin
 use Rattle.line_replies.specs.Loading.{load_text}
 use Rattle.cell_replay.specs.Demand.{Demand, demanded, ends_with}
 use Rattle.cell_replay.specs.TowerDemand.{TowersDemand}
+use Rattle.cell_replay.specs.WholeDemand.{WholeTask, Migrating, whole_demand}
 
--- a form reads lines, or the octets of towers; or it reads nothing and writes a text (own)
+-- a form reads lines, or the octets of towers; or it reads its whole input and then says one thing; or it reads nothing and writes a
+-- text (own)
 pub data FormState : Type 0 where
   ByLines : (state : LineState) → FormState
   ByTowers : FormState
+  ByWhole : (task : WholeTask) → FormState
   WithoutInput : (text : List ℕ) → FormState
 
 -- the form that replays a script on a cell without houses (own)
@@ -26,7 +29,8 @@ form_named word =
     if bytes_eq word (codes "run") then Some replaying
     else (if bytes_eq word (codes "check") then Some (ByLines (Checking 0 0))
     else (if bytes_eq word (codes "towers") then Some ByTowers
-    else (if bytes_eq word (codes "untowers") then Some (ByLines Spelling) else None)))
+    else (if bytes_eq word (codes "untowers") then Some (ByLines Spelling)
+    else (if bytes_eq word (codes "migrate") then Some (ByWhole Migrating) else None))))
 
 -- a cell is loaded by the script with so many rounds, which nothing reads (own)
 abbrev pub loading : (rounds : ℕ) → FormState
@@ -47,4 +51,5 @@ form_of (word ∷ number ∷ third ∷ words) = None
 abbrev pub Demands : FormState → List ℕ → Demand → Type 0
 Demands (ByLines state) octets d = demanded state octets ≡ d
 Demands ByTowers octets d = TowersDemand 1 octets d
+Demands (ByWhole task) octets d = whole_demand task octets ≡ d
 Demands (WithoutInput text) octets d = ends_with text ≡ d

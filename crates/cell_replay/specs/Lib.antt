@@ -2,10 +2,12 @@ pub mod LineStates
 pub mod Headline
 pub mod Demand
 pub mod TowerDemand
+pub mod WholeDemand
 pub mod PrivateSights
 pub mod Forms
 pub mod Fillings
 pub mod PrivateStanding
 pub mod Runs
 pub mod PrivateEndings
+pub mod PrivateWholes
 pub mod Scripts

@@ -8,7 +8,8 @@ use Rattle.cds_cell.specs.declared.cell.Cell.{Cell}
 use Rattle.cds_cell.specs.Standing.{Stands}
 use Rattle.cell_replay.specs.LineStates.{LineState, Replaying, Checking, Spelling, Response}
 use Rattle.cell_replay.specs.declared.limits.TheConstants.{MOST_ROUNDS}
-use Rattle.cell_replay.specs.Forms.{FormState, ByLines, ByTowers, loading, replaying}
+use Rattle.cell_replay.specs.WholeDemand.{Migrating}
+use Rattle.cell_replay.specs.Forms.{FormState, ByLines, ByTowers, ByWhole, loading, replaying}
 use Rattle.cell_replay.specs.declared.check.Tally.{Tally}
 use Rattle.cell_replay.specs.declared.forms.Form.{Form}
 use Rattle.cell_replay.specs.declared.forms.Form.TheVariants as chosen
@@ -22,6 +23,7 @@ start_of chosen.Check = ByLines (Checking 0 0)
 start_of (chosen.Load rounds) = loading rounds
 start_of chosen.Towers = ByTowers
 start_of chosen.Untowers = ByLines Spelling
+start_of chosen.Migrate = ByWhole Migrating
 
 -- a script has from 1 round to MOST_ROUNDS
 abbrev pub IsForm : Form → Type 0

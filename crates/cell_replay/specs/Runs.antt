@@ -4,13 +4,13 @@ use Rattle.std.specs.Io.KnownBytes.{Consumes, Appends, IsAtEnd}
 use Rattle.cds_base.specs.Counts.{Rose}
 use Rattle.cds_base.specs.declared.lines.TheConstants.{MOST_HELD}
 use Rattle.cds_base.specs.LineFaults.{IsLine}
-use Rattle.cell_replay.specs.declared.limits.TheConstants.{TOWER_SIGHT}
+use Rattle.cell_replay.specs.declared.limits.TheConstants.{TOWER_SIGHT, WHOLE_SIGHT}
 use Rattle.cell_replay.specs.declared.endings.Status.{Status}
 use Rattle.cell_replay.specs.declared.endings.Status.TheVariants.{Ok as AllRead, Usage, BadInput, ReadFault, WriteFault, OutOfMemory}
 use Rattle.tower_codec.specs.Tower.{Floor}
 use Rattle.cell_replay.specs.Demand.{Demand, Sound, Faulty, CutShort}
 use Rattle.cell_replay.specs.TowerDemand.{IsTaken}
-use Rattle.cell_replay.specs.Forms.{FormState, ByLines, ByTowers, WithoutInput, Demands}
+use Rattle.cell_replay.specs.Forms.{FormState, ByLines, ByTowers, ByWhole, WithoutInput, Demands}
 use Rattle.cell_replay.specs.Fillings.{IsUnfilled}
 
 -- xs is a front of ys (own)
@@ -86,6 +86,7 @@ NoCallFailed OutOfMemory = Unit {0}
 abbrev pub HasReadAll : FormState → (left : Option (List ℕ)) → Type 0
 HasReadAll (ByLines state) left = IsAtEnd left
 HasReadAll ByTowers left = IsAtEnd left
+HasReadAll (ByWhole task) left = IsAtEnd left
 HasReadAll (WithoutInput text) left = Unit {0}
 
 -- a form that reads nothing (own)
@@ -93,25 +94,29 @@ abbrev pub ReadsNothing : Option FormState → Type 0
 ReadsNothing None = ⊥
 ReadsNothing (Some (ByLines state)) = ⊥
 ReadsNothing (Some ByTowers) = ⊥
+ReadsNothing (Some (ByWhole task)) = ⊥
 ReadsNothing (Some (WithoutInput text)) = Unit {0}
 
--- what a form takes at once: a line with its end, or a tower (own)
+-- what a form takes at once: a line with its end, or a tower; of a whole input nothing is taken before all is read (own)
 abbrev pub IsTakenAtOnce : FormState → List ℕ → Type 0
 IsTakenAtOnce (ByLines state) octets = (number : ℕ) × (line : List ℕ) × IsLine number line × (octets ≡ line ++ 10 ∷ [])
 IsTakenAtOnce ByTowers octets = (number : ℕ) × (floors : List Floor) × IsTaken number floors octets
+IsTakenAtOnce (ByWhole task) octets = ⊥
 IsTakenAtOnce (WithoutInput text) octets = ⊥
 
 -- how many octets are read at most behind what is taken (own)
 abbrev pub read_ahead : FormState → ℕ
 read_ahead (ByLines state) = MOST_HELD
 read_ahead ByTowers = TOWER_SIGHT
+read_ahead (ByWhole task) = WHOLE_SIGHT
 read_ahead (WithoutInput text) = 0
 
--- the octets that came behind the others before a read failed: of lines none; of towers those of the filling that the read
+-- the octets that came behind the others before a read failed: of lines and whole inputs none; of towers those of the filling that the read
 -- was to end. A form without input meets no failed read (own)
 abbrev pub CameLate : FormState → List ℕ → List ℕ → Type 0
 CameLate (ByLines state) octets came = came ≡ []
 CameLate ByTowers octets came = IsUnfilled octets came
+CameLate (ByWhole task) octets came = came ≡ []
 CameLate (WithoutInput text) octets came = ⊥
 
 -- ---- what is written, by what the octets read demand

@@ -28,6 +28,7 @@ pub(crate) enum Form {
     Load(u32),
     Towers,
     Untowers,
+    Migrate,
 }
 
 /// A form that reads lines, in its state between two of them.
@@ -59,6 +60,7 @@ fn form_by_name(word: &String) -> Option<Form>
         "check" => Some(Form::Check),
         "towers" => Some(Form::Towers),
         "untowers" => Some(Form::Untowers),
+        "migrate" => Some(Form::Migrate),
         _ => None,
     }
 }

@@ -15,7 +15,7 @@ ghost use Rattle.cell_replay.specs.declared.endings.Status.{Status as Status'};
 ghost use Rattle.cds_base.specs.Counts.{Rose};
 ghost use Rattle.cell_replay.specs.Scripts.{IsScript, text_of};
 
-use crate::limits::{MOST_ROUNDS, MOST_TOWERS, TOWER_SIGHT};
+use crate::limits::{MOST_ROUNDS, MOST_TOWERS, MOST_WHOLE, TOWER_SIGHT, WHOLE_SIGHT};
 use cds_cell::laws::{asked_houses_accept, masters_refuse_for_stamps_alone};
 use cell_model::holdings;
 use line_replies::MOST_UPDATES;
@@ -85,7 +85,7 @@ pub fn name_commands_lack_stamps_alone()
     profile_updates_are_accepted();
 }
 
-/// The limits of towers, of updates, of the replies that wait, and of the rounds of `load`. A tower is looked at up to one octet more than it may have.
+/// The limits of towers, of whole inputs, of updates, of the replies that wait, and of the rounds of `load`. A tower is looked at up to one octet more than it may have.
 pub fn limits_of_towers()
     ensures longest { LONGEST_TOWER ≡ 1024 }
     ensures sight { TOWER_SIGHT ≡ LONGEST_TOWER + 1 }
@@ -93,4 +93,6 @@ pub fn limits_of_towers()
     ensures updates { MOST_UPDATES ≡ 3 * 2 ^ 30 }
     ensures waiting { MOST_WAITING ≡ 65536 }
     ensures rounds { MOST_ROUNDS ≡ 20000 }
+    ensures whole { MOST_WHOLE ≡ 16777216 }
+    ensures whole_sight { WHOLE_SIGHT ≡ MOST_WHOLE + 1 }
 {}

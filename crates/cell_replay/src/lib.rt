@@ -9,8 +9,9 @@ mod limits;
 mod load;
 mod replay;
 mod towers;
+mod whole;
 
 pub use endings::Status;
-pub use limits::{MOST_ROUNDS, MOST_TOWERS, TOWER_SIGHT};
+pub use limits::{MOST_ROUNDS, MOST_TOWERS, MOST_WHOLE, TOWER_SIGHT, WHOLE_SIGHT};
 pub use replay::run;
 pub use waiting_replies::{LONGEST_TOWER, MOST_WAITING};

@@ -1,4 +1,4 @@
-//! The limits of the octets of towers, and of the rounds of `load`.
+//! The limits of the octets of towers and of whole inputs, and of the rounds of `load`.
 
 /// The octets that are looked at for one tower: one more than it may have.
 pub const TOWER_SIGHT: usize = 1025;
@@ -8,3 +8,9 @@ pub const MOST_TOWERS: u32 = 16_777_216;
 
 /// How many rounds the script of `load` has at most.
 pub const MOST_ROUNDS: u32 = 20_000;
+
+/// How many octets the input of a form that reads it whole has at most.
+pub const MOST_WHOLE: usize = 16_777_216;
+
+/// The octets that are read of it: one more than it may have.
+pub const WHOLE_SIGHT: usize = 16_777_217;

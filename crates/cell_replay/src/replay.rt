@@ -14,6 +14,7 @@ use crate::endings::{Status, finish, stop_with};
 use crate::forms::{Form, LineForm, form_in};
 use crate::load::load;
 use crate::towers::print_towers;
+use crate::whole::{Whole, say_whole};
 use cds_base::{LineFault, Lines, Sink, Source};
 use line_replies::Replayer;
 use std::alloc::{AllocError, Global};
@@ -115,6 +116,7 @@ fn serve<S: Source, K: Sink>(alloc: Global, form: Form, source: &mut S, sink: &m
         Form::Check => serve_lines(alloc, LineForm::Check(Tally::new()), source, sink),
         Form::Load(rounds) => load(alloc, rounds, sink),
         Form::Towers => print_towers(alloc, source, sink),
+        Form::Migrate => say_whole(alloc, Whole::Migrate, source, sink),
         Form::Untowers => match Speller::new(alloc) {
             Ok(speller) => serve_lines(alloc, LineForm::Untowers(speller), source, sink),
             Err(AllocError) => Status::OutOfMemory,

@@ -1,0 +1,20 @@
+use Rattle.std.proofs.Common.{◌∙◌, arith}
+use Rattle.cell_replay.specs.PrivateWholes.{task_of}
+use Rattle.cell_replay.proofs.WholeTurns.{has_few, read_from_none, saying_ends, whole_unread}
+use Rattle.cell_replay.proofs.whole.read_whole.Goals as goal
+
+pub returns-in-Ok-true : goal.returns-in-Ok-true
+returns-in-Ok-true g c =
+    let filled = c.in-Ok-true.ensures in
+    let ended = c.in-Ok-true.field-0-test in
+    let is_said = rw c.octets.ensures at c.say.ensures in
+    saying_ends (task_of c.args.whole) _ _ _ c.fill.new.self.octets (read_from_none _ _ _ _ c.requires.empty filled.reads)
+    (omega (arith, filled.within, filled.room, c.requires.room)) c.say.result is_said
+    (has_few _ _ _ ended filled.short (filled.room ∙ c.requires.room)) (filled.end ended) _ _ _ _ _ _ filled.cause.answered c.end_saying.ensures
+
+pub returns : goal.returns
+returns g c =
+    let failed = c.in-Err.ensures in
+    whole_unread (task_of c.args.whole) _ _ _ c.fill.new.self.octets (read_from_none _ _ _ _ c.requires.empty failed.reads)
+    (omega (arith, failed.within, failed.room, c.requires.room)) (omega (arith, failed.err, failed.room, c.requires.room)) _ _ _
+    failed.cause.failed

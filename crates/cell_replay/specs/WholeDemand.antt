@@ -1,0 +1,32 @@
+-- What an input demands of a form that reads it whole and then says one thing (own).
+use Rattle.std.specs.Prelude.{ℕ, nat_lt, if◌then◌else◌, List, [], length, Ok, Err, Result}
+use Rattle.record_fields.specs.declared.fault.RecordFault.{RecordFault}
+use Rattle.cds_records.specs.Migration.{migrated}
+use Rattle.cell_replay.specs.declared.limits.TheConstants.{MOST_WHOLE}
+use Rattle.cell_replay.specs.Demand.{Demand, faulty_with, ends_with, cut_short_with}
+
+-- what such a form does with its input: an image becomes one of format 2 (own)
+pub data WholeTask : Type 0 where
+  Migrating : WholeTask
+
+-- what is said of an input of too many octets: of one that is no image nothing (own)
+abbrev pub too_long_text : WholeTask → List ℕ
+too_long_text Migrating = []
+
+-- the octets of an image are the text; octets at fault have none (own)
+abbrev pub image_said : Result (List ℕ) RecordFault → Result (List ℕ) (List ℕ)
+image_said (Ok octets) = Ok octets
+image_said (Err fault) = Err []
+
+-- the text that is said of an input, or that of its fault (own)
+abbrev pub said_of : WholeTask → List ℕ → Result (List ℕ) (List ℕ)
+said_of Migrating octets = image_said (migrated octets)
+
+-- either is due where the input ends (own)
+abbrev pub told_whole : Result (List ℕ) (List ℕ) → Demand
+told_whole (Ok text) = ends_with text
+told_whole (Err text) = cut_short_with text
+
+-- what an input demands; more octets than it may have are at fault whatever follows (own)
+abbrev pub whole_demand : WholeTask → List ℕ → Demand
+whole_demand task octets = if nat_lt MOST_WHOLE (length octets) then faulty_with (too_long_text task) else told_whole (said_of task octets)

@@ -1,0 +1,113 @@
+// The forms that read their whole input and then say one thing.
+ghost use Rattle.std.specs.Prelude.{◌≡◌, [], IfOk};
+ghost use Rattle.cell_replay.specs.Forms.{ByWhole};
+ghost use Rattle.cell_replay.specs.WholeDemand.{Migrating, said_of, too_long_text};
+ghost use Rattle.cell_replay.specs.Runs.{Ended, run_of};
+ghost use Rattle.cell_replay.specs.PrivateEndings.{Finishes, side_of};
+ghost use Rattle.cell_replay.specs.PrivateWholes.{IsSaid, SaysEnd, task_of};
+
+use crate::endings::Status;
+use crate::limits::WHOLE_SIGHT;
+use cds_base::{Sink, Source, Window, put_all};
+use cds_records::migrate_image;
+use cds_stamps::AllocOr;
+use std::alloc::{AllocError, Global};
+
+/// What is made of a whole input.
+#[derive(Clone, Copy, Debug, PartialEq, Eq)]
+pub(crate) enum Whole {
+    Migrate,
+}
+
+/// What is said of a whole input: a text, or that of its fault.
+#[derive(Drop)]
+enum Said {
+    Text(Vec<u8>),
+    Fault(Vec<u8>),
+}
+
+// The octets of an image in format 2; nothing is said of its fault.
+fn migrate(alloc: Global, octets: &[u8]) -> Result<Said, AllocError>
+    ensures { IfOk result (λ said. IsSaid said (said_of Migrating octets.now)) }
+{
+    match migrate_image(alloc, octets) {
+        Ok(image) => Ok(Said::Text(image)),
+        Err(AllocOr::Fault(_)) => Ok(Said::Fault(Vec::new(alloc))),
+        Err(AllocOr::OutOfMemory) => Err(AllocError),
+    }
+}
+
+// What is said of the whole input.
+fn say(alloc: Global, whole: Whole, octets: &[u8]) -> Result<Said, AllocError>
+    ensures { IfOk result (λ said. IsSaid said (said_of (task_of whole) octets.now)) }
+{
+    match whole {
+        Whole::Migrate => migrate(alloc, octets),
+    }
+}
+
+// What is said of an input of too many octets.
+fn too_long(alloc: Global, whole: Whole) -> Vec<u8>
+    ensures { result.items ≡ too_long_text (task_of whole) }
+{
+    match whole {
+        Whole::Migrate => Vec::new(alloc),
+    }
+}
+
+// Ends with a text, and nothing else is written.
+fn end_with<K: Sink>(text: Vec<u8>, sink: &mut K, status: Status) -> Status
+    ensures { Finishes (side_of K.written K.faults sink.old) (side_of K.written K.faults sink.new) text.items status result }
+{
+    match put_all(sink, &text) {
+        Ok(()) => status,
+        Err(_) => Status::WriteFault,
+    }
+}
+
+// Ends with what is said, where there was memory for it.
+fn end_saying<K: Sink>(said: Result<Said, AllocError>, sink: &mut K) -> Status
+    ensures { SaysEnd said (side_of K.written K.faults sink.old) (side_of K.written K.faults sink.new) result }
+{
+    match said {
+        Ok(Said::Text(text)) => end_with(text, sink, Status::Ok),
+        Ok(Said::Fault(text)) => end_with(text, sink, Status::BadInput),
+        Err(AllocError) => Status::OutOfMemory,
+    }
+}
+
+// Reads the whole input, up to one octet more than it may have.
+fn read_whole<S: Source, K: Sink>(
+    alloc: Global,
+    whole: Whole,
+    mut window: Window,
+    source: &mut S,
+    sink: &mut K,
+) -> Status
+    requires empty { window.octets ≡ [] }
+    requires room { window.room ≡ WHOLE_SIGHT }
+    ensures { Ended (ByWhole (task_of whole))
+        (run_of S.left S.faults K.written K.faults source.old source.new sink.old sink.new) result }
+{
+    match window.fill(source) {
+        Ok(true) => end_saying(say(alloc, whole, window.octets()), sink),
+        Ok(false) => end_with(too_long(alloc, whole), sink, Status::BadInput),
+        Err(_) => Status::ReadFault,
+    }
+}
+
+/// The whole of such a form.
+pub(crate) fn say_whole<S: Source, K: Sink>(
+    alloc: Global,
+    whole: Whole,
+    source: &mut S,
+    sink: &mut K,
+) -> Status
+    ensures { Ended (ByWhole (task_of whole))
+        (run_of S.left S.faults K.written K.faults source.old source.new sink.old sink.new) result }
+{
+    match Window::new(alloc, WHOLE_SIGHT) {
+        Ok(window) => read_whole(alloc, whole, window, source, sink),
+        Err(AllocError) => Status::OutOfMemory,
+    }
+}
