@@ -51,9 +51,11 @@ whole_body_stays task xs ys = by_size (le_or_lt (length xs) 16777216)
         let all : List ℕ = (whole_demand task (xs ++ ys)).body in
         (all, sym (ap (λ (l : List ℕ). l ++ all) none))
     by_size (inr many) =
-        let more : 16777216 < length (xs ++ ys) = omega (arith, many, length-append xs ys) in
-        ([], ap (λ (d : Demand). d.body) (many_demand task (xs ++ ys) more) ∙ ap (λ (d : Demand). d.body) (sym (many_demand task xs many))
-            ∙ sym (append-nil (whole_demand task xs).body))
+        let more : 16777216 < length (xs ++ ys) = omega (arith, many, length-append xs ys) in (
+          [],
+          ap (λ (d : Demand). d.body) (many_demand task (xs ++ ys) more) ∙ ap (λ (d : Demand). d.body) (sym (many_demand task xs many))
+              ∙ sym (append-nil (whole_demand task xs).body),
+        )
 
 -- a fault that shows ends what is due
 pub whole_fault_stays : (task : WholeTask) (xs ys : List ℕ) → (whole_demand task xs).verdict ≡ Faulty
