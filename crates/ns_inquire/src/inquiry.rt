@@ -1,7 +1,8 @@
 //! The elements of a profile that an inquiry asks for.
-ghost use Rattle.std.specs.Prelude.{◌≡◌, ◌++◌, map, IfOk, OnOk};
+ghost use Rattle.std.specs.Prelude.{◌≡◌, ◌++◌, map, Ok, None, IfOk, IfSome, OnOk};
 ghost use Rattle.std.specs.Option.{option_to_list};
 ghost use Rattle.std.specs.List.{filter_map};
+ghost use Rattle.ns_profiles.specs.Elements.{element_fault};
 ghost use Rattle.ns_inquire.specs.Inquiries.{elements_of, is_offered, is_picked, picked_in};
 
 use crate::version::Version;
@@ -91,9 +92,10 @@ fn push_some(list: &mut Vec<Element>, element: Option<Element>) -> Result<(), Al
     }
 }
 
-// The element that a value is, if the inquiry asks for it.
+// The element that a value is, if the inquiry asks for it. No memory is asked for where it is none.
 fn picked(alloc: Global, value: &Value, inquiry: &Inquiry) -> Result<Option<Element>, AllocError>
-    ensures { IfOk result (λ e. e ≡ picked_in inquiry.now value.now) }
+    ensures picked { IfOk result (λ e. e ≡ picked_in inquiry.now value.now) }
+    ensures faulty { IfSome (element_fault value.now) (λ _. result ≡ Ok None) }
 {
     match Element::read(alloc, value) {
         Ok(element) => {

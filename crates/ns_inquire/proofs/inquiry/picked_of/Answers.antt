@@ -13,7 +13,7 @@ loop-value-preserved c =
     let items = c.args.values.now in
     let i = c.loop-value.value-index in
     c.in_ok-push_some.ensures
-    ∙ ap (λ o. c.loop-value.found.items ++ option_to_list o) c.in_ok-picked.ensures
+    ∙ ap (λ o. c.loop-value.found.items ++ option_to_list o) c.in_ok-picked.ensures.picked
     ∙ ap (λ (es : List Element). es ++ option_to_list (h value.now)) c.loop-value.invariant
     ∙ ap (λ (es : List Element). filter_map h (map (λ v. v.now) (take i items)) ++ es) (as_list (h value.now))
     ∙ sym (gives_more (λ v. v.now) h items i value c.loop-value-test.true c.value-item.is)
