@@ -24,7 +24,7 @@ use Rattle.line_replies.specs.Loading.{answered_from, completes, first_table, is
 use Rattle.line_replies.specs.Loading.{is_delivery, is_refusal, summary_of, summary_text, values_shown}
 use Rattle.line_replies.specs.PrivateKinds.{is_complete, line_changes, line_delivers, refuses}
 use Rattle.line_replies.specs.LoadSteps.{Takes, Tells}
-use Rattle.line_replies.specs.PrivateReplies.{IsReply}
+use Rattle.line_replies.specs.Answering.{IsReply}
 
 count_cons : {A : Type 0} (p : A → Bool) (x : A) (xs : List A) → count_by p (x ∷ xs) ≡ cond (p x) 1 0 + count_by p xs
 count_cons p x xs = sum_by-cons (λ y. cond (p y) 1 0) x xs

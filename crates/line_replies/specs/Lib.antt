@@ -7,5 +7,4 @@ pub mod Counting
 pub mod LoadSteps
 pub mod PrivateSaid
 pub mod PrivateRecords
-pub mod PrivateReplies
 pub mod PrivateKinds

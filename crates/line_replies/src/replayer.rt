@@ -38,8 +38,7 @@ impl Replayer {
     ghost use Rattle.ns_commands.specs.Asks.{changes_in};
     ghost use Rattle.line_replies.specs.Dialogues.{replied};
     ghost use Rattle.line_replies.specs.Replies.{cell_after, does, reply_text, running};
-    ghost use Rattle.line_replies.specs.PrivateReplies.{IsDone, IsReply};
-    ghost use Rattle.line_replies.specs.Answering.{Replays};
+    ghost use Rattle.line_replies.specs.Answering.{IsDone, IsReply, Replays};
 
     /// Over a cell without houses. Takes no memory.
     pub fn new(alloc: Global) -> Replayer
@@ -53,7 +52,8 @@ impl Replayer {
         }
     }
 
-    pub(crate) fn cell(&self) -> &Cell
+    /// The cell.
+    pub fn cell(&self) -> &Cell
         ensures { result.now ≡ self.now.cell }
     {
         &self.cell
@@ -118,7 +118,7 @@ impl Replayer {
     }
 
     /// What the cell replies to a line.
-    pub(crate) fn reply(&mut self, alloc: Global, line: ScriptLine) -> Result<Answer, AllocError>
+    pub fn reply(&mut self, alloc: Global, line: ScriptLine) -> Result<Answer, AllocError>
         requires few { self.old.steps < MOST_LINES }
         ensures reply { (g : model.Cell) → Stands self.old.cell g → IfOk result (λ a. IsReply a self.new.cell g line) }
         ensures steps { self.new.steps ≤ self.old.steps + 1 }

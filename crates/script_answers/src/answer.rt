@@ -77,6 +77,8 @@ pub enum ScriptRefusal {
     TooManyLinks,
     NameTooLong,
     RootName,
+    /// A kept answer led to an entry, and where that was found no house shows one of its name now.
+    Vanished,
     /// The entry that was found is no link, or no object.
     NotLink,
     NotObject,

@@ -34,6 +34,7 @@ fn name_of(refusal: &ScriptRefusal) -> &'static [u8]
         ScriptRefusal::TooManyLinks => b"TooManyLinks",
         ScriptRefusal::NameTooLong => b"NameTooLong",
         ScriptRefusal::RootName => b"RootName",
+        ScriptRefusal::Vanished => b"Vanished",
         ScriptRefusal::NotLink => b"NotLink",
         ScriptRefusal::NotObject => b"NotObject",
         ScriptRefusal::NothingToExport => b"NothingToExport",
