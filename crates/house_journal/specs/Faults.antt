@@ -32,6 +32,12 @@ IsBreaking (Err (Fault DiskFault)) = Unit {0}
 IsBreaking (Err OutOfMemory) = Unit {0}
 IsBreaking _ = ⊥
 
+-- what keeps a journal from being opened: a failure of the disk, or want of memory (own)
+abbrev pub IsOpenFault : AllocOr JournalFault → Type 0
+IsOpenFault (Fault DiskFault) = Unit {0}
+IsOpenFault OutOfMemory = Unit {0}
+IsOpenFault _ = ⊥
+
 -- a call answers DiskFault only where the count of failures rose, which it does at no other answer (own)
 abbrev pub HasJournalCause : {T : Type 0} → (before now : ℕ) → Result T (AllocOr JournalFault) → Type 0
 HasJournalCause before now (Err (Fault DiskFault)) = (before ≤ now) × Rose before now

@@ -1,10 +1,10 @@
 // A journal: how it is opened, and how an image is put into it.
 ghost use Rattle.std.specs.Prelude.{◌≡◌, ◌≢◌, ◌⊎◌, ◌↔◌, ◌+◌, ◌^◌, ◌<◌, ◌≤◌, ◌++◌, ◌∷◌, [], ℕ, List};
-ghost use Rattle.std.specs.Prelude.{true, false, length, take, Some, Err, IfOk, OnOk, IsTrue};
+ghost use Rattle.std.specs.Prelude.{true, false, length, take, Some, Err, IfOk, IfErr, OnOk, IsTrue};
 ghost use Rattle.std.specs.Option.{option_map};
 ghost use Rattle.cds_stamps.specs.declared.alloc_or.AllocOr.TheVariants.{Fault, OutOfMemory};
 ghost use Rattle.house_journal.specs.Disks.{Told};
-ghost use Rattle.house_journal.specs.Faults.{IsRefused, IsBreaking, HasJournalCause};
+ghost use Rattle.house_journal.specs.Faults.{IsRefused, IsBreaking, IsOpenFault, HasJournalCause};
 ghost use Rattle.house_journal.specs.Faults.{IsUntried, TellsTried, fault_of};
 ghost use Rattle.house_journal.specs.Tellings.{put_calls};
 ghost use Rattle.house_journal.specs.Journals.{IsCalm, IsKept, IsKeptSince, IsListed, IsReady};
@@ -87,6 +87,7 @@ impl Journal {
         ensures kept { IsKept D.Disk disk.old → IsKept D.Disk disk.new }
         ensures kept_since { IsKept D.Disk disk.old → IsKeptSince D.Disk disk.old disk.new }
         ensures open_list { OnOk result (IsListed (D.told disk.new)) }
+        ensures faults { IfErr result IsOpenFault }
         ensures cause { HasJournalCause (D.faults disk.old) (D.faults disk.new) result }
         ensures calm { IsCalm (D.told disk.old)
             → (result ≢ Err (Fault JournalFault.DiskFault)) × IsCalm (D.told disk.new) }

@@ -1,0 +1,5 @@
+pub mod Lasts
+mod StoppedPuts
+mod Sizes
+mod Leaving
+mod StopEnds
