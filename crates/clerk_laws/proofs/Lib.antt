@@ -1,0 +1,3 @@
+pub mod SameQuestions
+pub mod Keeping
+pub mod Lines

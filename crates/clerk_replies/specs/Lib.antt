@@ -1,0 +1,3 @@
+pub mod Clerking
+pub mod Standing
+pub mod PrivateClerking

@@ -1,0 +1,9 @@
+//! What a line of a script comes to where a clerk keeps answers: `read` at low confidence goes through the clerk, and each other
+//! line to the cell alone.
+#![tactic(auto)]
+
+mod low_read;
+mod replayer;
+mod through;
+
+pub use replayer::ClerkReplayer;
