@@ -1,0 +1,2 @@
+mod CellInquiries
+mod PlainLaws

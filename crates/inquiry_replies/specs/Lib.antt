@@ -1,0 +1,2 @@
+pub mod Inquiring
+pub mod PrivateInquiring

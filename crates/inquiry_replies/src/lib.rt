@@ -1,0 +1,8 @@
+//! What a line comes to where inquiries are answered: an inquiry asks the cell, and each other line is replayed as in a script.
+#![tactic(auto)]
+
+mod inquiries;
+pub mod laws;
+mod replies;
+
+pub use replies::replay_inquiry;
