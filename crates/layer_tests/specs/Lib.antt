@@ -1,1 +1,2 @@
 pub mod PairReaders
+pub mod ShelfReaders

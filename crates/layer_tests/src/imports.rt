@@ -10,6 +10,7 @@ use cds_stamps::{AttrName, DirId, HouseNo, SimpleName};
 use cell_names::{ChildPointer, FullName, HouseList, LentName};
 use ns_groups::GROUP;
 use ns_import::Importer;
+use ns_inquire::Lookup;
 use resolver::{EntryReader, Found, Near, Seen, resolve_near};
 use server_entries::{TOWERS, Wanted, bindings, tower_of_value};
 use std::alloc::{AllocError, Global};
@@ -130,6 +131,18 @@ fn bindings_come_before_memory_is_wanting(rt: HostRuntime) -> Result<(), Fail> {
     // The group of `b` has `b` alone.
     assert_eq!(rt; given(rt.alloc(), false)?, (2, false));
     assert_eq!(rt; given(rt.alloc(), true)?, (1, true));
+    Ok(())
+}
+
+#[test]
+fn a_lookup_gives_batches(rt: HostRuntime) -> Result<(), Fail> {
+    let alloc = rt.alloc();
+    let reader = pair_of(alloc, false)?;
+    let name = FullName::parse(alloc, b"/.:/a")?;
+    let mut lookup = Lookup::begin(alloc, &reader, &name, wanted(&reader.tower)?, 1)?;
+    for batch in [Some(1), Some(1), None] {
+        assert_eq!(rt; lookup.next(alloc)?.map(|bindings| bindings.len()), batch);
+    }
     Ok(())
 }
 

@@ -3,6 +3,8 @@
 #![tactic(auto)]
 
 #[cfg(test)]
+mod clerks;
+#[cfg(test)]
 mod deaths;
 #[cfg(test)]
 mod ends;
@@ -10,6 +12,8 @@ mod ends;
 mod houses;
 #[cfg(test)]
 mod imports;
+#[cfg(test)]
+mod inquiries;
 #[cfg(test)]
 mod journals;
 #[cfg(test)]

@@ -6,8 +6,9 @@ use compact_map::CompactMap;
 use directory::AttrMap;
 use record_fields::put_cell;
 use script_answers::Values;
-use std::alloc::Global;
+use std::alloc::{AllocError, Global};
 use std::test::Fail;
+use tower_codec::TowerWriter;
 
 #[test]
 fn lists_take_what_is_pushed(rt: HostRuntime) -> Result<(), Fail> {
@@ -96,5 +97,24 @@ fn many_keys_descend(rt: HostRuntime) -> Result<(), Fail> {
         map.insert(200_000 - key, [0u64; 8])?;
     }
     assert_eq!(rt; map.len(), 200_000);
+    Ok(())
+}
+
+// A tower of so many floors of five octets.
+fn tower_of(alloc: Global, count: u16) -> Result<TowerWriter, AllocError> {
+    let mut tower = TowerWriter::new(alloc)?;
+    for _ in 0..count {
+        tower.push(&[7], &[])?;
+    }
+    Ok(tower)
+}
+
+#[test]
+fn a_tower_takes_as_many_floors_as_it_can_count(rt: HostRuntime) -> Result<(), Fail> {
+    // (A tower of the program has at most 204.)
+    for count in [204, 206, 65_535] {
+        let tower = tower_of(rt.alloc(), count)?;
+        assert_eq!(rt; tower.octets().len(), 2 + 5 * usize::from(count));
+    }
     Ok(())
 }
