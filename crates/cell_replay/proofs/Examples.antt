@@ -17,7 +17,13 @@ use Rattle.waiting_replies.specs.TowerTexts.{tower_text, floor_said, tower_said,
 use Rattle.cell_replay.specs.TowerDemand.{AtFault, PartOf, TowersDemand}
 use Rattle.cell_replay.specs.LineStates.{Replaying, Checking, Spelling}
 use Rattle.cell_replay.specs.Demand.{Faulty, CutShort, ends_with, faulty_with, demand, demanded}
-use Rattle.cell_replay.specs.Forms.{form_of, loading, replaying}
+use Rattle.cell_replay.specs.WholeDemand.{Auditing, too_long_text}
+use Rattle.cell_replay.specs.AuditTexts.{verdict_text, pair_fault_text}
+use Rattle.cell_replay.specs.Forms.{auditing, clerking_with, form_of, loading, replaying}
+use Rattle.directory.specs.declared.entry.Kind.TheVariants.{Object}
+use Rattle.record_fields.specs.declared.fault.RecordFault.TheVariants.{Trailing}
+use Rattle.image_audit.specs.declared.fact.Fact.TheVariants.{Birth, Value}
+use Rattle.image_audit.specs.declared.verdict.Verdict.TheVariants.{NoReplica, Agree, Differ}
 
 -- ---- lines
 
@@ -48,6 +54,60 @@ leading_zero = refl
 too_many_rounds : form_of (codes "load" ∷ codes "20001" ∷ []) ≡ None
 unfolding number_of
 too_many_rounds = refl
+
+clerk_is : form_of (codes "clerk" ∷ codes "1000" ∷ []) ≡ Some (clerking_with 1000)
+unfolding number_of
+clerk_is = refl
+
+no_room : form_of (codes "clerk" ∷ codes "0" ∷ []) ≡ None
+unfolding number_of
+no_room = refl
+
+too_much_room : form_of (codes "clerk" ∷ codes "1001" ∷ []) ≡ None
+unfolding number_of
+too_much_room = refl
+
+audit_is : form_of (codes "audit" ∷ codes "4294967295" ∷ []) ≡ Some (auditing 4294967295)
+unfolding number_of
+audit_is = refl
+
+no_directory : form_of (codes "audit" ∷ codes "0" ∷ []) ≡ None
+unfolding number_of
+no_directory = refl
+
+too_great_a_directory : form_of (codes "audit" ∷ codes "4294967296" ∷ []) ≡ None
+unfolding number_of
+too_great_a_directory = refl
+
+-- ---- audits
+
+they_agree : verdict_text 1 (Agree None) ≡ codes "agree 1 none" ++ 10 ∷ []
+unfolding digits
+they_agree = refl
+
+not_held : verdict_text 1 (NoReplica 2) ≡ codes "refused NoReplica 2" ++ 10 ∷ []
+unfolding digits
+not_held = refl
+
+a_birth_is_missing : verdict_text 1 (Differ 2 (Birth (codes "e") Object (record { time = 3; node = 10 })))
+    ≡ codes "differ 1 2 birth e 3@00000000000a" ++ 10 ∷ []
+unfolding digits encode_with
+a_birth_is_missing = refl
+
+a_value_is_missing : verdict_text 1 (Differ 1 (Value (codes "e") (record { time = 1; node = 10 }) (codes "A") (1 ∷ []) (record { time = 3; node = 10 })))
+    ≡ codes "differ 1 1 value e A 01 3@00000000000a" ++ 10 ∷ []
+unfolding digits encode_with
+a_value_is_missing = refl
+
+second_image_at_fault : pair_fault_text (record { image = 2; fault = Trailing 146 }) ≡ codes "2 fault Trailing 146" ++ 10 ∷ []
+unfolding digits
+second_image_at_fault = refl
+
+too_long : too_long_text (Auditing 1) ≡ codes "1 fault TooLong 16777217" ++ 10 ∷ []
+unfolding digits
+too_long = refl
+
+-- ---- scripts
 
 -- nothing is due for a comment, and no house is there yet; then the line is at fault, and nothing is due behind it
 three_lines : demanded (Replaying empty_cell) (codes "#" ++ (10 ∷ (codes "root 1" ++ (10 ∷ (codes "rot 1" ++ (10 ∷ (codes "root 1" ++ 10 ∷ [])))))))

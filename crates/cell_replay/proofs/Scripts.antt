@@ -11,12 +11,16 @@ use Rattle.cell_script.specs.Words.{words_of}
 use Rattle.waiting_replies.specs.Responses.{GoesOn, Stops, in_state}
 use Rattle.line_replies.specs.Dialogues.{Dialogue, NumberedOf, replied, transcript_by}
 use Rattle.line_replies.specs.Replies.{Numbered, running, transcript}
-use Rattle.cell_replay.specs.LineStates.{LineState, Replaying, Response, response}
+use Rattle.clerk_replies.specs.Clerking.{Clerked, clerking, start}
+use Rattle.cell_replay.specs.LineStates.{LineState, Replaying, Clerking, Response, response, Inquiring}
 use Rattle.cell_replay.specs.Demand.{Demand, Sound, Faulty, demanded, end_text, told_fault}
 use Rattle.cell_replay.specs.Demand.{ends_with, unless_fault, then_rest, with_front, whole}
-use Rattle.cell_replay.specs.Forms.{replaying}
+use Rattle.cell_replay.specs.Forms.{ByLines, clerking_with, replaying, inquiring_form}
+use Rattle.script_forms.specs.declared.inquire_line.InquireLine.{InquireLine}
+use Rattle.script_forms.specs.InquireLines.{inquired_in}
+use Rattle.inquiry_replies.specs.Inquiring.{inquiring}
 use Rattle.cell_replay.specs.Runs.{IsFront, Run, Wrote, IsWhole}
-use Rattle.cell_replay.specs.Scripts.{text_of, Says, IsScript, IsScriptOf, IsReplay}
+use Rattle.cell_replay.specs.Scripts.{text_of, Says, IsScript, IsScriptOf, IsReplay, IsReplayBy}
 use Rattle.cell_replay.proofs.Scanning.{scanned, demanded_scanned, clean_more, is_ten, no_ten}
 use Rattle.cell_replay.proofs.Demands.{demand_line, demand_part}
 use Rattle.cell_replay.proofs.HeadlineLaws.{converges, finds}
@@ -129,6 +133,21 @@ module _ {S L : Type 0} (d : Dialogue S L) (state_of : S → LineState)
   demanded_script s octets sound = demand_script 1 s [] octets tt
       (subst (λ (e : Demand). e.verdict ≡ Sound) (demanded_scanned (state_of s) octets) sound)
 
+  -- what was written, of a whole input in which nothing is faulty, is the transcript of the script that was read
+  pub is_replay_by : (s : S) (run : Run) → Wrote (ByLines (state_of s)) run IsWhole → IsReplayBy d s run
+  is_replay_by s run wrote =
+      let script = demanded_script s wrote.read (subst (λ (e : Demand). e.verdict ≡ Sound) (sym wrote.demands) wrote.due.0) in
+      let text = transcript_by d s script.1 in
+      let is_demand : wrote.demand ≡ whole text =
+      sym wrote.demands ∙ ap (demanded (state_of s)) script.2 ∙ script_demanded s script.0 script.1 script.3 in
+      record {
+        lines = script.0;
+        said = script.1;
+        script = script.3;
+        taken = subst (Consumes run.left run.left') script.2 wrote.taken;
+        written = subst (Appends run.held run.held') (wrote.due.1 ∙ ap (λ (e : Demand). e.body ++ e.end) is_demand ∙ append-nil text) wrote.written;
+      }
+
 -- ---- the same of `run`
 
 -- a script demands its transcript
@@ -140,6 +159,28 @@ run_demanded = script_demanded running Replaying (λ number g line. refl) (λ g.
 pub demanded_run : (g : Cell) (octets : List ℕ) → (demanded (Replaying g) octets).verdict ≡ Sound → (lines : List (List ℕ))
     × (said : List Numbered) × (octets ≡ text_of lines) × IsScript 1 lines said
 demanded_run = demanded_script running Replaying (λ number g line. refl) (λ g. refl)
+
+-- ---- the same of `clerk`
+
+pub clerk_demanded : (c : Clerked) (lines : List (List ℕ)) (said : List Numbered) → IsScript 1 lines said
+    → demanded (Clerking c) (text_of lines) ≡ whole (transcript_by clerking c said)
+clerk_demanded = script_demanded clerking Clerking (λ number c line. refl) (λ c. refl)
+
+pub demanded_clerk : (c : Clerked) (octets : List ℕ) → (demanded (Clerking c) octets).verdict ≡ Sound → (lines : List (List ℕ))
+    × (said : List Numbered) × (octets ≡ text_of lines) × IsScript 1 lines said
+demanded_clerk = demanded_script clerking Clerking (λ number c line. refl) (λ c. refl)
+
+-- ---- the same of `inquire`
+
+-- a script demands its transcript
+pub inquire_demanded : (g : Cell) (lines : List (List ℕ)) (said : List (NumberedOf InquireLine)) → IsScriptOf inquired_in 1 lines said
+    → demanded (Inquiring g) (text_of lines) ≡ whole (transcript_by inquiring g said)
+inquire_demanded = script_demanded inquiring Inquiring (λ number g line. refl) (λ g. refl)
+
+-- an input in which nothing is faulty is a script
+pub demanded_inquire : (g : Cell) (octets : List ℕ) → (demanded (Inquiring g) octets).verdict ≡ Sound → (lines : List (List ℕ))
+    × (said : List (NumberedOf InquireLine)) × (octets ≡ text_of lines) × IsScriptOf inquired_in 1 lines said
+demanded_inquire = demanded_script inquiring Inquiring (λ number g line. refl) (λ g. refl)
 
 -- ---- what stays due
 
@@ -244,19 +285,16 @@ demanded_fault state xs ys faulty =
 
 -- ---- a run that ends Ok
 
--- what was written, of a whole input in which nothing is faulty, is the transcript of the script that was read
+-- what `run` wrote, of a whole input in which nothing is faulty, is the transcript of the script that was read
 pub is_replay : (run : Run) → Wrote replaying run IsWhole → IsReplay run
 is_replay run wrote =
-    let script = demanded_run empty_cell wrote.read (subst (λ (d : Demand). d.verdict ≡ Sound) (sym wrote.demands) wrote.due.0) in
-    let text = transcript empty_cell script.1 in
-    let is_demand : wrote.demand ≡ whole text =
-    sym wrote.demands ∙ ap (demanded (Replaying empty_cell)) script.2 ∙ run_demanded empty_cell script.0 script.1 script.3 in
-    record {
-      lines = script.0;
-      said = script.1;
-      script = script.3;
-      taken = subst (Consumes run.left run.left') script.2 wrote.taken;
-      written = subst (Appends run.held run.held') (wrote.due.1 ∙ ap (λ (d : Demand). d.body ++ d.end) is_demand ∙ append-nil text) wrote.written;
-      settled = converges script.1;
-      found = finds script.1;
-    }
+    let replay = is_replay_by running Replaying (λ number g line. refl) (λ g. refl) empty_cell run wrote in
+    record { replay = replay; settled = converges replay.said; found = finds replay.said }
+
+-- and so of `clerk`
+pub is_clerked : (room : ℕ) (run : Run) → Wrote (clerking_with room) run IsWhole → IsReplayBy clerking (start room) run
+is_clerked room run wrote = is_replay_by clerking Clerking (λ number s line. refl) (λ s. refl) (start room) run wrote
+
+-- and so of `inquire`
+pub is_inquired : (run : Run) → Wrote inquiring_form run IsWhole → IsReplayBy inquiring empty_cell run
+is_inquired run wrote = is_replay_by inquiring Inquiring (λ number g line. refl) (λ g. refl) empty_cell run wrote

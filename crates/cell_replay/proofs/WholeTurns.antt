@@ -81,6 +81,10 @@ read_from_none left left' octets octets' none grows =
 pub has_few : (ended : Bool) (held room : ℕ) → IsTrue ended → (IsTrue ended ↔ (held < room)) → room ≡ 16777217 → held ≤ 16777216
 has_few ended held room has_ended means is = let less : held < room = means.0 has_ended in omega (arith, less, is)
 
+-- a test that fails is not true
+pub not_true : (b : Bool) → b ≡ false → ¬ (IsTrue b)
+not_true b e is = absurd (cc (e, is))
+
 -- and one that is full holds one too many
 pub has_many : (ended : Bool) (held room : ℕ) → ¬ (IsTrue ended) → (IsTrue ended ↔ (held < room)) → room ≡ 16777217 → 16777216 < held
 has_many ended held room goes_on means is = by_size (le_or_lt 16777217 held)
@@ -156,6 +160,22 @@ module _ (task : WholeTask) (first left' old : Option (List ℕ)) (octets : List
   nothing_said reads reads' writes calm =
       text_ends reads reads' writes writes old OutOfMemory calm (whole_demand task octets) [] OutOfMemory refl
       (inl ((whole_demand task octets).body, refl), answers_none) (inl (refl, appends_none old, refl))
+
+  -- what is said of too many octets goes out, or there was no memory for it
+  pub too_long_said : (said : Result Said AllocError) → IfOk said (λ s. IsSaid s (Err (too_long_text task))) → 16777216 < length octets
+      → (reads reads' writes writes' : ℕ) (new' : Option (List ℕ)) (result : Status) → reads' ≡ reads
+      → SaysEnd said (side old writes) (side new' writes') result
+      → EndsBetween (ByWhole task) (side first reads) (side left' reads') (side old writes) (side new' writes') result
+  too_long_said (Ok (says.Text text)) is many reads reads' writes writes' new' result calm ends = absurd (cc (is))
+  too_long_said (Ok (says.Fault text)) is many reads reads' writes writes' new' result calm ends =
+      too_long_ends reads reads' writes writes' new' result calm many text.items (fault_is (too_long_text task) text.items is) ends
+    where
+      fault_is : (due octets : List ℕ) → ◌≡◌ {A = Result (List ℕ) (List ℕ)} (Err due) (Err octets) → octets ≡ due
+      fault_is due octets e = cc (e)
+  too_long_said (Err e) is many reads reads' writes writes' new' result calm ends =
+      subst (λ (s : Status). EndsBetween (ByWhole task) (side first reads) (side left' reads') (side old writes) (side new' writes') s) (sym ends.0)
+      (subst (λ (k : Side). EndsBetween (ByWhole task) (side first reads) (side left' reads') (side old writes) k OutOfMemory) (sym ends.1)
+      (nothing_said reads reads' writes calm))
 
   -- a read failed
   pub whole_unread : length octets ≤ 16777216 → (reads reads' writes : ℕ) → Rose reads reads'

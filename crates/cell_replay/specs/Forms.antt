@@ -4,12 +4,13 @@ use Rattle.std.specs.Option.{option_map}
 use Rattle.std.specs.Str.{bytes_eq}
 use Rattle.cell_model.specs.Cells.{empty_cell}
 use Rattle.cell_script.specs.Words.{number_to}
-use Rattle.cell_replay.specs.declared.limits.TheConstants.{MOST_ROUNDS}
-use Rattle.cell_replay.specs.LineStates.{LineState, Replaying, Checking, Spelling}
+use Rattle.cell_replay.specs.declared.limits.TheConstants.{LAST_DIR, MOST_KEPT, MOST_ROUNDS}
+use Rattle.cell_replay.specs.LineStates.{LineState, Replaying, Checking, Spelling, Clerking, Inquiring}
 use Rattle.line_replies.specs.Loading.{load_text}
+use Rattle.clerk_replies.specs.Clerking.{start}
 use Rattle.cell_replay.specs.Demand.{Demand, demanded, ends_with}
 use Rattle.cell_replay.specs.TowerDemand.{TowersDemand}
-use Rattle.cell_replay.specs.WholeDemand.{WholeTask, Migrating, whole_demand}
+use Rattle.cell_replay.specs.WholeDemand.{WholeTask, Migrating, Auditing, whole_demand}
 
 -- a form reads lines, or the octets of towers; or it reads its whole input and then says one thing; or it reads nothing and writes a
 -- text (own)
@@ -23,6 +24,10 @@ pub data FormState : Type 0 where
 abbrev pub replaying : FormState
 replaying = ByLines (Replaying empty_cell)
 
+-- the form that replays a script with inquiries on a cell without houses (own)
+abbrev pub inquiring_form : FormState
+inquiring_form = ByLines (Inquiring empty_cell)
+
 -- the form that a word names, at its start (own)
 abbrev pub form_named : List ℕ → Option FormState
 form_named word =
@@ -30,21 +35,34 @@ form_named word =
     else (if bytes_eq word (codes "check") then Some (ByLines (Checking 0 0))
     else (if bytes_eq word (codes "towers") then Some ByTowers
     else (if bytes_eq word (codes "untowers") then Some (ByLines Spelling)
-    else (if bytes_eq word (codes "migrate") then Some (ByWhole Migrating) else None))))
+    else (if bytes_eq word (codes "migrate") then Some (ByWhole Migrating)
+    else (if bytes_eq word (codes "inquire") then Some inquiring_form else None)))))
 
 -- a cell is loaded by the script with so many rounds, which nothing reads (own)
 abbrev pub loading : (rounds : ℕ) → FormState
 loading rounds = WithoutInput (load_text rounds)
 
--- the form that two words name: `load` and a number of rounds, at least one (own)
-abbrev pub load_named : (word number : List ℕ) → Option FormState
-load_named word number = if bytes_eq word (codes "load") then option_map loading (number_to MOST_ROUNDS number) else None
+-- the form that replays a script on a cell without houses, which a clerk that keeps so many answers reads (own)
+abbrev pub clerking_with : (room : ℕ) → FormState
+clerking_with room = ByLines (Clerking (start room))
+
+-- the form that audits a directory (own)
+abbrev pub auditing : (dir : ℕ) → FormState
+auditing dir = ByWhole (Auditing dir)
+
+-- the form that a word and a number name, which is at least one: `load` and how many rounds, `clerk` and its room, or `audit` and a
+-- directory (own)
+abbrev pub form_numbered : (word number : List ℕ) → Option FormState
+form_numbered word number =
+    if bytes_eq word (codes "load") then option_map loading (number_to MOST_ROUNDS number)
+    else (if bytes_eq word (codes "clerk") then option_map clerking_with (number_to MOST_KEPT number)
+    else (if bytes_eq word (codes "audit") then option_map auditing (number_to LAST_DIR number) else None))
 
 -- the form that the words of the command line name (own)
 abbrev pub form_of : List (List ℕ) → Option FormState
 form_of [] = None
 form_of (word ∷ []) = form_named word
-form_of (word ∷ number ∷ []) = load_named word number
+form_of (word ∷ number ∷ []) = form_numbered word number
 form_of (word ∷ number ∷ third ∷ words) = None
 
 -- what an input demands of a form that reads it, from its start. Of a form without input its text is due, whatever stands there (own)

@@ -2,6 +2,7 @@ pub mod LineStates
 pub mod Headline
 pub mod Demand
 pub mod TowerDemand
+pub mod AuditTexts
 pub mod WholeDemand
 pub mod PrivateSights
 pub mod Forms

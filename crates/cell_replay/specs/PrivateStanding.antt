@@ -6,10 +6,12 @@ use Rattle.waiting_replies.specs.LineEnds.{Ends}
 use Rattle.waiting_replies.specs.declared.replies.LineEnd.{LineEnd}
 use Rattle.cds_cell.specs.declared.cell.Cell.{Cell}
 use Rattle.cds_cell.specs.Standing.{Stands}
-use Rattle.cell_replay.specs.LineStates.{LineState, Replaying, Checking, Spelling, Response}
-use Rattle.cell_replay.specs.declared.limits.TheConstants.{MOST_ROUNDS}
+use Rattle.clerk_replies.specs.declared.replayer.ClerkReplayer.{ClerkReplayer}
+use Rattle.clerk_replies.specs.Standing as clerk
+use Rattle.cell_replay.specs.LineStates.{LineState, Replaying, Checking, Spelling, Inquiring, Clerking, Response}
+use Rattle.cell_replay.specs.declared.limits.TheConstants.{MOST_KEPT, MOST_ROUNDS}
 use Rattle.cell_replay.specs.WholeDemand.{Migrating}
-use Rattle.cell_replay.specs.Forms.{FormState, ByLines, ByTowers, ByWhole, loading, replaying}
+use Rattle.cell_replay.specs.Forms.{FormState, ByLines, ByTowers, ByWhole, auditing, clerking_with, inquiring_form, loading, replaying}
 use Rattle.cell_replay.specs.declared.check.Tally.{Tally}
 use Rattle.cell_replay.specs.declared.forms.Form.{Form}
 use Rattle.cell_replay.specs.declared.forms.Form.TheVariants as chosen
@@ -21,38 +23,54 @@ abbrev pub start_of : Form → FormState
 start_of chosen.Run = replaying
 start_of chosen.Check = ByLines (Checking 0 0)
 start_of (chosen.Load rounds) = loading rounds
+start_of (chosen.Clerk room) = clerking_with room
 start_of chosen.Towers = ByTowers
 start_of chosen.Untowers = ByLines Spelling
 start_of chosen.Migrate = ByWhole Migrating
+start_of chosen.Inquire = inquiring_form
+start_of (chosen.Audit dir) = auditing dir
 
--- a script has from 1 round to MOST_ROUNDS
+-- a script has from 1 round to MOST_ROUNDS, and a clerk room for 1 answer to MOST_KEPT
 abbrev pub IsForm : Form → Type 0
 IsForm (chosen.Load rounds) = (1 ≤ rounds) × (rounds ≤ MOST_ROUNDS)
+IsForm (chosen.Clerk room) = (1 ≤ room) × (room ≤ MOST_KEPT)
 IsForm _ = Unit {0}
 
 -- what the cell of `run` stands for
 abbrev pub StandsAt : Cell → LineState → Type 0
 StandsAt c (Replaying g) = Stands c g
-StandsAt c (Checking lines commands) = ⊥
-StandsAt c Spelling = ⊥
+StandsAt c other = ⊥
+
+-- what the cell of `inquire` stands for
+abbrev pub StandsAsked : Cell → LineState → Type 0
+StandsAsked c (Inquiring g) = Stands c g
+StandsAsked c other = ⊥
+
+-- what the cell and the clerk of `clerk` stand for
+abbrev pub ClerksAt : ClerkReplayer → LineState → Type 0
+ClerksAt r (Clerking s) = clerk.Stands r s
+ClerksAt r other = ⊥
 
 -- what is counted by `check`
 abbrev pub CountsTo : Tally → LineState → Type 0
-CountsTo t (Replaying g) = ⊥
 CountsTo t (Checking lines commands) = (t.lines ≡ lines) × (t.commands ≡ commands)
-CountsTo t Spelling = ⊥
+CountsTo t other = ⊥
 
 -- a form stands at this state
 abbrev pub IsAt : LineForm → LineState → Type 0
 IsAt (form.Run replayer) state = StandsAt replayer.cell state
 IsAt (form.Check tally) state = CountsTo tally state
 IsAt (form.Untowers speller) state = state ≡ Spelling
+IsAt (form.Inquire replayer) state = StandsAsked replayer.cell state
+IsAt (form.Clerk replayer) state = ClerksAt replayer state
 
 -- how many steps a form took, or lines it counted: none more than there were lines
 abbrev pub counted : LineForm → ℕ
 counted (form.Run replayer) = replayer.steps
 counted (form.Check tally) = tally.lines
 counted (form.Untowers speller) = 0
+counted (form.Inquire replayer) = replayer.steps
+counted (form.Clerk replayer) = replayer.replayer.steps
 
 -- the form goes on with the state behind the line
 abbrev pub Replies : LineEnd → Response → (waited waits : List ℕ) → LineForm → Type 0

@@ -7,12 +7,13 @@ use Rattle.cell_replay.specs.declared.whole.Said.{Said}
 use Rattle.cell_replay.specs.declared.whole.Said.TheVariants as said
 use Rattle.cell_replay.specs.declared.whole.Whole.{Whole}
 use Rattle.cell_replay.specs.declared.whole.Whole.TheVariants as whole
-use Rattle.cell_replay.specs.WholeDemand.{WholeTask, Migrating}
+use Rattle.cell_replay.specs.WholeDemand.{WholeTask, Migrating, Auditing}
 use Rattle.cell_replay.specs.PrivateEndings.{Finishes, Side}
 
 -- the form that is meant
 abbrev pub task_of : Whole → WholeTask
 task_of whole.Migrate = Migrating
+task_of (whole.Audit dir) = Auditing dir
 
 -- this is said of it
 abbrev pub IsSaid : Said → Result (List ℕ) (List ℕ) → Type 0

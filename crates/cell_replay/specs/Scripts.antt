@@ -8,8 +8,8 @@ use Rattle.cell_script.specs.Words.{words_of}
 use Rattle.cell_script.specs.Commands.{said_in}
 use Rattle.cell_replay.specs.Headline.{Converges, Finds}
 use Rattle.cell_replay.specs.Runs.{Run}
-use Rattle.line_replies.specs.Dialogues.{NumberedOf}
-use Rattle.line_replies.specs.Replies.{Numbered, transcript}
+use Rattle.line_replies.specs.Dialogues.{Dialogue, NumberedOf, transcript_by}
+use Rattle.line_replies.specs.Replies.{Numbered, running}
 
 -- lines, each with its end (own)
 abbrev pub text_of : List (List ℕ) → List ℕ
@@ -33,13 +33,17 @@ IsScriptOf says number (l ∷ ls) said = IsLine number l × Says number (says (w
 abbrev pub IsScript : ℕ → (lines : List (List ℕ)) → List Numbered → Type 0
 IsScript = IsScriptOf said_in
 
--- a script was read, and its transcript by the model was written, from a cell without houses on; and each skulk that the transcript tells complete
--- settles its directory (own, after C705, skulks)
-pub record IsReplay (run : Run) : Type 0 where
+-- a script was read, and its transcript by a form that answers line by line was written, from a state on (own)
+pub record IsReplayBy {S L : Type 0} (d : Dialogue S L) (s : S) (run : Run) : Type 0 where
   pub lines : List (List ℕ)
-  pub said : List Numbered
-  pub script : IsScript 1 lines said
+  pub said : List (NumberedOf L)
+  pub script : IsScriptOf d.says 1 lines said
   pub taken : Consumes run.left run.left' (text_of lines)
-  pub written : Appends run.held run.held' (transcript empty_cell said)
-  pub settled : Converges said
-  pub found : Finds said
+  pub written : Appends run.held run.held' (transcript_by d s said)
+
+-- the same by the model, from a cell without houses on; and each skulk that the transcript tells complete settles its directory
+-- (own, after C705, skulks)
+pub record IsReplay (run : Run) : Type 0 where
+  pub replay : IsReplayBy running empty_cell run
+  pub settled : Converges replay.said
+  pub found : Finds replay.said

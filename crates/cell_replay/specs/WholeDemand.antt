@@ -1,26 +1,39 @@
 -- What an input demands of a form that reads it whole and then says one thing (own).
-use Rattle.std.specs.Prelude.{ℕ, nat_lt, if◌then◌else◌, List, [], length, Ok, Err, Result}
+use Rattle.std.specs.Prelude.{ℕ, nat_lt, if◌then◌else◌, List, [], length, codes, Ok, Err, Result}
 use Rattle.record_fields.specs.declared.fault.RecordFault.{RecordFault}
 use Rattle.cds_records.specs.Migration.{migrated}
-use Rattle.cell_replay.specs.declared.limits.TheConstants.{MOST_WHOLE}
+use Rattle.script_answers.specs.Texts.{fault_text}
+use Rattle.image_audit.specs.declared.pair.PairFault.{PairFault}
+use Rattle.image_audit.specs.declared.verdict.Verdict.{Verdict}
+use Rattle.image_audit.specs.Pairs.{audited}
+use Rattle.cell_replay.specs.AuditTexts.{verdict_text, pair_fault_text}
+use Rattle.cell_replay.specs.declared.limits.TheConstants.{MOST_WHOLE, WHOLE_SIGHT}
 use Rattle.cell_replay.specs.Demand.{Demand, faulty_with, ends_with, cut_short_with}
 
--- what such a form does with its input: an image becomes one of format 2 (own)
+-- what such a form does with its input: an image becomes one of format 2, or a directory is audited in two images (own)
 pub data WholeTask : Type 0 where
   Migrating : WholeTask
+  Auditing : (dir : ℕ) → WholeTask
 
--- what is said of an input of too many octets: of one that is no image nothing (own)
+-- what is said of an input of too many octets: of one image nothing, and of two that the first is too long (own)
 abbrev pub too_long_text : WholeTask → List ℕ
 too_long_text Migrating = []
+too_long_text (Auditing dir) = fault_text 1 (codes "TooLong") WHOLE_SIGHT
 
 -- the octets of an image are the text; octets at fault have none (own)
 abbrev pub image_said : Result (List ℕ) RecordFault → Result (List ℕ) (List ℕ)
 image_said (Ok octets) = Ok octets
 image_said (Err fault) = Err []
 
+-- the line that an audit has, or that of the fault of an image (own)
+abbrev pub audit_said : (dir : ℕ) → Result Verdict PairFault → Result (List ℕ) (List ℕ)
+audit_said dir (Ok verdict) = Ok (verdict_text dir verdict)
+audit_said dir (Err fault) = Err (pair_fault_text fault)
+
 -- the text that is said of an input, or that of its fault (own)
 abbrev pub said_of : WholeTask → List ℕ → Result (List ℕ) (List ℕ)
 said_of Migrating octets = image_said (migrated octets)
+said_of (Auditing dir) octets = audit_said dir (audited octets (record { 0 = dir }))
 
 -- either is due where the input ends (own)
 abbrev pub told_whole : Result (List ℕ) (List ℕ) → Demand

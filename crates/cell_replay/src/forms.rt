@@ -1,20 +1,22 @@
 // The forms of the program, and what those that read lines make of a line.
 ghost use Rattle.std.specs.Prelude.{◌≡◌, ◌<◌, ◌≤◌, ℕ, [], ◌∷◌, ◌++◌, MatchOption, IfOk, IfSome, OnOk, OnErr, map, string_bytes};
-ghost use Rattle.cell_script.specs.Words.{words_of};
+ghost use Rattle.cell_script.specs.Words.{number_to, words_of};
 ghost use Rattle.cell_script.specs.Commands.{said_in};
 ghost use Rattle.cds_base.specs.declared.scan.TheConstants.{MOST_LINES};
 ghost use Rattle.std.specs.Option.{option_map};
 ghost use Rattle.cds_stamps.specs.Outcomes.{Answers};
 ghost use Rattle.cell_replay.specs.LineStates.{LineState, checked, response};
 ghost use Rattle.cell_replay.specs.Demand.{end_text, told_fault};
-ghost use Rattle.cell_replay.specs.Forms.{form_named, form_of, load_named};
+ghost use Rattle.cell_replay.specs.Forms.{form_named, form_numbered, form_of};
 ghost use Rattle.cell_replay.specs.PrivateStanding.{IsAt, IsForm, Replies, Counts, counted, has_command, start_of};
 
 use crate::check::Tally;
-use crate::limits::MOST_ROUNDS;
+use crate::limits::{LAST_DIR, MOST_KEPT, MOST_ROUNDS};
 use cds_base::LineFault;
 use cds_stamps::AllocOr;
 use cell_script::{ParseFault, number_up_to, parse_line};
+use clerk_replies::ClerkReplayer;
+use inquiry_replies::replay_inquiry;
 use line_replies::Replayer;
 use std::alloc::{AllocError, Global};
 use waiting_replies::{LineEnd, Speller, Waiting, print_line_fault, reply_to_fault};
@@ -26,9 +28,14 @@ pub(crate) enum Form {
     Check,
     /// So many rounds.
     Load(u32),
+    /// So many answers that are kept.
+    Clerk(u32),
     Towers,
     Untowers,
     Migrate,
+    Inquire,
+    /// Of this directory.
+    Audit(u32),
 }
 
 /// A form that reads lines, in its state between two of them.
@@ -37,6 +44,8 @@ pub(crate) enum LineForm {
     Run(Replayer),
     Check(Tally),
     Untowers(Speller),
+    Inquire(Replayer),
+    Clerk(ClerkReplayer),
 }
 
 /// The form that the words of the command line name.
@@ -46,7 +55,7 @@ pub(crate) fn form_in(words: &[String]) -> Option<Form>
 {
     match words {
         [word] => form_by_name(word),
-        [word, number] => load_by_name(word, number),
+        [word, number] => form_by_number(word, number),
         _ => None,
     }
 }
@@ -61,20 +70,40 @@ fn form_by_name(word: &String) -> Option<Form>
         "towers" => Some(Form::Towers),
         "untowers" => Some(Form::Untowers),
         "migrate" => Some(Form::Migrate),
+        "inquire" => Some(Form::Inquire),
         _ => None,
     }
 }
 
-fn load_by_name(word: &String, number: &String) -> Option<Form>
-    ensures form { load_named (string_bytes word.now) (string_bytes number.now) ≡ option_map start_of result }
+fn form_by_number(word: &String, number: &String) -> Option<Form>
+    ensures form { form_numbered (string_bytes word.now) (string_bytes number.now) ≡ option_map start_of result }
     ensures sound { IfSome result IsForm }
 {
     match word.as_str() {
-        "load" => match number_up_to(number.as_bytes(), u64::from(MOST_ROUNDS)) {
-            Some(rounds) => Some(Form::Load(rounds as u32)),
+        "load" => match number_in(number, MOST_ROUNDS) {
+            Some(rounds) => Some(Form::Load(rounds)),
+            None => None,
+        },
+        "clerk" => match number_in(number, MOST_KEPT) {
+            Some(room) => Some(Form::Clerk(room)),
+            None => None,
+        },
+        "audit" => match number_in(number, LAST_DIR) {
+            Some(dir) => Some(Form::Audit(dir)),
             None => None,
         },
         _ => None,
+    }
+}
+
+// The number that a word says, from 1 to the most.
+fn number_in(word: &String, most: u32) -> Option<u32>
+    ensures number { number_to most (string_bytes word.now) ≡ result }
+    ensures sound { IfSome result (λ n. (1 ≤ n) × (n ≤ most)) }
+{
+    match number_up_to(word.as_bytes(), u64::from(most)) {
+        Some(number) => Some(number as u32),
+        None => None,
     }
 }
 
@@ -96,6 +125,8 @@ impl LineForm {
             LineForm::Run(replayer) => replayer.replay_line(alloc, number, line, waiting),
             LineForm::Check(tally) => check_line(alloc, tally, number, line, waiting),
             LineForm::Untowers(speller) => speller.spell_line(alloc, line, waiting),
+            LineForm::Inquire(replayer) => replay_inquiry(alloc, replayer, number, line, waiting),
+            LineForm::Clerk(replayer) => replayer.replay_line(alloc, number, line, waiting),
         }
     }
 
@@ -107,6 +138,8 @@ impl LineForm {
             LineForm::Run(_) => Ok(Vec::new(alloc)),
             LineForm::Check(tally) => tally.print(alloc),
             LineForm::Untowers(_) => Ok(Vec::new(alloc)),
+            LineForm::Inquire(_) => Ok(Vec::new(alloc)),
+            LineForm::Clerk(_) => Ok(Vec::new(alloc)),
         }
     }
 
@@ -117,7 +150,9 @@ impl LineForm {
         match self {
             LineForm::Run(_) => print_line_fault(alloc, fault),
             LineForm::Check(_) => print_line_fault(alloc, fault),
+            LineForm::Clerk(_) => print_line_fault(alloc, fault),
             LineForm::Untowers(_) => Ok(Vec::new(alloc)),
+            LineForm::Inquire(_) => print_line_fault(alloc, fault),
         }
     }
 }

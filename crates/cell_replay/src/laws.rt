@@ -6,16 +6,21 @@ ghost use Rattle.cell_model.specs.Reached.{IsReached};
 ghost use Rattle.tower_codec.specs.declared.binding.StringBinding.{StringBinding};
 ghost use Rattle.tower_codec.specs.declared.rpc.Interface.{Interface};
 ghost use Rattle.ns_commands.specs.Asks.{add_element, add_member, delete_element, delete_member, export, unexport};
+ghost use Rattle.script_forms.specs.declared.inquire_line.InquireLine.{InquireLine};
+ghost use Rattle.script_forms.specs.InquireLines.{inquired_in};
+ghost use Rattle.inquiry_replies.specs.Inquiring.{inquiring};
+ghost use Rattle.clerk_replies.specs.Clerking.{Clerked, clerking};
+ghost use Rattle.line_replies.specs.Dialogues.{NumberedOf, transcript_by};
 ghost use Rattle.line_replies.specs.Replies.{LacksStampsAlone, Numbered, transcript, trusted};
 ghost use Rattle.cell_replay.specs.Demand.{Demand, Sound, Faulty, demanded, whole};
-ghost use Rattle.cell_replay.specs.LineStates.{Replaying, Spelling};
+ghost use Rattle.cell_replay.specs.LineStates.{Clerking, Inquiring, Replaying, Spelling};
 ghost use Rattle.cell_replay.specs.Forms.{FormState, ByLines, ByTowers, Demands};
 ghost use Rattle.cell_replay.specs.Runs.{Ended, IsFront, NoCallFailed, Run};
 ghost use Rattle.cell_replay.specs.declared.endings.Status.{Status as Status'};
 ghost use Rattle.cds_base.specs.Counts.{Rose};
-ghost use Rattle.cell_replay.specs.Scripts.{IsScript, text_of};
+ghost use Rattle.cell_replay.specs.Scripts.{IsScript, IsScriptOf, text_of};
 
-use crate::limits::{MOST_ROUNDS, MOST_TOWERS, MOST_WHOLE, TOWER_SIGHT, WHOLE_SIGHT};
+use crate::limits::{MOST_KEPT, MOST_ROUNDS, MOST_TOWERS, MOST_WHOLE, TOWER_SIGHT, WHOLE_SIGHT};
 use cds_cell::laws::{asked_houses_accept, masters_refuse_for_stamps_alone};
 use cell_model::holdings;
 use line_replies::MOST_UPDATES;
@@ -26,14 +31,22 @@ use waiting_replies::{LONGEST_TOWER, MOST_WAITING};
 
 /// A script demands its transcript by the model, and nothing else.
 pub fn scripts_demand_transcripts()
-    ensures { (g : Cell) (lines : List (List ℕ)) (said : List Numbered) → IsScript 1 lines said
+    ensures run { (g : Cell) (lines : List (List ℕ)) (said : List Numbered) → IsScript 1 lines said
         → demanded (Replaying g) (text_of lines) ≡ whole (transcript g said) }
+    ensures inquire { (g : Cell) (lines : List (List ℕ)) (said : List (NumberedOf InquireLine)) → IsScriptOf inquired_in 1 lines said
+        → demanded (Inquiring g) (text_of lines) ≡ whole (transcript_by inquiring g said) }
+    ensures clerk { (s : Clerked) (lines : List (List ℕ)) (said : List Numbered) → IsScript 1 lines said
+        → demanded (Clerking s) (text_of lines) ≡ whole (transcript_by clerking s said) }
 {}
 
 /// An input in which nothing is faulty is a script.
 pub fn inputs_without_faults_are_scripts()
-    ensures { (g : Cell) (octets : List ℕ) → (demanded (Replaying g) octets).verdict ≡ Sound → (lines : List (List ℕ)) × (said : List Numbered)
-        × (octets ≡ text_of lines) × IsScript 1 lines said }
+    ensures run { (g : Cell) (octets : List ℕ) → (demanded (Replaying g) octets).verdict ≡ Sound
+        → (lines : List (List ℕ)) × (said : List Numbered) × (octets ≡ text_of lines) × IsScript 1 lines said }
+    ensures inquire { (g : Cell) (octets : List ℕ) → (demanded (Inquiring g) octets).verdict ≡ Sound
+        → (lines : List (List ℕ)) × (said : List (NumberedOf InquireLine)) × (octets ≡ text_of lines) × IsScriptOf inquired_in 1 lines said }
+    ensures clerk { (s : Clerked) (octets : List ℕ) → (demanded (Clerking s) octets).verdict ≡ Sound
+        → (lines : List (List ℕ)) × (said : List Numbered) × (octets ≡ text_of lines) × IsScript 1 lines said }
 {}
 
 /// Octets demand one thing of a form: they demand something, and nothing else. So it counts for nothing in
@@ -85,7 +98,7 @@ pub fn name_commands_lack_stamps_alone()
     profile_updates_are_accepted();
 }
 
-/// The limits of towers, of whole inputs, of updates, of the replies that wait, and of the rounds of `load`. A tower is looked at up to one octet more than it may have.
+/// The limits of towers, of whole inputs, of updates, of the replies that wait, of the rounds of `load`, and of the answers of `clerk`. A tower is looked at up to one octet more than it may have.
 pub fn limits_of_towers()
     ensures longest { LONGEST_TOWER ≡ 1024 }
     ensures sight { TOWER_SIGHT ≡ LONGEST_TOWER + 1 }
@@ -93,6 +106,7 @@ pub fn limits_of_towers()
     ensures updates { MOST_UPDATES ≡ 3 * 2 ^ 30 }
     ensures waiting { MOST_WAITING ≡ 65536 }
     ensures rounds { MOST_ROUNDS ≡ 20000 }
+    ensures kept { MOST_KEPT ≡ 1000 }
     ensures whole { MOST_WHOLE ≡ 16777216 }
     ensures whole_sight { WHOLE_SIGHT ≡ MOST_WHOLE + 1 }
 {}

@@ -1,6 +1,8 @@
-//! The forms of the program: a script replayed over one cell or checked, a script that is made, and towers as octets and as text.
+//! The forms of the program: a script replayed over one cell or checked, a script that is made, towers as octets and as text, and
+//! images in format 2 or audited.
 #![tactic(auto)]
 
+mod audits;
 mod check;
 mod endings;
 mod forms;
@@ -12,6 +14,8 @@ mod towers;
 mod whole;
 
 pub use endings::Status;
-pub use limits::{MOST_ROUNDS, MOST_TOWERS, MOST_WHOLE, TOWER_SIGHT, WHOLE_SIGHT};
+pub use limits::{
+    LAST_DIR, MOST_KEPT, MOST_ROUNDS, MOST_TOWERS, MOST_WHOLE, TOWER_SIGHT, WHOLE_SIGHT,
+};
 pub use replay::run;
 pub use waiting_replies::{LONGEST_TOWER, MOST_WAITING};

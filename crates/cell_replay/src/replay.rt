@@ -1,13 +1,17 @@
 // The run over a source and a sink.
-ghost use Rattle.std.specs.Prelude.{◌≡◌, ◌≢◌, ◌↔◌, None, Some, IfSome, map, string_bytes};
+ghost use Rattle.std.specs.Prelude.{◌≡◌, ◌≢◌, ◌≤◌, ◌↔◌, ℕ, None, Some, IfSome, map, string_bytes};
 ghost use Rattle.cds_base.specs.Lines.{IsFresh};
+ghost use Rattle.clerk_replies.specs.Clerking.{clerking, start};
 ghost use Rattle.cell_replay.specs.LineStates.{LineState};
 ghost use Rattle.cell_replay.specs.Demand.{end_text, told_fault};
-ghost use Rattle.cell_replay.specs.Forms.{ByLines, form_of, replaying};
-ghost use Rattle.cell_replay.specs.Scripts.{IsReplay};
+ghost use Rattle.cell_model.specs.Cells.{empty_cell};
+ghost use Rattle.inquiry_replies.specs.Inquiring.{inquiring};
+ghost use Rattle.cell_replay.specs.Forms.{ByLines, clerking_with, form_of, inquiring_form, replaying};
+ghost use Rattle.cell_replay.specs.Scripts.{IsReplay, IsReplayBy};
 ghost use Rattle.cell_replay.specs.Runs.{Ended, ReadsNothing, run_of};
 ghost use Rattle.cell_replay.specs.PrivateStanding.{IsAt, IsForm, counted, start_of};
 ghost use Rattle.cell_replay.specs.PrivateEndings.{StopsWith, side_of};
+ghost use Rattle.cell_replay.specs.declared.limits.TheConstants.{MOST_KEPT};
 
 use crate::check::Tally;
 use crate::endings::{Status, finish, stop_with};
@@ -16,6 +20,7 @@ use crate::load::load;
 use crate::towers::print_towers;
 use crate::whole::{Whole, say_whole};
 use cds_base::{LineFault, Lines, Sink, Source};
+use clerk_replies::ClerkReplayer;
 use line_replies::Replayer;
 use std::alloc::{AllocError, Global};
 use waiting_replies::{LineEnd, Speller, Waiting};
@@ -104,6 +109,24 @@ fn serve_lines<S: Source, K: Sink>(
     }
 }
 
+/// Answers the lines of the source, with a clerk that keeps so many answers.
+fn serve_by_clerk<S: Source, K: Sink>(
+    alloc: Global,
+    room: u32,
+    source: &mut S,
+    sink: &mut K,
+) -> Status
+    requires least { 1 ≤ room }
+    requires most { room ≤ MOST_KEPT }
+    ensures { Ended (clerking_with room)
+        (run_of S.left S.faults K.written K.faults source.old source.new sink.old sink.new) result }
+{
+    match ClerkReplayer::new(alloc, room as usize) {
+        Ok(replayer) => serve_lines(alloc, LineForm::Clerk(replayer), source, sink),
+        Err(AllocError) => Status::OutOfMemory,
+    }
+}
+
 /// The work of a form.
 fn serve<S: Source, K: Sink>(alloc: Global, form: Form, source: &mut S, sink: &mut K) -> Status
     requires { IsForm form }
@@ -115,12 +138,15 @@ fn serve<S: Source, K: Sink>(alloc: Global, form: Form, source: &mut S, sink: &m
         Form::Run => serve_lines(alloc, LineForm::Run(Replayer::new(alloc)), source, sink),
         Form::Check => serve_lines(alloc, LineForm::Check(Tally::new()), source, sink),
         Form::Load(rounds) => load(alloc, rounds, sink),
+        Form::Clerk(room) => serve_by_clerk(alloc, room, source, sink),
         Form::Towers => print_towers(alloc, source, sink),
         Form::Migrate => say_whole(alloc, Whole::Migrate, source, sink),
+        Form::Audit(dir) => say_whole(alloc, Whole::Audit(dir), source, sink),
         Form::Untowers => match Speller::new(alloc) {
             Ok(speller) => serve_lines(alloc, LineForm::Untowers(speller), source, sink),
             Err(AllocError) => Status::OutOfMemory,
         },
+        Form::Inquire => serve_lines(alloc, LineForm::Inquire(Replayer::new(alloc)), source, sink),
     }
 }
 
@@ -138,6 +164,11 @@ pub fn run<S: Source, K: Sink>(
         (run_of S.left S.faults K.written K.faults source.old source.new sink.old sink.new) result) }
     ensures transcript { form_of (map string_bytes words.now) ≡ Some replaying → result ≡ Status.Ok
         → IsReplay (run_of S.left S.faults K.written K.faults source.old source.new sink.old sink.new) }
+    ensures inquired { form_of (map string_bytes words.now) ≡ Some inquiring_form → result ≡ Status.Ok → IsReplayBy inquiring empty_cell
+        (run_of S.left S.faults K.written K.faults source.old source.new sink.old sink.new) }
+    ensures clerked { (room : ℕ) → form_of (map string_bytes words.now) ≡ Some (clerking_with room) → result ≡ Status.Ok
+        → IsReplayBy clerking (start room)
+        (run_of S.left S.faults K.written K.faults source.old source.new sink.old sink.new) }
 {
     match form_in(words) {
         Some(form) => serve(alloc, form, source, sink),

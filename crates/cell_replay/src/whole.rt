@@ -1,22 +1,27 @@
 // The forms that read their whole input and then say one thing.
-ghost use Rattle.std.specs.Prelude.{◌≡◌, [], IfOk};
+ghost use Rattle.std.specs.Prelude.{◌≡◌, [], IfOk, Err};
 ghost use Rattle.cell_replay.specs.Forms.{ByWhole};
-ghost use Rattle.cell_replay.specs.WholeDemand.{Migrating, said_of, too_long_text};
+ghost use Rattle.cell_replay.specs.WholeDemand.{Migrating, Auditing, said_of, too_long_text};
 ghost use Rattle.cell_replay.specs.Runs.{Ended, run_of};
 ghost use Rattle.cell_replay.specs.PrivateEndings.{Finishes, side_of};
 ghost use Rattle.cell_replay.specs.PrivateWholes.{IsSaid, SaysEnd, task_of};
 
+use crate::audits::{print_pair_fault, print_verdict};
 use crate::endings::Status;
 use crate::limits::WHOLE_SIGHT;
 use cds_base::{Sink, Source, Window, put_all};
 use cds_records::migrate_image;
-use cds_stamps::AllocOr;
+use cds_stamps::{AllocOr, DirId};
+use image_audit::audit_octets;
+use script_answers::print_fault;
 use std::alloc::{AllocError, Global};
 
 /// What is made of a whole input.
 #[derive(Clone, Copy, Debug, PartialEq, Eq)]
 pub(crate) enum Whole {
     Migrate,
+    /// Of this directory.
+    Audit(u32),
 }
 
 /// What is said of a whole input: a text, or that of its fault.
@@ -37,21 +42,34 @@ fn migrate(alloc: Global, octets: &[u8]) -> Result<Said, AllocError>
     }
 }
 
+// What an audit of a directory in two images tells, or the fault of one of them.
+fn audit(alloc: Global, dir: u32, octets: &[u8]) -> Result<Said, AllocError>
+    ensures { IfOk result (λ said. IsSaid said (said_of (Auditing dir) octets.now)) }
+{
+    match audit_octets(alloc, octets, DirId(dir)) {
+        Ok(verdict) => Ok(Said::Text(print_verdict(alloc, dir, &verdict)?)),
+        Err(AllocOr::Fault(fault)) => Ok(Said::Fault(print_pair_fault(alloc, fault)?)),
+        Err(AllocOr::OutOfMemory) => Err(AllocError),
+    }
+}
+
 // What is said of the whole input.
 fn say(alloc: Global, whole: Whole, octets: &[u8]) -> Result<Said, AllocError>
     ensures { IfOk result (λ said. IsSaid said (said_of (task_of whole) octets.now)) }
 {
     match whole {
         Whole::Migrate => migrate(alloc, octets),
+        Whole::Audit(dir) => audit(alloc, dir, octets),
     }
 }
 
 // What is said of an input of too many octets.
-fn too_long(alloc: Global, whole: Whole) -> Vec<u8>
-    ensures { result.items ≡ too_long_text (task_of whole) }
+fn too_long(alloc: Global, whole: Whole) -> Result<Said, AllocError>
+    ensures { IfOk result (λ said. IsSaid said (Err (too_long_text (task_of whole)))) }
 {
     match whole {
-        Whole::Migrate => Vec::new(alloc),
+        Whole::Migrate => Ok(Said::Fault(Vec::new(alloc))),
+        Whole::Audit(_) => Ok(Said::Fault(print_fault(alloc, 1, "TooLong", WHOLE_SIGHT)?)),
     }
 }
 
@@ -91,7 +109,7 @@ fn read_whole<S: Source, K: Sink>(
 {
     match window.fill(source) {
         Ok(true) => end_saying(say(alloc, whole, window.octets()), sink),
-        Ok(false) => end_with(too_long(alloc, whole), sink, Status::BadInput),
+        Ok(false) => end_saying(too_long(alloc, whole), sink),
         Err(_) => Status::ReadFault,
     }
 }

@@ -1,4 +1,4 @@
-use Rattle.cell_replay.specs.LineStates.{Checking, Spelling, Replaying}
+use Rattle.cell_replay.specs.LineStates.{Checking, Spelling, Inquiring, Replaying}
 use Rattle.cell_model.specs.Cells.{empty_cell}
 use Rattle.cell_replay.specs.PrivateEndings.{side_of}
 use Rattle.cell_replay.proofs.Turns.{unread_lines}
@@ -13,5 +13,11 @@ returns-in-Check-clause-ends g c = rw c.in-Check.is (c.serve_lines-in-Check.ensu
 pub returns-in-Load-clause-ends : goal.returns-in-Load-clause-ends
 returns-in-Load-clause-ends g c = rw c.in-Load.is (c.load.ensures (side_of g.S.Source.left g.S.Source.faults c.args.source.now))
 
+pub returns-in-Clerk-clause-ends : goal.returns-in-Clerk-clause-ends
+returns-in-Clerk-clause-ends g c = rw c.in-Clerk.is c.serve_by_clerk.ensures
+
 pub returns-in-Err-clause-ends : goal.returns-in-Err-clause-ends
 returns-in-Err-clause-ends g c = rw c.in-Untowers.is (unread_lines Spelling _ _ _ _)
+
+pub returns-in-Inquire-clause-ends : goal.returns-in-Inquire-clause-ends
+returns-in-Inquire-clause-ends g c = rw c.in-Inquire.is (c.serve_lines-in-Inquire.ensures (Inquiring empty_cell) c.new-in-Inquire.ensures.cell)

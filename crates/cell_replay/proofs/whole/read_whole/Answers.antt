@@ -1,6 +1,6 @@
 use Rattle.std.proofs.Common.{◌∙◌, arith}
 use Rattle.cell_replay.specs.PrivateWholes.{task_of}
-use Rattle.cell_replay.proofs.WholeTurns.{has_few, read_from_none, saying_ends, whole_unread}
+use Rattle.cell_replay.proofs.WholeTurns.{has_few, has_many, not_true, read_from_none, saying_ends, too_long_said, whole_unread}
 use Rattle.cell_replay.proofs.whole.read_whole.Goals as goal
 
 pub returns-in-Ok-true : goal.returns-in-Ok-true
@@ -18,3 +18,11 @@ returns g c =
     whole_unread (task_of c.args.whole) _ _ _ c.fill.new.self.octets (read_from_none _ _ _ _ c.requires.empty failed.reads)
     (omega (arith, failed.within, failed.room, c.requires.room)) (omega (arith, failed.err, failed.room, c.requires.room)) _ _ _
     failed.cause.failed
+
+pub returns-in-Ok-false : goal.returns-in-Ok-false
+returns-in-Ok-false g c =
+    let filled = c.in-Ok-false.ensures in
+    too_long_said (task_of c.args.whole) _ _ _ c.fill.new.self.octets (read_from_none _ _ _ _ c.requires.empty filled.reads)
+    (omega (arith, filled.within, filled.room, c.requires.room)) c.too_long.result c.too_long.ensures
+    (has_many _ _ _ (not_true _ c.in-Ok-false.field-0-test) filled.short (filled.room ∙ c.requires.room)) _ _ _ _ _ _ filled.cause.answered
+    c.end_saying-in-Ok-false.ensures
