@@ -17,7 +17,16 @@
     generate.py deaths N     N entries at three houses, each created and deleted, with a skulk each thousand lines
     generate.py exports N    N servers, each exported with three bindings and an object
     generate.py imports N    a profile of 200 elements over 50 groups of 200 members, and N imports from it
+    generate.py lookups N    the same, but N lookups in batches of 1, 10 and 65,535, for the form `inquire`
+    generate.py inquiries N  a profile of 5,000 elements, and N inquiries for them by each kind, for the form `inquire`
+    generate.py cached N     200 entries at two houses, and N reads at low confidence in mixed order, for the form `clerk 1000`
+    generate.py crowded N    the same of 2,000 entries, of which few fit into the room of the clerk
+    generate.py journals N   N updates of a house of 100 entries, of which each hundredth is stopped, for the form `journal`
+    generate.py idle N       two houses of 100 entries, and N commands that change nothing of them, for the form `journal`
+    generate.py mends N      a cell of 64 houses in trouble, N lines, for the program `cdsmend`
     generate.py migrate N    the image, in format 1, of a house with N entries of four values each, for the form `migrate`
+    generate.py audits N     two such images, of N entries each, of houses that agree, for the form `audit 1`
+    generate.py differing N  the same, but that the last value of the second one is missing in the first
     generate.py script N     the script of the form `load` with N rounds, as text; `loads N` is the same
 
 The same kind and size is the same input, always.
@@ -258,7 +267,8 @@ def elements():
         yield f"default {member} 8 -"
 
 
-def imports(count):
+def searched():
+    """A cell to search in, with the profile at its root."""
     yield from houses(1)
     yield "mkdir 1 1 servers 1\nmkdir 1 1 aliases 1\nmkdir 1 1 groups 1\n"
     for i in mixed(SERVERS):
@@ -270,8 +280,97 @@ def imports(count):
             yield f"groupadd /.:/groups/group-{group:02} /.:/{member}\n"
     for element in elements():
         yield f"profadd /.:/profile {element}\n"
+
+
+def imports(count):
+    yield from searched()
     for i in range(count):
         yield f"import 1 {'high' if i % 2 else 'low'} /.:/profile {interface(i % 10)}:1.1 - ncacn_ip_tcp,ncadg_ip_udp\n"
+
+
+def lookups(count):
+    yield from searched()
+    for i in range(count):
+        asked = f"{interface(i % 10)}:1.1 - ncacn_ip_tcp,ncadg_ip_udp {(1, 10, 65_535)[i % 3]}"
+        yield f"lookup 1 {'high' if i % 2 else 'low'} /.:/profile {asked}\n"
+
+
+def inquiries(count):
+    yield from houses(1)
+    for i in mixed(5_000):
+        # Of ten interfaces, in ten versions, at fifty members; each hundredth is for any interface.
+        asked, priority = (f"{interface(i % 10)}:{i // 10 % 5}.{i // 50 % 2}", i % 8) if i % 100 else ("default", 8)
+        yield f"profadd /.:/profile {asked} /.:/member-{i % 50:02} {priority} note-{i:04}\n"
+    for i in range(count):
+        asked, member = f"{interface(i % 9)}:{i % 5}.1", f"/.:/member-{i % 50:02}"
+        version = ("all", "compatible", "exact", "major_only", "upto")[i // 7 % 5]
+        choices = ("all - all -", "default - all -", f"byif {asked} {version} -", f"bymbr - all {member}", f"byboth {asked} {version} {member}")
+        yield f"proflist 1 low /.:/profile {choices[i % 5]}\n"
+
+
+def reads(names, count):
+    """So many entries at two houses, each with a value, and reads of them that look random."""
+    yield "house 1 00000000000a\nhouse 2 00000000000b\nroot 1 2\ndeliver 1\n"
+    serial = 2
+    for i in mixed(names):
+        yield f"create 1 1 entry-{i:04}\nadd 1 1 entry-{i:04} Attribute {i:08x}\n"
+        yield from delivered(range(serial, serial + 2), 1)
+        serial += 2
+    random = pseudorandom(count)
+    for i in range(count):
+        yield f"read {i % 2 + 1} low /.:/entry-{next(random) % names:04} Attribute\n"
+
+
+def journals(count):
+    yield "house 1 00000000000a\nroot 1\n"
+    for i in mixed(100):
+        yield f"create 1 1 entry-{i:02}\nadd 1 1 entry-{i:02} Attribute {i:08x}\n"
+    random = pseudorandom(count)
+    for at in range(1, count + 1):
+        x = next(random)
+        update = f"{'add' if x & 3 else 'remove'} 1 1 entry-{x >> 4:02} Attribute {x >> 4:08x}" if x >> 4 < 100 else f"put 1 1 entry-{x % 100:02} B {x % 4:02x}"
+        if at % 100:
+            yield f"{update}\n"
+        else:
+            yield f"stop 1 {at // 100 % 4 + 1} {('keep', 'drop', 'torn')[at // 400 % 3]} {update}\nstart 1\n"
+        if at % 1_000 == 0:
+            yield "skulk 1 1\nimage 1\n"
+
+
+def idle(count):
+    yield "house 1 00000000000a\nhouse 2 00000000000b\nroot 1 2\ndeliver 1\n"
+    for at, i in enumerate(mixed(100)):
+        yield f"create 1 1 entry-{i:02}\nadd 1 1 entry-{i:02} Attribute {i:08x}\n"
+        yield f"deliver {2 * at + 2}\ndeliver {2 * at + 3}\n"
+    for i in range(count):
+        yield (f"deliver {i % 200 + 2}\n", f"create 1 1 entry-{i % 100:02}\n", f"add 2 1 entry-{i % 100:02} Attribute 01\n", "clock 1 0\n")[i % 4]
+
+
+def mends(count):
+    """House 1 is the master, 2 to 8 are secondary, and 9 to 64 read-only. Joins were lost or wait; houses are down; a skulk waits for them."""
+    for house in range(1, 65):
+        yield f"house {house} {house:012x}\n"
+    listed = " ".join([*(f"s{it}" for it in range(2, 9)), *map(str, range(9, 65))])
+    yield f"root 1 {listed}\n"
+    # The first sixteen Joins come through.
+    for serial in range(1, 17):
+        yield f"deliver {serial}\n"
+    for serial in range(41, 49):
+        yield f"lose {serial}\n"
+    lines = 64 + 1 + 16 + 8
+    yield "create 1 1 entry-00\nepoch 1 1 " + listed + "\nskulk 1 1\n"
+    lines += 3
+    # Behind the Joins of both epochs and the first update stand the Gathers of the skulk.
+    for serial in range(63 * 3 + 1, 63 * 3 + 21):
+        yield f"deliver {serial}\n"
+    lines += 20
+    for house in range(20, 60, 4):
+        yield f"crash {house}\n"
+    lines += 10
+    # Each of the houses that accept updates makes entries and adds values to them.
+    for i in range(max(count - lines, 0)):
+        entry = f"{i % 8 + 1} 1 entry-{i % 8}-{i // 32:04}"
+        yield f"create {entry}\n" if i // 8 % 4 == 0 else f"add {entry} Attribute {i:08x}\n"
 
 
 def script(count):
@@ -332,17 +431,30 @@ def stamp(time):
     return time.to_bytes(8, "big") + bytes.fromhex("00000000000a")
 
 
-def migrate(count):
-    """An entry in each piece, the first one behind the head of the image. The house is the only member, and has no AllUpTo."""
-    member = b"\x01\x01" + (1).to_bytes(8, "big") + b"\x01"
-    head = b"\x01\x09\x01" + bytes.fromhex("00000000000a") + (5 * count).to_bytes(8, "big") + (1).to_bytes(8, "big") + (1).to_bytes(4, "big")
-    head += b"\x01" + (1).to_bytes(8, "big") + member + b"\0" + count.to_bytes(8, "big")
+def image(octets_of_format, count, all_up_to=b"\0", house=1, lacks=0):
+    """An entry in each piece, the first one behind the head of the image. The house is the only member. The last one lacks values."""
+    member = b"\x01" + bytes([house]) + (1).to_bytes(8, "big") + b"\x01"
+    head = octets_of_format + b"\x09" + bytes([house]) + bytes.fromhex("00000000000a") + (5 * count).to_bytes(8, "big")
+    head += (1).to_bytes(8, "big") + (1).to_bytes(4, "big")
+    head += b"\x01" + (1).to_bytes(8, "big") + member + all_up_to + count.to_bytes(8, "big")
     for i in range(count):
+        values = 4 - lacks if i + 1 == count else 4
         name, time = f"entry-{i:08}".encode(), 5 * i + 1
         entry = len(name).to_bytes(1, "big") + name + b"\x01" + stamp(time) + b"\0" + (1).to_bytes(8, "big")
-        entry += b"\x09Attribute\0" + (4).to_bytes(8, "big")
-        marks = (b"\0\x04" + (4 * i + j).to_bytes(4, "big") + b"\x01" + stamp(time + 1 + j) for j in range(4))
+        entry += b"\x09Attribute\0" + values.to_bytes(8, "big")
+        marks = (b"\0\x04" + (4 * i + j).to_bytes(4, "big") + b"\x01" + stamp(time + 1 + j) for j in range(values))
         yield (b"" if i else head) + entry + b"".join(marks)
+
+
+def migrate(count):
+    return image(b"\x01", count)
+
+
+def audits(count, lacks=0):
+    """Two images of houses whose AllUpTo is behind all that they hold."""
+    all_up_to = b"\x01" + stamp(5 * count + 1)
+    yield from image(b"\x01", count, all_up_to, lacks=lacks)
+    yield from image(b"\x01", count, all_up_to, house=2)
 
 
 def encoded(texts):
@@ -366,7 +478,16 @@ KINDS = {
     "deaths": lambda count: encoded(deaths(count)),
     "exports": lambda count: encoded(exports(count)),
     "imports": lambda count: encoded(imports(count)),
+    "lookups": lambda count: encoded(lookups(count)),
+    "inquiries": lambda count: encoded(inquiries(count)),
+    "cached": lambda count: encoded(reads(200, count)),
+    "crowded": lambda count: encoded(reads(2_000, count)),
+    "journals": lambda count: encoded(journals(count)),
+    "idle": lambda count: encoded(idle(count)),
+    "mends": lambda count: encoded(mends(count)),
     "migrate": migrate,
+    "audits": audits,
+    "differing": lambda count: audits(count, lacks=1),
     "script": lambda count: encoded(script(count)),
     "loads": lambda count: encoded(script(count)),
 }
@@ -386,7 +507,7 @@ def write(kind, count, out):
 
 
 def items_in(kind, piece):
-    return len(piece) if kind in ("towers", "migrate") else sum(text.count(b"\n") for text in piece)
+    return len(piece) if kind in ("towers", "migrate", "audits", "differing") else sum(text.count(b"\n") for text in piece)
 
 
 def main():

@@ -4,7 +4,8 @@
     measure.py [--runs K] [--divide D] [--instructions E] [--kinds KIND,KIND] NAME=PROGRAM [NAME=PROGRAM ..]
 
 Each PROGRAM is run as `PROGRAM FORM`, with the input on its standard input, K times (3); one run at a time. The form is
-`run`, or that of the kind's name, as `towers`; of `loads` it is `load N`, which reads nothing. For each input and each program one line tells the number of lines or towers of
+`run`, or that of the kind, as `towers`; of `loads` it is `load N`, which reads nothing; of `mends` it is `1` for a program whose
+file is named `cdsmend`, which mends directory 1, and whose answers are not compared with those of others. For each input and each program one line tells the number of lines or towers of
 the input, the seconds of the fastest run, the lines or towers and the MB that it took in one second, the processor time of
 that run, and the greatest peak of memory of its runs in KiB. The programs have to give the same answers and status 0; if not,
 it says so and ends with status 1. D divides the sizes of the inputs.
@@ -44,17 +45,34 @@ SIZES = {
     "deaths": 100_000,
     "exports": 100_000,
     "imports": 200,
+    "lookups": 200,
+    "inquiries": 1_000,
+    "cached": 200_000,
+    "crowded": 200_000,
+    "journals": 20_000,
+    "idle": 10_000,
+    "mends": 1_000,
     "migrate": 115_000,
+    "audits": 57_500,
+    "differing": 57_500,
     "script": 20_000,
     "loads": 20_000,
 }
-FORMS = {it: [it] for it in ("check", "towers", "untowers", "migrate")}
+FORMS = {
+    **{it: [it] for it in ("check", "towers", "untowers", "migrate")},
+    **dict.fromkeys(["lookups", "inquiries"], ["inquire"]),
+    **dict.fromkeys(["cached", "crowded"], ["clerk", "1000"]),
+    **dict.fromkeys(["journals", "idle"], ["journal"]),
+    **dict.fromkeys(["audits", "differing"], ["audit", "1"]),
+}
 # GNU time has a small peak of its own; this process would lend its children a greater one.
 TIME = shutil.which("time")
 
 
-def form_of(kind, size):
+def form_of(kind, size, program):
     """The words behind the program's name."""
+    if kind == "mends" and os.path.basename(program) == "cdsmend":
+        return ["1"]
     return ["load", str(size)] if kind == "loads" else FORMS.get(kind, ["run"])
 
 
@@ -93,7 +111,7 @@ def measure(kind, size, programs, runs, folder):
     agreed, first, times = True, None, []
     for name, program in programs:
         answers = os.path.join(folder, f"answers-{name}")
-        results = [run_once(program, form_of(kind, size), script, answers) for _ in range(runs)]
+        results = [run_once(program, form_of(kind, size, program), script, answers) for _ in range(runs)]
         seconds = min(results)[0]
         processor = min(result[1] for result in results)
         peak = max(result[2] for result in results)
@@ -102,7 +120,7 @@ def measure(kind, size, programs, runs, folder):
         if any(result[3] != 0 for result in results):
             print(f"{name} ended with a status other than 0")
             agreed = False
-        if first and not filecmp.cmp(first, answers, shallow=False):
+        if first and kind != "mends" and not filecmp.cmp(first, answers, shallow=False):
             print(f"{name} answers otherwise than {programs[0][0]}")
             agreed = False
         first = first or answers
@@ -112,7 +130,7 @@ def measure(kind, size, programs, runs, folder):
 def count(kind, size, programs, folder):
     """Prints the instructions of each program, and gives them."""
     script, items = generated(kind, size, folder)
-    counts = [instructions(program, form_of(kind, size), script) for _, program in programs]
+    counts = [instructions(program, form_of(kind, size, program), script) for _, program in programs]
     for (name, _), it in zip(programs, counts):
         print(f"{kind:<10}{name:<12}{items:>12,}{it:>16,} instructions{it / items:>10,.0f} each", flush=True)
     return counts

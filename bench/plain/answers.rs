@@ -5,8 +5,9 @@ use std::io::{self, Write};
 
 use crate::cell::Answer;
 use crate::house::{Held, Posted, Refusal, Said};
+use crate::inquiries::Told;
 use crate::records::Role;
-use crate::rpc::Binding;
+use crate::rpc::{Binding, Element, Interface, Uuid, write_uuid};
 use crate::tables::{Entry, Kind, Stamp};
 
 const DIGITS: &[u8; 16] = b"0123456789abcdef";
@@ -43,6 +44,7 @@ impl Display for Said {
             Said::Stale(stamp, running) => write!(f, "ok stale {stamp} {}", stamp_or(*running, "none")),
             Said::NoReplica => write!(f, "ok noreplica"),
             Said::Complete(stamp) => write!(f, "ok complete {stamp}"),
+            Said::Stopped(when) => write!(f, "ok stopped {when}"),
         }
     }
 }
@@ -96,12 +98,75 @@ pub fn write_answer(text: &mut Vec<u8>, number: u32, answer: Result<Answer, Refu
 }
 
 fn write_bindings(text: &mut Vec<u8>, number: u32, bindings: &[Binding]) -> io::Result<()> {
-    for binding in bindings {
-        write!(text, "{number} binding ")?;
-        binding.write(text)?;
+    bindings.iter().try_for_each(|binding| write_binding(text, number, binding))?;
+    writeln!(text, "{number} end {}", bindings.len())
+}
+
+fn write_binding(text: &mut Vec<u8>, number: u32, binding: &Binding) -> io::Result<()> {
+    write!(text, "{number} binding ")?;
+    binding.write(text)?;
+    text.push(b'\n');
+    Ok(())
+}
+
+/// Adds what an inquiry of a line is told.
+pub fn write_told(text: &mut Vec<u8>, number: u32, told: &Told) -> io::Result<()> {
+    let count = match told {
+        Told::Members(members) => write_members(text, number, members)?,
+        Told::Entry(interfaces, objects) => write_offers(text, number, interfaces, objects)?,
+        Told::Elements(elements) => {
+            elements.iter().try_for_each(|element| write_element(text, number, element))?;
+            elements.len()
+        }
+        Told::Batches(bindings, most) => {
+            for batch in bindings.chunks(*most) {
+                writeln!(text, "{number} batch {}", batch.len())?;
+                batch.iter().try_for_each(|binding| write_binding(text, number, binding))?;
+            }
+            bindings.len()
+        }
+    };
+    writeln!(text, "{number} end {count}")
+}
+
+fn write_members(text: &mut Vec<u8>, number: u32, members: &[&[u8]]) -> io::Result<usize> {
+    for member in members {
+        write!(text, "{number} member ")?;
+        text.extend_from_slice(member);
         text.push(b'\n');
     }
-    writeln!(text, "{number} end {}", bindings.len())
+    Ok(members.len())
+}
+
+fn write_offers(text: &mut Vec<u8>, number: u32, interfaces: &[Interface], objects: &[Uuid]) -> io::Result<usize> {
+    for interface in interfaces {
+        write!(text, "{number} interface ")?;
+        interface.write(text)?;
+        text.push(b'\n');
+    }
+    for object in objects {
+        write!(text, "{number} object ")?;
+        write_uuid(text, object);
+        text.push(b'\n');
+    }
+    Ok(interfaces.len() + objects.len())
+}
+
+fn write_element(text: &mut Vec<u8>, number: u32, element: &Element) -> io::Result<()> {
+    write!(text, "{number} element {} ", element.priority)?;
+    match &element.interface {
+        Some(interface) => interface.write(text)?,
+        None => text.extend_from_slice(b"default"),
+    }
+    text.push(b' ');
+    text.extend_from_slice(element.member);
+    text.push(b' ');
+    match element.annotation {
+        [] => text.push(b'-'),
+        annotation => push_hex(text, annotation),
+    }
+    text.push(b'\n');
+    Ok(())
 }
 
 fn write_dump(text: &mut Vec<u8>, number: u32, held: &Held) -> io::Result<()> {

@@ -39,6 +39,15 @@ pub struct Cell {
     directories: Vec<Term>,
     bag: HashMap<u64, Letter>,
     posted: u64,
+    /// The houses whose images the last command may have changed.
+    changed: Vec<u8>,
+}
+
+/// What a command may change outside of houses, as it was.
+pub struct Before {
+    posted: u64,
+    directories: usize,
+    last: Option<(u32, Term)>,
 }
 
 /// The members of an epoch with these houses; who was a member before keeps its term.
@@ -91,6 +100,18 @@ impl Cell {
         }
     }
 
+    /// The image of this house may be another one now.
+    fn changes(&mut self, house: u8) {
+        if self.changed.last() != Some(&house) {
+            self.changed.push(house);
+        }
+    }
+
+    /// The houses whose images the last command may have changed.
+    pub fn take_changed(&mut self) -> Vec<u8> {
+        std::mem::take(&mut self.changed)
+    }
+
     fn post(&mut self, letters: Option<Letters>) {
         let Some(Letters { to, octets }) = letters else {
             return;
@@ -108,6 +129,7 @@ impl Cell {
         }
         let state = State::Up(Clearinghouse::new(number, node));
         self.houses.insert(number, House { node, clock: 0, state });
+        self.changes(number);
         Ok(Said::Done)
     }
 
@@ -117,6 +139,7 @@ impl Cell {
         self.directories.push(term.clone());
         let dir = self.directories.len() as u32;
         let letters = self.up(listed.houses[0])?.0.found(dir, term);
+        self.changes(listed.houses[0]);
         self.post(letters);
         Ok(dir)
     }
@@ -141,6 +164,7 @@ impl Cell {
         self.known(dir)?;
         let (home, clock) = self.up(house)?;
         let (stamp, letters) = home.accept(clock, dir, name, update)?;
+        self.changes(house);
         self.post(letters);
         Ok(stamp)
     }
@@ -179,6 +203,7 @@ impl Cell {
             return Err(Because("NotMember"));
         }
         let letters = self.up(houses[0])?.0.enter(dir, term.clone(), left)?;
+        self.changes(houses[0]);
         for letters in letters {
             self.post(letters);
         }
@@ -190,6 +215,7 @@ impl Cell {
         self.known(dir)?;
         let (home, clock) = self.up(house)?;
         let (said, letters) = home.begin_skulk(clock, dir)?;
+        self.changes(house);
         self.post(letters);
         Ok(said)
     }
@@ -204,6 +230,7 @@ impl Cell {
         let (home, _) = self.up(to)?;
         let (message, _) = records::read_message(&octets).map_err(|_| Because("NoMessage"))?;
         let (said, letters) = home.take(message);
+        self.changes(to);
         self.post(letters);
         Ok(said)
     }
@@ -223,7 +250,61 @@ impl Cell {
         Ok(Said::Done)
     }
 
-    fn step(&mut self, command: Command) -> Result<Said, Refusal> {
+    /// The house that has to act in a command that one house does.
+    pub fn actor(&self, command: &Command) -> Result<Option<u8>, Refusal> {
+        Ok(match command {
+            Command::Root(listed) | Command::Epoch(_, listed) => Some(listed.houses[0]),
+            Command::Repoint(house, ..) | Command::Update(house, ..) | Command::Skulk(house, _) => Some(*house),
+            Command::Deliver(serial) => Some(self.letter(*serial)?.to),
+            _ => None,
+        })
+    }
+
+    /// What a command may change outside of houses.
+    pub fn before(&self, command: &Command) -> Before {
+        let last = match command {
+            Command::Epoch(dir, _) => self.known(*dir).ok().map(|term| (*dir, term.clone())),
+            _ => None,
+        };
+        Before { posted: self.posted, directories: self.directories.len(), last }
+    }
+
+    /// The messages that were posted since then are lost.
+    pub fn lose_since(&mut self, before: &Before) {
+        for serial in before.posted + 1..=self.posted {
+            self.bag.remove(&serial);
+        }
+    }
+
+    /// All but houses is as it was.
+    pub fn go_back(&mut self, before: Before) {
+        self.lose_since(&before);
+        self.posted = before.posted;
+        self.directories.truncate(before.directories);
+        if let Some((dir, term)) = before.last {
+            self.directories[dir as usize - 1] = term;
+        }
+    }
+
+    /// A house is down, and this is its image.
+    pub fn lay_down(&mut self, house: u8, image: Vec<u8>) {
+        if let Some(house) = self.houses.get_mut(&house) {
+            house.state = State::Down(image);
+        }
+    }
+
+    pub fn is_down(&self, house: u8) -> bool {
+        self.houses.get(&house).is_some_and(|house| matches!(house.state, State::Down(_)))
+    }
+
+    pub fn image(&self, house: u8) -> Result<Cow<'_, [u8]>, Refusal> {
+        Ok(match &self.houses.get(&house).ok_or(Because("NoHouse"))?.state {
+            State::Up(home) => Cow::Owned(home.image()),
+            State::Down(image) => Cow::Borrowed(image),
+        })
+    }
+
+    pub fn step(&mut self, command: Command) -> Result<Said, Refusal> {
         match command {
             Command::House(house, node) => self.make_house(house, node),
             Command::Clock(house, time) => self.house(house).map(|house| house.clock = time).map(|_| Said::Done),
@@ -256,6 +337,45 @@ pub enum Place<'a> {
     Free { dir: u32, house: u8, name: Vec<u8>, done: u64 },
 }
 
+/// What a house says of a name in a directory.
+pub enum Seen {
+    Absent,
+    Object,
+    Link(Vec<u8>),
+    Child(Rc<Pointer<'static>>),
+}
+
+/// The full names of a walk: the first one, and those where links led.
+pub struct Names<'n> {
+    first: &'n [u8],
+    later: Vec<Vec<u8>>,
+}
+
+impl<'n> Names<'n> {
+    pub fn new(first: &'n [u8]) -> Names<'n> {
+        Names { first, later: Vec::new() }
+    }
+
+    pub fn present(&self) -> &[u8] {
+        self.later.last().map_or(self.first, Vec::as_slice)
+    }
+
+    /// Follows a link to a name.
+    pub fn follow(&mut self, next: Vec<u8>) -> Result<(), Refusal> {
+        if self.later.len() >= MOST_LINKS {
+            return Err(Because("TooManyLinks"));
+        }
+        if next.len() > LONGEST_NAME {
+            return Err(Because("NameTooLong"));
+        }
+        if next == self.first || self.later.contains(&next) {
+            return Err(Because("LinkCycle"));
+        }
+        self.later.push(next);
+        Ok(())
+    }
+}
+
 /// Where the walk of a full name comes to: a place, or a link, which is followed, and what stands behind it.
 enum Pass<'a, 'n> {
     Place(Place<'a>),
@@ -282,7 +402,30 @@ impl Cell {
         preferred.and_then(answers).or_else(|| at.houses.iter().find_map(answers))
     }
 
-    fn root(&self) -> Result<Pointer<'_>, Refusal> {
+    /// A name that shows at the house that is asked about a directory, and what it is there.
+    fn asked_entry(&self, at: &Pointer, ask: Ask, name: &[u8]) -> Option<Option<&Entry>> {
+        let (_, held) = self.asked(at, ask)?;
+        Some(held.replica.live(name).map(|(_, entry)| entry))
+    }
+
+    /// The entry that shows at the house that is asked about a directory.
+    pub fn shown(&self, at: &Pointer, ask: Ask, name: &[u8]) -> Option<&Entry> {
+        self.asked_entry(at, ask, name)?
+    }
+
+    /// What a name is at the house that is asked about a directory, if one is.
+    pub fn seen(&self, at: &Pointer, ask: Ask, name: &[u8]) -> Option<Seen> {
+        let Some(entry) = self.asked_entry(at, ask, name)? else {
+            return Some(Seen::Absent);
+        };
+        Some(match (entry.kind, entry.lead()) {
+            (Kind::Link, Some(target)) => Seen::Link(target.to_vec()),
+            (Kind::Child, Some(lead)) => Seen::Child(Rc::new(Pointer::read(lead)?.into_kept())),
+            _ => Seen::Object,
+        })
+    }
+
+    pub fn root(&self) -> Result<Pointer<'_>, Refusal> {
         let term = self.directories.first().ok_or(At("Unreachable", 1))?;
         let master = term.master().unwrap_or(0);
         let houses = std::iter::once(master).chain(term.others(master)).collect();
@@ -319,23 +462,13 @@ impl Cell {
     }
 
     pub fn walk(&self, ask: Ask, name: &[u8], follows_last: bool) -> Result<Place<'_>, Refusal> {
-        let mut later: Vec<Vec<u8>> = Vec::new();
+        let mut names = Names::new(name);
         loop {
-            let present = later.last().map_or(name, Vec::as_slice);
-            let next = match self.pass(ask, present, follows_last)? {
+            let next = match self.pass(ask, names.present(), follows_last)? {
                 Pass::Place(place) => return Ok(place),
                 Pass::Link(target, behind) => [target, behind].concat(),
             };
-            if later.len() >= MOST_LINKS {
-                return Err(Because("TooManyLinks"));
-            }
-            if next.len() > LONGEST_NAME {
-                return Err(Because("NameTooLong"));
-            }
-            if next == name || later.contains(&next) {
-                return Err(Because("LinkCycle"));
-            }
-            later.push(next);
+            names.follow(next)?;
         }
     }
 
@@ -363,6 +496,7 @@ pub enum Answer<'a> {
 // Answers.
 impl Cell {
     pub fn answer(&mut self, command: Command) -> Result<Answer<'_>, Refusal> {
+        self.changed.clear();
         match command {
             Command::Read(ask, name, attribute) => self.read(ask, name, attribute),
             Command::ReadLink(ask, name) => self.read_link(ask, name),
@@ -372,10 +506,10 @@ impl Cell {
             Command::GroupDelete(name, member) => self.group_delete(name, member),
             Command::ProfileAdd(name, element) => self.profile_add(name, &element),
             Command::ProfileDelete(name, interface, member) => self.profile_delete(name, interface, member),
-            Command::Import(ask, name, wanted) => self.import(ask, name, &wanted),
+            Command::Import(ask, name, wanted) => self.bindings(ask, name, &wanted).map(Answer::Bindings),
             Command::Dump(house, dir) => self.dump(house, dir),
             Command::OctetsOfMessage(serial) => Ok(Answer::Octets(Cow::Borrowed(&self.letter(serial)?.octets))),
-            Command::OctetsOfHouse(house) => self.octets_of(house),
+            Command::OctetsOfHouse(house) => self.image(house).map(Answer::Octets),
             Command::Decode(octets) => match records::read_message(&octets) {
                 Ok((message, size)) => Ok(Answer::Message(message.body.name(), size)),
                 Err(fault) => Err(At(fault.rule, fault.place as u64)),
@@ -406,12 +540,5 @@ impl Cell {
         self.known(dir)?;
         self.up(house)?;
         self.held(dir, house).map(Answer::Dump).ok_or(Because("NoReplica"))
-    }
-
-    fn octets_of(&mut self, house: u8) -> Result<Answer<'_>, Refusal> {
-        Ok(Answer::Octets(match &self.house(house)?.state {
-            State::Up(home) => Cow::Owned(home.image()),
-            State::Down(image) => Cow::Borrowed(image),
-        }))
     }
 }

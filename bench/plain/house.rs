@@ -34,6 +34,8 @@ pub enum Said {
     Stale(Stamp, Option<Stamp>),
     NoReplica,
     Complete(Stamp),
+    /// The house lost its power, before the step or after it.
+    Stopped(&'static str),
 }
 
 /// A message as octets, and the houses that it goes to.

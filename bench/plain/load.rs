@@ -2,6 +2,7 @@
 
 use std::io::{self, Write};
 
+use crate::Ending;
 use crate::cell::{Answer, Cell};
 use crate::house::{Said, Update};
 use crate::script::{Command, Listed};
@@ -95,7 +96,7 @@ impl Loader {
     }
 }
 
-pub fn load(rounds: u32, mut sink: impl Write) -> io::Result<bool> {
+pub fn load(rounds: u32, mut sink: impl Write) -> io::Result<Ending> {
     let mut loader = Loader::default();
     loader.open();
     let mut x = u64::from(rounds);
@@ -110,5 +111,5 @@ pub fn load(rounds: u32, mut sink: impl Write) -> io::Result<bool> {
     let (live, values) = loader.shown();
     writeln!(sink, "load {rounds} commands {commands} accepted {accepted} complete {complete} live {live} values {values}")?;
     sink.flush()?;
-    Ok(true)
+    Ok(Ending::Whole)
 }

@@ -1,6 +1,8 @@
 //! The lines of a script: what they say, or the first fault of one.
 
-use std::io::{self, BufRead, BufReader, Read};
+use std::io::{BufRead, BufReader, Read};
+
+use crate::Stop;
 
 use crate::house::Update;
 use crate::names;
@@ -55,12 +57,12 @@ pub enum Command<'a> {
     Decode(Vec<u8>),
 }
 
-fn number(word: &[u8]) -> Option<u64> {
+pub fn number(word: &[u8]) -> Option<u64> {
     let digits = word.iter().all(u8::is_ascii_digit) && (word.len() == 1 || !word.starts_with(b"0"));
     if digits { std::str::from_utf8(word).ok()?.parse().ok() } else { None }
 }
 
-fn house(word: &[u8]) -> Option<u8> {
+pub fn house(word: &[u8]) -> Option<u8> {
     u8::try_from(number(word)?).ok().filter(|house| *house > 0)
 }
 
@@ -72,7 +74,7 @@ fn member(word: &[u8]) -> Option<(u8, bool)> {
     }
 }
 
-fn directory(word: &[u8]) -> Option<u32> {
+pub fn directory(word: &[u8]) -> Option<u32> {
     u32::try_from(number(word)?).ok().filter(|dir| *dir > 0)
 }
 
@@ -106,7 +108,7 @@ fn simple(word: &[u8]) -> Option<&[u8]> {
     Some(word).filter(|word| names::is_simple(word))
 }
 
-fn full(word: &[u8]) -> Option<&[u8]> {
+pub fn full(word: &[u8]) -> Option<&[u8]> {
     Some(word).filter(|word| names::is_full(word))
 }
 
@@ -136,7 +138,7 @@ fn uuid(word: &[u8]) -> Option<Uuid> {
     hex(&digits)?.try_into().ok()
 }
 
-fn interface(word: &[u8]) -> Option<Interface> {
+pub fn interface(word: &[u8]) -> Option<Interface> {
     let (name, version) = split_at(word, b':')?;
     let (major, minor) = split_at(version, b'.')?;
     let [major, minor] = [major, minor].map(|word| u16::try_from(number(word)?).ok());
@@ -185,14 +187,30 @@ fn note(word: &[u8]) -> Option<&[u8]> {
 }
 
 /// The words of a line, and how many are read.
-struct Words<'a> {
+pub struct Words<'a> {
     words: Vec<&'a [u8]>,
     read: usize,
 }
 
 impl<'a> Words<'a> {
+    /// The word behind so many.
+    pub fn behind(&self, count: usize) -> &'a [u8] {
+        self.words[count]
+    }
+
+    /// The next word is known.
+    pub fn pass(&mut self) {
+        self.read += 1;
+    }
+
+    /// That there are so many words, at least and at most, behind so many.
+    pub fn counted_behind(&self, count: usize, (least, most): (usize, usize)) -> Result<(), Fault> {
+        let fits = (least..=most).contains(&(self.words.len() - count));
+        if fits { Ok(()) } else { Err(Fault("WrongCount", self.words.len())) }
+    }
+
     /// The next word, in this form.
-    fn next<T>(&mut self, form: impl FnOnce(&'a [u8]) -> Option<T>) -> Result<T, Fault> {
+    pub fn next<T>(&mut self, form: impl FnOnce(&'a [u8]) -> Option<T>) -> Result<T, Fault> {
         self.read += 1;
         form(self.words[self.read - 1]).ok_or(Fault("BadWord", self.read))
     }
@@ -213,7 +231,7 @@ impl<'a> Words<'a> {
         Ok(listed)
     }
 
-    fn ask(&mut self) -> Result<Ask, Fault> {
+    pub fn ask(&mut self) -> Result<Ask, Fault> {
         Ok(Ask { house: self.next(house)?, high: self.next(is_high)? })
     }
 
@@ -242,7 +260,7 @@ impl<'a> Words<'a> {
         })
     }
 
-    fn wanted(&mut self) -> Result<Wanted, Fault> {
+    pub fn wanted(&mut self) -> Result<Wanted, Fault> {
         let (interface, object) = (self.next(interface)?, self.next(object_or_nil)?);
         let (tcp, udp) = self.next(protseqs)?;
         Ok(Wanted { interface, object, tcp, udp })
@@ -255,7 +273,7 @@ impl<'a> Words<'a> {
 }
 
 /// How many words a command has at least and at most.
-fn counts(word: &[u8]) -> Result<(usize, usize), Fault> {
+pub fn counts(word: &[u8]) -> Result<(usize, usize), Fault> {
     Ok(match word {
         b"deliver" | b"lose" | b"crash" | b"start" | b"decode" => (2, 2),
         b"house" | b"clock" | b"skulk" | b"dump" | b"octets" | b"groupadd" | b"groupdel" => (3, 3),
@@ -270,15 +288,12 @@ fn counts(word: &[u8]) -> Result<(usize, usize), Fault> {
     })
 }
 
-/// What the words of a line say.
-fn command(words: Vec<&[u8]>) -> Result<Command<'_>, Fault> {
-    let (least, most) = counts(words[0])?;
-    if words.len() < least || most < words.len() {
-        return Err(Fault("WrongCount", words.len()));
-    }
-    let mut words = Words { words, read: 1 };
-    let w = &mut words;
-    Ok(match w.words[0] {
+/// What the words say that are not read.
+pub fn command<'a>(w: &mut Words<'a>) -> Result<Command<'a>, Fault> {
+    let name = w.behind(w.read);
+    w.counted_behind(w.read, counts(name)?)?;
+    w.pass();
+    Ok(match name {
         b"house" => Command::House(w.next(house)?, w.next(node)?),
         b"clock" => Command::Clock(w.next(house)?, w.next(number)?),
         b"root" => Command::Root(w.listed()?),
@@ -334,38 +349,36 @@ pub fn text_of(line: &[u8]) -> Result<&[u8], Fault> {
     Ok(text)
 }
 
-/// What a line with its end says, if it says anything.
-fn parse(line: &[u8]) -> Result<Option<Command<'_>>, Fault> {
+/// The words of a line with its end; none where it says nothing.
+fn words_of(line: &[u8]) -> Result<Vec<&[u8]>, Fault> {
     let text = text_of(line)?;
     if text.trim_ascii_start().starts_with(b"#") {
-        return Ok(None);
+        return Ok(Vec::new());
     }
-    let words: Vec<&[u8]> = text.split(|b| *b == b' ').filter(|word| !word.is_empty()).collect();
-    if words.is_empty() { Ok(None) } else { command(words).map(Some) }
+    Ok(text.split(|b| *b == b' ').filter(|word| !word.is_empty()).collect())
 }
 
-/// Takes each line by its number, with what it says; the first faulty one is the last.
-pub fn each_line(
-    source: impl Read,
-    mut take: impl FnMut(u32, Result<Option<Command>, Fault>) -> io::Result<()>,
-) -> io::Result<bool> {
+/// Takes the words of each line that says something, by its number. Returns how many lines there are, or at which one it stops, and
+/// why.
+pub fn each_line(source: impl Read, mut take: impl FnMut(u32, Words) -> Result<(), Stop>) -> Result<u32, (u32, Stop)> {
     let mut source = BufReader::new(source);
     let mut line = Vec::new();
     let mut number = 0;
     loop {
         line.clear();
-        if source.read_until(b'\n', &mut line)? == 0 {
-            return Ok(true);
+        if source.read_until(b'\n', &mut line).map_err(|error| (number, Stop::Failed(error)))? == 0 {
+            return Ok(number);
         }
         number += 1;
-        let said = match number > MOST_LINES && matches!(line[0], b' '..=b'~' | b'\n') {
+        let words = match number > MOST_LINES && matches!(line[0], b' '..=b'~' | b'\n') {
             true => Err(Fault("TooManyLines", 1)),
-            false => parse(&line),
+            false => words_of(&line),
         };
-        let is_faulty = said.is_err();
-        take(number, said)?;
-        if is_faulty {
-            return Ok(false);
-        }
+        let taken = match words {
+            Ok(words) if words.is_empty() => Ok(()),
+            Ok(words) => take(number, Words { words, read: 0 }),
+            Err(fault) => Err(Stop::Faulty(fault)),
+        };
+        taken.map_err(|stop| (number, stop))?;
     }
 }

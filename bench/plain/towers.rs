@@ -2,6 +2,7 @@
 
 use std::io::{self, BufRead, BufReader, BufWriter, Read, Write};
 
+use crate::Ending;
 use crate::answers::push_hex;
 use crate::script::{MOST_LINES, text_of};
 
@@ -65,8 +66,8 @@ fn print_tower(source: &mut impl BufRead, tower: &mut Vec<u8>, text: &mut Vec<u8
     if tower.len() > LONGEST_TOWER { Err(Stop::Faulty("TooLong", tower.len())) } else { Ok(()) }
 }
 
-/// Writes the line of each tower up to the first faulty one; false where there is one.
-pub fn towers(source: impl Read, sink: impl Write) -> io::Result<bool> {
+/// Writes the line of each tower up to the first faulty one.
+pub fn towers(source: impl Read, sink: impl Write) -> io::Result<Ending> {
     let mut source = BufReader::new(source);
     let mut sink = BufWriter::new(sink);
     let (mut tower, mut text) = (Vec::new(), Vec::new());
@@ -84,13 +85,13 @@ pub fn towers(source: impl Read, sink: impl Write) -> io::Result<bool> {
             Err(Stop::Faulty(reason, place)) => {
                 writeln!(sink, "{number} fault {reason} {place}")?;
                 sink.flush()?;
-                return Ok(false);
+                return Ok(Ending::Faulty);
             }
             Err(Stop::Failed(error)) => return Err(error),
         }
     }
     sink.flush()?;
-    Ok(true)
+    Ok(Ending::Whole)
 }
 
 /// A line that is no tower.
@@ -139,8 +140,8 @@ fn spell_tower(line: &[u8], tower: &mut Vec<u8>) -> Result<(), Faulty> {
     Ok(())
 }
 
-/// Writes the tower of each line up to the first faulty one; false where there is one.
-pub fn untowers(source: impl Read, sink: impl Write) -> io::Result<bool> {
+/// Writes the tower of each line up to the first faulty one.
+pub fn untowers(source: impl Read, sink: impl Write) -> io::Result<Ending> {
     let mut source = BufReader::new(source);
     let mut sink = BufWriter::new(sink);
     let (mut line, mut tower) = (Vec::new(), Vec::new());
@@ -149,12 +150,12 @@ pub fn untowers(source: impl Read, sink: impl Write) -> io::Result<bool> {
         line.clear();
         if source.read_until(b'\n', &mut line)? == 0 {
             sink.flush()?;
-            return Ok(true);
+            return Ok(Ending::Whole);
         }
         number += 1;
         if number > MOST_LINES || spell_tower(&line, &mut tower).is_err() {
             sink.flush()?;
-            return Ok(false);
+            return Ok(Ending::Faulty);
         }
         sink.write_all(&tower)?;
     }

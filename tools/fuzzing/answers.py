@@ -41,6 +41,15 @@ ANSWERS = {
     "dump": "dump NoDirectory NoHouse Down NoReplica",
     "octets": "ok NoMessage NoHouse",
     "decode": "ok Short BadTag BadLength BadName OutOfOrder BadFlag NotAbove",
+    # What other forms have: `stop` by whether the step was done, was answered as it is without a stop, or was refused, and reads by a
+    # clerk.
+    "image": "ok NoHouse",
+    "stop": "before after done NoHouse NoMessage NotActing refused",
+    "read by clerk": f"ok NoHouse {WALK} Vanished",
+    "grouplist": f"member end NoHouse {WALK} NotObject",
+    "entrylist": f"interface object end NoHouse {WALK} NotObject",
+    "proflist": f"element end NoHouse {WALK} NotObject",
+    "lookup": f"batch binding end NoHouse {WALK} NotObject",
     # A delivery by the kind of its message. An Update and a Gather alone can be early, since all else comes after an answer of its
     # receiver in that epoch, and a house goes back to no earlier one.
     "deliver Update": "taken late early noreplica",
@@ -51,13 +60,15 @@ ANSWERS = {
     "deliver Advance": "taken late noreplica",
     "deliver Join": "taken late",
     "deliver Leave": "taken late",
-    # The faults of a line, and how the other forms end. (A fault TooManyLines or TooManyTowers takes 16,777,216 of them.)
+    # The faults of a line, and how the other forms end. (A fault TooManyLines or TooManyTowers takes 16,777,216 of them, and TooLong as
+    # many octets.)
     "run": "LineTooLong NotAscii NoLineEnd UnknownCommand WrongCount BadWord",
     "check": "ok fault",
     "load": "load",
     "towers": "- floors ShortCount ShortLength EmptyLeft ShortPart TooLong",
     "untowers": "ok fault",
     "migrate": "ok fault",
+    "audit": "agree none birth value NoReplica Short BadTag BadLength BadName OutOfOrder BadFlag BadHeld Trailing",
 }
 
 
@@ -105,27 +116,31 @@ class Met:
     def see(self, words, octets, status, output):
         """Counts the answers of a run of the program."""
         text, form = output.decode(errors="replace"), words[0]
-        if form == "run":
-            self.see_script(octets, text)
+        if form in ("run", "journal", "clerk", "inquire"):
+            self.see_script(form, octets, text)
         elif form == "towers":
             self.see_towers(text)
         elif form == "load":
             self.add("load", text.partition(" ")[0])
+        elif form == "audit":
+            self.add("audit", re.search(r"^agree(?= \d+ \d)|none|birth|value|(?<=refused )\w+|(?<=fault )\w+", text)[0])
         else:
             self.add(form, "ok" if status == 0 else "fault")
 
     def add(self, command, answer):
         self.counts.setdefault(command, collections.Counter())[answer] += 1
 
-    def see_script(self, octets, text):
+    def see_script(self, form, octets, text):
         lines, kinds = octets.split(b"\n"), Kinds()
         for number, answer in re.findall(r"^(\d+) (.*)$", text, re.M):
             words = lines[int(number) - 1].decode(errors="replace").split()
             first, _, rest = answer.partition(" ")
             if first == "fault":
                 self.add("run", rest.partition(" ")[0])
+            elif words[0] == "stop":
+                self.see_stop(words[4:], first, rest, kinds)
             elif first == "refused":
-                self.add(words[0], rest.partition(" ")[0])
+                self.add(self.name_of(form, words), rest.partition(" ")[0])
                 # (some updates of a command may have been made)
                 kinds.learn(words, answer)
             elif words[0] == "deliver":
@@ -137,8 +152,24 @@ class Met:
             elif first != "ok":
                 self.add(words[0], first)
             else:
-                self.add(words[0], "complete" if words[0] == "skulk" and rest.startswith("complete") else "ok")
+                is_complete = words[0] == "skulk" and rest.startswith("complete")
+                self.add(self.name_of(form, words), "complete" if is_complete else "ok")
                 kinds.learn(words, answer)
+
+    def name_of(self, form, words):
+        """What a command is called in the table."""
+        return "read by clerk" if form == "clerk" and words[0] == "read" and words[2] == "low" else words[0]
+
+    def see_stop(self, words, first, rest, kinds):
+        """Counts the answer of a line that stops this command."""
+        if first == "refused":
+            reason = rest.partition(" ")[0]
+            self.add("stop", reason if reason in ANSWERS["stop"].split() else "refused")
+        elif rest in ("stopped before", "stopped after"):
+            self.add("stop", rest.partition(" ")[2])
+        else:
+            self.add("stop", "done")
+            kinds.learn(words, rest)
 
     def see_towers(self, text):
         for line in text.splitlines():
