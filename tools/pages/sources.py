@@ -210,6 +210,8 @@ class Calls:
         last = re.search(r"(?<![\w.])(\w+)$", front)
         if last and last.group(1) in caller.types:
             return caller.types[last.group(1)]
+        if last and len(set(re.findall(rf"::(\w+)\({last.group(1)}\) =>", caller.body))) > 1:
+            return set()
         if last:
             made = re.search(rf"\b{last.group(1)}(?:: ([A-Z]\w*))?\)? = (?:\w+::)*([A-Z]\w*)?", caller.body)
             named = last.group(1).replace("_", "").capitalize()

@@ -50,6 +50,7 @@ GROUNDS = {
     ".shade": ("fill:#f0e442;fill-opacity:.3", "fill:#f0e442;fill-opacity:.16"),
     ".open": ("stroke:#948a00", "stroke:#d9cf3f"),
     ".tag": ("fill:#fff;stroke:#a8477f", "fill:#0d1117;stroke:#e39ac6"),
+    ".bolt": ("fill:#f0e442;stroke:#1f2328", "fill:#f0e442;stroke:#0d1117"),
 }
 # What the legend says, by groups; the messages begin with their kinds.
 LEGEND = {
@@ -63,6 +64,7 @@ LEGEND = {
         "full": "command",
         "asked": "question",
         "hollow refused": "refused",
+        "stopped": "power lost inside",
         "delivery": "delivery",
         "late": "delivered, and not taken",
         "rise": "AllUpTo rises",
@@ -90,7 +92,7 @@ FIXED = """text{font-family:Helvetica,Arial,'Liberation Sans','DejaVu Sans',sans
 .refused{stroke-dasharray:2.5 2}.cross{fill:none;stroke:currentColor;stroke-width:2.4px}.lane{fill:none;stroke-width:1.3px}
 .master{stroke-width:3.4px}.secondary{stroke-width:3.4px;stroke-dasharray:11 3}.without{stroke-dasharray:1.5 4}.guide{stroke-width:1px}
 .upright{stroke-width:1.2px;stroke-dasharray:5 3}.leader{stroke-width:1px}
-.open{fill:none;stroke-width:1.2px;stroke-dasharray:6 4}.tag{stroke-width:1px}.pale{opacity:.42}"""
+.open{fill:none;stroke-width:1.2px;stroke-dasharray:6 4}.tag{stroke-width:1px}.bolt{stroke-width:.8px}.pale{opacity:.42}"""
 
 
 class Undrawable(Exception):
@@ -171,6 +173,11 @@ def line(x, y, to_x, to_y, kind):
     return f'<path d="M{number(x)} {number(y)}L{number(to_x)} {number(to_y)}" class="{kind}"/>'
 
 
+def bolt(x, y):
+    """The sign of a house that loses its power, with this corner below it."""
+    return f'<path d="M{number(x)} {number(y)}m-3 5l1.5-6h-4l5-8l-.5 5h4z" class="bolt"/>'
+
+
 def toward(point, other, most):
     """A place on the way from one point to another, not farther than half of it."""
     (x, y), (to_x, to_y) = point, other
@@ -233,13 +240,13 @@ def label_of(step):
         label = f"epoch {step.answer.split()[2]}" if step.outcome == "ok" else "epoch"
     elif command == "clock":
         label = f"clock {end_of(words[1], 8)}"
-    elif command in ("house", "root", "crash", "start", "skulk", "dump", "octets"):
+    elif command in ("house", "root", "crash", "start", "skulk", "dump", "octets", "image"):
         label = command
     else:
         name = words[2] if command in happened.UPDATES or command == "mkdir" else next(it for it in words if it.startswith("/.:"))
         label = f"{command} {name.split('/')[-1]}"
     outcome = "" if step.outcome in ("ok", "taken", "complete") else f": {step.outcome}"
-    return short(label, max(10, LONGEST_LABEL - len(outcome))) + outcome
+    return short(label, max(12, LONGEST_LABEL - len(outcome))) + outcome
 
 
 class Label:
@@ -320,7 +327,8 @@ class Picture:
             """Whether a step is of the directory, or of a member of it alone."""
             if directory is None or directory in step.dirs:
                 return True
-            return step.command in happened.OF_HOUSES and step.house in members
+            is_of_house = step.command in happened.OF_HOUSES or step.outcome in happened.STOPS.values()
+            return is_of_house and step.house in members
 
         self.steps = [it for it in replay.steps if first <= it.line <= last and is_chosen(it)]
         if not self.steps:
@@ -650,15 +658,19 @@ class Picture:
         kind = step.message.kind if is_delivery else "step"
         radius = MARK / 2 if is_delivery else 2
         fill = "full"
-        if is_delivery and not step.has_changed:
+        is_stopped = step.outcome in happened.STOPS.values()
+        if is_stopped:
+            fill = "full" if step.is_done() else "hollow"
+        elif is_delivery and not step.has_changed:
             fill = "hollow"
         elif step.outcome not in ("ok", "taken", "complete"):
             fill = "hollow refused"
         elif step.command in happened.QUESTIONS:
             fill = "asked"
-        self.used.add(fill if not is_delivery else "delivery" if fill == "full" else "late")
+        self.used.add("stopped" if is_stopped else fill if not is_delivery else "delivery" if fill == "full" else "late")
         title = "\n".join([*told(step), *([name_of(step.message)] if step.message else [])])
         shapes = rect(left, top, width, MARK, fill, radius), text(x, y + 4, str(step.line), "number")
+        shapes += (bolt(left + width, top + 2),) if is_stopped else ()
         self.add("mark", titled(kind if fill == "full" else f"{kind} bare", title, *shapes))
 
     # Messages.
@@ -668,7 +680,9 @@ class Picture:
         for message in self.replay.messages.values():
             if message.posted > self.ats[-1]:
                 break
-            if message.sender in self.lane and message.receiver in self.lane and self.is_drawn(message.dir):
+            # (what is lost in the step that posted it has no way)
+            is_known = message.sender in self.lane and message.receiver in self.lane and message.lost != message.posted
+            if is_known and self.is_drawn(message.dir):
                 if any(map(self.in_view, (message.posted, *message.deliveries, message.lost))):
                     yield message
 
@@ -852,6 +866,8 @@ def sample(kind, x, y, message):
     if kind in KINDS:
         points = [(x, y), (x + 28, y)]
         return f'<g class="{kind}">{path(points, "line")}{head(points, False)}</g>'
+    if kind == "stopped":
+        return f'<g class="step">{rect(x + 3, y - MARK / 2, 22, MARK, "hollow", 2)}{bolt(x + 25, y - MARK / 2 + 2)}</g>'
     if kind in ("full", "asked", "hollow refused", "delivery", "late"):
         fill = {"delivery": "full", "late": "hollow"}.get(kind, kind)
         colour, radius = (message, MARK / 2) if kind in ("delivery", "late") else ("step", 2)

@@ -45,7 +45,7 @@ class State:
         for step in replay.steps:
             if step.line > last:
                 break
-            if step.outcome == "ok":
+            if step.is_done():
                 self.take(step)
         for directory, epochs in replay.epochs.items():
             known = [it for it in epochs if replay.steps[it.step].line <= last]

@@ -12,10 +12,15 @@ COMMANDS = {
     "crash": "H", "start": "H", "read": "H C NAME ATTR", "readlink": "H C NAME", "export": "NAME IF BS OS",
     "unexport": "NAME IFN OS", "groupadd": "NAME NAME", "groupdel": "NAME NAME", "profadd": "NAME IFD NAME PRI NOTE",
     "profdel": "NAME IFD NAME", "import": "H C NAME IF OBJ PS", "dump": "H D", "octets": "WHAT N", "decode": "OCTETS",
+    # (of other forms of the program than run)
+    "image": "H", "grouplist": "H C NAME", "entrylist": "H C NAME", "proflist": "H C NAME KIND IFN VERS MBR",
+    "lookup": "H C NAME IF OBJ PS MAX",
 }
 UPDATES = ("create", "link", "delete", "add", "remove", "put", "clear", "repoint")
 SERVICES = ("export", "unexport", "groupadd", "groupdel", "profadd", "profdel")
-QUESTIONS = ("read", "readlink", "import", "dump", "octets", "decode")
+QUESTIONS = ("read", "readlink", "import", "dump", "octets", "decode", "image", "grouplist", "entrylist", "proflist", "lookup")
+# The commands inside which a house can lose its power, behind the words `stop H K W`.
+STOPPED = (*UPDATES, "root", "epoch", "skulk", "deliver")
 NEED_NO_HOUSE = ("house", "deliver", "lose", "octets", "decode", *SERVICES)
 OF_HOUSES = ("house", "clock", "crash", "start")
 KINDS = ("Update", "Gather", "Gathered", "Spread", "SpreadAck", "Advance", "Join", "Leave")
@@ -36,8 +41,8 @@ LISTS = WORDS["H*"], WORDS["R*"]
 REASONS = set(
     """HouseExists NoHouse DirectoryExists BadMembers Down NoDirectory NoReplica NotMaster EntryExists StampsSpent NoSuchEntry
     WrongKind NotMember NotJoined NoMessage Up NotLink NothingToExport NothingToUnexport NotObject NoSuchMember BadPriority
-    ElementTooLong NoSuchElement Short BadTag BadLength BadName OutOfOrder BadFlag Unreachable NoSuchName NotDirectory RootName
-    TooManyLinks NameTooLong LinkCycle""".split()
+    ElementTooLong NoSuchElement Short BadTag BadLength BadName OutOfOrder BadFlag NotAbove Unreachable NoSuchName NotDirectory
+    RootName TooManyLinks NameTooLong LinkCycle Vanished NotActing""".split()
 )
 POSTED = r"(?: posted(?P<posted>(?: [1-9]\d*)+))?"
 MOST_LINKS = 64
@@ -60,6 +65,7 @@ def answer_form(command):
         "root": f"ok{POSTED}", "mkdir": rf"ok (\d+) ({STAMP}){POSTED}", "epoch": rf"ok (\d+){POSTED}",
         "skulk": f"ok (complete )?({STAMP}){POSTED}", "deliver": f"ok ({delivered}){POSTED}",
         "read": rf"ok \d+(?: {HEXADECIMAL})*", "readlink": f"ok {WORDS['NAME']}", "octets": rf"ok \d+ {HEXADECIMAL}",
+        "image": rf"ok \d+ {HEXADECIMAL}",
         "decode": rf"ok (?:{'|'.join(KINDS)}) \d+",
     }
     return re.compile(forms.get(command, "ok"))
@@ -74,12 +80,18 @@ def place_of(command):
 PLACES = {command: place_of(command) for command in COMMANDS}
 FORMS = {command: form_of(command) for command in COMMANDS}
 ANSWERS = {command: answer_form(command) for command in COMMANDS}
+STOP = re.compile(f" *stop +({HOUSE}) +[1-4] +(?:keep|drop|torn) +([^ ].*)")
+STOPS = {"ok stopped before": "stopped before", "ok stopped after": "stopped after"}
 REFUSED = re.compile(rf"refused ([A-Za-z]+)((?: {NUMBER}){{0,2}}){POSTED}")
 FAULT = re.compile(r"([1-9]\d*) fault ([A-Za-z]+) (\d+)")
 # Answers of several lines: those before the last, and the last.
 LONG = {
     "dump": (re.compile(rf"dump epoch {NUMBER} allupto (?:{STAMP}|none) members .*|(?:entry|attr|value) .*"), re.compile("end")),
     "import": (re.compile("binding .*"), re.compile(r"end \d+")),
+    "grouplist": (re.compile("member .*"), re.compile(r"end \d+")),
+    "entrylist": (re.compile("(?:interface|object) .*"), re.compile(r"end \d+")),
+    "proflist": (re.compile("element .*"), re.compile(r"end \d+")),
+    "lookup": (re.compile("(?:batch|binding) .*"), re.compile(r"end \d+")),
 }
 
 
@@ -91,15 +103,20 @@ class Fault(Exception):
 
 
 class Step:
-    """A command with its answer. `house` acts or is asked, and is None where the words don't tell.
+    """A command with its answer. `house` acts or is asked, and is None where the words don't tell. `stop` is the house that is to
+    lose its power inside it, if one is.
     `posted` are the serials of its answer that no message has yet. `found` are the house, the directory and the simple name of the
     entry that a command of the name service changed.
     """
 
     house, outcome, dirs, message, answer, posted, has_changed, found = None, "ok", (), None, "", (), False, None
 
-    def __init__(self, at, line, command, words, text):
-        self.at, self.line, self.command, self.words, self.text = at, line, command, words, text
+    def __init__(self, at, line, command, words, text, stop=None):
+        self.at, self.line, self.command, self.words, self.text, self.stop = at, line, command, words, text, stop
+
+    def is_done(self):
+        """Whether it was not refused, and not undone by a loss of power."""
+        return self.outcome in ("ok", "stopped after")
 
 
 class Message:
@@ -133,10 +150,13 @@ class Epoch:
 
 
 class Skulk:
-    """A skulk; `end` is the step that completed it or ended it, or None where it still runs."""
+    """A skulk; `end` is the step that completed it or ended it, or None where it still runs. `answered` are the members whose answers
+    it has in its round.
+    """
 
     def __init__(self, directory, house, stamp, start):
         self.dir, self.house, self.stamp, self.start, self.end, self.is_complete = directory, house, stamp, start, None, False
+        self.answered = set()
 
 
 class Rise:
@@ -387,6 +407,7 @@ class Replay:
             if epoch.number != message.epoch:
                 raise self.fault(f"house {house} holds epoch {epoch.number}, and the message is of {message.epoch}")
             self.raise_up_to(house, directory, stamp if message.kind == "Advance" else message.up_to, step)
+            self.count_answer(message)
             if step.outcome == "complete":
                 if message.kind != "SpreadAck":
                     raise self.fault(f"message {message.serial} is {message.kind}, and completes no skulk")
@@ -396,6 +417,13 @@ class Replay:
                 self.post(step, kind, house, directory, epoch.number, [message.sender], stamp)
             elif message.kind == "Gathered" and step.posted:
                 self.post(step, "Spread", house, directory, epoch.number, epoch.others(house), stamp)
+                self.running[house, directory].answered = set()
+
+    def count_answer(self, message):
+        """Counts an answer in the round of the skulk that its receiver runs."""
+        skulk = self.running.get((message.receiver, message.dir))
+        if skulk and message.kind in ("Gathered", "SpreadAck"):
+            skulk.answered.add(message.sender)
 
     def take_join(self, step, message):
         """A Join is taken: the house keeps what it has within its term, and else takes a copy."""
@@ -413,6 +441,51 @@ class Replay:
         if step.message is None or step.message.lost is not None:
             raise self.fault(f"message {step.words[0]} was not posted, or was lost")
         step.message.lost = step.at
+
+    # A house that loses its power inside a command.
+
+    def stop(self, step, outcome):
+        """The command was done or not, as its house was told by its journal, and the house is down."""
+        if step.house is None or self.is_down(step.house):
+            raise self.fault("no house is up that could lose its power")
+        if outcome == "stopped after":
+            self.do_unheard(step)
+        elif step.message:
+            step.message.deliveries += (step.at,)
+        self.do_crash(step, None)
+        step.outcome = outcome
+
+    def do_unheard(self, step):
+        """Does a command whose answer is told nowhere. Its messages are lost."""
+        first = len(self.messages) + 1
+        # More than a command posts.
+        step.posted = list(range(first, first + 256))
+        if step.command == "skulk":
+            epoch = self.held_epoch(step.house, int(step.words[1]))
+            self.end_skulk(step.house, epoch.dir, step)
+            self.post(step, "Gather", step.house, epoch.dir, epoch.number, epoch.others(step.house))
+        else:
+            if step.message and step.message.kind == "Gathered" and not self.is_last_answer(step.message):
+                step.posted = ()
+            STEPS[step.command](self, step, self.unheard(step))
+        step.has_changed, step.posted = True, ()
+        for serial in range(first, len(self.messages) + 1):
+            self.messages[serial].lost = step.at
+
+    def unheard(self, step):
+        """What the answer to a command would have said."""
+        if step.command == "deliver":
+            is_complete = step.message and step.message.kind == "SpreadAck" and self.is_last_answer(step.message)
+            return [f"complete {step.message.stamp}" if is_complete else "taken"]
+        return [str(len(self.epochs.get(int(step.words[0]), ())) + 1)] if step.command == "epoch" else []
+
+    def is_last_answer(self, message):
+        """Whether this is the last answer that is missing in the round of its receiver's skulk."""
+        skulk = message and self.running.get((message.receiver, message.dir))
+        if not skulk or message.kind not in ("Gathered", "SpreadAck"):
+            return False
+        others = self.held_epoch(message.receiver, message.dir).others(message.receiver)
+        return skulk.answered | {message.sender} == set(others)
 
     def do_service(self, step, said):
         """Updates of an entry by its full name: at the house that the walk comes to, where the script tells which that is."""
@@ -494,14 +567,20 @@ def steps_of(script):
     for number, line in enumerate(script, 1):
         front = line.split(None, 1)
         if front and not front[0].startswith("#"):
-            command = front[0]
+            stop, text = None, line
+            if front[0] == "stop":
+                found = STOP.fullmatch(line)
+                if not found or found.group(2).split()[0] not in STOPPED:
+                    raise Fault("script", number, "it has not the form `stop H K W COMMAND`")
+                stop, line = int(found.group(1)), found.group(2)
+            command = line.split(None, 1)[0]
             if command not in COMMANDS:
                 raise Fault("script", number, f"there is no command `{command[:40]}`")
             # Most lines have one space between words, and no other.
             found = FORMS[command].fullmatch(line) or FORMS[command].fullmatch(" ".join(line.split()))
             if not found:
                 raise Fault("script", number, f"it has not the form `{command} {COMMANDS[command]}`")
-            yield number, command, found.groups(), found.string
+            yield number, command, found.groups(), found.string if stop is None else " ".join(text.split()), stop
 
 
 def place(replay, step):
@@ -594,11 +673,13 @@ def read(script, answers):
     """What happened, from the octets of a script and of the program's answers."""
     replay = Replay()
     script, answers = lines_of("script", script), lines_of("answers", answers)
-    for line, command, words, text in steps_of(script):
-        step = Step(len(replay.steps), line, command, words, text)
+    for line, command, words, text, stop in steps_of(script):
+        step = Step(len(replay.steps), line, command, words, text, stop)
         place(replay, step)
         said = next_answer(replay, step, answers)
-        if command in LONG and not said.startswith("refused"):
+        if stop is not None and said in STOPS:
+            replay.stop(step, STOPS[said])
+        elif command in LONG and not said.startswith("refused"):
             if step.house is None:
                 raise replay.fault("its house was not made")
             long_answer(replay, step, said, answers)
