@@ -12,5 +12,3 @@ pub mod Runs
 pub mod PrivateEndings
 pub mod PrivateWholes
 pub mod Scripts
-pub mod Leaving
-pub mod JournalRuns

@@ -16,8 +16,6 @@ pub enum Status {
     ReadFault,
     WriteFault,
     OutOfMemory,
-    /// A journal has no room for what a line puts.
-    JournalFull,
 }
 
 impl Status {
@@ -32,7 +30,6 @@ impl Status {
             Status::ReadFault => 4,
             Status::WriteFault => 5,
             Status::OutOfMemory => 6,
-            Status::JournalFull => 7,
         }
     }
 }

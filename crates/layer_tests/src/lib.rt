@@ -9,8 +9,6 @@ mod deaths;
 #[cfg(test)]
 mod ends;
 #[cfg(test)]
-mod faltering;
-#[cfg(test)]
 mod houses;
 #[cfg(test)]
 mod imports;
