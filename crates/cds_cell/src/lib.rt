@@ -7,7 +7,6 @@ mod bag;
 mod cell;
 mod console;
 mod house;
-mod imaging;
 pub mod laws;
 mod making;
 mod members;
@@ -15,7 +14,6 @@ mod messages;
 mod pointing;
 mod reader;
 mod refusing;
-mod restarting;
 mod step;
 mod updating;
 

@@ -9,7 +9,6 @@ mod forms;
 pub mod laws;
 mod limits;
 mod load;
-mod mend;
 mod replay;
 mod towers;
 mod whole;
@@ -18,6 +17,5 @@ pub use endings::Status;
 pub use limits::{
     LAST_DIR, MOST_KEPT, MOST_ROUNDS, MOST_TOWERS, MOST_WHOLE, TOWER_SIGHT, WHOLE_SIGHT,
 };
-pub use mend::mend;
 pub use replay::run;
 pub use waiting_replies::{LONGEST_TOWER, MOST_WAITING};

@@ -1,5 +1,0 @@
-mod ScriptHouses
-mod Sayable
-mod Sums
-pub mod Mendings
-pub mod Runs
