@@ -5,7 +5,7 @@ import os
 import re
 
 ROOT = os.path.dirname(os.path.dirname(os.path.dirname(os.path.realpath(__file__))))
-CASES = "crates/cdsreplay/cases"
+CASES = ("crates/cdsreplay/cases", "crates/cdsmend/cases")
 # Crates whose code is no part of the program: its tests.
 TESTS = ("layer_tests", "replay_tests")
 
@@ -227,12 +227,13 @@ class Calls:
 
 @functools.cache
 def reached():
-    """The functions that `run` of cell_replay and `main` of cdsreplay can come to. What implements a trait of the standard library is
+    """The functions that `run` of cell_replay and of cds_mend, and `main` of either program, can come to. What implements a trait of the standard library is
     called in ways that no name tells, so of a crate of the program it counts as reached.
     """
     calls, known = Calls(), set()
     theirs = [it for it in functions() if it.crate not in TESTS]
-    begin = [it for it in theirs if (it.crate, it.name) in (("cell_replay", "run"), ("cdsreplay", "main"))]
+    roots = (("cell_replay", "run"), ("cdsreplay", "main"), ("cds_mend", "run"), ("cdsmend", "main"))
+    begin = [it for it in theirs if (it.crate, it.name) in roots]
     begin += [it for it in theirs if it.trait and it.trait not in traits()]
     while begin:
         it = begin.pop()
@@ -260,7 +261,7 @@ def bugs():
 @functools.cache
 def cases():
     """The names of the cases."""
-    return sorted(os.path.basename(it)[:-5] for it in glob.glob(f"{ROOT}/{CASES}/*.case"))
+    return sorted(os.path.basename(it)[:-5] for folder in CASES for it in glob.glob(f"{ROOT}/{folder}/*.case"))
 
 
 @functools.cache

@@ -170,6 +170,16 @@ module _ (c c' : Cell) (g : model.Cell) (x d : ℕ) (s : Stands c g) (none : fir
 
 -- ---- messages
 
+-- the receiver of a message that was posted can take it
+pub can_take : (g : model.Cell) (n : ℕ) (m : model.Message) → IsReached g → message_at g n ≡ Some m → CanTake (g.house m.receiver) m
+can_take g n m reached there =
+    on_reached (λ (z : model.Cell). In m z.bag → CanTake (z.house m.receiver) m) (λ commands. can_take_lem commands m) g reached
+    (posted ((n == 0) || has n g.lost) there)
+  where
+    posted : (b : Bool) → (if b then None else slice_get g.bag (n - 1)) ≡ Some m → In m g.bag
+    posted true is = absurd (cc)
+    posted false is = In-from_get m g.bag (n - 1) is
+
 -- a message that its receiver takes, or does not
 pub take_comes : (c c' : Cell) (g : model.Cell) (n at : ℕ) (m : model.Message) (before ns : List ℕ) (t : Taken) (told : Answer) → Stands c g
     → message_at g n ≡ Some m → (g.house m.receiver).up ≡ true → IsPlaceOf c.houses.items m.receiver at → before ≡ []
@@ -182,20 +192,10 @@ take_comes c c' g n at m before ns t told s there up place first acts answers =
     let own : (at_house g m.receiver (turns.take now m)).answer ≢ command.Foreign =
     λ foreign. (on_reached_answers g (command.Deliver n) s.reached).not_foreign (ap (λ (o : Outcome). o.answer) is ∙ foreign) in
     acts_come c c' g (command.Deliver n) m.receiver at before ns (IsTakeAnswer t) (λ h. turns.take now m) told s.stands is up place first
-    (acts (can_take g m s.reached (posted_at g n m there))) (take_tells now m) (λ is tells. answers _ is own tells)
+    (acts (can_take g n m s.reached there)) (take_tells now m) (λ is tells. answers _ is own tells)
   where
     on_reached_answers : (g : model.Cell) (k : command.Command) → IsReached g → AnswersHold g k
     on_reached_answers g k reached = on_reached (λ (z : model.Cell). AnswersHold z k) (λ commands. answers_lem commands k) g reached
-
-    can_take : (g : model.Cell) (m : model.Message) → IsReached g → In m g.bag → CanTake (g.house m.receiver) m
-    can_take g m reached = on_reached (λ (z : model.Cell). In m z.bag → CanTake (z.house m.receiver) m) (λ commands. can_take_lem commands m) g reached
-
-    posted_at : (g : model.Cell) (n : ℕ) (m : model.Message) → message_at g n ≡ Some m → In m g.bag
-    posted_at g n m there = go ((n == 0) || has n g.lost) there
-      where
-        go : (b : Bool) → (if b then None else slice_get g.bag (n - 1)) ≡ Some m → In m g.bag
-        go true is = absurd (cc)
-        go false is = In-from_get m g.bag (n - 1) is
 
 -- ---- houses that go down and start
 

@@ -36,7 +36,7 @@ use Rattle.cds_cell.proofs.ActSteps.{never_missing, passed, told_by, up_where}
 use Rattle.cds_cell.proofs.Serials.{new_epoch_tells}
 
 -- the step of the house that becomes the master, and what the console notes of it
-abbrev entered : model.Cell → (d m k : ℕ) → List Member → List ℕ → Outcome
+abbrev pub entered : model.Cell → (d m k : ℕ) → List Member → List ℕ → Outcome
 entered g d m k ms left =
     let o : Outcome = at_house g m (turns.new_epoch m (g.house m) d k ms left) in
     with_epoch o d ms o.answer
@@ -95,8 +95,9 @@ module _ (c : Cell) (g : model.Cell) (d m : ℕ) (rs ss : List ℕ) (s : Stands 
   pub epoch_listed : is_bad_list (m ∷ rs) ≡ false
   epoch_listed = passed (refusals_of g (command.Epoch d m rs ss)) (is_bad_list (m ∷ rs)) command.BadMembers (inr (inr (inl refl))) none
 
-  up : (g.house m).up ≡ true
-  up = up_where g m (passed (refusals_of g (command.Epoch d m rs ss)) (is_down g m) command.Down (inr (inr (inr (inr (inl refl))))) none)
+  -- its master is up
+  pub epoch_up : (g.house m).up ≡ true
+  epoch_up = up_where g m (passed (refusals_of g (command.Epoch d m rs ss)) (is_down g m) command.Down (inr (inr (inr (inr (inl refl))))) none)
 
   -- its number is above that of each epoch that is held
   pub epoch_new : (x : ℕ) → IsNewEpoch (g.top d + 1) ((g.house x).slots d)
@@ -132,7 +133,8 @@ module _ (c : Cell) (g : model.Cell) (d m : ℕ) (rs ss : List ℕ) (s : Stands 
     abbrev step : turns.HouseStep
     step = turns.new_epoch m (g.house m) d e.0 ms left
 
-    effect_is : effect g (command.Epoch d m rs ss) ≡ entered g d m e.0 ms left
+    -- the command is the step of the master and what the console notes of it
+    pub effect_is : effect g (command.Epoch d m rs ss) ≡ entered g d m e.0 ms left
     effect_is =
         let old : List Member = g.present d in
         ap (λ k. entered g d m k (listing old k m rs ss) (leaving old (listing old k m rs ss))) (sym call.epoch)
@@ -144,7 +146,7 @@ module _ (c : Cell) (g : model.Cell) (d m : ℕ) (rs ss : List ℕ) (s : Stands 
     acts_in Answers acts =
         let told : ActsAt c c' at [] ns Answers (g.house m) (λ h. turns.new_epoch h (g.house m) d e.0 ms left) =
         subst (λ (ns' : List ℕ). ActsAt c c' at ns' ns Answers (g.house m) (λ h. turns.new_epoch h (g.house m) d e.0 ms left)) first acts in
-        acted c c' g m at [] ns Answers (λ h. turns.new_epoch h (g.house m) d e.0 ms left) s.stands call.place told up
+        acted c c' g m at [] ns Answers (λ h. turns.new_epoch h (g.house m) d e.0 ms left) s.stands call.place told epoch_up
 
     -- a new epoch that is refused
     pub epoch_refused : (r : EpochRefusal) (told : ScriptRefusal) (result : Result (Unit {0}) EpochRefusal) → result ≡ Err r

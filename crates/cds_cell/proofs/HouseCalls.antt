@@ -1,16 +1,17 @@
 -- What a house of the cell does, from what its clearinghouse does.
 use Rattle.std.proofs.Common.{◌≡◌, ℕ, true, false, List, ◌<◌, Option, Some, None, Result, Ok, Err, refl, sym, ap, subst, ◌∙◌}
 use Rattle.std.specs.Prelude.{IfOk}
+use Rattle.std.specs.Result.{result_ok}
 use Rattle.std.specs.declared.alloc.AllocError.{AllocError}
 use Rattle.cds_stamps.specs.declared.numbers.HouseNo.{HouseNo}
 use Rattle.cell_model.specs.Cells as model
 use Rattle.cell_model.specs.Commands as command
-use Rattle.cell_model.specs.Turns.{Turn, HouseStep, Stays, Turns, crashed_house}
+use Rattle.cell_model.specs.Turns.{Turn, HouseStep, Stays, Turns, crashed_house, started_house}
 use Rattle.clearinghouse.specs.declared.house.Clearinghouse.{Clearinghouse}
 use Rattle.held_directories.specs.declared.posted.Posted.{Posted}
 use Rattle.held_directories.specs.declared.states.DirState.{DirState}
 use Rattle.held_directories.specs.declared.states.DirState.TheVariants as dir_state
-use Rattle.clearinghouse.specs.Imaging.{restarted}
+use Rattle.clearinghouse.specs.Imaging.{restarted, started}
 use Rattle.clearinghouse.specs.Lawful.{IsLawful}
 use Rattle.held_directories.specs.Refusing.{IsLater}
 use Rattle.held_directories.specs.Standing.{StandsSlot}
@@ -92,3 +93,27 @@ crashed_stands h c octets now is stands kept there lawful = record {
   clock = stands.clock;
   state = (refl, (restarted c, kept, record { number = (stands_up h c now is stands).number; stands = there; lawful = lawful; usable = refl }));
 }
+
+-- ---- starts
+
+-- a house that is down starts as the clearinghouse that its octets start as
+pub started_stands : (h : CellHouse) (kept octets : List ℕ) (home : Clearinghouse) (now : model.House) → h.state ≡ state.Down kept → StandsAtHouse h now
+    → octets ≡ kept → Some home ≡ result_ok (started octets) → StandsAtHouse (with_up h home) (started_house now)
+started_stands h kept octets home now is stands same starts =
+    let s = subst (λ s. StandsState h.house s now) is stands.state in
+    let told : Some home ≡ Some s.1.0 = starts ∙ ap (λ l. result_ok (started l)) same ∙ ap result_ok s.1.1.starts in
+    let own : s.1.0 ≡ home = cc in
+    let up = subst (λ c. StandsUp h.house c now) own s.1.2 in
+    record {
+      node = stands.node;
+      clock = stands.clock;
+      state = (
+        refl,
+        record {
+          number = up.number;
+          stands = record { node = up.stands.node; floor = up.stands.floor; slots = up.stands.slots };
+          lawful = up.lawful;
+          usable = up.usable;
+        },
+      );
+    }

@@ -1,6 +1,6 @@
 -- What comes of a step, of what comes of its act.
 use Rattle.std.proofs.Common.{◌≡◌, ap, refl, subst, sym, ◌∙◌}
-use Rattle.std.specs.Prelude.{Option, Some, None, Result, Ok, Err, IfOk}
+use Rattle.std.specs.Prelude.{Option, Some, None, Result, Ok, Err, IfOk, OnOk, is_err}
 use Rattle.std.specs.Option.{option_map}
 use Rattle.std.specs.declared.alloc.AllocError.{AllocError}
 use Rattle.cell_model.specs.Cells as model
@@ -11,9 +11,9 @@ use Rattle.cell_model.proofs.Standing.{reached_lem}
 use Rattle.script_answers.specs.declared.answer.Answer.{Answer}
 use Rattle.script_answers.specs.declared.answer.ScriptRefusal.{ScriptRefusal}
 use Rattle.cds_cell.specs.declared.cell.Cell.{Cell}
-use Rattle.cds_cell.specs.PrivateSteps.{ComesTo}
+use Rattle.cds_cell.specs.PrivateSteps.{ComesTo, IsStepAs}
 use Rattle.cds_cell.specs.Scripted as script
-use Rattle.cds_cell.specs.Standing.{IsStep, StandsAs}
+use Rattle.cds_cell.specs.Standing.{IsStep, Stands, StandsAs}
 
 -- what is mapped to none is none
 pub unrefused : (o : Option command.Refusal) (r : Option ScriptRefusal) → r ≡ option_map script.refusal_of o → r ≡ None → o ≡ None
@@ -36,3 +36,22 @@ acted_step d g k (Ok a) reached none comes =
         stands = subst (λ (o : Outcome). StandsAs d o.cell) (sym is) comes.stands;
       };
     }
+
+-- the cell behind it stands for the model's
+pub acted_stands : (d : Cell) (g : model.Cell) (k : command.Command) (a : Answer) → IsReached g → first_refusal (refusals_of g k) ≡ None
+    → IsStepAs a d (effect g k) → Stands d (outcome g k).cell
+acted_stands d g k a reached none comes = (acted_step d g k (Ok a) reached none comes).stands
+
+-- so does a cell that stays, where the command is refused
+pub refused_stands : (c : Cell) (g : model.Cell) (k : command.Command) (r : ScriptRefusal) → Stands c g
+    → Some r ≡ option_map script.refusal_of (first_refusal (refusals_of g k)) → Stands c (outcome g k).cell
+refused_stands c g k r s told = by (first_refusal (refusals_of g k)) refl told
+  where
+    by : (o : Option command.Refusal) → first_refusal (refusals_of g k) ≡ o → Some r ≡ option_map script.refusal_of o → Stands c (outcome g k).cell
+    by None is told = absurd (cc (told))
+    by (Some q) is told = rw is s
+
+-- a cell that notes whether memory ran out stands for the same
+pub unspent_stands : {T : Type 0} (d : Cell) (g : model.Cell) (r : Result T AllocError) → OnOk r (Stands d g) → OnOk r (Stands (record d { spent = is_err r }) g)
+unspent_stands d g (Ok t) s = subst (λ b. Stands (record d { spent = b }) g) s.stands.usable s
+unspent_stands d g (Err e) s = tt

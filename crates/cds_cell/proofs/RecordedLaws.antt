@@ -150,6 +150,10 @@ module _ (g : model.Cell) (numbers : NumbersHold g) (x : ℕ) where
       let far = beyond_first q 0 g.next_dir off (omega arith) in
       ap kept_in ((numbers.nothing q.0 (numbers.unknown q.0 (inr (omega (arith, far))))).absent x)
 
+  -- the image keeps of each directory what the house has of it
+  pub got_recorded : (q : DirId) → get (image_at g x).dirs q ≡ kept_at q
+  got_recorded q = get-of_all_keys dir_total dir_exact (first_dirs g.next_dir) kept_at none_beyond q
+
   -- the image of a clearinghouse that stands for the house is the house's
   pub image_recorded : (h : HouseNo) (c : Clearinghouse) → h.0 ≡ x → StandsUp h c (g.house x) → image_of c ≡ image_at g x
   image_recorded h c is up i = record {
@@ -158,7 +162,7 @@ module _ (g : model.Cell) (numbers : NumbersHold g) (x : ℕ) where
     floor = sym up.stands.floor i;
     dirs = same_map dir_total dir_exact (image_of c).dirs (image_at g x).dirs
         (λ q. got_kept c q ∙ sym (slot_recorded c.house.0 c.floor.time (get c.dirs q) ((g.house x).slots q.0) (up.stands.slots q.0))
-        ∙ sym (get-of_all_keys dir_total dir_exact (first_dirs g.next_dir) kept_at none_beyond q)) i;
+        ∙ sym (got_recorded q)) i;
   }
 
   -- octets that are kept stand for a house that is down: they are its image
@@ -199,6 +203,17 @@ module _ (c : Cell) (g : model.Cell) (stands : Stands c g) where
           → option_map (λ l. rc_slice_items l.shared) o ≡ option_and_then octets_of p
       at None None is = refl
       at (Some l) (Some m) is = sym (letter_recorded l m is)
+      at None (Some m) is = elim is [ ]
+      at (Some l) None is = elim is [ ]
+
+  -- and so is its receiver
+  pub receiver_recorded : (n : ℕ) → option_map (λ h. h.0) (option_map (λ l. l.to) (letter_at c.bag n)) ≡ option_map (λ m. m.receiver) (message_at g n)
+  receiver_recorded n = at (letter_at c.bag n) (message_at g n) (stands.stands.bag.letters n)
+    where
+      at : (o : Option Letter) (p : Option model.Message) → MaybeStandsLetter o p
+          → option_map (λ h. h.0) (option_map (λ l. l.to) o) ≡ option_map (λ m. m.receiver) p
+      at None None is = refl
+      at (Some l) (Some m) is = ap Some (sym is.stands.head.receiver)
       at None (Some m) is = elim is [ ]
       at (Some l) None is = elim is [ ]
 

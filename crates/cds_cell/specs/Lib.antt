@@ -3,6 +3,8 @@ pub mod Asking
 pub mod AskingProofs
 pub mod Bags
 pub mod Houses
+pub mod Listings
+pub mod Imaging
 pub mod PrivateActs
 pub mod PrivateBags
 pub mod PrivateHouses

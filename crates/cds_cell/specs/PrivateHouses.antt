@@ -3,6 +3,7 @@ use Rattle.std.specs.Prelude.{◌≡◌, ◌<◌, ℕ, List, [], Option}
 use Rattle.cds_stamps.specs.declared.numbers.DirId.{DirId}
 use Rattle.cds_stamps.specs.declared.numbers.EpochNo.{EpochNo}
 use Rattle.cds_stamps.specs.declared.numbers.HouseNo.{HouseNo}
+use Rattle.cds_records.specs.Octets.{image_octets}
 use Rattle.cell_model.specs.Cells as model
 use Rattle.cell_model.specs.Commands as command
 use Rattle.cell_model.specs.Turns.{Turn, HouseStep, Stays, Turns}
@@ -10,6 +11,7 @@ use Rattle.held_directories.specs.declared.epochs.EpochRefusal.{EpochRefusal}
 use Rattle.held_directories.specs.declared.outgoing.Outgoing.{Outgoing}
 use Rattle.held_directories.specs.declared.posted.Posted.{Posted}
 use Rattle.held_directories.specs.Posting.{StandEach, posts_to, leave_of, numbers_of}
+use Rattle.clearinghouse.specs.Imaging.{image_of}
 use Rattle.clearinghouse.specs.Posting.{posts_at, epoch_posts_at, sender_of}
 use Rattle.cds_cell.specs.declared.house.CellHouse.{CellHouse}
 use Rattle.cds_cell.specs.declared.house.HouseState.{HouseState}
@@ -40,6 +42,11 @@ epoch_posted_by (state.Down octets) dir k leaving refused = []
 abbrev pub leaves_by : HouseState → DirId → EpochNo → List HouseNo → List Posted
 leaves_by (state.Up c) dir k leaving = posts_to (numbers_of leaving) (leave_of (sender_of c dir) k)
 leaves_by (state.Down octets) dir k leaving = []
+
+-- the octets of the image of a house, up or down (own)
+abbrev pub octets_in : HouseState → List ℕ
+octets_in (state.Up c) = image_octets (image_of c)
+octets_in (state.Down octets) = octets
 
 -- an epoch is later than the one that is held, if one is (own)
 abbrev pub IsNewEpoch : (k : ℕ) → model.Slot → Type 0

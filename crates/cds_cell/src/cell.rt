@@ -33,7 +33,7 @@ pub struct Cell {
     pub(crate) houses: Vec<CellHouse>,
     pub(crate) directories: Vec<Listing>,
     pub(crate) bag: Bag,
-    spent: bool,
+    pub(crate) spent: bool,
 }
 
 impl Cell {
@@ -94,6 +94,14 @@ impl Cell {
         Some(self.bag.letter(serial)?.octets())
     }
 
+    /// The house that the message of a serial number is for, if it was posted and not lost. Takes no memory.
+    pub fn receiver(&self, serial: u64) -> Option<HouseNo>
+        ensures found { result ≡ option_map (λ l. l.to) (letter_at self.now.bag serial) }
+        ensures model { (g : model.Cell) → Stands self.now g → option_map (λ h. h.0) result ≡ option_map (λ m. m.receiver) (message_at g serial) }
+    {
+        Some(self.bag.letter(serial)?.to)
+    }
+
     /// Whether memory ran out in a step: then the cell is used no more.
     pub fn is_spent(&self) -> bool
         ensures { result ≡ self.now.spent }
@@ -151,7 +159,7 @@ impl Cell {
     }
 
     // Nothing, unless the cell is spent.
-    fn usable(&self) -> Result<(), AllocError>
+    pub(crate) fn usable(&self) -> Result<(), AllocError>
         ensures { is_err result ≡ self.now.spent }
     {
         if self.spent {

@@ -1,6 +1,6 @@
 // The houses of a cell, and what each does when it is asked.
 ghost use Rattle.std.specs.Prelude.{◌≡◌, ◌≤◌, true, false, not, List, [], length, Some, None, IfOk, IfNone, IfSome, OnOk, OnErr, MatchOption};
-ghost use Rattle.std.specs.Result.{result_err};
+ghost use Rattle.std.specs.Result.{result_err, result_ok};
 ghost use Rattle.cds_messages.specs.Validity.{IsValidMessage};
 ghost use Rattle.cds_stamps.specs.declared.numbers.HouseNo as house_no;
 ghost use Rattle.cds_stamps.specs.Members.{members_of, master_of, most_members};
@@ -10,10 +10,11 @@ ghost use Rattle.cell_model.specs.Cells as model;
 ghost use Rattle.cell_model.specs.Taking.{CanTake};
 ghost use Rattle.cell_model.specs.Turns as turns;
 ghost use Rattle.held_directories.specs.Posting.{StandsMessage, numbers_of};
+ghost use Rattle.clearinghouse.specs.Imaging.{started};
 ghost use Rattle.clearinghouse.specs.Posting.{AreLetters};
 ghost use Rattle.held_directories.specs.Stepping.{IsStampAnswer, IsBegunAnswer, IsEpochAnswer, IsTakeAnswer, UnlessTaken};
 ghost use Rattle.cds_cell.specs.Houses.{StandsAtHouse};
-ghost use Rattle.cds_cell.specs.PrivateHouses.{Asks, IsNewEpoch, IsSameHouse, IsTurnAt, epoch_posted_by, leaves_by, posted_at};
+ghost use Rattle.cds_cell.specs.PrivateHouses.{Asks, IsNewEpoch, IsSameHouse, IsTurnAt, epoch_posted_by, leaves_by, octets_in, posted_at};
 
 use cds_messages::Message;
 use cds_stamps::{AllocOr, DirId, EpochNo, HouseNo, Members, Node, Stamp};
@@ -202,17 +203,77 @@ impl CellHouse {
     }
 
     /// Starts of its image. Octets that are no image leave it down.
-    pub(crate) fn start(&mut self, alloc: Global) -> Result<(), AllocError>
+    pub fn start(&mut self, alloc: Global) -> Result<(), AllocError>
         ensures who { IsSameHouse self.old self.new }
         ensures step { OnOk result ((now : model.House) → StandsAtHouse self.old now → now.up ≡ false → StandsAtHouse self.new (turns.started_house now)) }
     {
         if let HouseState::Down(image) = &self.state {
-            match Clearinghouse::start(alloc, image.list()) {
-                Ok(home) => self.state = HouseState::Up(home),
-                Err(AllocOr::Fault(StartFault::BadImage(_))) => {}
-                Err(AllocOr::OutOfMemory) => return Err(AllocError),
+            if let Some(home) = home_of(alloc, image.list())? {
+                self.state = HouseState::Up(home);
             }
         }
         Ok(())
+    }
+
+    /// Starts of these octets, if it is down. Octets that are no image leave it down.
+    pub fn start_from(&mut self, alloc: Global, octets: &[u8]) -> Result<(), AllocError>
+        ensures who { IsSameHouse self.old self.new }
+        ensures step { OnOk result ((now : model.House) → StandsAtHouse self.old now → now.up ≡ false → octets.now ≡ octets_in self.old.state
+            → StandsAtHouse self.new (turns.started_house now)) }
+    {
+        if let HouseState::Down(_) = &self.state {
+            if let Some(home) = home_of(alloc, octets)? {
+                self.state = HouseState::Up(home);
+            }
+        }
+        Ok(())
+    }
+
+    /// The same house once more.
+    pub fn copy(&self, alloc: Global) -> Result<CellHouse, AllocError>
+        ensures { IfOk result (λ h. h ≡ self.now) }
+    {
+        Ok(CellHouse {
+            house: self.house,
+            node: self.node,
+            clock: self.clock,
+            state: self.state.copy(alloc)?,
+        })
+    }
+
+    /// The octets of its image, up or down.
+    pub fn image(&self, alloc: Global) -> Result<Vec<u8>, AllocError>
+        ensures { IfOk result (λ v. v.items ≡ octets_in self.now.state) }
+    {
+        match &self.state {
+            HouseState::Up(home) => home.image(alloc),
+            HouseState::Down(octets) => Vec::from_slice(alloc, octets.list()),
+        }
+    }
+}
+
+impl HouseState {
+    /// The same once more.
+    fn copy(&self, alloc: Global) -> Result<HouseState, AllocError>
+        ensures { IfOk result (λ s. s ≡ self.now) }
+    {
+        match self {
+            HouseState::Up(home) => Ok(HouseState::Up(home.copy(alloc)?)),
+            HouseState::Down(octets) => {
+                let octets = Vec::from_slice(alloc, octets.list())?;
+                Ok(HouseState::Down(Octets::of(octets)))
+            }
+        }
+    }
+}
+
+// The clearinghouse that starts of these octets; none, where they are no image.
+fn home_of(alloc: Global, octets: &[u8]) -> Result<Option<Clearinghouse>, AllocError>
+    ensures { IfOk result (λ o. o ≡ result_ok (started octets.now)) }
+{
+    match Clearinghouse::start(alloc, octets) {
+        Ok(home) => Ok(Some(home)),
+        Err(AllocOr::Fault(StartFault::BadImage(_))) => Ok(None),
+        Err(AllocOr::OutOfMemory) => Err(AllocError),
     }
 }

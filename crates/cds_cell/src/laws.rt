@@ -1,5 +1,5 @@
 //! Laws of cells: functions that do nothing, whose contracts are proved.
-ghost use Rattle.std.specs.Prelude.{◌≡◌, ◌≤◌, ◌↔◌, ◌⊎◌, ℕ, Bool, true, List, length, map, take, Option, Some, None, Ok};
+ghost use Rattle.std.specs.Prelude.{◌≡◌, ◌≤◌, ◌↔◌, ◌⊎◌, ℕ, Bool, true, false, List, length, map, take, Option, Some, None, Ok};
 ghost use Rattle.std.specs.List.{AllByRecursion, flat_map};
 ghost use Rattle.std.specs.Option.{option_map};
 ghost use Rattle.std.specs.Rc.{rc_slice_items};
@@ -15,7 +15,8 @@ ghost use Rattle.cell_model.specs.Agreement.{Converges};
 ghost use Rattle.cell_model.specs.Cells as model;
 ghost use Rattle.cell_model.specs.Commands as command;
 ghost use Rattle.cell_model.specs.Reached.{IsReached};
-ghost use Rattle.cell_model.specs.Steps.{answers_from, replay, replay_from};
+ghost use Rattle.cell_model.specs.Sets.{has};
+ghost use Rattle.cell_model.specs.Steps.{answers_from, outcome, replay, replay_from};
 ghost use Rattle.resolver.specs.Readers.{ShowsOnly};
 ghost use Rattle.resolver.specs.WalkEnds.{placed, walked};
 ghost use Rattle.resolver.specs.declared.seen.Found.{Found};
@@ -28,6 +29,7 @@ ghost use Rattle.cds_cell.specs.Accepting.{IsStamped, ShowsAsMaster, accepting, 
 ghost use Rattle.cds_cell.specs.Asking.{Asked, asked};
 ghost use Rattle.cds_cell.specs.Bags.{letter_at};
 ghost use Rattle.cds_cell.specs.Houses.{is_up_state};
+ghost use Rattle.cds_cell.specs.Imaging.{actors};
 ghost use Rattle.cds_cell.specs.Readings.{reading, objects_of, views_of};
 ghost use Rattle.cds_cell.specs.Recorded.{image_at};
 ghost use Rattle.cds_cell.specs.Scripted.{step_of};
@@ -69,6 +71,11 @@ pub fn images_are_those_of_the_model()
         → option_map (λ h. h.state) (house_of c.houses.items x) ≡ Some (state.Up home) → image_of home ≡ image_at g x }
     ensures down { (c : Cell) (g : model.Cell) (x : ℕ) (octets : List ℕ) → Stands c g
         → option_map (λ h. h.state) (house_of c.houses.items x) ≡ Some (state.Down octets) → octets ≡ image_octets (image_at g x) }
+{}
+
+/// A command changes the image of no house but those that act in it.
+pub fn images_stay()
+    ensures { (g : model.Cell) (c : command.Command) (x : ℕ) → IsReached g → has x (actors g c) ≡ false → image_at (outcome g c).cell x ≡ image_at g x }
 {}
 
 /// Nothing that a cell keeps is at fault: the octets of each message in the bag decode to a message, with nothing behind it, and each

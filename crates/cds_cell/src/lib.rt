@@ -7,6 +7,7 @@ mod bag;
 mod cell;
 mod console;
 mod house;
+mod imaging;
 pub mod laws;
 mod making;
 mod members;
@@ -14,6 +15,7 @@ mod messages;
 mod pointing;
 mod reader;
 mod refusing;
+mod restarting;
 mod step;
 mod updating;
 

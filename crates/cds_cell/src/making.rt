@@ -26,8 +26,8 @@ use directory::Update;
 use script_answers::{Answer, ScriptRefusal, Serials};
 use std::alloc::{AllocError, Global};
 
-// The update that makes a child whose directory has this number and these houses; none, where they are no good list.
-fn child_of(
+/// The update that makes a child whose directory has this number and these houses; none, where they are no good list.
+pub(crate) fn child_of(
     alloc: Global,
     name: SimpleName,
     child: DirId,
@@ -198,8 +198,8 @@ impl Cell {
         }
     }
 
-    // The number of the next directory: the root's where there is none, which a child never gets.
-    fn next_directory(&self) -> DirId
+    /// The number of the next directory: the root's where there is none, which a child never gets.
+    pub(crate) fn next_directory(&self) -> DirId
         requires room { HasRoom self.now }
         ensures { result.0 ≡ length self.now.directories.items + 1 }
     {

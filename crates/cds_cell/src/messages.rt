@@ -1,14 +1,15 @@
 // Messages that are delivered or lost, and houses that go down and start again.
-ghost use Rattle.std.specs.Prelude.{◌≡◌, ◌≤◌, ◌<◌, ◌+◌, ℕ, None, Ok, IfOk, OnOk, MatchResult, length};
+ghost use Rattle.std.specs.Prelude.{◌≡◌, ◌≤◌, ◌<◌, ◌+◌, ℕ, None, Ok, IfOk, OnOk, MatchResult, length, map};
 ghost use Rattle.cds_messages.specs.Validity.{IsValidMessage};
 ghost use Rattle.cell_model.specs.Cells as model;
 ghost use Rattle.cell_model.specs.Commands as command;
-ghost use Rattle.cell_model.specs.Steps.{effect, first_refusal, refusals_of};
+ghost use Rattle.cell_model.specs.Steps.{effect, first_refusal, refusals_of, replay_from};
 ghost use Rattle.cell_model.specs.Taking.{CanTake};
 ghost use Rattle.cell_model.specs.Turns as turns;
 ghost use Rattle.held_directories.specs.Posting.{StandsMessage};
 ghost use Rattle.held_directories.specs.Stepping.{IsTakeAnswer, UnlessTaken};
 ghost use Rattle.script_answers.specs.declared.answer.Answer.TheVariants as answer;
+ghost use Rattle.cds_cell.specs.Imaging.{serials_after};
 ghost use Rattle.cds_cell.specs.PrivateActs.{ActsAt, Delivers, KeepsRest};
 ghost use Rattle.cds_cell.specs.PrivateSteps.{ComesTo, IsPlaceOf, IsStepAs, Leaves};
 ghost use Rattle.cds_cell.specs.Standing.{HasRoom, Stands};
@@ -25,9 +26,9 @@ use std::alloc::{AllocError, Global};
 
 /// A message that comes to the house at a place of the list.
 #[derive(Drop)]
-struct Delivery {
-    at: usize,
-    message: Message,
+pub(crate) struct Delivery {
+    pub(crate) at: usize,
+    pub(crate) message: Message,
 }
 
 impl Cell {
@@ -43,8 +44,8 @@ impl Cell {
         }
     }
 
-    // Where the message of a serial number comes to, and what it says; or why it comes nowhere.
-    fn delivery(
+    /// Where the message of a serial number comes to, and what it says; or why it comes nowhere.
+    pub(crate) fn delivery(
         &self,
         alloc: Global,
         serial: u64,
@@ -121,9 +122,23 @@ impl Cell {
         Answer::Done
     }
 
+    /// All messages are lost but the first ones, so many.
+    pub(crate) fn lose_after(&mut self, kept: u64)
+        ensures houses { self.new.houses ≡ self.old.houses }
+        ensures rest { KeepsRest self.old self.new }
+        ensures posted { self.new.bag.posted ≡ self.old.bag.posted }
+        ensures lost { (g : model.Cell) → Stands self.old g → Stands self.new (replay_from g (map command.Lose (serials_after kept g))) }
+    {
+        'messages: for lost in kept..self.bag.posted() {
+            self.bag.lose(lost + 1);
+        }
+    }
+
     /// A house goes down.
     pub(crate) fn crash(&mut self, alloc: Global, house: HouseNo) -> Result<Answer, AllocError>
         ensures leaves { Leaves self.old self.new result }
+        ensures rest { KeepsRest self.old self.new }
+        ensures bag { self.new.bag ≡ self.old.bag }
         ensures step { (g : model.Cell) → Stands self.old g → first_refusal (refusals_of g (command.Crash house.0)) ≡ None
             → ComesTo result self.new (effect g (command.Crash house.0)) }
     {

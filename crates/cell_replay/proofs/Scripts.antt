@@ -27,30 +27,39 @@ use Rattle.cell_replay.proofs.HeadlineLaws.{converges, finds}
 
 -- ---- scripts
 
--- a form that answers line by line, whose state stands for a state of the program, and which says nothing at the end of its input
+-- the state behind numbered lines
+abbrev pub state_behind : {S L : Type 0} → Dialogue S L → S → List (NumberedOf L) → S
+state_behind d s [] = s
+state_behind d s (l ∷ ls) = state_behind d (d.after l.number s l.says) ls
+
+-- a transcript, and this text at the end of the input
+abbrev pub told_with : (text end : List ℕ) → Demand
+told_with text end = record { body = text; end = end; verdict = Sound }
+
+-- a form that answers line by line, whose state stands for a state of the program
 module _ {S L : Type 0} (d : Dialogue S L) (state_of : S → LineState)
     (responds : (number : ℕ) (s : S) (line : List ℕ) → response number (state_of s) line
-    ≡ in_state state_of (replied d number s (d.says (words_of line))))
-    (silent : (s : S) → end_text (state_of s) ≡ []) where
-  -- a script demands its transcript
-  pub script_demand : (number : ℕ) (s : S) (lines : List (List ℕ)) (said : List (NumberedOf L)) → IsScriptOf d.says number lines said
-      → scanned number (state_of s) [] (text_of lines) ≡ whole (transcript_by d s said)
-  script_demand number s [] said none =
-      demand_part number (state_of s) [] tt ∙ ap ends_with (silent s)
-      ∙ ap (λ (said : List (NumberedOf L)). whole (transcript_by d s said)) (sym none)
+    ≡ in_state state_of (replied d number s (d.says (words_of line)))) where
+  -- what a script demands: its transcript, and what is said at the end of its input
+  abbrev pub due : S → List (NumberedOf L) → Demand
+  due s said = told_with (transcript_by d s said) (end_text (state_of (state_behind d s said)))
+
+  -- a script demands that
+  script_demand : (number : ℕ) (s : S) (lines : List (List ℕ)) (said : List (NumberedOf L)) → IsScriptOf d.says number lines said
+      → scanned number (state_of s) [] (text_of lines) ≡ due s said
+  script_demand number s [] said none = demand_part number (state_of s) [] tt ∙ ap (due s) (sym none)
   script_demand number s (l ∷ ls) said is =
       demand_line number (state_of s) l (text_of ls) is.0
       ∙ ap (λ (r : Response). then_rest r (λ next. scanned (number + 1) next [] (text_of ls))) (responds number s l)
       ∙ by_saying (λ s said is. script_demand (number + 1) s ls said is) (d.says (words_of l)) is.1
     where
       by_saying : ((s : S) (said : List (NumberedOf L)) → IsScriptOf d.says (number + 1) ls said
-          → scanned (number + 1) (state_of s) [] (text_of ls) ≡ whole (transcript_by d s said))
+          → scanned (number + 1) (state_of s) [] (text_of ls) ≡ due s said)
           → (r : Result (Option L) ParseFault) → Says number r said (IsScriptOf d.says (number + 1) ls)
-          → then_rest (in_state state_of (replied d number s r)) (λ next. scanned (number + 1) next [] (text_of ls)) ≡ whole (transcript_by d s said)
+          → then_rest (in_state state_of (replied d number s r)) (λ next. scanned (number + 1) next [] (text_of ls)) ≡ due s said
       by_saying behind (Ok None) says = ap (with_front []) (behind s said says)
       by_saying behind (Ok (Some x)) says =
-          ap (with_front (d.text number s x)) (behind (d.after number s x) says.0 says.2)
-          ∙ ap (λ (said : List (NumberedOf L)). whole (transcript_by d s said)) (sym says.1)
+          ap (with_front (d.text number s x)) (behind (d.after number s x) says.0 says.2) ∙ ap (due s) (sym says.1)
       by_saying behind (Err fault) says = absurd says
 
   -- the lines of an input of which this much of the next line has come, and what they say
@@ -123,30 +132,41 @@ module _ {S L : Type 0} (d : Dialogue S L) (state_of : S → LineState)
       by_fault behind joined None is sound = by_ten behind joined is (b == 10) refl sound
       by_fault behind joined (Some fault) is sound = absurd (cc (sound))
 
-  -- a whole script demands its transcript
-  pub script_demanded : (s : S) (lines : List (List ℕ)) (said : List (NumberedOf L)) → IsScriptOf d.says 1 lines said
-      → demanded (state_of s) (text_of lines) ≡ whole (transcript_by d s said)
-  script_demanded s lines said is = demanded_scanned (state_of s) (text_of lines) ∙ script_demand 1 s lines said is
+  -- what a whole script demands
+  pub script_due : (s : S) (lines : List (List ℕ)) (said : List (NumberedOf L)) → IsScriptOf d.says 1 lines said
+      → demanded (state_of s) (text_of lines) ≡ due s said
+  script_due s lines said is = demanded_scanned (state_of s) (text_of lines) ∙ script_demand 1 s lines said is
 
   -- a whole input in which nothing is faulty is a script
-  pub demanded_script : (s : S) (octets : List ℕ) → (demanded (state_of s) octets).verdict ≡ Sound → Script 1 octets
-  demanded_script s octets sound = demand_script 1 s [] octets tt
+  pub faultless_script : (s : S) (octets : List ℕ) → (demanded (state_of s) octets).verdict ≡ Sound → Script 1 octets
+  faultless_script s octets sound = demand_script 1 s [] octets tt
       (subst (λ (e : Demand). e.verdict ≡ Sound) (demanded_scanned (state_of s) octets) sound)
 
-  -- what was written, of a whole input in which nothing is faulty, is the transcript of the script that was read
-  pub is_replay_by : (s : S) (run : Run) → Wrote (ByLines (state_of s)) run IsWhole → IsReplayBy d s run
-  is_replay_by s run wrote =
-      let script = demanded_script s wrote.read (subst (λ (e : Demand). e.verdict ≡ Sound) (sym wrote.demands) wrote.due.0) in
-      let text = transcript_by d s script.1 in
-      let is_demand : wrote.demand ≡ whole text =
-      sym wrote.demands ∙ ap (demanded (state_of s)) script.2 ∙ script_demanded s script.0 script.1 script.3 in
-      record {
-        lines = script.0;
-        said = script.1;
-        script = script.3;
-        taken = subst (Consumes run.left run.left') script.2 wrote.taken;
-        written = subst (Appends run.held run.held') (wrote.due.1 ∙ ap (λ (e : Demand). e.body ++ e.end) is_demand ∙ append-nil text) wrote.written;
-      }
+  -- where nothing is said at the end of the input
+  module _ (silent : (s : S) → end_text (state_of s) ≡ []) where
+    -- a script demands its transcript
+    pub script_demanded : (s : S) (lines : List (List ℕ)) (said : List (NumberedOf L)) → IsScriptOf d.says 1 lines said
+        → demanded (state_of s) (text_of lines) ≡ whole (transcript_by d s said)
+    script_demanded s lines said is = script_due s lines said is ∙ ap (told_with (transcript_by d s said)) (silent (state_behind d s said))
+
+    -- and the other way round
+    pub demanded_script : (s : S) (octets : List ℕ) → (demanded (state_of s) octets).verdict ≡ Sound → Script 1 octets
+    demanded_script s octets sound = faultless_script s octets sound
+
+    -- what was written, of a whole input in which nothing is faulty, is the transcript of the script that was read
+    pub is_replay_by : (s : S) (run : Run) → Wrote (ByLines (state_of s)) run IsWhole → IsReplayBy d s run
+    is_replay_by s run wrote =
+        let script = demanded_script s wrote.read (subst (λ (e : Demand). e.verdict ≡ Sound) (sym wrote.demands) wrote.due.0) in
+        let text = transcript_by d s script.1 in
+        let is_demand : wrote.demand ≡ whole text =
+        sym wrote.demands ∙ ap (demanded (state_of s)) script.2 ∙ script_demanded s script.0 script.1 script.3 in
+        record {
+          lines = script.0;
+          said = script.1;
+          script = script.3;
+          taken = subst (Consumes run.left run.left') script.2 wrote.taken;
+          written = subst (Appends run.held run.held') (wrote.due.1 ∙ ap (λ (e : Demand). e.body ++ e.end) is_demand ∙ append-nil text) wrote.written;
+        }
 
 -- ---- the same of `run`
 

@@ -8,7 +8,8 @@ use Rattle.cds_base.specs.declared.scan.LineFault.TheVariants.{NoLineEnd}
 use Rattle.cds_base.specs.LineFaults.{fault_at}
 use Rattle.waiting_replies.specs.Texts.{line_fault_text}
 use Rattle.waiting_replies.specs.Responses.{GoesOn, Stops}
-use Rattle.cell_replay.specs.LineStates.{LineState, Replaying, Checking, Spelling, Clerking, Response, response, Inquiring}
+use Rattle.cell_replay.specs.LineStates.{LineState, Replaying, Checking, Spelling, Mending, Clerking, Response, response, Inquiring}
+use Rattle.mend_lines.specs.Lines.{mend_text}
 
 -- the text that is due whatever follows, the further text where nothing follows, and whether anything is faulty: nothing;
 -- the octets show a fault, whatever follows; or it is a fault that they end here (own)
@@ -48,14 +49,17 @@ abbrev pub told_fault : LineState → LineFault → List ℕ
 told_fault (Replaying g) fault = line_fault_text fault
 told_fault (Checking lines commands) fault = line_fault_text fault
 told_fault Spelling fault = []
+told_fault (Mending d g) fault = line_fault_text fault
 told_fault (Inquiring g) fault = line_fault_text fault
 told_fault (Clerking s) fault = line_fault_text fault
 
--- what is said at the end of a whole input: `check` tells how many lines and commands there were (own)
+-- what is said at the end of a whole input: `check` tells how many lines and commands there were, and `cdsmend` what
+-- mends the directory (own)
 abbrev pub end_text : LineState → List ℕ
 end_text (Replaying g) = []
 end_text (Checking lines commands) = codes "ok " ++ (decimal lines ++ (32 ∷ (decimal commands ++ 10 ∷ [])))
 end_text Spelling = []
+end_text (Mending d g) = mend_text d g
 end_text (Inquiring g) = []
 end_text (Clerking s) = []
 

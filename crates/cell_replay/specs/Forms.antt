@@ -5,7 +5,7 @@ use Rattle.std.specs.Str.{bytes_eq}
 use Rattle.cell_model.specs.Cells.{empty_cell}
 use Rattle.cell_script.specs.Words.{number_to}
 use Rattle.cell_replay.specs.declared.limits.TheConstants.{LAST_DIR, MOST_KEPT, MOST_ROUNDS}
-use Rattle.cell_replay.specs.LineStates.{LineState, Replaying, Checking, Spelling, Clerking, Inquiring}
+use Rattle.cell_replay.specs.LineStates.{LineState, Replaying, Checking, Spelling, Mending, Clerking, Inquiring}
 use Rattle.line_replies.specs.Loading.{load_text}
 use Rattle.clerk_replies.specs.Clerking.{start}
 use Rattle.cell_replay.specs.Demand.{Demand, demanded, ends_with}
@@ -27,6 +27,10 @@ replaying = ByLines (Replaying empty_cell)
 -- the form that replays a script with inquiries on a cell without houses (own)
 abbrev pub inquiring_form : FormState
 inquiring_form = ByLines (Inquiring empty_cell)
+
+-- the form of `cdsmend`: it replays a script on such a cell, and writes what mends the directory d behind it (own)
+abbrev pub mending : (d : ℕ) → FormState
+mending d = ByLines (Mending d empty_cell)
 
 -- the form that a word names, at its start (own)
 abbrev pub form_named : List ℕ → Option FormState

@@ -8,7 +8,8 @@ use Rattle.cds_cell.specs.declared.cell.Cell.{Cell}
 use Rattle.cds_cell.specs.Standing.{Stands}
 use Rattle.clerk_replies.specs.declared.replayer.ClerkReplayer.{ClerkReplayer}
 use Rattle.clerk_replies.specs.Standing as clerk
-use Rattle.cell_replay.specs.LineStates.{LineState, Replaying, Checking, Spelling, Inquiring, Clerking, Response}
+use Rattle.mend_lines.specs.declared.mender.Mender.{Mender}
+use Rattle.cell_replay.specs.LineStates.{LineState, Replaying, Checking, Spelling, Mending, Inquiring, Clerking, Response}
 use Rattle.cell_replay.specs.declared.limits.TheConstants.{MOST_KEPT, MOST_ROUNDS}
 use Rattle.cell_replay.specs.WholeDemand.{Migrating}
 use Rattle.cell_replay.specs.Forms.{FormState, ByLines, ByTowers, ByWhole, auditing, clerking_with, inquiring_form, loading, replaying}
@@ -56,11 +57,17 @@ abbrev pub CountsTo : Tally → LineState → Type 0
 CountsTo t (Checking lines commands) = (t.lines ≡ lines) × (t.commands ≡ commands)
 CountsTo t other = ⊥
 
+-- what the cell of `cdsmend` stands for, and the directory
+abbrev pub MendsAt : Mender → LineState → Type 0
+MendsAt m (Mending d g) = (m.dir.0 ≡ d) × Stands m.replayer.cell g
+MendsAt m other = ⊥
+
 -- a form stands at this state
 abbrev pub IsAt : LineForm → LineState → Type 0
 IsAt (form.Run replayer) state = StandsAt replayer.cell state
 IsAt (form.Check tally) state = CountsTo tally state
 IsAt (form.Untowers speller) state = state ≡ Spelling
+IsAt (form.Mend mender) state = MendsAt mender state
 IsAt (form.Inquire replayer) state = StandsAsked replayer.cell state
 IsAt (form.Clerk replayer) state = ClerksAt replayer state
 
@@ -69,6 +76,7 @@ abbrev pub counted : LineForm → ℕ
 counted (form.Run replayer) = replayer.steps
 counted (form.Check tally) = tally.lines
 counted (form.Untowers speller) = 0
+counted (form.Mend mender) = mender.replayer.steps
 counted (form.Inquire replayer) = replayer.steps
 counted (form.Clerk replayer) = replayer.replayer.steps
 

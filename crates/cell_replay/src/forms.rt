@@ -18,6 +18,7 @@ use cell_script::{ParseFault, number_up_to, parse_line};
 use clerk_replies::ClerkReplayer;
 use inquiry_replies::replay_inquiry;
 use line_replies::Replayer;
+use mend_lines::Mender;
 use std::alloc::{AllocError, Global};
 use waiting_replies::{LineEnd, Speller, Waiting, print_line_fault, reply_to_fault};
 
@@ -44,6 +45,8 @@ pub(crate) enum LineForm {
     Run(Replayer),
     Check(Tally),
     Untowers(Speller),
+    /// The form of `cdsmend`.
+    Mend(Mender),
     Inquire(Replayer),
     Clerk(ClerkReplayer),
 }
@@ -125,6 +128,7 @@ impl LineForm {
             LineForm::Run(replayer) => replayer.replay_line(alloc, number, line, waiting),
             LineForm::Check(tally) => check_line(alloc, tally, number, line, waiting),
             LineForm::Untowers(speller) => speller.spell_line(alloc, line, waiting),
+            LineForm::Mend(mender) => mender.take_line(alloc, number, line, waiting),
             LineForm::Inquire(replayer) => replay_inquiry(alloc, replayer, number, line, waiting),
             LineForm::Clerk(replayer) => replayer.replay_line(alloc, number, line, waiting),
         }
@@ -137,6 +141,7 @@ impl LineForm {
         match self {
             LineForm::Run(_) => Ok(Vec::new(alloc)),
             LineForm::Check(tally) => tally.print(alloc),
+            LineForm::Mend(mender) => mender.print_lines(alloc),
             LineForm::Untowers(_) => Ok(Vec::new(alloc)),
             LineForm::Inquire(_) => Ok(Vec::new(alloc)),
             LineForm::Clerk(_) => Ok(Vec::new(alloc)),
@@ -150,6 +155,7 @@ impl LineForm {
         match self {
             LineForm::Run(_) => print_line_fault(alloc, fault),
             LineForm::Check(_) => print_line_fault(alloc, fault),
+            LineForm::Mend(_) => print_line_fault(alloc, fault),
             LineForm::Clerk(_) => print_line_fault(alloc, fault),
             LineForm::Untowers(_) => Ok(Vec::new(alloc)),
             LineForm::Inquire(_) => print_line_fault(alloc, fault),

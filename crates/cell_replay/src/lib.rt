@@ -9,6 +9,7 @@ mod forms;
 pub mod laws;
 mod limits;
 mod load;
+mod mend;
 mod replay;
 mod towers;
 mod whole;
@@ -17,5 +18,6 @@ pub use endings::Status;
 pub use limits::{
     LAST_DIR, MOST_KEPT, MOST_ROUNDS, MOST_TOWERS, MOST_WHOLE, TOWER_SIGHT, WHOLE_SIGHT,
 };
+pub use mend::mend;
 pub use replay::run;
 pub use waiting_replies::{LONGEST_TOWER, MOST_WAITING};

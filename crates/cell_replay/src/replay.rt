@@ -93,7 +93,7 @@ fn answer_lines<S: Source, K: Sink>(
 }
 
 /// Answers the lines of the source from the form's start on.
-fn serve_lines<S: Source, K: Sink>(
+pub(crate) fn serve_lines<S: Source, K: Sink>(
     alloc: Global,
     mut form: LineForm,
     source: &mut S,

@@ -1,0 +1,5 @@
+mod ScriptHouses
+mod Sayable
+mod Sums
+pub mod Mendings
+pub mod Runs

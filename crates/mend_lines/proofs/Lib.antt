@@ -1,0 +1,7 @@
+pub mod Digits
+pub mod Words
+pub mod MemberKinds
+pub mod PutLines
+pub mod ReadBack
+pub mod Readying
+pub mod Ready

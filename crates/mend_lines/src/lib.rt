@@ -1,0 +1,10 @@
+//! The commands that mend a directory of a cell, as lines of a script.
+#![tactic(auto)]
+
+mod commands;
+pub mod laws;
+mod lines;
+mod mender;
+mod readiness;
+
+pub use mender::Mender;

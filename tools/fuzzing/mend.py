@@ -1,0 +1,226 @@
+#!/usr/bin/env python3
+"""Mends a directory of random cells in trouble, for as long as it is asked to.
+
+    tools/fuzzing/mend.py SECONDS [--inputs N] [--seed N] [--program PATH] [--mender PATH]
+
+Without --program and --mender `tools/build` builds the proved programs first, where that has to be. With --inputs it ends after so many
+scripts. Each script makes a few houses and directories, loses messages, delivers some late or twice, crashes houses, and changes epochs;
+then `cdsmend` mends one of its directories. What it has to write is computed here from the answers of `cdsreplay`: who is listed, who is
+up, which epoch each house holds, which number comes next, and the floor of the master. Then the script followed by these lines is run: no
+added line may be refused or in vain, and the last has to be answered `complete`. Behind that each listed house holds one epoch.
+
+Script number K is made from the seed N + K, where N is 1 if it is not given. At the first script that is not mended its seed is printed;
+it stands in out/fuzz-input. The last line is `N cells, all mended`, with how many were in which trouble before it, or `N cells, 1 not`,
+and the exit status is 1 for that.
+"""
+
+import argparse
+import os
+import random
+import re
+import subprocess
+import sys
+import time
+from collections import Counter
+
+ROOT = os.path.dirname(os.path.dirname(os.path.dirname(os.path.realpath(__file__))))
+PROGRAM = f"{ROOT}/crates/cdsreplay/out/cdsreplay"
+MENDER = f"{ROOT}/crates/cdsmend/out/cdsmend"
+FOUND = f"{ROOT}/out/fuzz-input"
+SECONDS = 60
+LAST_TIME = 2**64 - 1
+# The answers that change nothing.
+IN_VAIN = re.compile(r"\d+ (refused|late|early|stale|absent)\b")
+
+
+class Maker:
+    """A random script of a cell in trouble."""
+
+    def __init__(self, source):
+        self.random = source
+        self.houses = sorted(source.sample(range(1, 256), source.randint(1, 6)))
+        self.directories = 1
+        self.lines = [f"house {it} {it:012x}" for it in self.houses] + [f"root {self.a_list()}"]
+
+    def a_list(self):
+        """The words of a list: a master and others, some of them secondary."""
+        chosen = self.random.sample(self.houses, self.random.randint(1, len(self.houses)))
+        return " ".join([str(chosen[0]), *(("s" if self.random.random() < 0.3 else "") + str(it) for it in chosen[1:])])
+
+    def house(self):
+        return self.random.choice(self.houses)
+
+    def directory(self):
+        return self.random.randint(1, self.directories)
+
+    def line(self, posted):
+        """A line, where about so many messages were posted."""
+        kind = self.random.choices(
+            ["deliver", "lose", "create", "skulk", "epoch", "crash", "start", "clock", "mkdir", "group", "last"],
+            [60, 8, 14, 10, 8, 5, 4, 2, 2, 2, 0.3],
+        )[0]
+        recent = max(1, posted - self.random.choice([2, 6, 20, posted + 1]))
+        if kind in ("deliver", "lose"):
+            return f"{kind} {self.random.randint(recent, max(posted, recent))}"
+        if kind == "create":
+            return f"create {self.house()} {self.directory()} e{self.random.randrange(4)}"
+        if kind == "skulk":
+            return f"skulk {self.house()} {self.directory()}"
+        if kind == "epoch":
+            return f"epoch {self.directory()} {self.a_list()}"
+        if kind == "clock":
+            return f"clock {self.house()} {self.random.randrange(1000)}"
+        if kind == "mkdir":
+            self.directories += 1
+            return f"mkdir {self.house()} 1 d{self.directories} {self.a_list()}"
+        if kind == "group":
+            return f"groupadd /.:/g{self.random.randrange(3)} /.:/e1"
+        if kind == "last":
+            return f"clock {self.house()} {LAST_TIME}"
+        return f"{kind} {self.house()}"
+
+    def script(self):
+        posted = 0
+        for _ in range(self.random.choice([3, 10, 30, 80])):
+            line = self.line(posted)
+            self.lines.append(line)
+            posted += 2 if line.split()[0] in ("create", "skulk", "epoch", "mkdir") else 1
+        return self.lines
+
+
+def run(program, words, lines):
+    """Returns the lines that a program writes, and its status."""
+    octets = "".join(f"{it}\n" for it in lines).encode()
+    ran = subprocess.run([program, *words], input=octets, capture_output=True, timeout=SECONDS)
+    return ran.stdout.decode().splitlines(), ran.returncode
+
+
+class Cell:
+    """What the answers to a script tell of a directory."""
+
+    def __init__(self, program, lines, directory):
+        self.directory, self.epoch, self.listed, self.posted = directory, 0, [], 0
+        answers, _ = run(program, ["run"], lines)
+        for answer in answers:
+            number, said = answer.split(" ", 1)
+            self.take(lines[int(number) - 1].split(), said)
+        self.houses = {int(it.split()[1]) for it in lines if it.startswith("house ")}
+
+    def take(self, line, said):
+        posted = re.search(r" posted ([0-9 ]+)$", said)
+        if posted:
+            self.posted = max(self.posted, *map(int, posted[1].split()))
+        if not said.startswith("ok"):
+            return
+        made = {"root": ("1", "1", 1), "mkdir": (said.split()[1] if line[0] == "mkdir" else "", "1", 4)}.get(line[0])
+        if line[0] == "epoch":
+            made = (line[1], said.split()[1], 2)
+        if made and made[0] == str(self.directory):
+            self.epoch = int(made[1])
+            self.master = int(line[made[2]])
+            self.listed = sorted([(self.master, ""), *((int(it.lstrip("s")), "s" if it[0] == "s" else "") for it in line[made[2] + 1 :])])
+
+
+def state_of(program, lines, cell):
+    """Returns which of the listed houses are down, whether all are ready, and whether the master has a stamp left."""
+    asked = [f"dump {it} {cell.directory}" for it, _ in cell.listed] + [f"octets house {cell.master}"]
+    answers, _ = run(program, ["run"], lines + asked)
+    told = {}
+    for answer in answers:
+        number, said = answer.split(" ", 1)
+        told.setdefault(int(number) - len(lines) - 1, said)
+    dumps = [told[at] for at in range(len(cell.listed))]
+    down = {house for (house, _), said in zip(cell.listed, dumps) if said == "refused Down"}
+    ready = all(said.startswith(f"dump epoch {cell.epoch} ") for said in dumps)
+    image = bytes.fromhex(told[len(cell.listed)].split()[2])
+    return down, ready, int.from_bytes(image[9:17], "big") < LAST_TIME
+
+
+def wanted(program, lines, cell):
+    """Returns the lines that `cdsmend` has to write, and the name of the trouble."""
+    if not cell.listed:
+        return ["refused NoDirectory"], "no directory"
+    down, ready, stamp = state_of(program, lines, cell)
+    if not stamp:
+        return ["refused StampsSpent"], "no stamp"
+    others = [(house, kind) for house, kind in cell.listed if house != cell.master]
+    first, found = cell.posted, []
+    if not ready:
+        found += [f"start {house}" for house, _ in cell.listed if house in down]
+        found.append(" ".join(["epoch", str(cell.directory), str(cell.master), *(f"{kind}{house}" for house, kind in others)]))
+        found += [f"deliver {first + it}" for it in range(1, len(others) + 1)]
+        first += len(others)
+    found.append(f"skulk {cell.master} {cell.directory}")
+    found += [f"deliver {first + it}" for it in range(1, 4 * len(others) + 1)]
+    return found, "ready" if ready else "down" if down else "in trouble"
+
+
+def fault_of(program, mender, lines, directory):
+    """Returns what is wrong with what mends the directory, if anything, and the name of the trouble."""
+    cell = Cell(program, lines, directory)
+    due, trouble = wanted(program, lines, cell)
+    added, status = run(mender, [str(directory)], lines)
+    if status or added != due:
+        return f"cdsmend {directory} ends with status {status} and {added}, not {due}", trouble
+    if due[0].startswith("refused "):
+        return None, trouble
+    asked = [f"dump {it} {directory}" for it, _ in cell.listed]
+    answers, _ = run(program, ["run"], lines + added + asked)
+    told = {}
+    for answer in answers:
+        told.setdefault(int(answer.split(" ", 1)[0]), answer)
+    vain = [told[at] for at in range(len(lines) + 1, len(lines) + len(added) + 1) if IN_VAIN.match(told[at])]
+    last = told[len(lines) + len(added)]
+    if vain or " complete " not in last:
+        return f"it is in vain: {vain or last}", trouble
+    epochs = {" ".join(told[at].split()[1:4]) for at in range(len(lines) + len(added) + 1, len(lines) + len(added) + len(asked) + 1)}
+    if len(epochs) != 1 or not next(iter(epochs)).startswith("dump epoch "):
+        return f"the houses hold {sorted(epochs)}", trouble
+    return None, trouble
+
+
+def mend_all(words):
+    """Mends random cells, and returns how many, their troubles, and the first fault."""
+    troubles, start, count = Counter(), time.monotonic(), 0
+    while time.monotonic() - start < words.seconds and count != words.inputs:
+        seed = words.seed + count
+        count += 1
+        source = random.Random(seed)
+        maker = Maker(source)
+        lines = maker.script()
+        directory = source.randint(1, maker.directories + (source.random() < 0.05))
+        fault, trouble = fault_of(words.program, words.mender, lines, directory)
+        troubles[trouble] += 1
+        if fault:
+            os.makedirs(os.path.dirname(FOUND), exist_ok=True)
+            with open(FOUND, "w", encoding="utf-8") as it:
+                it.write("".join(f"{line}\n" for line in lines))
+            return count, troubles, f"seed {seed}: {fault}"
+    return count, troubles, None
+
+
+def main():
+    parser = argparse.ArgumentParser()
+    parser.add_argument("seconds", type=float)
+    parser.add_argument("--inputs", type=int, default=-1)
+    parser.add_argument("--seed", type=int, default=1)
+    parser.add_argument("--program")
+    parser.add_argument("--mender")
+    words = parser.parse_args()
+    for name, path in (("program", PROGRAM), ("mender", MENDER)):
+        if not getattr(words, name):
+            if subprocess.run([f"{ROOT}/tools/build", os.path.basename(path)], stdin=subprocess.DEVNULL).returncode:
+                return 1
+            setattr(words, name, path)
+    count, troubles, fault = mend_all(words)
+    print(", ".join(f"{number} {trouble}" for trouble, number in troubles.most_common()))
+    if fault:
+        print(fault)
+        print(f"{count} cells, 1 not")
+        return 1
+    print(f"{count} cells, all mended")
+    return 0
+
+
+if __name__ == "__main__":
+    sys.exit(main())
