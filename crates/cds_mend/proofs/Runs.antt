@@ -23,7 +23,8 @@ use Rattle.cell_replay.specs.Headline.{cell_behind, commands_from, commands_of}
 use Rattle.cell_replay.specs.LineStates.{Mending}
 use Rattle.cell_replay.specs.Runs.{IsWhole, Run, Wrote}
 use Rattle.cell_replay.specs.Scripts.{IsScript, text_of}
-use Rattle.cell_replay.proofs.Scripts.{faultless_script, script_due, state_behind, told_with}
+use Rattle.cell_replay.specs.JournalRuns.{state_behind}
+use Rattle.cell_replay.proofs.Scripts.{faultless_script, script_due, told_with}
 use Rattle.mend_lines.specs.Reading.{IsDirectory, IsHouse}
 use Rattle.cds_mend.specs.Mended.{IsMended, IsMending, MendsBehind}
 use Rattle.cds_mend.specs.Words.{directory_named}

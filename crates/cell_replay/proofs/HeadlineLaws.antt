@@ -31,7 +31,7 @@ use Rattle.cell_script.specs.declared.command.ScriptLine.{ScriptLine}
 use Rattle.cell_script.specs.declared.command.ScriptLine.TheVariants as line
 use Rattle.directory.specs.declared.update.UpdateRefusal.{UpdateRefusal}
 use Rattle.tower_codec.specs.declared.binding.StringBinding.{StringBinding}
-use Rattle.ns_import.specs.Imports.{imported}
+use Rattle.ns_import.specs.Imports.{IsImport, imported}
 use Rattle.ns_import.proofs.Importing.{import_is}
 use Rattle.ns_import.proofs.Landing.{shown_lead}
 use Rattle.cds_cell.proofs.ModelObjects.{reading_shows_only}
@@ -48,7 +48,7 @@ use Rattle.cds_records.specs.Octets.{image_octets}
 use Rattle.cds_records.specs.Records.{message}
 use Rattle.record_fields.specs.declared.fault.RecordFault.{RecordFault}
 use Rattle.cds_messages.specs.declared.message.Message as recorded
-use Rattle.cell_replay.specs.Headline.{Converges, Finds, Settled, cell_behind, commands_from, commands_of, import_line, line_place}
+use Rattle.cell_replay.specs.Headline.{Converges, Finds, Importing, Settled, cell_behind, commands_from, commands_of, import_line, line_place}
 use Rattle.line_replies.specs.Replies.{Numbered, Said, asked_of, does, dump_told, first_target, message_told}
 use Rattle.line_replies.specs.Replies.{octets_told, question_said, refusal_behind, reply_to, says}
 use Rattle.line_replies.specs.Replies.{refusal_of_octets, slot_told, steps_of, target_of, target_read, trusted, updates_told, values_read, wanted_by}
@@ -270,12 +270,18 @@ asked_only : (b : Bool) (a : Answer) (bs : List StringBinding)
 asked_only true a bs is = cc
 asked_only false a bs is = cc
 
+-- an import that is answered with bindings in a cell that commands lead to lists those that the search reaches
+pub import_finds : (commands : List model.Command) (i : Importing) (bs : List StringBinding)
+    → reply_to (replay commands) (import_line i) ≡ Some (answer.Bindings bs)
+    → IsImport (reading (replay commands) (Some i.house.0) i.high) i.wanted i.name bs
+import_finds commands i bs told =
+    let g : Cell = replay commands in
+    let reader = reading g (Some i.house.0) i.high in
+    let found = imported reader (objects_of g) i.wanted i.name in
+    import_is reader (objects_of g) (shown_lead reader (objects_of g) (reading_shows_only commands (Some i.house.0) i.high)) i.wanted i.name bs
+    (found_only found bs (asked_only (has i.house.0 g.made) (bindings_told found) bs told))
+
 -- wherever a line imports and is answered with bindings, they are those that the search reaches
 pub finds : (said : List Numbered) → Finds said
 finds said early late l i bs split is answers =
-    let g : Cell = cell_behind early in
-    let reader = reading g (Some i.house.0) i.high in
-    let found = imported reader (objects_of g) i.wanted i.name in
-    let told : reply_to g (import_line i) ≡ Some (answer.Bindings bs) = ap (reply_to g) (sym is) ∙ answers in
-    import_is reader (objects_of g) (shown_lead reader (objects_of g) (reading_shows_only (commands_of early) (Some i.house.0) i.high)) i.wanted i.name bs
-    (found_only found bs (asked_only (has i.house.0 g.made) (bindings_told found) bs told))
+    import_finds (commands_of early) i bs (ap (reply_to (cell_behind early)) (sym is) ∙ answers)

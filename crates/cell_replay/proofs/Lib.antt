@@ -2,6 +2,9 @@ pub mod Scanning
 pub mod Demands
 pub mod Progress
 pub mod Turns
+pub mod LinesLeft
+pub mod FormsKept
+pub mod NewDisks
 pub mod Streams
 pub mod TowerTurns
 pub mod TowerLaws
@@ -10,6 +13,7 @@ pub mod AllForms
 pub mod RoundTrip
 mod HeadlineLaws
 pub mod Scripts
+pub mod JournalReplays
 mod Examples
 pub mod Tasks
 pub mod CheckedLines

@@ -7,12 +7,12 @@ use Rattle.std.specs.Io.KnownBytes.{Consumes, Appends}
 use Rattle.cds_base.specs.Counts.{Rose}
 use Rattle.cds_base.specs.Reading.{GrowsByReading}
 use Rattle.cds_base.proofs.KnownOctets.{appends_none, appends_more, consumes_self, consumes_more}
-use Rattle.cell_replay.specs.Demand.{Demand, Faulty, with_front}
+use Rattle.cell_replay.specs.Demand.{Demand, IsUnbroken, with_front}
 use Rattle.cell_replay.specs.Forms.{FormState, Demands}
 use Rattle.cell_replay.specs.declared.endings.Status.{Status}
-use Rattle.cell_replay.specs.declared.endings.Status.TheVariants.{Ok as AllRead, Usage, BadInput, ReadFault, WriteFault, OutOfMemory}
+use Rattle.cell_replay.specs.declared.endings.Status.TheVariants.{Ok as AllRead, Usage, BadInput, ReadFault, WriteFault, OutOfMemory, JournalFull}
 use Rattle.waiting_replies.specs.Waiting.{Flushes}
-use Rattle.cell_replay.specs.Runs.{IsFront, Run, Wrote, IsWhole, IsFaulty, IsBody, CameLate, HasReadAll, WroteAllBefore, IsPart, IsCutShort}
+use Rattle.cell_replay.specs.Runs.{IsFront, Run, Wrote, IsWhole, IsFaulty, IsFilled, IsBody, CameLate, HasReadAll, WroteAllBefore, IsPart, IsCutShort}
 use Rattle.cell_replay.specs.Runs.{IsTakenAtOnce, read_ahead, WroteSoon, AnswersFront}
 use Rattle.cell_replay.specs.PrivateEndings.{IsDue, IsQueued, Finishes, StopsWith, side, between, EndsBetween}
 
@@ -49,6 +49,7 @@ due_part A Done AllRead d text due = inr (due.0, subst (IsFront text) due.1.1 (f
 due_part A Done BadInput d text (inl due) = inl (subst (IsFront text) due.1 (front_self text))
 due_part A Done BadInput d text (inr due) = inr (due.1, subst (IsFront text) due.2 (front_self text))
 due_part A Done OutOfMemory d text due = due.0
+due_part A Done JournalFull d text due = inl (subst (IsFront text) due.1 (front_self text))
 due_part A Done Usage d text due = absurd due
 due_part A Done ReadFault d text due = absurd due
 due_part A Done WriteFault d text due = absurd due
@@ -125,7 +126,7 @@ pub record StopsHere (Behind : List ℕ → Demand → Type 0) : Type 0 where
   pub demand : Demand
   pub behind : Behind [] demand
   pub none : demand.body ≡ []
-  pub unbroken : demand.verdict ≢ Faulty
+  pub unbroken : IsUnbroken demand.verdict
 
 -- the same octets demand the same
 pub moved : (state : FormState) (xs ys : List ℕ) (d e : Demand) → xs ≡ ys → d ≡ e → Demands state xs d → Demands state ys e
@@ -475,6 +476,7 @@ module _ (state : FormState) (first left' old new : Option (List ℕ)) (held : L
           (now.out ++ waits, appends_more old new new' now.out waits now.written done.1, due.1),
           (calm, done.2 ∙ same),
         )
+        by_status JournalFull due = (wrote new' reads reads' writes writes' waits IsFilled done.1 due, (calm, done.2 ∙ same))
         by_status Usage due = absurd due
         by_status ReadFault due = absurd due
         by_status WriteFault due = absurd due

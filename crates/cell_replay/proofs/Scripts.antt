@@ -1,5 +1,5 @@
 -- What an input demands: of a script its transcript; and what stays due whatever follows.
-use Rattle.std.proofs.Common.{◌≡◌, ℕ, ◌+◌, Bool, true, false, List, [], ◌∷◌, ◌++◌, length, refl, sym, ◌∙◌, ap, subst, arith, append_assoc, append-nil}
+use Rattle.std.proofs.Common.{◌≡◌, ◌⊎◌, inl, inr, ℕ, ◌+◌, Bool, true, false, List, [], ◌∷◌, ◌++◌, length, refl, sym, ◌∙◌, ap, subst, arith, append_assoc, append-nil}
 use Rattle.std.proofs.Common.{if◌then◌else◌}
 use Rattle.std.specs.Prelude.{Option, None, Some, Ok, Err, Result, ◌==◌}
 use Rattle.std.specs.Io.KnownBytes.{Consumes, Appends}
@@ -8,7 +8,7 @@ use Rattle.cds_base.specs.LineFaults.{fault_at, AreClean, IsLine}
 use Rattle.cell_model.specs.Cells.{Cell, empty_cell}
 use Rattle.cell_script.specs.declared.fault.ParseFault.{ParseFault}
 use Rattle.cell_script.specs.Words.{words_of}
-use Rattle.waiting_replies.specs.Responses.{GoesOn, Stops, in_state}
+use Rattle.waiting_replies.specs.Responses.{GoesOn, Stops, Fills, in_state}
 use Rattle.line_replies.specs.Dialogues.{Dialogue, NumberedOf, replied, transcript_by}
 use Rattle.line_replies.specs.Replies.{Numbered, running, transcript}
 use Rattle.clerk_replies.specs.Clerking.{Clerked, clerking, start}
@@ -21,145 +21,122 @@ use Rattle.script_forms.specs.InquireLines.{inquired_in}
 use Rattle.inquiry_replies.specs.Inquiring.{inquiring}
 use Rattle.cell_replay.specs.Runs.{IsFront, Run, Wrote, IsWhole}
 use Rattle.cell_replay.specs.Scripts.{text_of, Says, IsScript, IsScriptOf, IsReplay, IsReplayBy}
+use Rattle.cell_replay.specs.JournalRuns.{state_behind}
 use Rattle.cell_replay.proofs.Scanning.{scanned, demanded_scanned, clean_more, is_ten, no_ten}
 use Rattle.cell_replay.proofs.Demands.{demand_line, demand_part}
 use Rattle.cell_replay.proofs.HeadlineLaws.{converges, finds}
 
 -- ---- scripts
 
--- the state behind numbered lines
-abbrev pub state_behind : {S L : Type 0} → Dialogue S L → S → List (NumberedOf L) → S
-state_behind d s [] = s
-state_behind d s (l ∷ ls) = state_behind d (d.after l.number s l.says) ls
-
 -- a transcript, and this text at the end of the input
 abbrev pub told_with : (text end : List ℕ) → Demand
 told_with text end = record { body = text; end = end; verdict = Sound }
 
--- a form that answers line by line, whose state stands for a state of the program
+-- what a script demands of a form whose state stands for a state of the program: its transcript, and what is said at the end of its input
+abbrev pub due : {S L : Type 0} → Dialogue S L → (S → LineState) → S → List (NumberedOf L) → Demand
+due d state_of s said = told_with (transcript_by d s said) (end_text (state_of (state_behind d s said)))
+
+-- a form that answers line by line, or finds no room in a journal; its state stands for a state of the program
 module _ {S L : Type 0} (d : Dialogue S L) (state_of : S → LineState)
-    (responds : (number : ℕ) (s : S) (line : List ℕ) → response number (state_of s) line
-    ≡ in_state state_of (replied d number s (d.says (words_of line)))) where
-  -- what a script demands: its transcript, and what is said at the end of its input
-  abbrev pub due : S → List (NumberedOf L) → Demand
-  due s said = told_with (transcript_by d s said) (end_text (state_of (state_behind d s said)))
+    (responds : (number : ℕ) (s : S) (line : List ℕ)
+    → (response number (state_of s) line ≡ in_state state_of (replied d number s (d.says (words_of line)))) ⊎ (response number (state_of s) line ≡ Fills)) where
+  -- lines that are the octets of an input, what they say, and that this is what the input demands
+  abbrev Script : ℕ → S → List ℕ → Demand → Type 0
+  Script number s octets e =
+      (lines : List (List ℕ)) × (said : List (NumberedOf L)) × (octets ≡ text_of lines) × IsScriptOf d.says number lines said
+      × (e ≡ due d state_of s said)
 
-  -- a script demands that
-  script_demand : (number : ℕ) (s : S) (lines : List (List ℕ)) (said : List (NumberedOf L)) → IsScriptOf d.says number lines said
-      → scanned number (state_of s) [] (text_of lines) ≡ due s said
-  script_demand number s [] said none = demand_part number (state_of s) [] tt ∙ ap (due s) (sym none)
-  script_demand number s (l ∷ ls) said is =
-      demand_line number (state_of s) l (text_of ls) is.0
-      ∙ ap (λ (r : Response). then_rest r (λ next. scanned (number + 1) next [] (text_of ls))) (responds number s l)
-      ∙ by_saying (λ s said is. script_demand (number + 1) s ls said is) (d.says (words_of l)) is.1
-    where
-      by_saying : ((s : S) (said : List (NumberedOf L)) → IsScriptOf d.says (number + 1) ls said
-          → scanned (number + 1) (state_of s) [] (text_of ls) ≡ due s said)
-          → (r : Result (Option L) ParseFault) → Says number r said (IsScriptOf d.says (number + 1) ls)
-          → then_rest (in_state state_of (replied d number s r)) (λ next. scanned (number + 1) next [] (text_of ls)) ≡ due s said
-      by_saying behind (Ok None) says = ap (with_front []) (behind s said says)
-      by_saying behind (Ok (Some x)) says =
-          ap (with_front (d.text number s x)) (behind (d.after number s x) says.0 says.2) ∙ ap (due s) (sym says.1)
-      by_saying behind (Err fault) says = absurd says
+  -- so it is of what follows a line
+  abbrev Follows : ℕ → List ℕ → Type 0
+  Follows number bs = (s : S) → (scanned number (state_of s) [] bs).verdict ≡ Sound → Script number s bs (scanned number (state_of s) [] bs)
 
-  -- the lines of an input of which this much of the next line has come, and what they say
-  abbrev Script : ℕ → List ℕ → Type 0
-  Script number octets = (lines : List (List ℕ)) × (said : List (NumberedOf L)) × (octets ≡ text_of lines) × IsScriptOf d.says number lines said
-
-  -- an input in which nothing is faulty is a script
+  -- an input of which this much of the next line has come, and in which nothing is faulty and no journal lacks room, is a script
   pub demand_script : (number : ℕ) (s : S) (line octets : List ℕ) → AreClean number 1 line
-      → (scanned number (state_of s) line octets).verdict ≡ Sound → Script number (line ++ octets)
+      → (scanned number (state_of s) line octets).verdict ≡ Sound → Script number s (line ++ octets) (scanned number (state_of s) line octets)
   unfolding scanned
-  demand_script number s [] [] clean sound = ([], [], refl, refl)
+  demand_script number s [] [] clean sound = ([], [], refl, refl, refl)
   demand_script number s (x ∷ xs) [] clean sound = absurd (cc (sound))
   demand_script number s line (b ∷ bs) clean sound =
       by_fault (λ s sound. demand_script (number + 1) s [] bs tt sound) (λ clean sound. demand_script number s (line ++ b ∷ []) bs clean sound)
       (fault_at number (length line + 1) b) refl sound
     where
-      by_saying : ((s : S) → (scanned (number + 1) (state_of s) [] bs).verdict ≡ Sound → Script (number + 1) bs) → IsLine number line → b ≡ 10
-          → (r : Result (Option L) ParseFault) → d.says (words_of line) ≡ r
+      split : b ≡ 10 → (lines : List (List ℕ)) → bs ≡ text_of lines → line ++ b ∷ bs ≡ (line ++ 10 ∷ []) ++ text_of lines
+      split ten lines same = ap (λ (x : ℕ). line ++ x ∷ bs) ten ∙ ap (λ (xs : List ℕ). line ++ 10 ∷ xs) same
+          ∙ sym (append_assoc line (10 ∷ []) (text_of lines))
+
+      by_saying : Follows (number + 1) bs → IsLine number line → b ≡ 10 → (r : Result (Option L) ParseFault) → d.says (words_of line) ≡ r
           → (then_rest (in_state state_of (replied d number s r)) (λ next. scanned (number + 1) next [] bs)).verdict ≡ Sound
-          → Script number (line ++ b ∷ bs)
+          → Script number s (line ++ b ∷ bs) (then_rest (in_state state_of (replied d number s r)) (λ next. scanned (number + 1) next [] bs))
       by_saying behind is ten (Ok None) says sound =
           let rest = behind s sound in (
             line ∷ rest.0,
             rest.1,
-            split rest.0 rest.2,
+            split ten rest.0 rest.2,
             (is, subst (λ r. Says number r rest.1 (IsScriptOf d.says (number + 1) rest.0)) (sym says) rest.3),
+            ap (with_front []) rest.4,
           )
-        where
-          split : (lines : List (List ℕ)) → bs ≡ text_of lines → line ++ b ∷ bs ≡ (line ++ 10 ∷ []) ++ text_of lines
-          split lines same = ap (λ (x : ℕ). line ++ x ∷ bs) ten ∙ ap (λ (xs : List ℕ). line ++ 10 ∷ xs) same
-              ∙ sym (append_assoc line (10 ∷ []) (text_of lines))
       by_saying behind is ten (Ok (Some x)) says sound =
           let rest = behind (d.after number s x) sound in (
             line ∷ rest.0,
             record { number = number; says = x } ∷ rest.1,
-            split rest.0 rest.2,
+            split ten rest.0 rest.2,
             (
               is,
               subst (λ r. Says number r (record { number = number; says = x } ∷ rest.1) (IsScriptOf d.says (number + 1) rest.0)) (sym says)
                   (rest.1, refl, rest.3),
             ),
+            ap (with_front (d.text number s x)) rest.4,
           )
-        where
-          split : (lines : List (List ℕ)) → bs ≡ text_of lines → line ++ b ∷ bs ≡ (line ++ 10 ∷ []) ++ text_of lines
-          split lines same = ap (λ (x : ℕ). line ++ x ∷ bs) ten ∙ ap (λ (xs : List ℕ). line ++ 10 ∷ xs) same
-              ∙ sym (append_assoc line (10 ∷ []) (text_of lines))
       by_saying behind is ten (Err fault) says sound = absurd (cc (sound))
 
-      by_ten : ((s : S) → (scanned (number + 1) (state_of s) [] bs).verdict ≡ Sound → Script (number + 1) bs)
+      by_response : Follows (number + 1) bs → IsLine number line → b ≡ 10 → (r : Response)
+          → (r ≡ in_state state_of (replied d number s (d.says (words_of line)))) ⊎ (r ≡ Fills) → (then_rest r (λ next. scanned (number + 1) next [] bs)).verdict ≡ Sound
+          → Script number s (line ++ b ∷ bs) (then_rest r (λ next. scanned (number + 1) next [] bs))
+      by_response behind is ten r (inl same) =
+          subst (λ (r : Response). (then_rest r (λ next. scanned (number + 1) next [] bs)).verdict ≡ Sound → Script number s (line ++ b ∷ bs) (then_rest r (λ next. scanned (number + 1) next [] bs))) (sym same)
+          (by_saying behind is ten (d.says (words_of line)) refl)
+      by_response behind is ten r (inr fills) =
+          subst (λ (r : Response). (then_rest r (λ next. scanned (number + 1) next [] bs)).verdict ≡ Sound → Script number s (line ++ b ∷ bs) (then_rest r (λ next. scanned (number + 1) next [] bs))) (sym fills)
+          (λ sound. absurd (cc (sound)))
+
+      by_ten : Follows (number + 1) bs
           → (AreClean number 1 (line ++ b ∷ []) → (scanned number (state_of s) (line ++ b ∷ []) bs).verdict ≡ Sound
-          → Script number ((line ++ b ∷ []) ++ bs))
+          → Script number s ((line ++ b ∷ []) ++ bs) (scanned number (state_of s) (line ++ b ∷ []) bs))
           → fault_at number (length line + 1) b ≡ None → (c : Bool) → (b == 10) ≡ c
-          → (if c then then_rest (response number (state_of s) line) (λ next. scanned (number + 1) next [] bs) else scanned number (state_of s)
-          (line ++ b ∷ []) bs).verdict ≡ Sound → Script number (line ++ b ∷ bs)
+          → (if c then then_rest (response number (state_of s) line) (λ next. scanned (number + 1) next [] bs) else scanned number (state_of s) (line ++ b ∷ []) bs).verdict ≡ Sound
+          → Script number s (line ++ b ∷ bs) (if c then then_rest (response number (state_of s) line) (λ next. scanned (number + 1) next [] bs) else scanned number (state_of s)
+          (line ++ b ∷ []) bs)
       by_ten behind joined none true is sound =
-          by_saying behind (clean, subst (λ (x : ℕ). fault_at number (length line + 1) x ≡ None) (is_ten b is) none) (is_ten b is)
-          (d.says (words_of line)) refl
-          (subst (λ (r : Response). (then_rest r (λ next. scanned (number + 1) next [] bs)).verdict ≡ Sound) (responds number s line) sound)
+          by_response behind (clean, subst (λ (x : ℕ). fault_at number (length line + 1) x ≡ None) (is_ten b is) none) (is_ten b is)
+          (response number (state_of s) line) (responds number s line) sound
       by_ten behind joined none false is sound =
-          subst (Script number) (append_assoc line (b ∷ []) bs) (joined
+          subst (λ (octets : List ℕ). Script number s octets (scanned number (state_of s) (line ++ b ∷ []) bs)) (append_assoc line (b ∷ []) bs) (joined
           (clean_more number 1 line b clean (no_ten b is) (subst (λ (n : ℕ). fault_at number n b ≡ None) (omega arith) none)) sound)
 
-      by_fault : ((s : S) → (scanned (number + 1) (state_of s) [] bs).verdict ≡ Sound → Script (number + 1) bs)
+      by_fault : Follows (number + 1) bs
           → (AreClean number 1 (line ++ b ∷ []) → (scanned number (state_of s) (line ++ b ∷ []) bs).verdict ≡ Sound
-          → Script number ((line ++ b ∷ []) ++ bs))
+          → Script number s ((line ++ b ∷ []) ++ bs) (scanned number (state_of s) (line ++ b ∷ []) bs))
           → (f : Option LineFault) → fault_at number (length line + 1) b ≡ f
-          → (unless_fault (state_of s) f (if b == 10 then then_rest (response number (state_of s) line)
-          (λ next. scanned (number + 1) next [] bs) else scanned number (state_of s) (line ++ b ∷ []) bs)).verdict ≡ Sound
-          → Script number (line ++ b ∷ bs)
+          → (unless_fault (state_of s) f (if b == 10 then then_rest (response number (state_of s) line) (λ next. scanned (number + 1) next [] bs)
+          else scanned number (state_of s) (line ++ b ∷ []) bs)).verdict ≡ Sound
+          → Script number s (line ++ b ∷ bs) (unless_fault (state_of s) f (if b == 10 then then_rest (response number (state_of s) line) (λ next. scanned (number + 1) next [] bs)
+          else scanned number (state_of s) (line ++ b ∷ []) bs))
       by_fault behind joined None is sound = by_ten behind joined is (b == 10) refl sound
       by_fault behind joined (Some fault) is sound = absurd (cc (sound))
 
-  -- what a whole script demands
-  pub script_due : (s : S) (lines : List (List ℕ)) (said : List (NumberedOf L)) → IsScriptOf d.says 1 lines said
-      → demanded (state_of s) (text_of lines) ≡ due s said
-  script_due s lines said is = demanded_scanned (state_of s) (text_of lines) ∙ script_demand 1 s lines said is
-
-  -- a whole input in which nothing is faulty is a script
-  pub faultless_script : (s : S) (octets : List ℕ) → (demanded (state_of s) octets).verdict ≡ Sound → Script 1 octets
-  faultless_script s octets sound = demand_script 1 s [] octets tt
-      (subst (λ (e : Demand). e.verdict ≡ Sound) (demanded_scanned (state_of s) octets) sound)
+  -- so is a whole input
+  pub input_script : (s : S) (octets : List ℕ) → (demanded (state_of s) octets).verdict ≡ Sound → Script 1 s octets (demanded (state_of s) octets)
+  input_script s octets =
+      subst (λ (e : Demand). e.verdict ≡ Sound → Script 1 s octets e) (sym (demanded_scanned (state_of s) octets)) (demand_script 1 s [] octets tt)
 
   -- where nothing is said at the end of the input
   module _ (silent : (s : S) → end_text (state_of s) ≡ []) where
-    -- a script demands its transcript
-    pub script_demanded : (s : S) (lines : List (List ℕ)) (said : List (NumberedOf L)) → IsScriptOf d.says 1 lines said
-        → demanded (state_of s) (text_of lines) ≡ whole (transcript_by d s said)
-    script_demanded s lines said is = script_due s lines said is ∙ ap (told_with (transcript_by d s said)) (silent (state_behind d s said))
-
-    -- and the other way round
-    pub demanded_script : (s : S) (octets : List ℕ) → (demanded (state_of s) octets).verdict ≡ Sound → Script 1 octets
-    demanded_script s octets sound = faultless_script s octets sound
-
     -- what was written, of a whole input in which nothing is faulty, is the transcript of the script that was read
-    pub is_replay_by : (s : S) (run : Run) → Wrote (ByLines (state_of s)) run IsWhole → IsReplayBy d s run
-    is_replay_by s run wrote =
-        let script = demanded_script s wrote.read (subst (λ (e : Demand). e.verdict ≡ Sound) (sym wrote.demands) wrote.due.0) in
+    pub is_filling_replay : (s : S) (run : Run) → Wrote (ByLines (state_of s)) run IsWhole → IsReplayBy d s run
+    is_filling_replay s run wrote =
+        let script = input_script s wrote.read (subst (λ (e : Demand). e.verdict ≡ Sound) (sym wrote.demands) wrote.due.0) in
         let text = transcript_by d s script.1 in
-        let is_demand : wrote.demand ≡ whole text =
-        sym wrote.demands ∙ ap (demanded (state_of s)) script.2 ∙ script_demanded s script.0 script.1 script.3 in
+        let is_demand : wrote.demand ≡ whole text = sym wrote.demands ∙ script.4 ∙ ap (told_with text) (silent (state_behind d s script.1)) in
         record {
           lines = script.0;
           said = script.1;
@@ -167,6 +144,56 @@ module _ {S L : Type 0} (d : Dialogue S L) (state_of : S → LineState)
           taken = subst (Consumes run.left run.left') script.2 wrote.taken;
           written = subst (Appends run.held run.held') (wrote.due.1 ∙ ap (λ (e : Demand). e.body ++ e.end) is_demand ∙ append-nil text) wrote.written;
         }
+
+-- a form that answers line by line and always has room
+module _ {S L : Type 0} (d : Dialogue S L) (state_of : S → LineState)
+    (responds : (number : ℕ) (s : S) (line : List ℕ) → response number (state_of s) line
+    ≡ in_state state_of (replied d number s (d.says (words_of line)))) where
+  -- a script demands what is due of it
+  script_demand : (number : ℕ) (s : S) (lines : List (List ℕ)) (said : List (NumberedOf L)) → IsScriptOf d.says number lines said
+      → scanned number (state_of s) [] (text_of lines) ≡ due d state_of s said
+  script_demand number s [] said none = demand_part number (state_of s) [] tt ∙ ap (due d state_of s) (sym none)
+  script_demand number s (l ∷ ls) said is =
+      demand_line number (state_of s) l (text_of ls) is.0
+      ∙ ap (λ (r : Response). then_rest r (λ next. scanned (number + 1) next [] (text_of ls))) (responds number s l)
+      ∙ by_saying (λ s said is. script_demand (number + 1) s ls said is) (d.says (words_of l)) is.1
+    where
+      by_saying : ((s : S) (said : List (NumberedOf L)) → IsScriptOf d.says (number + 1) ls said
+          → scanned (number + 1) (state_of s) [] (text_of ls) ≡ due d state_of s said)
+          → (r : Result (Option L) ParseFault) → Says number r said (IsScriptOf d.says (number + 1) ls)
+          → then_rest (in_state state_of (replied d number s r)) (λ next. scanned (number + 1) next [] (text_of ls)) ≡ due d state_of s said
+      by_saying behind (Ok None) says = ap (with_front []) (behind s said says)
+      by_saying behind (Ok (Some x)) says =
+          ap (with_front (d.text number s x)) (behind (d.after number s x) says.0 says.2) ∙ ap (due d state_of s) (sym says.1)
+      by_saying behind (Err fault) says = absurd says
+
+  -- what a whole script demands
+  pub script_due : (s : S) (lines : List (List ℕ)) (said : List (NumberedOf L)) → IsScriptOf d.says 1 lines said
+      → demanded (state_of s) (text_of lines) ≡ due d state_of s said
+  script_due s lines said is = demanded_scanned (state_of s) (text_of lines) ∙ script_demand 1 s lines said is
+
+  -- a whole input in which nothing is faulty is a script
+  pub faultless_script : (s : S) (octets : List ℕ) → (demanded (state_of s) octets).verdict ≡ Sound
+      → (lines : List (List ℕ)) × (said : List (NumberedOf L)) × (octets ≡ text_of lines) × IsScriptOf d.says 1 lines said
+  faultless_script s octets sound =
+      let script = input_script d state_of (λ number s line. inl (responds number s line)) s octets sound in
+      (script.0, script.1, script.2, script.3)
+
+  -- where nothing is said at the end of the input
+  module _ (silent : (s : S) → end_text (state_of s) ≡ []) where
+    -- a whole script demands its transcript
+    pub script_demanded : (s : S) (lines : List (List ℕ)) (said : List (NumberedOf L)) → IsScriptOf d.says 1 lines said
+        → demanded (state_of s) (text_of lines) ≡ whole (transcript_by d s said)
+    script_demanded s lines said is = script_due s lines said is ∙ ap (told_with (transcript_by d s said)) (silent (state_behind d s said))
+
+    -- and the other way round
+    pub demanded_script : (s : S) (octets : List ℕ) → (demanded (state_of s) octets).verdict ≡ Sound
+        → (lines : List (List ℕ)) × (said : List (NumberedOf L)) × (octets ≡ text_of lines) × IsScriptOf d.says 1 lines said
+    demanded_script s octets sound = faultless_script s octets sound
+
+    -- what was written, of a whole input in which nothing is faulty, is the transcript of the script that was read
+    pub is_replay_by : (s : S) (run : Run) → Wrote (ByLines (state_of s)) run IsWhole → IsReplayBy d s run
+    is_replay_by = is_filling_replay d state_of (λ number s line. inl (responds number s line)) silent
 
 -- ---- the same of `run`
 
@@ -220,6 +247,7 @@ body_stays number state line (x ∷ xs) ys =
         let front = behind next in
         (front.0, ap (λ (l : List ℕ). text ++ l) front.1 ∙ sym (append_assoc text (scanned (number + 1) next [] xs).body front.0))
     by_response behind (Stops text) = ([], sym (append-nil text))
+    by_response behind Fills = ([], refl)
 
     by_ten : ((next : LineState) → IsFront (scanned (number + 1) next [] xs).body (scanned (number + 1) next [] (xs ++ ys)).body)
         → IsFront (scanned number state (line ++ x ∷ []) xs).body (scanned number state (line ++ x ∷ []) (xs ++ ys)).body
@@ -256,6 +284,7 @@ fault_stays number state line (x ∷ xs) ys faulty =
         → then_rest r (λ next. scanned (number + 1) next [] (xs ++ ys)) ≡ then_rest r (λ next. scanned (number + 1) next [] xs)
     by_response behind (GoesOn text next) faulty = ap (with_front text) (behind next faulty)
     by_response behind (Stops text) faulty = refl
+    by_response behind Fills faulty = refl
 
     by_ten : ((next : LineState) → (scanned (number + 1) next [] xs).verdict ≡ Faulty
         → scanned (number + 1) next [] (xs ++ ys) ≡ scanned (number + 1) next [] xs)

@@ -3,7 +3,7 @@ use Rattle.std.proofs.Common.{◌≡◌, List, ℕ, [], inl, refl, subst, arith}
 use Rattle.cds_base.specs.Counts.{Rose}
 use Rattle.cds_base.proofs.KnownOctets.{appends_none, consumes_self}
 use Rattle.cell_replay.specs.declared.endings.Status.{Status}
-use Rattle.cell_replay.specs.declared.endings.Status.TheVariants.{Ok as AllRead, Usage, BadInput, ReadFault, WriteFault, OutOfMemory}
+use Rattle.cell_replay.specs.declared.endings.Status.TheVariants.{Ok as AllRead, Usage, BadInput, ReadFault, WriteFault, OutOfMemory, JournalFull}
 use Rattle.cell_replay.specs.Demand.{ends_with}
 use Rattle.cell_replay.specs.Forms.{FormState, WithoutInput}
 use Rattle.cell_replay.specs.Runs.{Run, Ended, NoCallFailed}
@@ -38,7 +38,7 @@ module _ (text : List ℕ) (source sink : Side) where
         demand = ends_with text;
         taken = consumes_self source.octets;
         demands = refl;
-        due = (refl, λ is. cc (is));
+        due = (refl, tt);
         at_once = inl refl;
         soon = omega arith;
       }) (subst (λ (w : List ℕ). StopsWith sink sink' AllRead text w result) none stops) refl refl
@@ -52,3 +52,4 @@ ends_calmly form run BadInput ended read wrote = tt
 ends_calmly form run ReadFault ended read wrote = absurd (read ended.2.0)
 ends_calmly form run WriteFault ended read wrote = absurd (wrote ended.2.0)
 ends_calmly form run OutOfMemory ended read wrote = tt
+ends_calmly form run JournalFull ended read wrote = tt

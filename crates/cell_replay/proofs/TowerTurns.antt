@@ -18,7 +18,7 @@ use Rattle.cell_replay.specs.declared.endings.Status.{Status}
 use Rattle.cell_replay.specs.declared.endings.Status.TheVariants.{Ok as AllRead, BadInput, ReadFault, WriteFault, OutOfMemory}
 use Rattle.waiting_replies.specs.TowerTexts.{tower_text}
 use Rattle.cell_replay.specs.TowerDemand.{IsTaken, Nothing, AtFault, PartOf, TowersDemand, stream_fault_text}
-use Rattle.cell_replay.specs.Demand.{Demand, Faulty, whole, with_front, faulty_with, ends_with, cut_short_with}
+use Rattle.cell_replay.specs.Demand.{Demand, IsUnbroken, whole, with_front, faulty_with, ends_with, cut_short_with}
 use Rattle.cell_replay.specs.Forms.{ByTowers}
 use Rattle.cell_replay.specs.PrivateSights.{TellsFault, IsUnended}
 use Rattle.cell_replay.specs.Fillings.{LeavesPart, BeginsFilling, AtFirst, Behind}
@@ -33,7 +33,7 @@ abbrev pub BehindTowers : ℕ → List ℕ → Demand → Type 0
 BehindTowers number r d = TowersDemand number r d
 
 pub towers_stop : (number : ℕ) → StopsHere (BehindTowers number)
-towers_stop number = record { demand = ends_with []; behind = ([], Nothing, refl, refl); none = refl; unbroken = λ is. cc (is) }
+towers_stop number = record { demand = ends_with []; behind = ([], Nothing, refl, refl); none = refl; unbroken = tt }
 
 -- the towers so far were told; nothing follows what is held where the input has ended; and no call failed
 pub record IsAmong (first left old new : Option (List ℕ)) (reads reads' writes writes' : ℕ) (window : WindowOctets) (number : ℕ) (ended : Bool)
@@ -61,9 +61,9 @@ first_tower first old reads writes window waits none room nothing = record {
 }
 
 -- a part of a tower demands no text, and shows no fault
-pub part_demand : (number : ℕ) (octets : List ℕ) → IsUnended number octets → (d : Demand) × TowersDemand number octets d × (d.body ≡ []) × (d.verdict ≢ Faulty)
-part_demand number octets (inl none) = (ends_with [], ([], Nothing, none, refl), refl, λ is. cc (is))
-part_demand number octets (inr part) = (cut_short_with (stream_fault_text number (stream.Tower part.0)), ([], PartOf part.0, part.1, refl), refl, λ is. cc (is))
+pub part_demand : (number : ℕ) (octets : List ℕ) → IsUnended number octets → (d : Demand) × TowersDemand number octets d × (d.body ≡ []) × IsUnbroken d.verdict
+part_demand number octets (inl none) = (ends_with [], ([], Nothing, none, refl), refl, tt)
+part_demand number octets (inr part) = (cut_short_with (stream_fault_text number (stream.Tower part.0)), ([], PartOf part.0, part.1, refl), refl, tt)
 
 -- how many reads may come before the next tower is told or at fault
 abbrev pub reads_left : Bool → ℕ → ℕ
@@ -231,7 +231,7 @@ module _ (first left old new : Option (List ℕ)) (reads reads' writes writes' :
     none_waits : way.reached.pending.since ≡ []
     none_waits = refl
 
-    abbrev part : (d : Demand) × TowersDemand number held d × (d.body ≡ []) × (d.verdict ≢ Faulty)
+    abbrev part : (d : Demand) × TowersDemand number held d × (d.body ≡ []) × IsUnbroken d.verdict
     part = part_demand number held unended
 
     abbrev demand : Demand
@@ -330,7 +330,7 @@ unread_towers left old reads writes = (
       demand = ends_with [];
       taken = consumes_self left;
       demands = ([], Nothing, refl, refl);
-      due = (refl, λ is. cc (is));
+      due = (refl, tt);
       at_once = inl refl;
       soon = omega arith;
     },

@@ -16,16 +16,16 @@ use Rattle.cds_base.proofs.LineAnswers.{fault_shown}
 use Rattle.cell_replay.specs.declared.forms.LineForm.{LineForm}
 use Rattle.waiting_replies.specs.declared.replies.LineEnd.TheVariants as line
 use Rattle.cell_replay.specs.declared.endings.Status.{Status}
-use Rattle.cell_replay.specs.declared.endings.Status.TheVariants.{Ok as AllRead, BadInput, ReadFault, WriteFault, OutOfMemory}
-use Rattle.cell_replay.specs.Demand.{Demand, Faulty, demanded, at_end, end_text, told_fault, then_rest}
-use Rattle.waiting_replies.specs.Responses.{GoesOn, Stops}
+use Rattle.cell_replay.specs.declared.endings.Status.TheVariants.{Ok as AllRead, BadInput, ReadFault, WriteFault, OutOfMemory, JournalFull}
+use Rattle.cell_replay.specs.Demand.{Demand, IsUnbroken, demanded, at_end, end_text, told_fault, then_rest}
+use Rattle.waiting_replies.specs.Responses.{GoesOn, Stops, Fills}
 use Rattle.cell_replay.specs.LineStates.{LineState, Response, response}
-use Rattle.cell_replay.specs.Demand.{faulty_with, ends_with, cut_short_with, with_front}
+use Rattle.cell_replay.specs.Demand.{faulty_with, filled, ends_with, cut_short_with, with_front}
 use Rattle.cell_replay.specs.Forms.{ByLines, Demands}
 use Rattle.cell_replay.specs.PrivateStanding.{IsAt}
 use Rattle.waiting_replies.specs.LineEnds.{Ends}
 use Rattle.waiting_replies.specs.Waiting.{Flushes}
-use Rattle.cell_replay.specs.Runs.{AnswersFront, IsBody, IsFaulty, IsPart, IsWhole}
+use Rattle.cell_replay.specs.Runs.{AnswersFront, IsBody, IsFaulty, IsFilled, IsPart, IsWhole}
 use Rattle.cell_replay.specs.PrivateEndings.{IsDue, Finishes, StopsWith, side, EndsBetween}
 use Rattle.cell_replay.proofs.Scanning.{scanned, demanded_scanned}
 use Rattle.cell_replay.proofs.Demands.{demand_line, demand_broken, demand_part}
@@ -37,7 +37,7 @@ abbrev pub BehindLines : ℕ → LineState → List ℕ → Demand → Type 0
 BehindLines count at r d = scanned (count + 1) at [] r ≡ d
 
 pub lines_stop : (count : ℕ) (at : LineState) → StopsHere (BehindLines count at)
-lines_stop count at = record { demand = at_end (count + 1) at []; behind = demand_part (count + 1) at [] tt; none = refl; unbroken = λ is. cc (is) }
+lines_stop count at = record { demand = at_end (count + 1) at []; behind = demand_part (count + 1) at [] tt; none = refl; unbroken = tt }
 
 -- before the first line
 pub first_line : (state : LineState) (first old : Option (List ℕ)) (held waits : List ℕ) (count : ℕ) → held ≡ [] → waits ≡ [] → count ≡ 0
@@ -85,7 +85,7 @@ no_rise T before now (TooManyLines n k) other cause = cause
 no_rise T before now NotRead other cause = absurd (other refl)
 
 -- whether a read failed
-is_read : (fault : LineFault) → (fault ≡ NotRead) ⊎ (fault ≢ NotRead)
+pub is_read : (fault : LineFault) → (fault ≡ NotRead) ⊎ (fault ≢ NotRead)
 is_read (LineTooLong n k) = inr (λ is. cc (is))
 is_read (NotAscii n k) = inr (λ is. cc (is))
 is_read (NoLineEnd n k) = inr (λ is. cc (is))
@@ -111,6 +111,14 @@ module _ (left' : Option (List ℕ)) (out waits : List ℕ) (count : ℕ) (at : 
     inl (refl, ap (λ (w : List ℕ). out ++ w) waiting ∙ sym (append_assoc out waits text)),
   )
 
+  -- a line finds no room in a journal
+  fill_due : (line r waits' : List ℕ) → IsLine (count + 1) line → response (count + 1) at line ≡ Fills → waits' ≡ waits
+      → BehindLines count at ((line ++ 10 ∷ []) ++ r) filled × IsFilled (with_front (out ++ waits) filled) (out ++ waits')
+  fill_due line r waits' is responds same = (
+    demand_line (count + 1) at line r is ∙ ap (λ e. then_rest e (λ next. scanned (count + 1 + 1) next [] r)) responds,
+    (refl, ap (λ (w : List ℕ). out ++ w) same ∙ sym (append-nil (out ++ waits))),
+  )
+
   -- the input ends
   all_due : (held' : List ℕ) → held' ≡ [] → IsAtEnd left' → BehindLines count at held' (ends_with (end_text at))
       × IsAtEnd left' × IsWhole (with_front (out ++ waits) (ends_with (end_text at))) (out ++ (waits ++ end_text at))
@@ -128,9 +136,9 @@ module _ (left' : Option (List ℕ)) (out waits : List ℕ) (count : ℕ) (at : 
     unshown held',
   )
     where
-      unshown : (l : List ℕ) → (at_end (count + 1) at l).verdict ≢ Faulty
-      unshown [] is = cc (is)
-      unshown (b ∷ bs) is = cc (is)
+      unshown : (l : List ℕ) → IsUnbroken (at_end (count + 1) at l).verdict
+      unshown [] = tt
+      unshown (b ∷ bs) = tt
 
       no_body : (l : List ℕ) → (at_end (count + 1) at l).body ≡ []
       no_body [] = refl
@@ -229,6 +237,7 @@ module _ {S : Type 0} (left_of : S → Option (List ℕ)) (faults_of : S → ℕ
           quiet = quiet;
         }
         by_response (Stops text) is ends = absurd ends
+        by_response Fills is ends = absurd ends
 
     module _ (new' : Option (List ℕ)) (mid writes' : ℕ) (result : Status) (quiet : mid ≡ writes) where
       -- the form stops at the line
@@ -245,6 +254,23 @@ module _ {S : Type 0} (left_of : S → Option (List ℕ)) (faults_of : S → ℕ
               finishes (ByLines state) first left' old new (held lines') taken (with_front (now.out ++ waits) (faulty_with text))
               (demands (faulty_with text) due.0)
               new' waits' BadInput result reads (faults_of source') writes mid writes' due.1 finished (moved.cause unbroken ∙ calm) quiet
+          by_response Fills is ends = absurd ends
+
+      -- a journal has no room for what the line puts
+      pub line_fills : (form' : LineForm) → Ends line.Full (response number at octets) waits waits' (IsAt form')
+          → Finishes (side new mid) (side new' writes') waits' JournalFull result
+          → EndsBetween (ByLines state) (side first reads) (side left' (faults_of source')) (side old writes) (side new' writes') result
+      line_fills form' ends finished = by_response (response number at octets) refl ends
+        where
+          by_response : (r : Response) → response number at octets ≡ r → Ends line.Full r waits waits' (IsAt form')
+              → EndsBetween (ByLines state) (side first reads) (side left' (faults_of source')) (side old writes) (side new' writes') result
+          by_response (GoesOn text then) is ends = absurd ends
+          by_response (Stops text) is ends = absurd ends
+          by_response Fills is ends =
+              let due = fill_due left' now.out waits (given lines) at octets (held lines') waits' is_line (responds Fills is) ends in
+              finishes (ByLines state) first left' old new (held lines') taken (with_front (now.out ++ waits) filled)
+              (demands filled due.0)
+              new' waits' JournalFull result reads (faults_of source') writes mid writes' due.1 finished (moved.cause unbroken ∙ calm) quiet
 
       -- there was no memory for the reply
       pub line_without_memory : waits' ≡ waits → Finishes (side new mid) (side new' writes') waits' OutOfMemory result
@@ -367,7 +393,7 @@ unread_lines state left old reads writes = (
       demand = at_end 1 state [];
       taken = consumes_self left;
       demands = demanded_scanned state [] ∙ demand_part 1 state [] tt;
-      due = (refl, λ is. cc (is));
+      due = (refl, tt);
       at_once = inl refl;
       soon = omega arith;
     },

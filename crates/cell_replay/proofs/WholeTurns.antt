@@ -12,7 +12,7 @@ use Rattle.cell_replay.specs.declared.whole.Said.{Said}
 use Rattle.cell_replay.specs.declared.whole.Said.TheVariants as says
 use Rattle.cell_replay.specs.declared.endings.Status.{Status}
 use Rattle.cell_replay.specs.declared.endings.Status.TheVariants.{Ok as AllRead, BadInput, ReadFault, OutOfMemory}
-use Rattle.cell_replay.specs.Demand.{Demand, Faulty, ends_with, faulty_with, cut_short_with}
+use Rattle.cell_replay.specs.Demand.{Demand, Faulty, IsUnbroken, ends_with, faulty_with, cut_short_with}
 use Rattle.cell_replay.specs.WholeDemand.{WholeTask, said_of, told_whole, too_long_text, whole_demand}
 use Rattle.cell_replay.specs.Forms.{ByWhole}
 use Rattle.cell_replay.specs.Runs.{AnswersFront, IsFront}
@@ -37,9 +37,9 @@ no_body (Ok text) = refl
 no_body (Err text) = refl
 
 -- and no fault shows before it
-unbroken : (said : Result (List ℕ) (List ℕ)) → (told_whole said).verdict ≢ Faulty
-unbroken (Ok text) is = cc (is)
-unbroken (Err text) is = cc (is)
+unbroken : (said : Result (List ℕ) (List ℕ)) → IsUnbroken (told_whole said).verdict
+unbroken (Ok text) = tt
+unbroken (Err text) = tt
 
 -- the body of an input is due whatever follows
 pub whole_body_stays : (task : WholeTask) (xs ys : List ℕ) → IsFront (whole_demand task xs).body (whole_demand task (xs ++ ys)).body
@@ -64,7 +64,7 @@ whole_fault_stays task xs ys faulty = by_size (le_or_lt (length xs) 16777216)
   where
     by_size : (length xs ≤ 16777216) ⊎ (16777216 < length xs) → whole_demand task (xs ++ ys) ≡ whole_demand task xs
     by_size (inl few) =
-        absurd (unbroken (said_of task xs) (subst (λ (d : Demand). d.verdict ≡ Faulty) (few_demand task xs few) faulty))
+        absurd (subst IsUnbroken (subst (λ (d : Demand). d.verdict ≡ Faulty) (few_demand task xs few) faulty) (unbroken (said_of task xs)))
     by_size (inr many) =
         let more : 16777216 < length (xs ++ ys) = omega (arith, many, length-append xs ys) in
         many_demand task (xs ++ ys) more ∙ sym (many_demand task xs many)

@@ -7,16 +7,24 @@ use Rattle.cds_base.specs.declared.scan.LineFault.{LineFault}
 use Rattle.cds_base.specs.declared.scan.LineFault.TheVariants.{NoLineEnd}
 use Rattle.cds_base.specs.LineFaults.{fault_at}
 use Rattle.waiting_replies.specs.Texts.{line_fault_text}
-use Rattle.waiting_replies.specs.Responses.{GoesOn, Stops}
-use Rattle.cell_replay.specs.LineStates.{LineState, Replaying, Checking, Spelling, Mending, Clerking, Response, response, Inquiring}
+use Rattle.waiting_replies.specs.Responses.{GoesOn, Stops, Fills}
+use Rattle.cell_replay.specs.LineStates.{LineState, Replaying, Checking, Spelling, Mending, Clerking, Response, response, Inquiring, Journaling}
 use Rattle.mend_lines.specs.Lines.{mend_text}
 
 -- the text that is due whatever follows, the further text where nothing follows, and whether anything is faulty: nothing;
--- the octets show a fault, whatever follows; or it is a fault that they end here (own)
+-- the octets show a fault, whatever follows; it is a fault that they end here; or a line finds no room in a journal, whatever follows (own)
 pub data Verdict : Type 0 where
   Sound : Verdict
   Faulty : Verdict
   CutShort : Verdict
+  Filled : Verdict
+
+-- what follows may be answered: no fault shows, and no journal lacks room (own)
+abbrev pub IsUnbroken : Verdict → Type 0
+IsUnbroken Sound = Unit {0}
+IsUnbroken Faulty = ⊥
+IsUnbroken CutShort = Unit {0}
+IsUnbroken Filled = ⊥
 
 -- what an input demands of a form (own)
 pub record Demand : Type 0 where
@@ -31,6 +39,10 @@ whole text = record { body = text; end = []; verdict = Sound }
 -- nothing is due behind a fault (own)
 abbrev pub faulty_with : List ℕ → Demand
 faulty_with text = record { body = text; end = []; verdict = Faulty }
+
+-- nothing is due of a line that finds no room in a journal, and nothing behind it (own)
+abbrev pub filled : Demand
+filled = record { body = []; end = []; verdict = Filled }
 
 -- where the input ends: this is due, and nothing is faulty; or this is due of the fault that it ends there (own)
 abbrev pub ends_with : List ℕ → Demand
@@ -52,6 +64,7 @@ told_fault Spelling fault = []
 told_fault (Mending d g) fault = line_fault_text fault
 told_fault (Inquiring g) fault = line_fault_text fault
 told_fault (Clerking s) fault = line_fault_text fault
+told_fault (Journaling s) fault = line_fault_text fault
 
 -- what is said at the end of a whole input: `check` tells how many lines and commands there were, and `cdsmend` what
 -- mends the directory (own)
@@ -62,6 +75,7 @@ end_text Spelling = []
 end_text (Mending d g) = mend_text d g
 end_text (Inquiring g) = []
 end_text (Clerking s) = []
+end_text (Journaling s) = []
 
 -- where the input ends: behind a whole line, or with a line without its end, which is a fault (own)
 abbrev pub at_end : ℕ → LineState → List ℕ → Demand
@@ -77,6 +91,7 @@ unless_fault state (Some fault) rest = faulty_with (told_fault state fault)
 abbrev pub then_rest : Response → (LineState → Demand) → Demand
 then_rest (GoesOn text next) rest = with_front text (rest next)
 then_rest (Stops text) rest = faulty_with text
+then_rest Fills rest = filled
 
 -- the first fault among these octets of line number, from this place on (own)
 abbrev pub first_fault : ℕ → ℕ → List ℕ → Option LineFault

@@ -1,7 +1,7 @@
 -- The fillings of the window through which `towers` reads (own).
-use Rattle.std.specs.Prelude.{◌≡◌, ◌≢◌, ℕ, ◌<◌, List, [], ◌++◌, length}
+use Rattle.std.specs.Prelude.{◌≡◌, ℕ, ◌<◌, List, [], ◌++◌, length}
 use Rattle.cell_replay.specs.declared.limits.TheConstants.{TOWER_SIGHT}
-use Rattle.cell_replay.specs.Demand.{Demand, Faulty, whole}
+use Rattle.cell_replay.specs.Demand.{Demand, IsUnbroken, whole}
 use Rattle.cell_replay.specs.TowerDemand.{TowersDemand}
 
 -- this stands behind the whole towers of the octets: no further tower is whole, and no fault shows (own)
@@ -13,7 +13,7 @@ pub record LeavesPart (octets part : List ℕ) : Type 0 where
   pub told : TowersDemand 1 towers (whole text)
   pub demands : TowersDemand 1 octets demand
   pub no_more : demand.body ≡ text
-  pub unbroken : demand.verdict ≢ Faulty
+  pub unbroken : IsUnbroken demand.verdict
 
 -- the octets that have come where a filling begins: none yet; or behind those of the filling before came as many as made
 -- 1,025 with the part of a tower that was left (own)

@@ -5,7 +5,8 @@ use Rattle.std.specs.Str.{bytes_eq}
 use Rattle.cell_model.specs.Cells.{empty_cell}
 use Rattle.cell_script.specs.Words.{number_to}
 use Rattle.cell_replay.specs.declared.limits.TheConstants.{LAST_DIR, MOST_KEPT, MOST_ROUNDS}
-use Rattle.cell_replay.specs.LineStates.{LineState, Replaying, Checking, Spelling, Mending, Clerking, Inquiring}
+use Rattle.cell_replay.specs.LineStates.{LineState, Replaying, Checking, Spelling, Mending, Clerking, Inquiring, Journaling}
+use Rattle.journal_replies.specs.Journals.{empty_state}
 use Rattle.line_replies.specs.Loading.{load_text}
 use Rattle.clerk_replies.specs.Clerking.{start}
 use Rattle.cell_replay.specs.Demand.{Demand, demanded, ends_with}
@@ -32,6 +33,10 @@ inquiring_form = ByLines (Inquiring empty_cell)
 abbrev pub mending : (d : ℕ) → FormState
 mending d = ByLines (Mending d empty_cell)
 
+-- the form that replays a script on a cell without houses, and keeps their journals (own)
+abbrev pub with_journals : FormState
+with_journals = ByLines (Journaling empty_state)
+
 -- the form that a word names, at its start (own)
 abbrev pub form_named : List ℕ → Option FormState
 form_named word =
@@ -40,7 +45,8 @@ form_named word =
     else (if bytes_eq word (codes "towers") then Some ByTowers
     else (if bytes_eq word (codes "untowers") then Some (ByLines Spelling)
     else (if bytes_eq word (codes "migrate") then Some (ByWhole Migrating)
-    else (if bytes_eq word (codes "inquire") then Some inquiring_form else None)))))
+    else (if bytes_eq word (codes "inquire") then Some inquiring_form
+    else (if bytes_eq word (codes "journal") then Some with_journals else None))))))
 
 -- a cell is loaded by the script with so many rounds, which nothing reads (own)
 abbrev pub loading : (rounds : ℕ) → FormState

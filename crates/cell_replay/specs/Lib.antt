@@ -12,3 +12,5 @@ pub mod Runs
 pub mod PrivateEndings
 pub mod PrivateWholes
 pub mod Scripts
+pub mod Leaving
+pub mod JournalRuns

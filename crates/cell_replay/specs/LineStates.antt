@@ -11,13 +11,14 @@ use Rattle.waiting_replies.specs.TowerTexts.{tower_said}
 use Rattle.line_replies.specs.Dialogues.{replied}
 use Rattle.line_replies.specs.Replies.{running}
 use Rattle.mend_lines.specs.Quiet.{running_quietly}
+use Rattle.journal_replies.specs.Journals.{JournaledCell, journal_response}
 use Rattle.script_forms.specs.InquireLines.{inquired_in}
 use Rattle.inquiry_replies.specs.Inquiring.{inquiring}
 use Rattle.clerk_replies.specs.Clerking.{Clerked, clerking}
 
 -- the state of a form that reads lines, between two of them: `run` replays a cell, `check` has seen this many lines and
--- commands, `untowers` keeps nothing, `inquire` replays a cell that it asks as well, and `clerk` has a clerk beside its cell. `cdsmend` replays a cell in which
--- the directory d is to be mended (own)
+-- commands, `untowers` keeps nothing, `inquire` replays a cell that it asks as well, `clerk` has a clerk beside its cell, and `journal`
+-- replays a cell whose houses have journals. `cdsmend` replays a cell in which the directory d is to be mended (own)
 pub data LineState : Type 0 where
   Replaying : (g : Cell) → LineState
   Checking : (lines commands : ℕ) → LineState
@@ -25,6 +26,7 @@ pub data LineState : Type 0 where
   Mending : (d : ℕ) → (g : Cell) → LineState
   Inquiring : (g : Cell) → LineState
   Clerking : (s : Clerked) → LineState
+  Journaling : (s : JournaledCell) → LineState
 
 -- what a form makes of a whole line (own)
 abbrev pub Response : Type 0
@@ -44,3 +46,4 @@ response number Spelling line = in_state (λ _. Spelling) (spelled (tower_said (
 response number (Mending d g) line = in_state (Mending d) (replied running_quietly number g (said_in (words_of line)))
 response number (Inquiring g) line = in_state Inquiring (replied inquiring number g (inquired_in (words_of line)))
 response number (Clerking s) line = in_state Clerking (replied clerking number s (said_in (words_of line)))
+response number (Journaling s) line = in_state Journaling (journal_response number s line)

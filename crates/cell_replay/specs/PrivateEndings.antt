@@ -3,10 +3,10 @@ use Rattle.std.specs.Prelude.{◌≡◌, ◌⊎◌, ℕ, ◌<◌, List, ◌++◌
 use Rattle.std.specs.Io.KnownBytes.{Appends}
 use Rattle.cds_base.specs.Counts.{Rose}
 use Rattle.cell_replay.specs.declared.endings.Status.{Status}
-use Rattle.cell_replay.specs.declared.endings.Status.TheVariants.{Ok as AllRead, Usage, BadInput, ReadFault, WriteFault, OutOfMemory}
+use Rattle.cell_replay.specs.declared.endings.Status.TheVariants.{Ok as AllRead, Usage, BadInput, ReadFault, WriteFault, OutOfMemory, JournalFull}
 use Rattle.cell_replay.specs.Demand.{Demand}
 use Rattle.cell_replay.specs.Forms.{FormState}
-use Rattle.cell_replay.specs.Runs.{Run, Ended, IsWhole, IsFaulty, IsPart}
+use Rattle.cell_replay.specs.Runs.{Run, Ended, IsFilled, IsWhole, IsFaulty, IsPart}
 
 -- a source or a sink: the octets that it has left or that it took, where it tells them, and how often it failed
 pub record Side : Type 0 where
@@ -45,6 +45,7 @@ abbrev pub IsDue : (Answered : List ℕ → Type 0) → (Done : Type 0) → Stat
 IsDue Answered Done AllRead d text = Done × IsWhole d text
 IsDue Answered Done BadInput d text = IsFaulty Done d text
 IsDue Answered Done OutOfMemory d text = IsPart Done d text × Answered text
+IsDue Answered Done JournalFull d text = IsFilled d text
 IsDue Answered Done Usage d text = ⊥
 IsDue Answered Done ReadFault d text = ⊥
 IsDue Answered Done WriteFault d text = ⊥

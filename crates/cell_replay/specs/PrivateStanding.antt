@@ -1,18 +1,23 @@
 -- Words of private contracts: what a form of the program is at, and what it makes of a line (own).
-use Rattle.std.specs.Prelude.{◌≡◌, ℕ, ◌≤◌, Bool, List, Option, Result, Ok, Err, is_some}
+use Rattle.std.specs.Prelude.{◌≡◌, ℕ, ◌≤◌, Bool, List, [], Option, Result, Ok, Err, is_some}
 use Rattle.cell_script.specs.declared.command.ScriptLine.{ScriptLine}
 use Rattle.cell_script.specs.declared.fault.ParseFault.{ParseFault}
 use Rattle.waiting_replies.specs.LineEnds.{Ends}
 use Rattle.waiting_replies.specs.declared.replies.LineEnd.{LineEnd}
+use Rattle.waiting_replies.specs.declared.replies.LineEnd.TheVariants as line
 use Rattle.cds_cell.specs.declared.cell.Cell.{Cell}
 use Rattle.cds_cell.specs.Standing.{Stands}
 use Rattle.clerk_replies.specs.declared.replayer.ClerkReplayer.{ClerkReplayer}
 use Rattle.clerk_replies.specs.Standing as clerk
+use Rattle.house_journal.specs.MemoryDisks.{MemState}
+use Rattle.journal_replies.specs.Keeping.{StandsJournals}
+use Rattle.journal_replies.specs.declared.journals.Journals.{Journals}
 use Rattle.mend_lines.specs.declared.mender.Mender.{Mender}
-use Rattle.cell_replay.specs.LineStates.{LineState, Replaying, Checking, Spelling, Mending, Inquiring, Clerking, Response}
+use Rattle.cell_replay.specs.JournalRuns.{AreOnDisks, ArePut}
+use Rattle.cell_replay.specs.LineStates.{LineState, Replaying, Checking, Spelling, Mending, Inquiring, Clerking, Journaling, Response}
 use Rattle.cell_replay.specs.declared.limits.TheConstants.{MOST_KEPT, MOST_ROUNDS}
 use Rattle.cell_replay.specs.WholeDemand.{Migrating}
-use Rattle.cell_replay.specs.Forms.{FormState, ByLines, ByTowers, ByWhole, auditing, clerking_with, inquiring_form, loading, replaying}
+use Rattle.cell_replay.specs.Forms.{FormState, ByLines, ByTowers, ByWhole, auditing, clerking_with, inquiring_form, loading, replaying, with_journals}
 use Rattle.cell_replay.specs.declared.check.Tally.{Tally}
 use Rattle.cell_replay.specs.declared.forms.Form.{Form}
 use Rattle.cell_replay.specs.declared.forms.Form.TheVariants as chosen
@@ -30,6 +35,7 @@ start_of chosen.Untowers = ByLines Spelling
 start_of chosen.Migrate = ByWhole Migrating
 start_of chosen.Inquire = inquiring_form
 start_of (chosen.Audit dir) = auditing dir
+start_of chosen.Journal = with_journals
 
 -- a script has from 1 round to MOST_ROUNDS, and a clerk room for 1 answer to MOST_KEPT
 abbrev pub IsForm : Form → Type 0
@@ -62,6 +68,11 @@ abbrev pub MendsAt : Mender → LineState → Type 0
 MendsAt m (Mending d g) = (m.dir.0 ≡ d) × Stands m.replayer.cell g
 MendsAt m other = ⊥
 
+-- what the journals of `journal` stand for
+abbrev pub KeepsTo : Journals → LineState → Type 0
+KeepsTo j (Journaling s) = StandsJournals j s
+KeepsTo j other = ⊥
+
 -- a form stands at this state
 abbrev pub IsAt : LineForm → LineState → Type 0
 IsAt (form.Run replayer) state = StandsAt replayer.cell state
@@ -70,6 +81,27 @@ IsAt (form.Untowers speller) state = state ≡ Spelling
 IsAt (form.Mend mender) state = MendsAt mender state
 IsAt (form.Inquire replayer) state = StandsAsked replayer.cell state
 IsAt (form.Clerk replayer) state = ClerksAt replayer state
+IsAt (form.Journal journals) state = KeepsTo journals state
+
+-- the disks of a form: `journal` alone has any
+abbrev pub disks_of : LineForm → List MemState
+disks_of (form.Journal journals) = journals.keeper.disks.items
+disks_of _ = []
+
+-- what a form is left with at a faulty line: its disks
+abbrev pub IsKept : LineForm → LineState → Type 0
+IsKept f = AreOnDisks (disks_of f)
+
+-- what it is left with at a line for which there was no memory, or no room in a journal
+abbrev pub IsBroken : LineForm → (number : ℕ) → LineState → (line : List ℕ) → Type 0
+IsBroken f = ArePut (disks_of f)
+
+-- there was no memory, or no room in a journal
+abbrev pub IsShort : LineEnd → Type 0
+IsShort line.GoesOn = ⊥
+IsShort line.Stops = ⊥
+IsShort line.NoMemory = Unit {0}
+IsShort line.Full = Unit {0}
 
 -- how many steps a form took, or lines it counted: none more than there were lines
 abbrev pub counted : LineForm → ℕ
@@ -79,6 +111,7 @@ counted (form.Untowers speller) = 0
 counted (form.Mend mender) = mender.replayer.steps
 counted (form.Inquire replayer) = replayer.steps
 counted (form.Clerk replayer) = replayer.replayer.steps
+counted (form.Journal journals) = journals.keeper.replayer.steps
 
 -- the form goes on with the state behind the line
 abbrev pub Replies : LineEnd → Response → (waited waits : List ℕ) → LineForm → Type 0

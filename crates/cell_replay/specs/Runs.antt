@@ -6,9 +6,9 @@ use Rattle.cds_base.specs.declared.lines.TheConstants.{MOST_HELD}
 use Rattle.cds_base.specs.LineFaults.{IsLine}
 use Rattle.cell_replay.specs.declared.limits.TheConstants.{TOWER_SIGHT, WHOLE_SIGHT}
 use Rattle.cell_replay.specs.declared.endings.Status.{Status}
-use Rattle.cell_replay.specs.declared.endings.Status.TheVariants.{Ok as AllRead, Usage, BadInput, ReadFault, WriteFault, OutOfMemory}
+use Rattle.cell_replay.specs.declared.endings.Status.TheVariants.{Ok as AllRead, Usage, BadInput, ReadFault, WriteFault, OutOfMemory, JournalFull}
 use Rattle.tower_codec.specs.Tower.{Floor}
-use Rattle.cell_replay.specs.Demand.{Demand, Sound, Faulty, CutShort}
+use Rattle.cell_replay.specs.Demand.{Demand, Sound, Faulty, CutShort, Filled, IsUnbroken}
 use Rattle.cell_replay.specs.TowerDemand.{IsTaken}
 use Rattle.cell_replay.specs.Forms.{FormState, ByLines, ByTowers, ByWhole, WithoutInput, Demands}
 use Rattle.cell_replay.specs.Fillings.{IsUnfilled}
@@ -29,6 +29,7 @@ code_of BadInput = 3
 code_of ReadFault = 4
 code_of WriteFault = 5
 code_of OutOfMemory = 6
+code_of JournalFull = 7
 
 -- ---- a run from outside
 
@@ -79,6 +80,7 @@ NoCallFailed BadInput = Unit {0}
 NoCallFailed ReadFault = ⊥
 NoCallFailed WriteFault = ⊥
 NoCallFailed OutOfMemory = Unit {0}
+NoCallFailed JournalFull = Unit {0}
 
 -- ---- what is read
 
@@ -130,9 +132,13 @@ IsWhole d text = (d.verdict ≡ Sound) × (text ≡ d.body ++ d.end)
 abbrev pub IsFaulty : (Done : Type 0) → Demand → List ℕ → Type 0
 IsFaulty Done d text = ((d.verdict ≡ Faulty) × (text ≡ d.body)) ⊎ ((d.verdict ≡ CutShort) × Done × (text ≡ d.body ++ d.end))
 
--- the whole body, where no fault shows (own)
+-- the whole body, where no fault shows and no journal lacks room (own)
 abbrev pub IsBody : Demand → List ℕ → Type 0
-IsBody d text = (text ≡ d.body) × (d.verdict ≢ Faulty)
+IsBody d text = (text ≡ d.body) × IsUnbroken d.verdict
+
+-- the whole body, up to a line that finds no room in a journal (own)
+abbrev pub IsFilled : Demand → List ℕ → Type 0
+IsFilled d text = (d.verdict ≡ Filled) × (text ≡ d.body)
 
 -- a front of the body, or of the body and the end where nothing is left (own)
 abbrev pub IsPart : (Done : Type 0) → Demand → List ℕ → Type 0
@@ -210,3 +216,4 @@ Ended form run BadInput = Wrote form run (IsFaulty (HasReadAll form run.left')) 
 Ended form run ReadFault = WroteAllBefore form run × WroteSoon form run × ReadFailed run
 Ended form run WriteFault = Wrote form run (IsCutShort (HasReadAll form run.left')) × WroteSoon form run × WriteFailed run
 Ended form run OutOfMemory = Wrote form run (IsPart (HasReadAll form run.left')) × WroteAnswers form run × IsCalm run
+Ended form run JournalFull = Wrote form run IsFilled × IsCalm run

@@ -16,6 +16,8 @@ pub enum Status {
     ReadFault,
     WriteFault,
     OutOfMemory,
+    /// A journal has no room for what a line puts.
+    JournalFull,
 }
 
 impl Status {
@@ -30,6 +32,7 @@ impl Status {
             Status::ReadFault => 4,
             Status::WriteFault => 5,
             Status::OutOfMemory => 6,
+            Status::JournalFull => 7,
         }
     }
 }

@@ -8,7 +8,8 @@ ghost use Rattle.cds_stamps.specs.Outcomes.{Answers};
 ghost use Rattle.cell_replay.specs.LineStates.{LineState, checked, response};
 ghost use Rattle.cell_replay.specs.Demand.{end_text, told_fault};
 ghost use Rattle.cell_replay.specs.Forms.{form_named, form_numbered, form_of};
-ghost use Rattle.cell_replay.specs.PrivateStanding.{IsAt, IsForm, Replies, Counts, counted, has_command, start_of};
+ghost use Rattle.cell_replay.specs.PrivateStanding.{IsAt, IsBroken, IsForm, IsKept, IsShort, Replies, Counts, counted, disks_of, has_command, start_of};
+ghost use Rattle.waiting_replies.specs.declared.replies.LineEnd.TheVariants as end;
 
 use crate::check::Tally;
 use crate::limits::{LAST_DIR, MOST_KEPT, MOST_ROUNDS};
@@ -16,7 +17,9 @@ use cds_base::LineFault;
 use cds_stamps::AllocOr;
 use cell_script::{ParseFault, number_up_to, parse_line};
 use clerk_replies::ClerkReplayer;
+use house_journal::MemDisk;
 use inquiry_replies::replay_inquiry;
+use journal_replies::Journals;
 use line_replies::Replayer;
 use mend_lines::Mender;
 use std::alloc::{AllocError, Global};
@@ -37,6 +40,7 @@ pub(crate) enum Form {
     Inquire,
     /// Of this directory.
     Audit(u32),
+    Journal,
 }
 
 /// A form that reads lines, in its state between two of them.
@@ -49,6 +53,7 @@ pub(crate) enum LineForm {
     Mend(Mender),
     Inquire(Replayer),
     Clerk(ClerkReplayer),
+    Journal(Journals),
 }
 
 /// The form that the words of the command line name.
@@ -74,6 +79,7 @@ fn form_by_name(word: &String) -> Option<Form>
         "untowers" => Some(Form::Untowers),
         "migrate" => Some(Form::Migrate),
         "inquire" => Some(Form::Inquire),
+        "journal" => Some(Form::Journal),
         _ => None,
     }
 }
@@ -122,6 +128,8 @@ impl LineForm {
         requires fewer { counted self.old < number }
         requires most { number ≤ MOST_LINES }
         ensures reply { (state : LineState) → IsAt self.old state → Replies result (response number state line.now) waiting.old waiting.new self.new }
+        ensures kept { (state : LineState) → IsAt self.old state → result ≡ end.Stops → IsKept self.new state }
+        ensures broken { (state : LineState) → IsAt self.old state → IsShort result → IsBroken self.new number state line.now }
         ensures counted { counted self.new ≤ number }
     {
         match self {
@@ -131,6 +139,7 @@ impl LineForm {
             LineForm::Mend(mender) => mender.take_line(alloc, number, line, waiting),
             LineForm::Inquire(replayer) => replay_inquiry(alloc, replayer, number, line, waiting),
             LineForm::Clerk(replayer) => replayer.replay_line(alloc, number, line, waiting),
+            LineForm::Journal(journals) => journals.replay_line(alloc, number, line, waiting),
         }
     }
 
@@ -145,6 +154,7 @@ impl LineForm {
             LineForm::Untowers(_) => Ok(Vec::new(alloc)),
             LineForm::Inquire(_) => Ok(Vec::new(alloc)),
             LineForm::Clerk(_) => Ok(Vec::new(alloc)),
+            LineForm::Journal(_) => Ok(Vec::new(alloc)),
         }
     }
 
@@ -159,6 +169,17 @@ impl LineForm {
             LineForm::Clerk(_) => print_line_fault(alloc, fault),
             LineForm::Untowers(_) => Ok(Vec::new(alloc)),
             LineForm::Inquire(_) => print_line_fault(alloc, fault),
+            LineForm::Journal(_) => print_line_fault(alloc, fault),
+        }
+    }
+
+    /// The disks of `journal`; no other form has any.
+    pub(crate) fn into_disks(self, alloc: Global) -> Vec<MemDisk>
+        ensures { result.items ≡ disks_of self }
+    {
+        match self {
+            LineForm::Journal(journals) => journals.into_disks(),
+            _ => Vec::new(alloc),
         }
     }
 }

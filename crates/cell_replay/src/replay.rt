@@ -1,15 +1,19 @@
 // The run over a source and a sink.
-ghost use Rattle.std.specs.Prelude.{◌≡◌, ◌≢◌, ◌≤◌, ◌↔◌, ℕ, None, Some, IfSome, map, string_bytes};
+ghost use Rattle.std.specs.Prelude.{◌≡◌, ◌≢◌, ◌≤◌, ◌↔◌, ℕ, None, Some, IfOk, IfSome, map, string_bytes};
 ghost use Rattle.cds_base.specs.Lines.{IsFresh};
-ghost use Rattle.clerk_replies.specs.Clerking.{clerking, start};
-ghost use Rattle.cell_replay.specs.LineStates.{LineState};
-ghost use Rattle.cell_replay.specs.Demand.{end_text, told_fault};
 ghost use Rattle.cell_model.specs.Cells.{empty_cell};
+ghost use Rattle.clerk_replies.specs.Clerking.{clerking, start};
 ghost use Rattle.inquiry_replies.specs.Inquiring.{inquiring};
-ghost use Rattle.cell_replay.specs.Forms.{ByLines, clerking_with, form_of, inquiring_form, replaying};
+ghost use Rattle.journal_replies.specs.Journals.{empty_state};
+ghost use Rattle.journal_replies.specs.Disks.{AreNew};
+ghost use Rattle.cell_replay.specs.LineStates.{LineState, Journaling};
+ghost use Rattle.cell_replay.specs.Demand.{end_text, told_fault};
+ghost use Rattle.cell_replay.specs.Forms.{ByLines, clerking_with, form_of, inquiring_form, replaying, with_journals};
 ghost use Rattle.cell_replay.specs.Scripts.{IsReplay, IsReplayBy};
+ghost use Rattle.cell_replay.specs.JournalRuns.{AreOnDisks, ArePut, IsJournalReplay};
 ghost use Rattle.cell_replay.specs.Runs.{Ended, ReadsNothing, run_of};
-ghost use Rattle.cell_replay.specs.PrivateStanding.{IsAt, IsForm, counted, start_of};
+ghost use Rattle.cell_replay.specs.Leaving.{Leaves};
+ghost use Rattle.cell_replay.specs.PrivateStanding.{IsAt, IsBroken, IsForm, IsKept, counted, start_of};
 ghost use Rattle.cell_replay.specs.PrivateEndings.{StopsWith, side_of};
 ghost use Rattle.cell_replay.specs.declared.limits.TheConstants.{MOST_KEPT};
 
@@ -21,6 +25,8 @@ use crate::towers::print_towers;
 use crate::whole::{Whole, say_whole};
 use cds_base::{LineFault, Lines, Sink, Source};
 use clerk_replies::ClerkReplayer;
+use house_journal::MemDisk;
+use journal_replies::Journals;
 use line_replies::Replayer;
 use std::alloc::{AllocError, Global};
 use waiting_replies::{LineEnd, Speller, Waiting};
@@ -71,7 +77,9 @@ fn answer_lines<S: Source, K: Sink>(
 ) -> Status
     requires fresh { IsFresh lines.old }
     requires start { counted form.old ≡ 0 }
-    ensures { (state : LineState) → IsAt form.old state → Ended (ByLines state)
+    ensures ends { (state : LineState) → IsAt form.old state → Ended (ByLines state)
+        (run_of S.left S.faults K.written K.faults source.old source.new sink.old sink.new) result }
+    ensures leaves { (state : LineState) → IsAt form.old state → Leaves (IsKept form.new) (IsBroken form.new) state
         (run_of S.left S.faults K.written K.faults source.old source.new sink.old sink.new) result }
 {
     let mut waiting = Waiting::new(alloc);
@@ -85,10 +93,30 @@ fn answer_lines<S: Source, K: Sink>(
                 LineEnd::GoesOn => {}
                 LineEnd::Stops => return finish(&mut waiting, sink, Status::BadInput),
                 LineEnd::NoMemory => return finish(&mut waiting, sink, Status::OutOfMemory),
+                LineEnd::Full => return finish(&mut waiting, sink, Status::JournalFull),
             },
             Ok(None) => return stop_at_end(alloc, form, &mut waiting, sink),
             Err(fault) => return stop_at(alloc, form, fault, &mut waiting, sink),
         }
+    }
+}
+
+/// Answers the lines of the source from the form's start on, and leaves the form behind them.
+fn serve_form<S: Source, K: Sink>(
+    alloc: Global,
+    form: &mut LineForm,
+    source: &mut S,
+    sink: &mut K,
+) -> Status
+    requires start { counted form.old ≡ 0 }
+    ensures ends { (state : LineState) → IsAt form.old state → Ended (ByLines state)
+        (run_of S.left S.faults K.written K.faults source.old source.new sink.old sink.new) result }
+    ensures leaves { (state : LineState) → IsAt form.old state → Leaves (IsKept form.new) (IsBroken form.new) state
+        (run_of S.left S.faults K.written K.faults source.old source.new sink.old sink.new) result }
+{
+    match Lines::new(alloc) {
+        Ok(mut lines) => answer_lines(alloc, form, &mut lines, source, sink),
+        Err(AllocError) => Status::OutOfMemory,
     }
 }
 
@@ -103,8 +131,30 @@ pub(crate) fn serve_lines<S: Source, K: Sink>(
     ensures { (state : LineState) → IsAt form state → Ended (ByLines state)
         (run_of S.left S.faults K.written K.faults source.old source.new sink.old sink.new) result }
 {
-    match Lines::new(alloc) {
-        Ok(mut lines) => answer_lines(alloc, &mut form, &mut lines, source, sink),
+    serve_form(alloc, &mut form, source, sink)
+}
+
+/// The form `journal` over these disks, that of house H at place H - 1: a script is replayed on a cell whose houses put their images into
+/// journals. The disks are left at each ending with what the houses had put.
+pub fn run_journal<S: Source, K: Sink>(
+    alloc: Global,
+    source: &mut S,
+    sink: &mut K,
+    disks: &mut Vec<MemDisk>,
+) -> Status
+    requires { AreNew disks.old.items }
+    ensures ends { Ended with_journals (run_of S.left S.faults K.written K.faults source.old source.new sink.old sink.new) result }
+    ensures transcript { result ≡ Status.Ok → IsJournalReplay (run_of S.left S.faults K.written K.faults source.old source.new sink.old sink.new) }
+    ensures disks { Leaves (AreOnDisks disks.new.items) (ArePut disks.new.items) (Journaling empty_state)
+        (run_of S.left S.faults K.written K.faults source.old source.new sink.old sink.new) result }
+{
+    match Journals::new(alloc, disks) {
+        Ok(journals) => {
+            let mut form = LineForm::Journal(journals);
+            let status = serve_form(alloc, &mut form, source, sink);
+            *disks = form.into_disks(alloc);
+            status
+        }
         Err(AllocError) => Status::OutOfMemory,
     }
 }
@@ -127,6 +177,30 @@ fn serve_by_clerk<S: Source, K: Sink>(
     }
 }
 
+/// The form `journal` over disks of its own.
+fn journal_over_new_disks<S: Source, K: Sink>(alloc: Global, source: &mut S, sink: &mut K) -> Status
+    ensures { Ended with_journals (run_of S.left S.faults K.written K.faults source.old source.new sink.old sink.new) result }
+{
+    match new_disks(alloc) {
+        Ok(mut disks) => run_journal(alloc, source, sink, &mut disks),
+        Err(AllocError) => Status::OutOfMemory,
+    }
+}
+
+// How many disks there are: one of each house number.
+const DISKS: usize = 255;
+
+/// A new disk for each house number.
+fn new_disks(alloc: Global) -> Result<Vec<MemDisk>, AllocError>
+    ensures { IfOk result (λ v. AreNew v.items) }
+{
+    let mut disks = Vec::new(alloc);
+    'disks: for made in 0..DISKS {
+        disks.push(MemDisk::new(alloc))?;
+    }
+    Ok(disks)
+}
+
 /// The work of a form.
 fn serve<S: Source, K: Sink>(alloc: Global, form: Form, source: &mut S, sink: &mut K) -> Status
     requires { IsForm form }
@@ -142,6 +216,7 @@ fn serve<S: Source, K: Sink>(alloc: Global, form: Form, source: &mut S, sink: &m
         Form::Towers => print_towers(alloc, source, sink),
         Form::Migrate => say_whole(alloc, Whole::Migrate, source, sink),
         Form::Audit(dir) => say_whole(alloc, Whole::Audit(dir), source, sink),
+        Form::Journal => journal_over_new_disks(alloc, source, sink),
         Form::Untowers => match Speller::new(alloc) {
             Ok(speller) => serve_lines(alloc, LineForm::Untowers(speller), source, sink),
             Err(AllocError) => Status::OutOfMemory,
@@ -169,6 +244,8 @@ pub fn run<S: Source, K: Sink>(
     ensures clerked { (room : ℕ) → form_of (map string_bytes words.now) ≡ Some (clerking_with room) → result ≡ Status.Ok
         → IsReplayBy clerking (start room)
         (run_of S.left S.faults K.written K.faults source.old source.new sink.old sink.new) }
+    ensures journaled { form_of (map string_bytes words.now) ≡ Some with_journals → result ≡ Status.Ok
+        → IsJournalReplay (run_of S.left S.faults K.written K.faults source.old source.new sink.old sink.new) }
 {
     match form_in(words) {
         Some(form) => serve(alloc, form, source, sink),

@@ -9,6 +9,8 @@ mod deaths;
 #[cfg(test)]
 mod ends;
 #[cfg(test)]
+mod faltering;
+#[cfg(test)]
 mod houses;
 #[cfg(test)]
 mod imports;

@@ -22,7 +22,8 @@ use Rattle.ns_commands.specs.declared.updates.Updates.{Updates}
 use Rattle.ns_commands.specs.Asks.{Asks, Changes, changes_in, fills, of_entry, place_to_fill, to_fill, unless}
 use Rattle.line_replies.specs.declared.said.Reply.{Reply}
 use Rattle.line_replies.specs.declared.said.Reply.TheVariants as reply
-use Rattle.line_replies.specs.PrivateSaid.{ActsAtUp, IsAnswer, IsAsked, IsSaid}
+use Rattle.line_replies.specs.PrivateSaid.{IsAnswer, IsAsked}
+use Rattle.line_replies.specs.QuestionReplies.{ActsAtUp, IsSaid}
 use Rattle.line_replies.specs.Replies.{does, says}
 
 -- an answer is what is said

@@ -5,6 +5,7 @@ pub mod Loading
 pub mod Steps
 pub mod Counting
 pub mod LoadSteps
+pub mod QuestionReplies
 pub mod PrivateSaid
 pub mod PrivateRecords
 pub mod PrivateKinds

@@ -1,33 +1,16 @@
 -- Words of private contracts: what is said to a question (own).
-use Rattle.std.specs.Prelude.{◌≡◌, true, Result, Ok, Err}
-use Rattle.std.specs.Option.{option_map}
+use Rattle.std.specs.Prelude.{◌≡◌, Result, Ok, Err}
 use Rattle.std.specs.declared.alloc.AllocError.{AllocError}
 use Rattle.cds_stamps.specs.declared.alloc_or.AllocOr.{AllocOr}
 use Rattle.cds_stamps.specs.declared.alloc_or.AllocOr.TheVariants.{Fault, OutOfMemory}
-use Rattle.cell_model.specs.Cells as model
 use Rattle.script_answers.specs.declared.answer.Answer.{Answer}
 use Rattle.script_answers.specs.declared.answer.Answer.TheVariants as answer
 use Rattle.script_answers.specs.declared.answer.ScriptRefusal.{ScriptRefusal}
-use Rattle.cds_cell.specs.declared.cell.Cell.{Cell}
 use Rattle.cds_cell.specs.declared.updating.AcceptedAll.{AcceptedAll}
 use Rattle.cds_cell.specs.Accepting.{Accepting}
-use Rattle.cds_cell.specs.Houses.{is_up_state}
-use Rattle.cds_cell.specs.Standing.{house_of}
 use Rattle.ns_commands.specs.declared.updates.Updates.{Updates}
-use Rattle.ns_commands.specs.Asks.{changes_in}
 use Rattle.line_replies.specs.declared.said.Reply.{Reply}
 use Rattle.line_replies.specs.declared.said.Reply.TheVariants as reply
-use Rattle.line_replies.specs.Replies.{Said, does, says}
-
--- what the program says to a question is what the model says: the answer, or what becomes of the updates
-abbrev pub IsSaid : Reply → model.Cell → Said → Type 0
-IsSaid (reply.Answer a) g said = said ≡ says a
-IsSaid (reply.Updates u) g said = said ≡ does g (Ok (changes_in u))
-
--- updates are asked for at a house that is up
-abbrev pub ActsAtUp : Reply → Cell → Type 0
-ActsAtUp (reply.Answer a) c = Unit {0}
-ActsAtUp (reply.Updates u) c = is_up_state (option_map (λ h. h.state) (house_of c.houses.items u.house.0)) ≡ true
 
 -- this answer is the reply
 abbrev pub IsAnswer : Result Answer AllocError → Reply → Type 0

@@ -14,4 +14,6 @@ mod shown;
 pub use counts::Counts;
 pub use limits::MOST_UPDATES;
 pub use loader::Loader;
+pub use questions::reply_to_question;
 pub use replayer::Replayer;
+pub use said::Reply;

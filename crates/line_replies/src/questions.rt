@@ -9,7 +9,7 @@ ghost use Rattle.cds_cell.specs.Telling.{told};
 ghost use Rattle.ns_commands.specs.Asks as ask;
 ghost use Rattle.ns_commands.specs.Asks.{refusal_of_walk};
 ghost use Rattle.ns_commands.specs.Imported.{import_answer};
-ghost use Rattle.line_replies.specs.PrivateSaid.{ActsAtUp, IsSaid};
+ghost use Rattle.line_replies.specs.QuestionReplies.{ActsAtUp, IsSaid};
 ghost use Rattle.line_replies.specs.Replies.{asked_of, does, first_target, question_said, target_of, trusted};
 ghost use Rattle.line_replies.specs.Replies.{target_read, values_read};
 ghost use Rattle.resolver.specs.WalkEnds.{walked};
@@ -35,7 +35,7 @@ use std::alloc::{AllocError, Global};
 use tower_codec::Interface;
 
 /// What a cell says to a question.
-pub(crate) fn reply_to_question(
+pub fn reply_to_question(
     alloc: Global,
     cell: &Cell,
     question: &Question,

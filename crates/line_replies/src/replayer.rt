@@ -6,7 +6,7 @@ use crate::questions::reply_to_question;
 use crate::said::{Reply, answer_to_updates};
 use cds_cell::Cell;
 use cds_cell::laws::accepted_updates_are_commands;
-use cds_stamps::AllocOr;
+use cds_stamps::{AllocOr, HouseNo};
 use cell_script::{Command, Question, ScriptLine, parse_line};
 use ns_commands::Updates;
 use script_answers::Answer;
@@ -24,15 +24,17 @@ pub struct Replayer {
 }
 
 impl Replayer {
-    ghost use Rattle.std.specs.Prelude.{◌≡◌, ◌++◌, ◌+◌, ◌<◌, ◌≤◌, true, Some, Ok, IfOk, OnOk, OnErr};
+    ghost use Rattle.std.specs.Prelude.{◌≡◌, ◌++◌, ◌+◌, ◌<◌, ◌≤◌, true, is_some, Some, Ok, IfOk, OnOk, OnErr};
     ghost use Rattle.std.specs.Option.{option_map};
     ghost use Rattle.cds_base.specs.declared.scan.TheConstants.{MOST_LINES};
     ghost use Rattle.cell_model.specs.Cells as model;
-    ghost use Rattle.cell_model.specs.Steps.{outcome};
+    ghost use Rattle.cell_model.specs.Commands as command;
+    ghost use Rattle.cell_model.specs.Steps.{outcome, replay_from};
     ghost use Rattle.cell_script.specs.Words.{words_of};
     ghost use Rattle.cell_script.specs.Commands.{said_in};
     ghost use Rattle.cell_script.specs.declared.command.ScriptLine.TheVariants as line;
     ghost use Rattle.cds_cell.specs.Houses.{is_up_state};
+    ghost use Rattle.cds_cell.specs.Imaging.{crash_losing, image_after, octets_at};
     ghost use Rattle.cds_cell.specs.Scripted.{step_of};
     ghost use Rattle.cds_cell.specs.Standing.{IsStep, Stands, house_of};
     ghost use Rattle.ns_commands.specs.Asks.{changes_in};
@@ -129,8 +131,8 @@ impl Replayer {
         }
     }
 
-    // A step of the cell, unless memory ran out before.
-    fn step(&mut self, alloc: Global, command: Command) -> Result<Answer, AllocError>
+    /// A step of the cell, unless memory ran out before.
+    pub fn step(&mut self, alloc: Global, command: Command) -> Result<Answer, AllocError>
         requires few { self.old.steps < MOST_LINES }
         ensures step { (g : model.Cell) → Stands self.old.cell g → IfOk result (λ a. IsStep a self.new.cell (outcome g (step_of command))) }
         ensures steps { self.new.steps ≤ self.old.steps + 1 }
@@ -154,8 +156,8 @@ impl Replayer {
         }
     }
 
-    // Updates at a house that is up, unless memory ran out before. A list of more than MOST_UPDATES counts as that.
-    fn accept(&mut self, alloc: Global, updates: &Updates) -> Result<Answer, AllocError>
+    /// Updates at a house that is up, unless memory ran out before. A list of more than MOST_UPDATES counts as that.
+    pub fn accept(&mut self, alloc: Global, updates: &Updates) -> Result<Answer, AllocError>
         requires few { self.old.steps < MOST_LINES }
         requires up { is_up_state (option_map (λ h. h.state) (house_of self.old.cell.houses.items updates.now.house.0)) ≡ true }
         ensures done { (g : model.Cell) → Stands self.old.cell g → IfOk result (λ a. IsDone a self.new.cell g (does g (Ok (changes_in updates.now)))) }
@@ -171,5 +173,52 @@ impl Replayer {
             .cell
             .accept_all(alloc, updates.house, updates.dir, &updates.list)?;
         Ok(answer_to_updates(alloc, done))
+    }
+    /// The octets of the image that a house would have after a command, as by `Cell::image_after`.
+    pub fn image_after(
+        &self,
+        alloc: Global,
+        house: HouseNo,
+        command: &Command,
+    ) -> Result<Option<Vec<u8>>, AllocError>
+        requires few { self.now.steps < MOST_LINES }
+        requires made { is_some (house_of self.now.cell.houses.items house.0) ≡ true }
+        ensures { (g : model.Cell) → Stands self.now.cell g
+            → IfOk result (λ o. option_map (λ v. v.items) o ≡ image_after g house.0 (step_of command.now)) }
+    {
+        if self.cell.is_spent() {
+            return Err(AllocError);
+        }
+        self.cell.image_after(alloc, house, command)
+    }
+
+    /// A start of a house from these octets, which is a step, unless memory ran out before.
+    pub fn start_from(
+        &mut self,
+        alloc: Global,
+        house: HouseNo,
+        octets: &[u8],
+    ) -> Result<Answer, AllocError>
+        requires few { self.old.steps < MOST_LINES }
+        ensures step { (g : model.Cell) → Stands self.old.cell g → octets.now ≡ octets_at g house.0
+            → IfOk result (λ a. IsStep a self.new.cell (outcome g (command.Start house.0))) }
+        ensures steps { self.new.steps ≤ self.old.steps + 1 }
+    {
+        self.steps += 1;
+        self.cell.start_from(alloc, house, octets)
+    }
+
+    /// A house crashes, and all messages are lost but the first ones, so many. It is no step more.
+    pub fn crash_after(
+        &mut self,
+        alloc: Global,
+        house: HouseNo,
+        kept: u64,
+    ) -> Result<(), AllocError>
+        ensures crash { (g : model.Cell) → Stands self.old.cell g
+            → OnOk result (Stands self.new.cell (replay_from g (crash_losing g house.0 kept))) }
+        ensures steps { self.new.steps ≡ self.old.steps }
+    {
+        self.cell.crash_after(alloc, house, kept)
     }
 }

@@ -14,7 +14,7 @@ use std::alloc::{AllocError, Global};
 
 /// What is said to a question: the answer, or which updates it asks for, to which the answer is then given.
 #[derive(Drop)]
-pub(crate) enum Reply {
+pub enum Reply {
     Answer(Answer),
     Updates(Updates),
 }

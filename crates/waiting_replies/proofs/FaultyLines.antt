@@ -11,3 +11,4 @@ pub faults_end : {S : Type 0} (end : LineEnd) (text waited waits : List ℕ) (Th
 faults_end line.GoesOn text waited waits Then faults = absurd faults
 faults_end line.Stops text waited waits Then faults = faults
 faults_end line.NoMemory text waited waits Then faults = faults
+faults_end line.Full text waited waits Then faults = absurd faults

@@ -22,6 +22,8 @@ pub enum LineEnd {
     GoesOn,
     Stops,
     NoMemory,
+    /// A journal has no room for what the line puts.
+    Full,
 }
 
 /// Replies that are not written yet.

@@ -1,16 +1,19 @@
 use Rattle.std.proofs.Common.{◌≡◌, ◌-◌, ◌≤◌}
 use Rattle.std.specs.Prelude.{None}
-use Rattle.cds_base.specs.Lines.{given, kept}
+use Rattle.cds_base.specs.Lines.{given, held, kept}
 use Rattle.cds_base.specs.declared.lines.Lines.{Lines}
 use Rattle.cell_replay.specs.declared.forms.LineForm.{LineForm}
 use Rattle.cell_replay.specs.LineStates.{LineState}
 use Rattle.cell_replay.specs.PrivateStanding.{IsAt, counted}
+use Rattle.cell_replay.proofs.LinesLeft.{LinesSo}
 use Rattle.cell_replay.proofs.Turns.{IsBetween}
 use Rattle.cell_replay.proofs.replay.answer_lines.Given as goal
 
--- the run stands between two lines, whatever state it began in; no fault was met, and no line that is to come was counted
-pub record IsGoingOn (Between Starts : LineState → Type 0) (lines : Lines) (form : LineForm) : Type 0 where
+-- the run stands between two lines, whatever state it began in, and the form at the state behind those lines; no fault was met, and no line
+-- that is to come was counted
+pub record IsGoingOn (Between So Starts : LineState → Type 0) (lines : Lines) (form : LineForm) : Type 0 where
   pub between : (state : LineState) → Starts state → Between state
+  pub so : (state : LineState) → Starts state → So state
   pub unbroken : kept lines ≡ None
   pub counted : counted form ≤ given lines
 
@@ -19,6 +22,8 @@ invariant-lines g l =
     IsGoingOn
     (λ state. IsBetween state (g.S.Source.left l.fn.source) (g.S.Source.left l.source) (g.K.Sink.written l.fn.sink) (g.K.Sink.written l.sink)
     (g.S.Source.faults l.fn.source) (g.S.Source.faults l.source) (g.K.Sink.faults l.fn.sink) (g.K.Sink.faults l.sink) l.lines l.form l.waiting)
+    (λ state. (at : LineState) × IsAt l.form at × LinesSo state (g.S.Source.left l.fn.source) (g.S.Source.left l.source) (g.K.Sink.written l.fn.sink)
+    (g.K.Sink.written l.sink) (held l.lines) l.waiting (given l.lines) at)
     (λ state. IsAt l.fn.form state)
     l.lines
     l.form

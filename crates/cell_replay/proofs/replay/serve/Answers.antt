@@ -21,3 +21,6 @@ returns-in-Err-clause-ends g c = rw c.in-Untowers.is (unread_lines Spelling _ _ 
 
 pub returns-in-Inquire-clause-ends : goal.returns-in-Inquire-clause-ends
 returns-in-Inquire-clause-ends g c = rw c.in-Inquire.is (c.serve_lines-in-Inquire.ensures (Inquiring empty_cell) c.new-in-Inquire.ensures.cell)
+
+pub returns-in-Journal-clause-ends : goal.returns-in-Journal-clause-ends
+returns-in-Journal-clause-ends g c = rw c.in-Journal.is c.journal_over_new_disks.ensures

@@ -1,0 +1,88 @@
+-- What the forms are left with at a line that is faulty, or for which there was no memory or no room.
+use Rattle.std.proofs.Common.{◌≡◌, ℕ, List, subst}
+use Rattle.house_journal.specs.MemoryDisks.{MemState}
+use Rattle.cell_script.specs.Words.{words_of}
+use Rattle.script_forms.specs.JournalLines.{said_in}
+use Rattle.cds_cell.specs.declared.cell.Cell.{Cell}
+use Rattle.waiting_replies.specs.declared.replies.LineEnd.{LineEnd}
+use Rattle.waiting_replies.specs.declared.replies.LineEnd.TheVariants as line
+use Rattle.waiting_replies.specs.LineEnds.{Ends}
+use Rattle.waiting_replies.specs.Responses.{ResponseOf, GoesOn, Stops, Fills, in_state}
+use Rattle.journal_replies.specs.Journals.{JournaledCell, journal_response}
+use Rattle.journal_replies.specs.Keeping.{LeavesDisks, StandsJournals}
+use Rattle.journal_replies.specs.declared.journals.Journals.{Journals}
+use Rattle.clerk_replies.specs.declared.replayer.ClerkReplayer.{ClerkReplayer}
+use Rattle.cell_replay.specs.JournalRuns.{AreOnDisks, ArePut}
+use Rattle.cell_replay.specs.LineStates.{LineState, Journaling, Spelling, response}
+use Rattle.cell_replay.specs.PrivateStanding.{ClerksAt, CountsTo, IsShort, KeepsTo, StandsAsked, StandsAt}
+use Rattle.cell_replay.specs.declared.check.Tally.{Tally}
+
+-- a state of another form than `journal` asks nothing of disks
+pub record AsksNothing (disks : List MemState) (state : LineState) : Type 0 where
+  pub kept : AreOnDisks disks state
+  pub broken : (number : ℕ) (octets : List ℕ) → ArePut disks number state octets
+
+pub replaying_asks : (c : Cell) (disks : List MemState) (state : LineState) → StandsAt c state → AsksNothing disks state
+replaying_asks c disks (Journaling s) at = absurd at
+replaying_asks c disks state at = record { kept = tt; broken = λ number octets. tt }
+
+pub inquiring_asks : (c : Cell) (disks : List MemState) (state : LineState) → StandsAsked c state → AsksNothing disks state
+inquiring_asks c disks (Journaling s) at = absurd at
+inquiring_asks c disks state at = record { kept = tt; broken = λ number octets. tt }
+
+pub clerking_asks : (r : ClerkReplayer) (disks : List MemState) (state : LineState) → ClerksAt r state → AsksNothing disks state
+clerking_asks r disks (Journaling s) at = absurd at
+clerking_asks r disks state at = record { kept = tt; broken = λ number octets. tt }
+
+pub checking_asks : (t : Tally) (disks : List MemState) (state : LineState) → CountsTo t state → AsksNothing disks state
+checking_asks t disks (Journaling s) at = absurd at
+checking_asks t disks state at = record { kept = tt; broken = λ number octets. tt }
+
+pub spelling_asks : (disks : List MemState) (state : LineState) → state ≡ Spelling → AsksNothing disks state
+spelling_asks disks (Journaling s) at = absurd (cc (at))
+spelling_asks disks state at = record { kept = tt; broken = λ number octets. tt }
+
+-- how a line ends is how it ends in a state of another kind
+state_ends : {S T : Type 0} (e : LineEnd) (r : ResponseOf S) (f : S → T) (waited waits : List ℕ) (Then : S → Type 0) (So : T → Type 0)
+    → ((s : S) → Then s → So (f s)) → Ends e r waited waits Then → Ends e (in_state f r) waited waits So
+state_ends line.GoesOn (GoesOn text next) f waited waits Then So then ends = (ends.0, then next ends.1)
+state_ends line.GoesOn (Stops text) f waited waits Then So then ends = absurd ends
+state_ends line.GoesOn Fills f waited waits Then So then ends = absurd ends
+state_ends line.Stops (GoesOn text next) f waited waits Then So then ends = absurd ends
+state_ends line.Stops (Stops text) f waited waits Then So then ends = ends
+state_ends line.Stops Fills f waited waits Then So then ends = absurd ends
+state_ends line.NoMemory r f waited waits Then So then ends = ends
+state_ends line.Full (GoesOn text next) f waited waits Then So then ends = absurd ends
+state_ends line.Full (Stops text) f waited waits Then So then ends = absurd ends
+state_ends line.Full Fills f waited waits Then So then ends = ends
+
+-- so a line ends of the form `journal`
+pub journal_ends : (j j' : Journals) (e : LineEnd) (number : ℕ) (octets waited waits : List ℕ) (state : LineState) → KeepsTo j state
+    → ((s : JournaledCell) → StandsJournals j s → Ends e (journal_response number s octets) waited waits (StandsJournals j'))
+    → Ends e (response number state octets) waited waits (KeepsTo j')
+journal_ends j j' e number octets waited waits (Journaling s) at ends =
+    state_ends e (journal_response number s octets) Journaling waited waits (StandsJournals j') (KeepsTo j') (λ next stands. stands) (ends s at)
+journal_ends j j' e number octets waited waits state at ends = absurd at
+
+module _ (j j' : Journals) (end : LineEnd) (number : ℕ) (octets : List ℕ) (state : LineState) (at : KeepsTo j state)
+    (leaves : (s : JournaledCell) → StandsJournals j s → LeavesDisks end s (said_in (words_of octets)) j') where
+  -- a faulty line leaves the disks
+  pub journal_kept : end ≡ line.Stops → AreOnDisks j'.keeper.disks.items state
+  journal_kept is = by state at
+    where
+      by : (state : LineState) → KeepsTo j state → AreOnDisks j'.keeper.disks.items state
+      by (Journaling s) at = (subst (λ e. LeavesDisks e s (said_in (words_of octets)) j') is (leaves s at), at.stands.gives)
+      by state at = absurd at
+
+  -- a line that is given up has its puts under way
+  pub journal_broken : IsShort end → ArePut j'.keeper.disks.items number state octets
+  journal_broken short = by end state at leaves short
+    where
+      by : (e : LineEnd) (state : LineState) → KeepsTo j state
+          → ((s : JournaledCell) → StandsJournals j s → LeavesDisks e s (said_in (words_of octets)) j') → IsShort e
+          → ArePut j'.keeper.disks.items number state octets
+      by line.NoMemory (Journaling s) at leaves short = (leaves s at, at.stands.gives)
+      by line.Full (Journaling s) at leaves short = (leaves s at, at.stands.gives)
+      by line.GoesOn state at leaves short = absurd short
+      by line.Stops state at leaves short = absurd short
+      by e state at leaves short = absurd at

@@ -1,0 +1,7 @@
+use Rattle.cell_replay.specs.LineStates.{Journaling}
+use Rattle.journal_replies.specs.Journals.{empty_state}
+use Rattle.cell_replay.proofs.Turns.{unread_lines}
+use Rattle.cell_replay.proofs.replay.journal_over_new_disks.Goals as goal
+
+pub returns-in-Err : goal.returns-in-Err
+returns-in-Err g c = unread_lines (Journaling empty_state) _ _ _ _

@@ -1,0 +1,10 @@
+mod Putting
+mod Giving
+mod Acting
+mod OneHouse
+mod Doing
+mod StopPuts
+mod StopReplies
+mod Replied
+mod Reopening
+mod StopHouse

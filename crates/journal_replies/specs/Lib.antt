@@ -1,0 +1,5 @@
+pub mod Journaled
+pub mod Journals
+pub mod Disks
+pub mod Keeping
+pub mod PrivateJournals

@@ -1,0 +1,10 @@
+//! What a line of the form `journal` comes to: a cell answers it, and houses put their images into their journals.
+#![tactic(auto)]
+
+mod images;
+mod journals;
+mod keeper;
+mod stopping;
+mod stops;
+
+pub use journals::Journals;
