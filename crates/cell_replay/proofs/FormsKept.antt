@@ -1,5 +1,17 @@
 -- What the forms are left with at a line that is faulty, or for which there was no memory or no room.
-use Rattle.std.proofs.Common.{◌≡◌, ℕ, List, subst}
+use Rattle.std.proofs.Common.{Global, ◌≡◌, ℕ, List, subst, ap, ◌∙◌}
+use Rattle.std.specs.Prelude.{Result, IfOk}
+use Rattle.std.specs.declared.alloc.AllocError.{AllocError}
+use Rattle.std.specs.declared.vec.Vec.{Vec}
+use Rattle.cds_stamps.specs.declared.numbers.DirId.{DirId}
+use Rattle.cell_model.specs.Cells as model
+use Rattle.cell_script.specs.Commands as command
+use Rattle.cds_cell.specs.Standing.{Stands}
+use Rattle.line_replies.specs.Dialogues.{replied}
+use Rattle.mend_lines.specs.Lines.{mend_text}
+use Rattle.mend_lines.specs.Quiet.{running_quietly}
+use Rattle.mend_lines.specs.declared.mender.Mender.{Mender}
+use Rattle.cell_replay.specs.Demand.{end_text}
 use Rattle.house_journal.specs.MemoryDisks.{MemState}
 use Rattle.cell_script.specs.Words.{words_of}
 use Rattle.script_forms.specs.JournalLines.{said_in}
@@ -13,8 +25,8 @@ use Rattle.journal_replies.specs.Keeping.{LeavesDisks, StandsJournals}
 use Rattle.journal_replies.specs.declared.journals.Journals.{Journals}
 use Rattle.clerk_replies.specs.declared.replayer.ClerkReplayer.{ClerkReplayer}
 use Rattle.cell_replay.specs.JournalRuns.{AreOnDisks, ArePut}
-use Rattle.cell_replay.specs.LineStates.{LineState, Journaling, Spelling, response}
-use Rattle.cell_replay.specs.PrivateStanding.{ClerksAt, CountsTo, IsShort, KeepsTo, StandsAsked, StandsAt}
+use Rattle.cell_replay.specs.LineStates.{LineState, Journaling, Mending, Spelling, response}
+use Rattle.cell_replay.specs.PrivateStanding.{ClerksAt, CountsTo, IsShort, KeepsTo, MendsAt, StandsAsked, StandsAt}
 use Rattle.cell_replay.specs.declared.check.Tally.{Tally}
 
 -- a state of another form than `journal` asks nothing of disks
@@ -42,6 +54,10 @@ pub spelling_asks : (disks : List MemState) (state : LineState) → state ≡ Sp
 spelling_asks disks (Journaling s) at = absurd (cc (at))
 spelling_asks disks state at = record { kept = tt; broken = λ number octets. tt }
 
+pub mending_asks : (m : Mender) (disks : List MemState) (state : LineState) → MendsAt m state → AsksNothing disks state
+mending_asks m disks (Journaling s) at = absurd at
+mending_asks m disks state at = record { kept = tt; broken = λ number octets. tt }
+
 -- how a line ends is how it ends in a state of another kind
 state_ends : {S T : Type 0} (e : LineEnd) (r : ResponseOf S) (f : S → T) (waited waits : List ℕ) (Then : S → Type 0) (So : T → Type 0)
     → ((s : S) → Then s → So (f s)) → Ends e r waited waits Then → Ends e (in_state f r) waited waits So
@@ -63,6 +79,22 @@ pub journal_ends : (j j' : Journals) (e : LineEnd) (number : ℕ) (octets waited
 journal_ends j j' e number octets waited waits (Journaling s) at ends =
     state_ends e (journal_response number s octets) Journaling waited waits (StandsJournals j') (KeepsTo j') (λ next stands. stands) (ends s at)
 journal_ends j j' e number octets waited waits state at ends = absurd at
+
+-- so a line ends of the form of `cdsmend`
+pub mend_ends : (m m' : Mender) (e : LineEnd) (number : ℕ) (octets waited waits : List ℕ) (state : LineState) → MendsAt m state → m'.dir ≡ m.dir
+    → ((g : model.Cell) → Stands m.replayer.cell g
+    → Ends e (replied running_quietly number g (command.said_in (words_of octets))) waited waits (Stands m'.replayer.cell))
+    → Ends e (response number state octets) waited waits (MendsAt m')
+mend_ends m m' e number octets waited waits (Mending d g) at same ends =
+    state_ends e (replied running_quietly number g (command.said_in (words_of octets))) (Mending d) waited waits (Stands m'.replayer.cell) (MendsAt m')
+    (λ next stands. (ap (λ (dir : DirId). dir.0) same ∙ at.0, stands)) (ends g at.1)
+mend_ends m m' e number octets waited waits state at same ends = absurd at
+
+-- and so its end is told
+pub mend_told : (m : Mender) (r : Result (Vec ℕ Global) AllocError) (state : LineState) → MendsAt m state
+    → ((g : model.Cell) → Stands m.replayer.cell g → IfOk r (λ text. text.items ≡ mend_text m.dir.0 g)) → IfOk r (λ text. text.items ≡ end_text state)
+mend_told m r (Mending d g) at told = subst (λ (n : ℕ). IfOk r (λ text. text.items ≡ mend_text n g)) at.0 (told g at.1)
+mend_told m r state at told = absurd at
 
 module _ (j j' : Journals) (end : LineEnd) (number : ℕ) (octets : List ℕ) (state : LineState) (at : KeepsTo j state)
     (leaves : (s : JournaledCell) → StandsJournals j s → LeavesDisks end s (said_in (words_of octets)) j') where

@@ -525,4 +525,5 @@ at_kept (form.Check tally) (Journaling s) at = absurd at
 at_kept (form.Untowers speller) (Journaling s) at = absurd (cc (at))
 at_kept (form.Inquire replayer) (Journaling s) at = absurd at
 at_kept (form.Clerk replayer) (Journaling s) at = absurd at
+at_kept (form.Mend mender) (Journaling s) at = absurd at
 at_kept f state at = tt

@@ -1,4 +1,4 @@
-use Rattle.cell_replay.proofs.FormsKept.{checking_asks, clerking_asks, inquiring_asks, journal_broken, journal_ends, journal_kept, replaying_asks, spelling_asks}
+use Rattle.cell_replay.proofs.FormsKept.{checking_asks, clerking_asks, inquiring_asks, journal_broken, journal_ends, journal_kept, mend_ends, mending_asks, replaying_asks, spelling_asks}
 use Rattle.std.proofs.Common.{[]}
 use Rattle.cell_replay.proofs.forms.LineForm.answer.Goals as goal
 
@@ -31,6 +31,17 @@ returns-in-Clerk-clause-kept c state at is = (clerking_asks c.in-Clerk.replayer 
 
 pub returns-in-Clerk-clause-broken : goal.returns-in-Clerk-clause-broken
 returns-in-Clerk-clause-broken c state at short = (clerking_asks c.in-Clerk.replayer [] state (rw c.in-Clerk.is at at)).broken c.args.number c.args.line.now
+
+pub returns-in-Mend-clause-kept : goal.returns-in-Mend-clause-kept
+returns-in-Mend-clause-kept c state at is = (mending_asks c.in-Mend.mender [] state (rw c.in-Mend.is at at)).kept
+
+pub returns-in-Mend-clause-broken : goal.returns-in-Mend-clause-broken
+returns-in-Mend-clause-broken c state at short = (mending_asks c.in-Mend.mender [] state (rw c.in-Mend.is at at)).broken c.args.number c.args.line.now
+
+pub returns-in-Mend-clause-reply : goal.returns-in-Mend-clause-reply
+returns-in-Mend-clause-reply c state at =
+    mend_ends c.in-Mend.mender c.take_line-in-Mend.new.self c.take_line-in-Mend.result c.args.number c.args.line.now _ _ state
+    (rw c.in-Mend.is at at) c.take_line-in-Mend.ensures.dir c.take_line-in-Mend.ensures.reply
 
 pub returns-in-Journal-clause-kept : goal.returns-in-Journal-clause-kept
 returns-in-Journal-clause-kept c state at is =
