@@ -3,7 +3,7 @@ ghost use Rattle.std.specs.Prelude.{◌≡◌, ◌++◌, ℕ, List, OnOk, OnErr,
 ghost use Rattle.cell_replay.specs.Runs.{code_of};
 ghost use Rattle.cell_replay.specs.PrivateEndings.{Finishes, IsQueued, StopsWith, side_of};
 
-use cds_base::Sink;
+use cds_base::{Sink, WordsFault};
 use std::alloc::AllocError;
 use waiting_replies::Waiting;
 
@@ -33,6 +33,17 @@ impl Status {
             Status::WriteFault => 5,
             Status::OutOfMemory => 6,
             Status::JournalFull => 7,
+        }
+    }
+
+    /// How a program ends without the words of its command line.
+    pub fn without_words(fault: WordsFault) -> Status
+        ensures memory { fault ≡ WordsFault.OutOfMemory → result ≡ Status.OutOfMemory }
+        ensures usage { fault ≡ WordsFault.NoText → result ≡ Status.Usage }
+    {
+        match fault {
+            WordsFault::NoText => Status::Usage,
+            WordsFault::OutOfMemory => Status::OutOfMemory,
         }
     }
 }
