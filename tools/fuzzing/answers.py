@@ -71,6 +71,15 @@ ANSWERS = {
     "audit": "agree none birth value NoReplica Short BadTag BadLength BadName OutOfOrder BadFlag BadHeld Trailing",
 }
 
+# The forms that alone have a command; all that replay a script have each other one.
+SCRIPTS = ("run", "journal", "clerk", "inquire")
+FORMS_OF = {
+    **dict.fromkeys(["image", "stop"], ("journal",)),
+    "read by clerk": ("clerk",),
+    **dict.fromkeys(["grouplist", "entrylist", "proflist", "lookup"], ("inquire",)),
+    **{it: (it,) for it in ("check", "load", "towers", "untowers", "migrate", "audit")},
+}
+
 
 class Kinds:
     """What kind of message each serial number is, from the answers of a script in their order."""
@@ -176,9 +185,10 @@ class Met:
             _, is_fault, fault = line.partition(" fault ")
             self.add("towers", fault.partition(" ")[0] if is_fault else "-" if line == "-" else "floors")
 
-    def lacking(self):
-        """The answers that were never met, each behind its command."""
-        return [f"{command}: {answer}" for command, answers in ANSWERS.items() for answer in answers.split() if not self.counts[command][answer]]
+    def lacking(self, forms):
+        """The answers of these forms that were never met, each behind its command."""
+        due = {it: answers.split() for it, answers in ANSWERS.items() if set(FORMS_OF.get(it, SCRIPTS)) & set(forms)}
+        return [f"{command}: {answer}" for command, answers in due.items() for answer in answers if not self.counts[command][answer]]
 
     def unknown(self):
         """The answers that were met and that no table has."""
