@@ -57,7 +57,7 @@ class Maker:
         """A line, where about so many messages were posted."""
         kind = self.random.choices(
             ["deliver", "lose", "create", "skulk", "epoch", "crash", "start", "clock", "mkdir", "group", "last"],
-            [60, 8, 14, 10, 8, 5, 4, 2, 2, 2, 0.3],
+            [60, 8, 14, 10, 8, 5, 4, 2, 5, 2, 0.3],
         )[0]
         recent = max(1, posted - self.random.choice([2, 6, 20, posted + 1]))
         if kind in ("deliver", "lose"):
@@ -95,16 +95,23 @@ def run(program, words, lines):
     return ran.stdout.decode().splitlines(), ran.returncode
 
 
-class Cell:
-    """What the answers to a script tell of a directory."""
+class Directory:
+    """A directory as the console knows it: its last epoch, the master, and each listed house, with an `s` where it is secondary."""
 
-    def __init__(self, program, lines, directory):
-        self.directory, self.epoch, self.listed, self.posted = directory, 0, [], 0
+    def __init__(self, epoch, words):
+        self.epoch, self.master = epoch, int(words[0])
+        self.listed = sorted([(self.master, ""), *((int(it.lstrip("s")), "s" if it[0] == "s" else "") for it in words[1:])])
+
+
+class Cell:
+    """What the answers to a script tell of its cell: the directories by their numbers, and how many messages were posted."""
+
+    def __init__(self, program, lines):
+        self.directories, self.posted = {}, 0
         answers, _ = run(program, ["run"], lines)
         for answer in answers:
             number, said = answer.split(" ", 1)
             self.take(lines[int(number) - 1].split(), said)
-        self.houses = {int(it.split()[1]) for it in lines if it.startswith("house ")}
 
     def take(self, line, said):
         posted = re.search(r" posted ([0-9 ]+)$", said)
@@ -112,59 +119,68 @@ class Cell:
             self.posted = max(self.posted, *map(int, posted[1].split()))
         if not said.startswith("ok"):
             return
-        made = {"root": ("1", "1", 1), "mkdir": (said.split()[1] if line[0] == "mkdir" else "", "1", 4)}.get(line[0])
-        if line[0] == "epoch":
-            made = (line[1], said.split()[1], 2)
-        if made and made[0] == str(self.directory):
-            self.epoch = int(made[1])
-            self.master = int(line[made[2]])
-            self.listed = sorted([(self.master, ""), *((int(it.lstrip("s")), "s" if it[0] == "s" else "") for it in line[made[2] + 1 :])])
+        if line[0] == "root":
+            self.directories[1] = Directory(1, line[1:])
+        elif line[0] == "mkdir":
+            self.directories[int(said.split()[1])] = Directory(1, line[4:])
+        elif line[0] == "epoch":
+            self.directories[int(line[1])] = Directory(int(said.split()[1]), line[2:])
+
+    def choose(self, source):
+        """Chooses one of the directories, or now and then a number that none has."""
+        if source.random() < 0.02:
+            return source.choice([max(self.directories) + 1, 2**32 - 1])
+        return source.choice(sorted(self.directories))
 
 
-def state_of(program, lines, cell):
+def state_of(program, lines, number, directory):
     """Returns which of the listed houses are down, whether all are ready, and whether the master has a stamp left."""
-    asked = [f"dump {it} {cell.directory}" for it, _ in cell.listed] + [f"octets house {cell.master}"]
+    asked = [f"dump {it} {number}" for it, _ in directory.listed] + [f"octets house {directory.master}"]
     answers, _ = run(program, ["run"], lines + asked)
     told = {}
     for answer in answers:
-        number, said = answer.split(" ", 1)
-        told.setdefault(int(number) - len(lines) - 1, said)
-    dumps = [told[at] for at in range(len(cell.listed))]
-    down = {house for (house, _), said in zip(cell.listed, dumps) if said == "refused Down"}
-    ready = all(said.startswith(f"dump epoch {cell.epoch} ") for said in dumps)
-    image = bytes.fromhex(told[len(cell.listed)].split()[2])
+        line, said = answer.split(" ", 1)
+        told.setdefault(int(line) - len(lines) - 1, said)
+    dumps = [told[at] for at in range(len(directory.listed))]
+    down = {house for (house, _), said in zip(directory.listed, dumps) if said == "refused Down"}
+    ready = all(said.startswith(f"dump epoch {directory.epoch} ") for said in dumps)
+    image = bytes.fromhex(told[len(directory.listed)].split()[2])
     return down, ready, int.from_bytes(image[9:17], "big") < LAST_TIME
 
 
-def wanted(program, lines, cell):
+def wanted(program, lines, cell, number):
     """Returns the lines that `cdsmend` has to write, and the name of the trouble."""
-    if not cell.listed:
+    directory = cell.directories.get(number)
+    if not directory:
         return ["refused NoDirectory"], "no directory"
-    down, ready, stamp = state_of(program, lines, cell)
+    down, ready, stamp = state_of(program, lines, number, directory)
     if not stamp:
         return ["refused StampsSpent"], "no stamp"
-    others = [(house, kind) for house, kind in cell.listed if house != cell.master]
+    others = [f"{kind}{house}" for house, kind in directory.listed if house != directory.master]
     first, found = cell.posted, []
     if not ready:
-        found += [f"start {house}" for house, _ in cell.listed if house in down]
-        found.append(" ".join(["epoch", str(cell.directory), str(cell.master), *(f"{kind}{house}" for house, kind in others)]))
+        found += [f"start {house}" for house, _ in directory.listed if house in down]
+        found.append(" ".join(["epoch", str(number), str(directory.master), *others]))
         found += [f"deliver {first + it}" for it in range(1, len(others) + 1)]
         first += len(others)
-    found.append(f"skulk {cell.master} {cell.directory}")
+    found.append(f"skulk {directory.master} {number}")
     found += [f"deliver {first + it}" for it in range(1, 4 * len(others) + 1)]
     return found, "ready" if ready else "down" if down else "in trouble"
 
 
-def fault_of(program, mender, lines, directory):
+def fault_of(program, mender, lines, cell, number):
     """Returns what is wrong with what mends the directory, if anything, and the name of the trouble."""
-    cell = Cell(program, lines, directory)
-    due, trouble = wanted(program, lines, cell)
-    added, status = run(mender, [str(directory)], lines)
+    due, trouble = wanted(program, lines, cell, number)
+    added, status = run(mender, [str(number)], lines)
     if status or added != due:
-        return f"cdsmend {directory} ends with status {status} and {added}, not {due}", trouble
+        return f"cdsmend {number} ends with status {status} and {added}, not {due}", trouble
     if due[0].startswith("refused "):
         return None, trouble
-    asked = [f"dump {it} {directory}" for it, _ in cell.listed]
+    return vain_in(program, lines, added, [f"dump {it} {number}" for it, _ in cell.directories[number].listed]), trouble
+
+
+def vain_in(program, lines, added, asked):
+    """Returns what is wrong with the added lines, if anything, where these questions behind them tell what the houses hold."""
     answers, _ = run(program, ["run"], lines + added + asked)
     told = {}
     for answer in answers:
@@ -172,11 +188,11 @@ def fault_of(program, mender, lines, directory):
     vain = [told[at] for at in range(len(lines) + 1, len(lines) + len(added) + 1) if IN_VAIN.match(told[at])]
     last = told[len(lines) + len(added)]
     if vain or " complete " not in last:
-        return f"it is in vain: {vain or last}", trouble
+        return f"it is in vain: {vain or last}"
     epochs = {" ".join(told[at].split()[1:4]) for at in range(len(lines) + len(added) + 1, len(lines) + len(added) + len(asked) + 1)}
     if len(epochs) != 1 or not next(iter(epochs)).startswith("dump epoch "):
-        return f"the houses hold {sorted(epochs)}", trouble
-    return None, trouble
+        return f"the houses hold {sorted(epochs)}"
+    return None
 
 
 def mend_all(words):
@@ -186,10 +202,9 @@ def mend_all(words):
         seed = words.seed + count
         count += 1
         source = random.Random(seed)
-        maker = Maker(source)
-        lines = maker.script()
-        directory = source.randint(1, maker.directories + (source.random() < 0.05))
-        fault, trouble = fault_of(words.program, words.mender, lines, directory)
+        lines = Maker(source).script()
+        cell = Cell(words.program, lines)
+        fault, trouble = fault_of(words.program, words.mender, lines, cell, cell.choose(source))
         troubles[trouble] += 1
         if fault:
             os.makedirs(os.path.dirname(FOUND), exist_ok=True)

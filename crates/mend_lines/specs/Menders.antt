@@ -17,3 +17,4 @@ abbrev pub UnlessNoMemory : LineEnd → Type 0 → Type 0
 UnlessNoMemory line.GoesOn P = P
 UnlessNoMemory line.Stops P = ⊥
 UnlessNoMemory line.NoMemory P = Unit {0}
+UnlessNoMemory line.Full P = ⊥
