@@ -1,28 +1,22 @@
 -- One house whose put is stopped: the journals and the disks after that.
-use Rattle.std.proofs.Common.{◌≡◌, ◌≢◌, ◌⊎◌, inl, inr, ⊎_elim, ℕ, ◌+◌, ◌^◌, ◌<◌, ◌≤◌, Bool, true, false, ◌||◌, List, [], ◌∷◌, ◌++◌, refl, sym, ◌∙◌, ap, subst, if◌then◌else◌, arith}
-use Rattle.std.specs.Prelude.{Option, Some, None, nat_lt, slice_get}
+use Rattle.std.proofs.Common.{◌≡◌, ◌≢◌, inl, inr, ⊎_elim, ℕ, ◌+◌, ◌^◌, ◌<◌, ◌≤◌, ◌==◌, Bool, true, false, ◌||◌, List, [], ◌∷◌, ◌++◌, length, refl, sym, ◌∙◌, ap, subst, if◌then◌else◌, arith}
+use Rattle.std.specs.Prelude.{Option, Some, None, Result, Ok, Err, IfOk, IfSome, OnOk, nat_lt, slice_get, slice_set}
 use Rattle.std.specs.List.{last_or}
 use Rattle.std.specs.Option.{option_map_or}
 use Rattle.std.specs.Str.{bytes_eq}
 use Rattle.std.proofs.lemmas.Bool.Decides.{nat_tests}
-use Rattle.house_journal.specs.ClockProofs.{reads_left_lem}
-use Rattle.house_journal.specs.Faults.{JournalState}
-use Rattle.house_journal.specs.MemoryDisks.{MemState, left_now}
-use Rattle.house_journal.specs.Records.{IsOpenable, images, last_image}
-use Rattle.kept_journals.specs.KeptJournals.{Holds, HoldsEither, IsOpen, is_last, size_of}
+use Rattle.std.proofs.lemmas.List.{length-set}
+use Rattle.house_journal.specs.MemoryDisks.{MemState}
+use Rattle.house_journal.specs.Records.{images, last_image}
+use Rattle.kept_journals.specs.KeptJournals.{Holds, HoldsEither, IsKept, is_last, size_of}
 use Rattle.kept_journals.specs.declared.faults.Unkept.{Unkept}
 use Rattle.kept_journals.specs.declared.faults.Unkept.TheVariants.{Full, OutOfMemory}
-use Rattle.kept_journals.proofs.Lasts.{last_more, last_same}
+use Rattle.kept_journals.specs.declared.kept.KeptHouse.{KeptHouse}
+use Rattle.kept_journals.proofs.Lasts.{last_is, last_more, last_same}
 use Rattle.journal_replies.specs.Journals.{Lists, Put, lacks_room, with_put}
-use Rattle.journal_replies.specs.Disks.{ArePutting, HoldAll}
-use Rattle.journal_replies.specs.PrivateJournals.{GivesUp}
-use Rattle.journal_replies.proofs.OneHouse.{but_then, hold_then, holds_reads, put_apart, put_here}
-
--- a journal that is open leaves what is read of it
-open_holds : (j : JournalState) (m : MemState) (list other : List (List ℕ)) → IsOpen j m → HoldsEither m list other → Holds m (images m.octets)
-open_holds j m list other open' either c left =
-    let same = open'.synced c left in
-    (ap images same, subst IsOpenable (sym same) (either m.octets (reads_left_lem m.steps m.octets)).1)
+use Rattle.journal_replies.specs.Disks.{AreKept, ArePutting, HoldAll, disk_count}
+use Rattle.journal_replies.specs.PrivateJournals.{GivesUp, StopsPut}
+use Rattle.journal_replies.proofs.OneHouse.{but_then, hold_then, holds_reads, kept_holds, put_apart, put_here, set_here, set_other}
 
 or_false : (b : Bool) → (b || false) ≡ b
 or_false true = refl
@@ -40,11 +34,14 @@ module _ (h at : ℕ) (house : h ≡ at + 1) (image : List ℕ) (old new : List 
   list : images before.octets ≡ lists (at + 1)
   list = holds_reads before (lists (at + 1)) (let all = hold at in rw there at all)
 
+  reads : images before.octets ≡ lists h
+  reads = list ∙ ap lists (sym house)
+
   longer_is : with_put p lists (at + 1) ≡ longer
   longer_is = put_here p lists at house ∙ ap (λ (l : List (List ℕ)). l ++ image ∷ []) (sym list)
 
   same_size : lists h ++ image ∷ [] ≡ longer
-  same_size = ap (λ (l : List (List ℕ)). l ++ image ∷ []) (ap lists house ∙ sym list)
+  same_size = ap (λ (l : List (List ℕ)). l ++ image ∷ []) (sym reads)
 
   lacks : (b : Bool) → nat_lt (2 ^ 40) (size_of longer) ≡ b → lacks_room lists (p ∷ []) ≡ b
   lacks b test = ap (λ (l : List (List ℕ)). nat_lt 1099511627776 (size_of l) || false) same_size ∙ ap (λ (c : Bool). c || false) test ∙ or_false b
@@ -54,26 +51,86 @@ module _ (h at : ℕ) (house : h ≡ at + 1) (image : List ℕ) (old new : List 
       (λ c left. let e = crash c left in (⊎_elim (λ is. inl (is ∙ list)) (λ is. inr (is ∙ sym longer_is)) e.0, e.1)))
 
   -- it was given up
-  pub stop_up : (e : Unkept) → (e ≡ Full → 2 ^ 40 < size_of longer) → GivesUp e new lists (p ∷ [])
+  stop_up : (e : Unkept) → (e ≡ Full → 2 ^ 40 < size_of longer) → GivesUp e new lists (p ∷ [])
   stop_up OutOfMemory full = putting
   stop_up Full full = let many = full refl in (putting, lacks true (grind (arith, nat_tests)))
 
   -- it was stopped, and the journal was opened again
-  pub stop_done : (stops : Bool) (j : JournalState) → IsOpen j after → images after.octets ≡ (if stops then longer else images before.octets)
-      → size_of longer ≤ 2 ^ 40 → HoldAll new (if stops then with_put p lists else lists) × (lacks_room lists (p ∷ []) ≡ false)
-  stop_done stops j open' is few = (by_stops stops is, lacks false (grind (arith, nat_tests)))
-    where
-      now : Holds after (images after.octets)
-      now = open_holds j after (images before.octets) longer open' crash
+  stop_held : (stops : Bool) (k : KeptHouse) → IsKept (Some k) after → images after.octets ≡ (if stops then longer else images before.octets)
+      → HoldAll new (if stops then with_put p lists else lists)
+  stop_held true k kept is =
+      hold_then old new at after here others lists (with_put p lists) hold
+      (subst (Holds after) (is ∙ sym longer_is) (kept_holds (Some k) after (images before.octets) longer kept crash)) (put_apart p lists at house)
+  stop_held false k kept is =
+      hold_then old new at after here others lists lists hold
+      (subst (Holds after) (is ∙ list) (kept_holds (Some k) after (images before.octets) longer kept crash)) (λ i other. refl)
 
-      by_stops : (b : Bool) → images after.octets ≡ (if b then longer else images before.octets) → HoldAll new (if b then with_put p lists else lists)
-      by_stops true is = hold_then old new at after here others lists (with_put p lists) hold (subst (Holds after) (is ∙ sym longer_is) now) (put_apart p lists at house)
-      by_stops false is = hold_then old new at after here others lists lists hold (subst (Holds after) (is ∙ list) now) (λ i other. refl)
+  stop_room : size_of longer ≤ 2 ^ 40 → lacks_room lists (p ∷ []) ≡ false
+  stop_room few = lacks false (grind (arith, nat_tests))
+
+  -- so it is with the house of these disks
+  pub house_stops : (stops : Bool) (k : KeptHouse) (r : Result Bool Unkept) → is_last image (lists h) ≡ false → OnOk r (IsKept (Some k) after)
+      → (is_last image (images before.octets) ≡ false → IfOk r (λ word. word ≡ stops))
+      → OnOk r (images after.octets ≡ (if stops then longer else images before.octets))
+      → OnOk r (size_of longer ≤ 2 ^ 40) → (r ≡ Err Full → 2 ^ 40 < size_of longer) → StopsPut r new lists stops p
+  house_stops stops k (Ok word) other kept is images_then few full =
+      (is (ap (is_last image) reads ∙ other), stop_held stops k kept images_then, stop_room few)
+  house_stops stops k (Err e) other kept is images_then few full = stop_up e (λ same. full (ap Err same))
+
+-- ---- one house
 
 -- the word: the journal gives the image where it was kept
-pub word_is : (stops : Bool) (image : List ℕ) (list : List (List ℕ)) (m : MemState) (o : Option (List ℕ)) → is_last image list ≡ false
-    → images m.octets ≡ (if stops then list ++ image ∷ [] else list) → o ≡ last_image m.octets
+pub word_is : (stops : Bool) (image : List ℕ) (xs : List (List ℕ)) (m : MemState) (o : Option (List ℕ)) → is_last image xs ≡ false
+    → images m.octets ≡ (if stops then xs ++ image ∷ [] else xs) → o ≡ last_image m.octets
     → option_map_or (bytes_eq image) o false ≡ stops
-word_is true image list m o other is last =
-    ap (λ x. option_map_or (bytes_eq image) x false) (last ∙ ap (last_or None) is) ∙ last_same image (list ++ image ∷ []) (last_more None list image)
-word_is false image list m o other is last = ap (λ x. option_map_or (bytes_eq image) x false) (last ∙ ap (last_or None) is) ∙ other
+word_is true image xs m o other is last =
+    ap (λ (x : Option (List ℕ)). option_map_or (bytes_eq image) x false) (last ∙ ap (last_or None) is)
+    ∙ last_same image (xs ++ image ∷ []) (last_more None xs image)
+word_is false image xs m o other is last =
+    ap (λ (x : Option (List ℕ)). option_map_or (bytes_eq image) x false) (last ∙ ap (last_or None) is) ∙ other
+
+-- where it gives the image, that is the last
+pub given_last : (image : List ℕ) (m : MemState) (o : Option (List ℕ)) → o ≡ last_image m.octets → option_map_or (bytes_eq image) o false ≡ true
+    → last_image m.octets ≡ Some image
+given_last image m o last is = last_is image (images m.octets) (ap (λ (x : Option (List ℕ)). option_map_or (bytes_eq image) x false) (sym last) ∙ is)
+
+-- and else it is as before
+pub still_last : (stops : Bool) (image : List ℕ) (xs : List (List ℕ)) (m : MemState) (o : Option (List ℕ)) (was : List ℕ)
+    → images m.octets ≡ (if stops then xs ++ image ∷ [] else xs) → o ≡ last_image m.octets → option_map_or (bytes_eq image) o false ≡ false
+    → last_or None xs ≡ Some was → last_image m.octets ≡ Some was
+still_last true image xs m o was is last other old =
+    let now : last_image m.octets ≡ Some image = ap (last_or None) is ∙ last_more None xs image in
+    let same : option_map_or (bytes_eq image) o false ≡ true =
+    ap (λ (x : Option (List ℕ)). option_map_or (bytes_eq image) x false) last ∙ last_same image (images m.octets) now in
+    absurd (let e = sym other ∙ same in cc)
+still_last false image xs m o was is last other old = ap (last_or None) is ∙ old
+
+-- ---- all houses
+
+-- a house and its disk that are others than before
+pub kept_at : (houses : List (Option KeptHouse)) (disks : List MemState) (at : ℕ) (k : Option KeptHouse) (m : MemState) → AreKept houses disks
+    → at < disk_count → IsKept k m → AreKept (slice_set houses at k) (slice_set disks at m)
+kept_at houses disks at k m are within is = record {
+  all_houses = length-set houses at k ∙ are.all_houses;
+  all_disks = length-set disks at m ∙ are.all_disks;
+  each = λ i. by_same i (i == at) refl;
+}
+  where
+    first : slice_get (slice_set houses at k) at ≡ Some k
+    first = set_here houses at k (omega (arith, within, are.all_houses))
+
+    second : slice_get (slice_set disks at m) at ≡ Some m
+    second = set_here disks at m (omega (arith, within, are.all_disks))
+
+    here : IfSome (slice_get (slice_set houses at k) at) (λ h. IfSome (slice_get (slice_set disks at m) at) (IsKept h))
+    here = subst (λ (o : Option (Option KeptHouse)). IfSome o (λ h. IfSome (slice_get (slice_set disks at m) at) (IsKept h))) (sym first)
+        (subst (λ (o : Option MemState). IfSome o (IsKept k)) (sym second) is)
+
+    by_same : (i : ℕ) (b : Bool) → (i == at) ≡ b → IfSome (slice_get (slice_set houses at k) i) (λ h. IfSome (slice_get (slice_set disks at m) i) (IsKept h))
+    by_same i true e =
+        let same : i ≡ at = grind (arith, nat_tests) in
+        subst (λ (j : ℕ). IfSome (slice_get (slice_set houses at k) j) (λ h. IfSome (slice_get (slice_set disks at m) j) (IsKept h))) (sym same) here
+    by_same i false e =
+        let other : i ≢ at = grind (arith, nat_tests) in
+        subst (λ (o : Option (Option KeptHouse)). IfSome o (λ h. IfSome (slice_get (slice_set disks at m) i) (IsKept h))) (sym (set_other houses at k i other))
+        (subst (λ (o : Option MemState). IfSome (slice_get houses i) (λ h. IfSome o (IsKept h))) (sym (set_other disks at m i other)) (are.each i))

@@ -1,6 +1,6 @@
--- Lines that stop a put: which commands they are, what their house puts, and what they leave.
-use Rattle.std.proofs.Common.{◌≡◌, ◌≢◌, ℕ, ◌+◌, ◌-◌, ◌<◌, ◌≤◌, ◌==◌, Bool, true, false, ◌&&◌, not, List, [], ◌∷◌, ◌++◌, map, length, refl, sym, ◌∙◌, ap, subst, if◌then◌else◌, arith}
-use Rattle.std.specs.Prelude.{Option, Some, None, Result, Ok, Err, nat_lt}
+-- Lines that stop a put: which commands they are, and what their house puts.
+use Rattle.std.proofs.Common.{◌≡◌, ◌≢◌, ℕ, ◌+◌, ◌-◌, ◌<◌, ◌≤◌, ◌==◌, Bool, true, false, ◌&&◌, not, List, [], ◌∷◌, ◌++◌, map, length, refl, sym, ◌∙◌, ap, if◌then◌else◌, arith}
+use Rattle.std.specs.Prelude.{Option, Some, None, nat_lt, is_none}
 use Rattle.std.specs.List.{last_or, range_with_len}
 use Rattle.std.specs.Option.{option_map}
 use Rattle.std.specs.Str.{bytes_eq}
@@ -9,22 +9,22 @@ use Rattle.std.proofs.lemmas.Slice.Eq.{bytes_eq-Decides}
 use Rattle.cell_model.specs.Cells.{Cell}
 use Rattle.cell_model.specs.Commands as command
 use Rattle.cell_model.specs.Commands.{Command}
-use Rattle.cell_model.specs.Reached.{IsReached}
 use Rattle.cell_model.specs.Sets.{has}
-use Rattle.cell_model.specs.Steps.{outcome, replay_from}
-use Rattle.cds_cell.specs.Imaging.{actors, crash_losing, image_after, octets_at, serials_after}
-use Rattle.cds_cell.specs.Recorded.{image_at}
+use Rattle.cell_model.specs.Steps.{outcome}
+use Rattle.cds_cell.specs.Imaging.{actors, crash_losing, image_after, octets_at}
 use Rattle.script_answers.specs.declared.answer.Answer.TheVariants as plain
 use Rattle.script_answers.specs.declared.answer.ScriptRefusal.TheVariants as why
 use Rattle.script_forms.specs.declared.journal_answer.JournalAnswer.{JournalAnswer}
 use Rattle.script_forms.specs.declared.journal_answer.JournalAnswer.TheVariants as answer
 use Rattle.kept_journals.specs.KeptJournals.{is_last}
-use Rattle.kept_journals.proofs.Lasts.{last_is, last_is_not, last_same}
-use Rattle.journal_replies.specs.Journaled.{done, is_only, journal_said, lacks_message, stop_refused, stop_said, stop_unless, stopped, stopped_if}
-use Rattle.journal_replies.specs.Journals.{JournaledCell, Lists, Put, has_to_put, puts_of, stop_puts, with_put, with_puts}
+use Rattle.kept_journals.proofs.Lasts.{last_is_not, last_same}
+use Rattle.journal_replies.specs.Journaled.{is_only, lacks_message, stop_refused}
+use Rattle.journal_replies.specs.Journals.{JournaledCell, Lists, Put, has_to_put, puts_of}
 use Rattle.journal_replies.specs.Disks.{GiveImages, disk_count, image_in}
-use Rattle.journal_replies.proofs.Acting.{crash_spares, outcome_made, spared, still_reached}
-use Rattle.journal_replies.proofs.Giving.{give_after, image_of_made}
+use Rattle.journal_replies.proofs.Acting.{outcome_made}
+use Rattle.journal_replies.proofs.Giving.{image_of_made}
+
+-- ---- what is refused
 
 -- a house that acts alone
 pub only_is : (h : ℕ) (xs : List ℕ) → is_only h xs ≡ true → xs ≡ h ∷ []
@@ -32,82 +32,135 @@ only_is h [] is = absurd (cc)
 only_is h (x ∷ []) is = let same : x ≡ h = grind (arith, nat_tests) in ap (λ y. y ∷ []) same
 only_is h (x ∷ y ∷ ys) is = absurd (cc)
 
+-- the tests of a stop, one after another
+abbrev refused_by : (made lacks only : Bool) → Option JournalAnswer
+refused_by made lacks only =
+    if not made then Some (answer.Plain (plain.Refused why.NoHouse))
+    else (if lacks then Some (answer.Plain (plain.Refused why.NoMessage))
+    else (if only then None else Some answer.NotActing))
+
+allowed_by : (made lacks only : Bool) → refused_by made lacks only ≡ None → (made ≡ true) × (only ≡ true)
+allowed_by true false true is = (refl, refl)
+allowed_by true false false is = absurd (cc)
+allowed_by true true only is = absurd (cc)
+allowed_by false lacks only is = absurd (cc)
+
 -- what is so where a stop is not refused: the house was made, and acts alone
 pub not_refused : (g : Cell) (h : ℕ) (c : Command) → stop_refused g h c ≡ None → (has h g.made ≡ true) × (actors g c ≡ h ∷ [])
-not_refused g h c is = by_tests (has h g.made) (lacks_message g c) (is_only h (actors g c)) refl refl is
-  where
-    by_tests : (made lacks only : Bool) → has h g.made ≡ made → is_only h (actors g c) ≡ only
-        → (if not made then Some (answer.Plain (plain.Refused why.NoHouse))
-        else (if lacks then Some (answer.Plain (plain.Refused why.NoMessage))
-        else (if only then None else Some answer.NotActing))) ≡ None
-        → (has h g.made ≡ true) × (actors g c ≡ h ∷ [])
-    by_tests true false true made only is = (made, only_is h (actors g c) only)
-    by_tests true false false made only is = absurd (cc)
-    by_tests true true only' made only is = absurd (cc)
-    by_tests false lacks only' made only is = absurd (cc)
+not_refused g h c is =
+    let allowed = allowed_by (has h g.made) (lacks_message g c) (is_only h (actors g c)) is in
+    (allowed.0, only_is h (actors g c) allowed.1)
 
--- the image that a command makes, or none where it stays
-pub image_stays : (g : Cell) (h : ℕ) (c : Command) → image_after g h c ≡ None → octets_at (outcome g c).cell h ≡ octets_at g h
-image_stays g h c is = by_test (bytes_eq (octets_at (outcome g c).cell h) (octets_at g h)) refl is
+-- why a stop is refused, by its tests
+pub refused_made : (g : Cell) (h : ℕ) (c : Command) → has h g.made ≡ false → stop_refused g h c ≡ Some (answer.Plain (plain.Refused why.NoHouse))
+refused_made g h c made = ap (λ (b : Bool). refused_by b (lacks_message g c) (is_only h (actors g c))) made
+
+pub refused_lacks : (g : Cell) (h : ℕ) (c : Command) → has h g.made ≡ true → lacks_message g c ≡ true
+    → stop_refused g h c ≡ Some (answer.Plain (plain.Refused why.NoMessage))
+refused_lacks g h c made lacks =
+    ap (λ (b : Bool). refused_by b (lacks_message g c) (is_only h (actors g c))) made
+    ∙ ap (λ (b : Bool). refused_by true b (is_only h (actors g c))) lacks
+
+pub refused_only : (g : Cell) (h : ℕ) (c : Command) (only : Bool) → has h g.made ≡ true → lacks_message g c ≡ false → is_only h (actors g c) ≡ only
+    → stop_refused g h c ≡ (if only then None else Some answer.NotActing)
+refused_only g h c only made lacks acts =
+    ap (λ (b : Bool). refused_by b (lacks_message g c) (is_only h (actors g c))) made
+    ∙ ap (λ (b : Bool). refused_by true b (is_only h (actors g c))) lacks ∙ ap (refused_by true false) acts
+
+-- ---- the image that a command makes
+
+image_same : (new old : List ℕ) → (if bytes_eq new old then None else Some new) ≡ None → new ≡ old
+image_same new old is = by_test (bytes_eq new old) refl is
   where
-    by_test : (b : Bool) → bytes_eq (octets_at (outcome g c).cell h) (octets_at g h) ≡ b
-        → (if b then None else Some (octets_at (outcome g c).cell h)) ≡ None → octets_at (outcome g c).cell h ≡ octets_at g h
-    by_test true same is = (bytes_eq-Decides (octets_at (outcome g c).cell h) (octets_at g h)).0 same
+    by_test : (b : Bool) → bytes_eq new old ≡ b → (if b then None else Some new) ≡ None → new ≡ old
+    by_test true same is = (bytes_eq-Decides new old).0 same
     by_test false same is = absurd (cc)
 
-pub image_changes : (g : Cell) (h : ℕ) (c : Command) (image : List ℕ) → image_after g h c ≡ Some image
-    → (octets_at (outcome g c).cell h ≡ image) × (octets_at g h ≢ image)
-image_changes g h c image is = by_test (bytes_eq (octets_at (outcome g c).cell h) (octets_at g h)) refl is
+image_other : (new old image : List ℕ) → (if bytes_eq new old then None else Some new) ≡ Some image → (new ≡ image) × (old ≢ image)
+image_other new old image is = by_test (bytes_eq new old) refl is
   where
-    by_test : (b : Bool) → bytes_eq (octets_at (outcome g c).cell h) (octets_at g h) ≡ b
-        → (if b then None else Some (octets_at (outcome g c).cell h)) ≡ Some image → (octets_at (outcome g c).cell h ≡ image) × (octets_at g h ≢ image)
+    by_test : (b : Bool) → bytes_eq new old ≡ b → (if b then None else Some new) ≡ Some image → (new ≡ image) × (old ≢ image)
     by_test true same is = absurd (cc)
     by_test false same is =
-        let new : octets_at (outcome g c).cell h ≡ image = cc in
-        (new, λ old. let alike = (bytes_eq-Decides (octets_at (outcome g c).cell h) (octets_at g h)).1 (new ∙ sym old) in absurd (let e = sym same ∙ alike in cc))
+        let made : new ≡ image = cc in
+        (made, λ stays. let alike = (bytes_eq-Decides new old).1 (made ∙ sym stays) in absurd (let e = sym same ∙ alike in cc))
+
+-- it stays
+pub image_stays : (g : Cell) (h : ℕ) (c : Command) → image_after g h c ≡ None → octets_at (outcome g c).cell h ≡ octets_at g h
+image_stays g h c is = image_same (octets_at (outcome g c).cell h) (octets_at g h) is
+
+-- or is another
+pub image_changes : (g : Cell) (h : ℕ) (c : Command) (image : List ℕ) → image_after g h c ≡ Some image
+    → (octets_at (outcome g c).cell h ≡ image) × (octets_at g h ≢ image)
+image_changes g h c image is = image_other (octets_at (outcome g c).cell h) (octets_at g h) image is
 
 -- ---- the puts
 
-module _ (s : JournaledCell) (h at : ℕ) (house : h ≡ at + 1) (few : at < disk_count) (c : Command) (gives : GiveImages s) (made : has h s.cell.made ≡ true) where
-  abbrev next : Cell
-  next = (outcome s.cell c).cell
+-- a house that was made, and still is
+made_still : (g next : Cell) (h : ℕ) → (has h next.made ≡ false → has h g.made ≡ false) → has h g.made ≡ true → has h next.made ≡ true
+made_still g next h grown made = by_made (has h next.made) refl
+  where
+    by_made : (b : Bool) → has h next.made ≡ b → b ≡ true
+    by_made true is = refl
+    by_made false is = absurd (let e = sym made ∙ grown is in cc)
 
-  made_then : has h next.made ≡ true
-  made_then = by_made (has h next.made) refl
-    where
-      by_made : (b : Bool) → has h next.made ≡ b → b ≡ true
-      by_made true is = refl
-      by_made false is = absurd (let old = (outcome_made s.cell c h).1 is in let e = sym made ∙ old in cc)
+pub made_then : (g : Cell) (h : ℕ) (c : Command) → has h g.made ≡ true → has h (outcome g c).cell.made ≡ true
+made_then g h c made = made_still g (outcome g c).cell h (outcome_made g c h).1 made
 
-  last : last_or None (s.lists h) ≡ Some (octets_at s.cell h)
-  last = ap (λ n. last_or None (s.lists n)) house ∙ gives at few ∙ ap (image_in s.cell) (sym house) ∙ image_of_made s.cell h made
+-- the last image in the journal of a house
+pub last_there : (s : JournaledCell) (h : ℕ) → 1 ≤ h → h ≤ disk_count → GiveImages s → has h s.cell.made ≡ true
+    → last_or None (s.lists h) ≡ Some (octets_at s.cell h)
+last_there s h first few gives made =
+    let same : h - 1 + 1 ≡ h = omega arith in
+    ap (λ n. last_or None (s.lists n)) (sym same) ∙ gives (h - 1) (omega (arith, first, few)) ∙ ap (image_in s.cell) same ∙ image_of_made s.cell h made
 
-  first : nat_lt 0 h ≡ true
-  first = grind (arith, nat_tests)
+pub some_list : (list : List (List ℕ)) (image : List ℕ) → last_or None list ≡ Some image → list ≢ []
+some_list list image last none = let e = sym (ap (last_or None) none) ∙ last in cc
 
-  to_put : has_to_put next s.lists h ≡ not (is_last (octets_at next h) (s.lists h))
-  to_put =
-      ap (λ (b : Bool). b && (has h next.made && not (is_last (octets_at next h) (s.lists h)))) first
-      ∙ ap (λ (b : Bool). b && not (is_last (octets_at next h) (s.lists h))) made_then
+-- a house that was made puts its image, unless that is the last
+to_put : (next : Cell) (lists : Lists) (h : ℕ) → 1 ≤ h → has h next.made ≡ true → has_to_put next lists h ≡ not (is_last (octets_at next h) (lists h))
+to_put next lists h few made =
+    let first : nat_lt 0 h ≡ true = grind (arith, nat_tests) in
+    ap (λ (b : Bool). b && (has h next.made && not (is_last (octets_at next h) (lists h)))) first
+    ∙ ap (λ (b : Bool). b && not (is_last (octets_at next h) (lists h))) made
 
-  -- a command that leaves the image puts nothing
-  pub no_puts : image_after s.cell h c ≡ None → puts_of next (h ∷ []) s.lists ≡ []
-  no_puts is =
-      let same = image_stays s.cell h c is in
-      let old : is_last (octets_at next h) (s.lists h) ≡ true = last_same (octets_at next h) (s.lists h) (last ∙ ap Some (sym same)) in
-      rw (to_put, old) refl
+abbrev puts_if : Bool → (h : ℕ) → List ℕ → List Put
+puts_if b h image = if b then record { house = h; image = image } ∷ [] else []
 
-  -- one that makes another image puts it
-  pub one_put : (image : List ℕ) → image_after s.cell h c ≡ Some image
-      → (let p : Put = record { house = h; image = image } in puts_of next (h ∷ []) s.lists ≡ p ∷ []) × (is_last image (s.lists h) ≡ false)
-  one_put image is =
-      let changes = image_changes s.cell h c image is in
-      let new : is_last image (s.lists h) ≡ false = last_is_not image (s.lists h) (λ same. changes.1 (let e = sym last ∙ same in cc)) in
-      let old : is_last (octets_at next h) (s.lists h) ≡ false = ap (λ (i : List ℕ). is_last i (s.lists h)) changes.0 ∙ new in
-      (rw (to_put, old) (ap (λ (i : List ℕ). let p : Put = record { house = h; image = i } in p ∷ []) changes.0), new)
+pub no_puts : (next : Cell) (lists : Lists) (h : ℕ) → 1 ≤ h → has h next.made ≡ true → last_or None (lists h) ≡ Some (octets_at next h)
+    → puts_of next (h ∷ []) lists ≡ []
+no_puts next lists h first made last =
+    ap (λ (b : Bool). puts_if b h (octets_at next h))
+    (to_put next lists h first made ∙ ap not (last_same (octets_at next h) (lists h) last))
 
-  pub some_list : s.lists h ≢ []
-  some_list none = let e = sym (ap (last_or None) none) ∙ last in cc
+pub one_put : (next : Cell) (lists : Lists) (h : ℕ) (image : List ℕ) → 1 ≤ h → has h next.made ≡ true → octets_at next h ≡ image
+    → is_last image (lists h) ≡ false → puts_of next (h ∷ []) lists ≡ record { house = h; image = image } ∷ []
+one_put next lists h image first made is new =
+    ap (λ (b : Bool). puts_if b h (octets_at next h))
+    (to_put next lists h first made ∙ ap (λ (i : List ℕ). not (is_last i (lists h))) is ∙ ap not new)
+    ∙ ap (puts_if true h) is
+
+-- a command that is not refused, and leaves the image, puts nothing
+pub nothing_put : (s : JournaledCell) (h : ℕ) (c : Command) → 1 ≤ h → h ≤ disk_count → GiveImages s → stop_refused s.cell h c ≡ None
+    → image_after s.cell h c ≡ None → puts_of (outcome s.cell c).cell (h ∷ []) s.lists ≡ []
+nothing_put s h c first few gives allowed none =
+    let made = (not_refused s.cell h c allowed).0 in
+    no_puts (outcome s.cell c).cell s.lists h first (made_then s.cell h c made)
+    (last_there s h first few gives made ∙ ap Some (sym (image_stays s.cell h c none)))
+
+-- and one that makes another image puts it
+pub new_image : (s : JournaledCell) (h : ℕ) (c : Command) (image : List ℕ) → 1 ≤ h → h ≤ disk_count → GiveImages s → stop_refused s.cell h c ≡ None
+    → image_after s.cell h c ≡ Some image → (is_last image (s.lists h) ≡ false) × (s.lists h ≢ [])
+new_image s h c image first few gives allowed some =
+    let last = last_there s h first few gives (not_refused s.cell h c allowed).0 in
+    (last_is_not image (s.lists h) (λ same. (image_changes s.cell h c image some).1 (let e = sym last ∙ same in cc)),
+    some_list (s.lists h) (octets_at s.cell h) last)
+
+pub image_put : (s : JournaledCell) (h : ℕ) (c : Command) (image : List ℕ) → 1 ≤ h → h ≤ disk_count → GiveImages s → stop_refused s.cell h c ≡ None
+    → image_after s.cell h c ≡ Some image → puts_of (outcome s.cell c).cell (h ∷ []) s.lists ≡ record { house = h; image = image } ∷ []
+image_put s h c image first few gives allowed some =
+    one_put (outcome s.cell c).cell s.lists h image first (made_then s.cell h c (not_refused s.cell h c allowed).0)
+    (image_changes s.cell h c image some).0 (new_image s h c image first few gives allowed some).0
 
 -- nothing is lost where nothing was posted
 pub only_crash : (g : Cell) (h : ℕ) → crash_losing g h (length g.bag) ≡ command.Crash h ∷ []

@@ -1,192 +1,181 @@
 -- What is replied to a line that stops a put, and what it leaves.
-use Rattle.std.proofs.Common.{◌≡◌, ◌≢◌, ℕ, ◌+◌, ◌<◌, Bool, true, false, ◌||◌, List, [], ◌∷◌, ◌++◌, length, refl, sym, ◌∙◌, ap, subst, if◌then◌else◌, arith}
-use Rattle.std.specs.Prelude.{Option, Some, None, Result, Ok, Err, IsErrAnd}
+use Rattle.std.proofs.Common.{◌≡◌, ℕ, ◌+◌, ◌<◌, ◌≤◌, Bool, true, false, List, [], ◌∷◌, length, refl, sym, ◌∙◌, ap, subst, if◌then◌else◌}
+use Rattle.std.specs.Prelude.{Option, Some, None, Result, IsErrAnd}
 use Rattle.std.specs.List.{last_or}
 use Rattle.std.specs.Option.{option_map}
-use Rattle.cds_stamps.specs.declared.numbers.HouseNo.{HouseNo}
-use Rattle.house_journal.specs.declared.leave.Leave.{Leave}
 use Rattle.cell_model.specs.Cells.{Cell}
-use Rattle.cell_model.specs.Commands as model
+use Rattle.cell_model.specs.Commands.{Command}
 use Rattle.cell_model.specs.Reached.{IsReached}
 use Rattle.cell_model.specs.Sets.{has}
 use Rattle.cell_model.specs.Steps.{outcome, replay_from}
-use Rattle.cell_script.specs.declared.command.Command.{Command}
-use Rattle.cell_script.specs.declared.command.ScriptLine.TheVariants as script
+use Rattle.cell_model.proofs.Standing.{reached_lem}
 use Rattle.script_answers.specs.declared.answer.Answer.{Answer}
 use Rattle.cds_cell.specs.Imaging.{actors, crash_losing, image_after}
 use Rattle.cds_cell.specs.Recorded.{image_at}
-use Rattle.cds_cell.specs.Scripted.{answer_of, step_of}
 use Rattle.cds_cell.specs.Standing.{Stands}
 use Rattle.script_forms.specs.declared.journal_answer.JournalAnswer.{JournalAnswer}
 use Rattle.script_forms.specs.declared.journal_answer.JournalAnswer.TheVariants as answer
 use Rattle.script_forms.specs.declared.journal_line.JournalLine.{JournalLine}
-use Rattle.script_forms.specs.declared.journal_line.JournalLine.TheVariants as line
-use Rattle.line_replies.specs.Replies.{Said, said_of}
-use Rattle.kept_journals.specs.KeptJournals.{is_last, stops_after}
+use Rattle.line_replies.specs.Replies.{Said}
 use Rattle.kept_journals.specs.declared.faults.Unkept.{Unkept}
 use Rattle.kept_journals.specs.declared.faults.Unkept.TheVariants.{OutOfMemory}
 use Rattle.house_journal.specs.MemoryDisks.{MemState}
 use Rattle.journal_replies.specs.declared.keeper.Keeper.{Keeper}
-use Rattle.journal_replies.specs.Journaled.{journal_said, stop_refused, stop_unless, stopped_if}
-use Rattle.journal_replies.specs.Journals.{JournaledCell, Lists, Put, lacks_room, puts_in, puts_of, state_after, stop_puts, with_put, with_puts}
+use Rattle.journal_replies.specs.Journaled.{JournalSaid, done, journal_said, says, stop_refused, stop_said, stop_unless, stopped, stopped_if}
+use Rattle.journal_replies.specs.Journals.{JournaledCell, Lists, Put, lacks_room, lasts, puts_in, puts_of, stop_puts, with_put, with_puts}
 use Rattle.journal_replies.specs.Disks.{ArePutting, GiveImages, HoldAll, disk_count, image_in}
 use Rattle.journal_replies.specs.Keeping.{StandsKeeper}
-use Rattle.journal_replies.specs.PrivateJournals.{AreDone, Does, GivesUp, IsReplied, Replies, said_puts}
-use Rattle.journal_replies.proofs.Acting.{crash_spares, grown, outcome_made, spared, still_reached}
+use Rattle.journal_replies.specs.PrivateJournals.{AreDone, GivesUp, IsReplied, Replies, said_puts}
+use Rattle.journal_replies.proofs.Acting.{crash_spares, outcome_made, spared}
 use Rattle.journal_replies.proofs.Doing.{replies_give_up, replies_memory}
 use Rattle.journal_replies.proofs.Giving.{give_after}
 use Rattle.journal_replies.proofs.Putting.{putting_at_end, putting_at_start}
-use Rattle.journal_replies.proofs.StopPuts.{no_puts, not_refused, one_put, only_crash}
+use Rattle.journal_replies.proofs.StopPuts.{image_put, not_refused, nothing_put, only_crash}
 
--- a cell and journals by other names
-stands_at : (k : Keeper) (s : JournaledCell) (g : Cell) (lists : Lists) → s.cell ≡ g → s.lists ≡ lists
-    → StandsKeeper k (record { cell = g; lists = lists }) → StandsKeeper k s
-stands_at k s g lists cell same stands =
-    subst (λ h. StandsKeeper k (record { cell = h; lists = s.lists })) (sym cell)
-    (subst (λ (l : Lists). StandsKeeper k (record { cell = g; lists = l })) (sym same) stands)
+-- ---- a line of which it is known what it does and puts
+
+pub replied_by : (a : JournalAnswer) (k : Keeper) (s : JournaledCell) (l : JournalLine) (said : JournalSaid) (ps : List Put)
+    → journal_said s.cell l ≡ said → puts_in s l ≡ ps → said.answer ≡ Some a
+    → StandsKeeper k (record { cell = replay_from s.cell said.steps; lists = if lasts l then with_puts ps s.lists else s.lists })
+    → lacks_room s.lists ps ≡ false → IsReplied a k s l
+replied_by a k s l said ps said_is puts answer stands room = record {
+  answer = ap (λ (x : JournalSaid). x.answer) said_is ∙ answer;
+  stands =
+      subst (λ (x : JournalSaid). StandsKeeper k (record { cell = replay_from s.cell x.steps; lists = if lasts l then with_puts (puts_in s l) s.lists else s.lists }))
+      (sym said_is)
+      (subst (λ (x : List Put). StandsKeeper k (record { cell = replay_from s.cell said.steps; lists = if lasts l then with_puts x s.lists else s.lists }))
+      (sym puts) stands);
+  room = ap (lacks_room s.lists) puts ∙ room;
+}
 
 either_same : {A : Type 0} (b : Bool) (x : A) → (if b then x else x) ≡ x
 either_same true x = refl
 either_same false x = refl
 
-module _ (k : Keeper) (s : JournaledCell) (house : HouseNo) (call : ℕ) (leave : Leave) (c : Command) where
-  abbrev h : ℕ
-  h = house.0
+-- one that puts nothing
+replied_still : (a : JournalAnswer) (k : Keeper) (s : JournaledCell) (l : JournalLine) (said : JournalSaid)
+    → journal_said s.cell l ≡ said → puts_in s l ≡ [] → said.answer ≡ Some a
+    → StandsKeeper k (record { cell = replay_from s.cell said.steps; lists = s.lists }) → IsReplied a k s l
+replied_still a k s l said said_is puts answer stands =
+    replied_by a k s l said [] said_is puts answer
+    (subst (λ (x : Lists). StandsKeeper k (record { cell = replay_from s.cell said.steps; lists = x })) (sym (either_same (lasts l) s.lists)) stands)
+    refl
 
-  abbrev step : model.Command
-  step = step_of c
+-- a stop that is refused
+pub replied_refused : (refused : JournalAnswer) (k : Keeper) (s : JournaledCell) (l : JournalLine) (h : ℕ) (after : Bool) (c : Command)
+    → journal_said s.cell l ≡ stop_said s.cell h after c → puts_in s l ≡ stop_puts s h c (stop_refused s.cell h c)
+    → stop_refused s.cell h c ≡ Some refused → StandsKeeper k s → IsReplied refused k s l
+replied_refused refused k s l h after c said puts is stands =
+    replied_still refused k s l (says refused) (said ∙ ap (stop_unless s.cell h after c) is) (puts ∙ ap (stop_puts s h c) is) refl stands
 
-  abbrev l : JournalLine
-  l = line.Stop house call leave c
+-- ---- a stop that is not refused
 
-  abbrev after : Bool
-  after = stops_after call leave
+allowed_puts : (s : JournaledCell) (h : ℕ) (c : Command) → stop_refused s.cell h c ≡ None
+    → stop_puts s h c (stop_refused s.cell h c) ≡ puts_of (outcome s.cell c).cell (h ∷ []) s.lists
+allowed_puts s h c allowed = ap (stop_puts s h c) allowed
 
-  -- a stop is refused
-  pub replied_refused : (refused : JournalAnswer) → stop_refused s.cell h step ≡ Some refused → StandsKeeper k s → IsReplied refused k s l
-  replied_refused refused is stands = record {
-    answer = ap (λ o. (stop_unless s.cell h after step o).answer) is;
-    stands = stands_at k (state_after s l) s.cell s.lists
-        (ap (λ o. replay_from s.cell (stop_unless s.cell h after step o).steps) is)
-        (ap (λ o. if after then with_puts (stop_puts s h step o) s.lists else s.lists) is ∙ either_same after s.lists)
-        stands;
-    room = ap (λ o. lacks_room s.lists (stop_puts s h step o)) is;
-  }
+-- the command leaves the image: it is done
+still_said : (g : Cell) (h : ℕ) (after : Bool) (c : Command) → stop_refused g h c ≡ None → image_after g h c ≡ None → stop_said g h after c ≡ done g c
+still_said g h after c allowed none = ap (stop_unless g h after c) allowed ∙ ap (stopped_if g h after c) none
 
-  module _ (at : ℕ) (is_house : h ≡ at + 1) (few : at < disk_count) (gives : GiveImages s) (allowed : stop_refused s.cell h step ≡ None) where
-    abbrev next : Cell
-    next = (outcome s.cell step).cell
+said_nothing : (s : JournaledCell) (h : ℕ) (c : Command) → stop_refused s.cell h c ≡ None → puts_of (outcome s.cell c).cell (h ∷ []) s.lists ≡ []
+    → puts_of (outcome s.cell c).cell (actors s.cell c) s.lists ≡ []
+said_nothing s h c allowed nothing = ap (λ (xs : List ℕ). puts_of (outcome s.cell c).cell xs s.lists) (not_refused s.cell h c allowed).1 ∙ nothing
 
-    made : has h s.cell.made ≡ true
-    made = (not_refused s.cell h step allowed).0
+still_done : (a : Answer) (k : Keeper) (s : JournaledCell) (l : JournalLine) (said : Said)
+    → journal_said s.cell l ≡ record { steps = said.steps; answer = option_map answer.Plain said.answer } → puts_in s l ≡ [] → said_puts s said ≡ []
+    → AreDone a k s said → IsReplied (answer.Plain a) k s l
+still_done a k s l said said_is puts nothing are =
+    replied_still (answer.Plain a) k s l (record { steps = said.steps; answer = option_map answer.Plain said.answer }) said_is puts
+    (ap (option_map answer.Plain) are.answer)
+    (subst (λ (ps : List Put). StandsKeeper k (record { cell = replay_from s.cell said.steps; lists = with_puts ps s.lists })) nothing are.stands)
 
-    acts : actors s.cell step ≡ h ∷ []
-    acts = (not_refused s.cell h step allowed).1
+pub replied_done : (a : Answer) (k : Keeper) (s : JournaledCell) (l : JournalLine) (h : ℕ) (after : Bool) (c : Command) (said : Said)
+    → journal_said s.cell l ≡ stop_said s.cell h after c → puts_in s l ≡ stop_puts s h c (stop_refused s.cell h c)
+    → done s.cell c ≡ record { steps = said.steps; answer = option_map answer.Plain said.answer }
+    → said_puts s said ≡ puts_of (outcome s.cell c).cell (actors s.cell c) s.lists
+    → 1 ≤ h → h ≤ disk_count → GiveImages s → stop_refused s.cell h c ≡ None → image_after s.cell h c ≡ None
+    → AreDone a k s said → IsReplied (answer.Plain a) k s l
+replied_done a k s l h after c said said_is puts does its first few gives allowed none are =
+    let nothing = nothing_put s h c first few gives allowed none in
+    still_done a k s l said (said_is ∙ still_said s.cell h after c allowed none ∙ does) (puts ∙ allowed_puts s h c allowed ∙ nothing)
+    (its ∙ said_nothing s h c allowed nothing) are
 
-    -- the puts of the line
-    pub puts_are : puts_in s l ≡ puts_of next (h ∷ []) s.lists
-    puts_are = ap (λ o. stop_puts s h step o) allowed
+pub done_given_up : (e : Unkept) (k : Keeper) (s : JournaledCell) (l : JournalLine) (h : ℕ) (c : Command) (said : Said)
+    → puts_in s l ≡ stop_puts s h c (stop_refused s.cell h c) → said_puts s said ≡ puts_of (outcome s.cell c).cell (actors s.cell c) s.lists
+    → 1 ≤ h → h ≤ disk_count → GiveImages s → stop_refused s.cell h c ≡ None → image_after s.cell h c ≡ None
+    → GivesUp e k.disks.items s.lists (said_puts s said) → GivesUp e k.disks.items s.lists (puts_in s l)
+done_given_up e k s l h c said puts its first few gives allowed none up =
+    let nothing = nothing_put s h c first few gives allowed none in
+    subst (GivesUp e k.disks.items s.lists) (its ∙ said_nothing s h c allowed nothing ∙ sym (puts ∙ allowed_puts s h c allowed ∙ nothing)) up
 
-    lists_are : (state_after s l).lists ≡ (if after then with_puts (puts_of next (h ∷ []) s.lists) s.lists else s.lists)
-    lists_are = ap (λ (ps : List Put). if after then with_puts ps s.lists else s.lists) puts_are
+-- the command makes another image: its put is stopped
+pub stopped_put_is : (s : JournaledCell) (l : JournalLine) (h : ℕ) (c : Command) (image : List ℕ) → puts_in s l ≡ stop_puts s h c (stop_refused s.cell h c)
+    → 1 ≤ h → h ≤ disk_count → GiveImages s → stop_refused s.cell h c ≡ None → image_after s.cell h c ≡ Some image
+    → puts_in s l ≡ record { house = h; image = image } ∷ []
+stopped_put_is s l h c image puts first few gives allowed some = puts ∙ allowed_puts s h c allowed ∙ image_put s h c image first few gives allowed some
 
-    -- the image stays, so the command is done
-    module _ (none : image_after s.cell h step ≡ None) where
-      nothing : puts_of next (h ∷ []) s.lists ≡ []
-      nothing = no_puts s h at is_house few step gives made none
+stopped_said : (g : Cell) (h : ℕ) (after : Bool) (c : Command) (image : List ℕ) → stop_refused g h c ≡ None → image_after g h c ≡ Some image
+    → stop_said g h after c ≡ stopped g h after c
+stopped_said g h after c image allowed some = ap (stop_unless g h after c) allowed ∙ ap (stopped_if g h after c) some
 
-      said_nothing : said_puts s (said_of s.cell (script.Cell c)) ≡ []
-      said_nothing = ap (λ xs. puts_of next xs s.lists) acts ∙ nothing
+-- ---- the images that the journals give
 
-      said_is : stop_unless s.cell h after step (stop_refused s.cell h step) ≡ stopped_if s.cell h after step None
-      said_is = ap (stop_unless s.cell h after step) allowed ∙ ap (stopped_if s.cell h after step) none
+module _ (stays : (g : Cell) (c : Command) (x : ℕ) → IsReached g → has x (actors g c) ≡ false → image_at (outcome g c).cell x ≡ image_at g x) where
+  -- a crash leaves them
+  give_crash : (g : Cell) (lists : Lists) (h n : ℕ) → IsReached g → GiveImages (record { cell = g; lists = lists })
+      → GiveImages (record { cell = replay_from g (crash_losing g h n); lists = lists })
+  give_crash g lists h n reached gives i within =
+      gives i within ∙ sym (spared stays g (crash_losing g h n) (i + 1) reached (crash_spares g h n (i + 1)))
 
-      pub replied_done : (a : Answer) → AreDone a k s (said_of s.cell (script.Cell c)) → IsReplied (answer.Plain a) k s l
-      replied_done a are = record {
-        answer = ap (λ said. said.answer) said_is ∙ ap (option_map answer.Plain) are.answer;
-        stands = stands_at k (state_after s l) next s.lists
-            (ap (λ said. replay_from s.cell said.steps) said_is)
-            (lists_are ∙ ap (λ (ps : List Put). if after then with_puts ps s.lists else s.lists) nothing ∙ either_same after s.lists)
-            (stands_at k (record { cell = next; lists = s.lists }) next (with_puts (said_puts s (said_of s.cell (script.Cell c))) s.lists) refl
-            (sym (ap (λ (ps : List Put). with_puts ps s.lists) said_nothing)) are.stands);
-        room = ap (lacks_room s.lists) (puts_are ∙ nothing);
-      }
+  -- and the put of the only house that acts gives its own
+  give_next : (s : JournaledCell) (h : ℕ) (c : Command) (ps : List Put) → IsReached s.cell → GiveImages s → actors s.cell c ≡ h ∷ []
+      → puts_of (outcome s.cell c).cell (h ∷ []) s.lists ≡ ps → GiveImages (record { cell = (outcome s.cell c).cell; lists = with_puts ps s.lists })
+  give_next s h c ps reached gives acts puts =
+      subst (λ (ps : List Put). GiveImages (record { cell = (outcome s.cell c).cell; lists = with_puts ps s.lists })) puts
+      (give_after s (outcome s.cell c).cell (h ∷ []) gives
+      (λ x other. spared stays s.cell (c ∷ []) x reached (ap (has x) acts ∙ other, tt)) (λ x. (outcome_made s.cell c x).1))
 
-      pub done_given_up : (e : Unkept) → GivesUp e k.disks.items s.lists (said_puts s (said_of s.cell (script.Cell c)))
-          → GivesUp e k.disks.items s.lists (puts_in s l)
-      done_given_up e up = subst (GivesUp e k.disks.items s.lists) (said_nothing ∙ sym (puts_are ∙ nothing)) up
+  -- the image is kept
+  pub replied_after : (k : Keeper) (s : JournaledCell) (l : JournalLine) (h : ℕ) (after : Bool) (c : Command) (image : List ℕ) → after ≡ true
+      → journal_said s.cell l ≡ stop_said s.cell h after c → puts_in s l ≡ stop_puts s h c (stop_refused s.cell h c) → lasts l ≡ after
+      → 1 ≤ h → h ≤ disk_count → IsReached s.cell → GiveImages s → stop_refused s.cell h c ≡ None → image_after s.cell h c ≡ Some image
+      → (let p : Put = record { house = h; image = image } in HoldAll k.disks.items (with_put p s.lists) × (lacks_room s.lists (p ∷ []) ≡ false))
+      → Stands k.replayer.cell (replay_from (outcome s.cell c).cell (crash_losing (outcome s.cell c).cell h (length s.cell.bag)))
+      → IsReplied answer.StoppedAfter k s l
+  replied_after k s l h after c image is said puts last first few reached gives allowed some disks cell =
+      let p : Put = record { house = h; image = image } in
+      let one = image_put s h c image first few gives allowed some in
+      let acts = (not_refused s.cell h c allowed).1 in
+      let next = give_next s h c (p ∷ []) reached gives acts one in
+      let end = give_crash (outcome s.cell c).cell (with_put p s.lists) h (length s.cell.bag) (reached_lem.after s.cell c reached) next in
+      replied_by answer.StoppedAfter k s l (stopped s.cell h true c) (p ∷ []) (said ∙ ap (λ (b : Bool). stop_said s.cell h b c) is ∙ stopped_said s.cell h true c image allowed some)
+      (puts ∙ allowed_puts s h c allowed ∙ one) refl
+      (subst (λ (b : Bool). StandsKeeper k (record { cell = replay_from s.cell (stopped s.cell h true c).steps; lists = if b then with_put p s.lists else s.lists }))
+      (sym (last ∙ is)) (record { cell = cell; disks = disks.0; gives = end })) disks.1
 
-    -- the image changes, so its put is stopped
-    module _ (image : List ℕ) (some : image_after s.cell h step ≡ Some image) where
-      abbrev p : Put
-      p = record { house = h; image = image }
-
-      abbrev found : (puts_of next (h ∷ []) s.lists ≡ p ∷ []) × (is_last image (s.lists h) ≡ false)
-      found = one_put s h at is_house few step gives made image some
-
-      pub its_puts : puts_in s l ≡ p ∷ []
-      its_puts = puts_are ∙ found.0
-
-      stopped_is : stop_unless s.cell h after step (stop_refused s.cell h step) ≡ stopped_if s.cell h after step (Some image)
-      stopped_is = ap (stop_unless s.cell h after step) allowed ∙ ap (stopped_if s.cell h after step) some
-
-      module _ (stays : (g : Cell) (c : model.Command) (x : ℕ) → IsReached g → has x (actors g c) ≡ false → image_at (outcome g c).cell x ≡ image_at g x)
-          (reached : IsReached s.cell) (room : lacks_room s.lists (p ∷ []) ≡ false) where
-        -- it has its image
-        pub replied_after : after ≡ true → Stands k.replayer.cell (replay_from next (crash_losing next h (length s.cell.bag)))
-            → HoldAll k.disks.items (with_put p s.lists) → IsReplied answer.StoppedAfter k s l
-        replied_after is stands hold = record {
-          answer = ap (λ said. said.answer) stopped_is ∙ ap (λ b. (stopped_if s.cell h b step (Some image)).answer) is;
-          stands = stands_at k (state_after s l) last (with_put p s.lists)
-              (ap (λ said. replay_from s.cell said.steps) stopped_is ∙ ap (λ b. replay_from s.cell (stopped_if s.cell h b step (Some image)).steps) is)
-              (lists_are ∙ ap (λ (ps : List Put). if after then with_puts ps s.lists else s.lists) found.0
-              ∙ ap (λ (b : Bool). if b then with_put p s.lists else s.lists) is)
-              (record { cell = stands; disks = hold; gives = give_last });
-          room = ap (lacks_room s.lists) its_puts ∙ room;
-        }
-          where
-            last : Cell
-            last = replay_from next (crash_losing next h (length s.cell.bag))
-
-            unmade : (x : ℕ) → has x next.made ≡ false → has x s.cell.made ≡ false
-            unmade x = (outcome_made s.cell step x).1
-
-            give_next : GiveImages (record { cell = next; lists = with_puts (puts_of next (h ∷ []) s.lists) s.lists })
-            give_next =
-                give_after s next (h ∷ []) gives
-                (λ x other. spared stays s.cell (step ∷ []) x reached (ap (has x) acts ∙ other, tt)) unmade
-
-            give_last : GiveImages (record { cell = last; lists = with_put p s.lists })
-            give_last i within =
-                ap (λ (ps : List Put). last_or None (with_puts ps s.lists (i + 1))) (sym found.0) ∙ give_next i within
-                ∙ sym (spared stays next (crash_losing next h (length s.cell.bag)) (i + 1) (still_reached s.cell (step ∷ []) reached)
-                (crash_spares next h (length s.cell.bag) (i + 1)))
-
-        -- or not
-        pub replied_before : after ≡ false → Stands k.replayer.cell (replay_from s.cell (crash_losing s.cell h (length s.cell.bag)))
-            → HoldAll k.disks.items s.lists → IsReplied answer.StoppedBefore k s l
-        replied_before is stands hold = record {
-          answer = ap (λ said. said.answer) stopped_is ∙ ap (λ b. (stopped_if s.cell h b step (Some image)).answer) is;
-          stands = stands_at k (state_after s l) last s.lists
-              (ap (λ said. replay_from s.cell said.steps) stopped_is ∙ ap (λ b. replay_from s.cell (stopped_if s.cell h b step (Some image)).steps) is
-              ∙ ap (replay_from s.cell) (sym (only_crash s.cell h)))
-              (lists_are ∙ ap (λ (b : Bool). if b then with_puts (puts_of next (h ∷ []) s.lists) s.lists else s.lists) is)
-              (record { cell = stands; disks = hold; gives = give_last });
-          room = ap (lacks_room s.lists) its_puts ∙ room;
-        }
-          where
-            last : Cell
-            last = replay_from s.cell (crash_losing s.cell h (length s.cell.bag))
-
-            give_last : GiveImages (record { cell = last; lists = s.lists })
-            give_last i within =
-                gives i within ∙ sym (spared stays s.cell (crash_losing s.cell h (length s.cell.bag)) (i + 1) reached
-                (crash_spares s.cell h (length s.cell.bag) (i + 1)))
+  -- or not
+  pub replied_before : (k : Keeper) (s : JournaledCell) (l : JournalLine) (h : ℕ) (after : Bool) (c : Command) (image : List ℕ) → after ≡ false
+      → journal_said s.cell l ≡ stop_said s.cell h after c → puts_in s l ≡ stop_puts s h c (stop_refused s.cell h c) → lasts l ≡ after
+      → 1 ≤ h → h ≤ disk_count → IsReached s.cell → GiveImages s → stop_refused s.cell h c ≡ None → image_after s.cell h c ≡ Some image
+      → (let p : Put = record { house = h; image = image } in HoldAll k.disks.items s.lists × (lacks_room s.lists (p ∷ []) ≡ false))
+      → Stands k.replayer.cell (replay_from s.cell (crash_losing s.cell h (length s.cell.bag))) → IsReplied answer.StoppedBefore k s l
+  replied_before k s l h after c image is said puts last first few reached gives allowed some disks cell =
+      let p : Put = record { house = h; image = image } in
+      let one = image_put s h c image first few gives allowed some in
+      let end = give_crash s.cell s.lists h (length s.cell.bag) reached gives in
+      let there : StandsKeeper k (record { cell = replay_from s.cell (crash_losing s.cell h (length s.cell.bag)); lists = s.lists }) =
+      record { cell = cell; disks = disks.0; gives = end } in
+      replied_by answer.StoppedBefore k s l (stopped s.cell h false c) (p ∷ []) (said ∙ ap (λ (b : Bool). stop_said s.cell h b c) is ∙ stopped_said s.cell h false c image allowed some)
+      (puts ∙ allowed_puts s h c allowed ∙ one) refl
+      (subst (λ (b : Bool). StandsKeeper k (record { cell = replay_from s.cell (stopped s.cell h false c).steps; lists = if b then with_put p s.lists else s.lists }))
+      (sym (last ∙ is))
+      (subst (λ (cs : List Command). StandsKeeper k (record { cell = replay_from s.cell cs; lists = s.lists })) (only_crash s.cell h) there)) disks.1
 
 -- ---- under way
 
 -- a stopped put that has its image, or not
-pub stopped_putting : (disks : List MemState) (lists : Lists) (b : Bool) (p : Put) → HoldAll disks (if b then with_put p lists else lists) → ArePutting disks lists (p ∷ [])
+stopped_putting : (disks : List MemState) (lists : Lists) (b : Bool) (p : Put) → HoldAll disks (if b then with_put p lists else lists) → ArePutting disks lists (p ∷ [])
 stopped_putting disks lists true p hold = putting_at_end disks lists (p ∷ []) hold
 stopped_putting disks lists false p hold = putting_at_start disks lists (p ∷ []) hold
 

@@ -1,5 +1,5 @@
 // Lines that stop a put.
-ghost use Rattle.std.specs.Prelude.{◌≡◌, ◌≢◌, ◌+◌, ◌<◌, ◌≤◌, [], false, IfOk, OnOk, if◌then◌else◌, option_copied};
+ghost use Rattle.std.specs.Prelude.{◌≡◌, ◌≢◌, ◌+◌, ◌^◌, ◌<◌, ◌≤◌, ◌++◌, ◌∷◌, [], false, Some, Err, IfOk, OnOk, if◌then◌else◌, option_copied};
 ghost use Rattle.std.specs.Option.{option_map, option_map_or};
 ghost use Rattle.std.specs.Str.{bytes_eq};
 ghost use Rattle.cds_base.specs.declared.scan.TheConstants.{MOST_LINES};
@@ -7,10 +7,12 @@ ghost use Rattle.cell_model.specs.Cells as model;
 ghost use Rattle.cell_model.specs.Steps.{outcome};
 ghost use Rattle.cds_cell.specs.Scripted.{step_of};
 ghost use Rattle.cds_cell.specs.Standing.{Stands};
+ghost use Rattle.house_journal.specs.Records.{images};
 ghost use Rattle.journal_replies.specs.declared.stopping.Stopping.TheVariants as stop;
 ghost use Rattle.script_forms.specs.declared.journal_line.JournalLine.TheVariants as line;
 ghost use Rattle.journal_replies.specs.Disks.{AreKept, HoldAll};
-ghost use Rattle.kept_journals.specs.KeptJournals.{is_last, stops_after};
+ghost use Rattle.kept_journals.specs.KeptJournals.{HoldsEither, IsKept, is_last, size_of, stops_after};
+ghost use Rattle.kept_journals.specs.declared.faults.Unkept.TheVariants as why;
 ghost use Rattle.journal_replies.specs.Journals.{JournaledCell, Lists};
 ghost use Rattle.journal_replies.specs.Keeping.{StandsKeeper};
 ghost use Rattle.journal_replies.specs.PrivateJournals.{IsToStop, Replies, StopsPut};
@@ -20,8 +22,8 @@ use crate::stops::{acts_alone, lacks_message};
 use cds_cell::laws::images_stay;
 use cds_stamps::HouseNo;
 use cell_script::Command;
-use house_journal::Leave;
-use kept_journals::{Unkept, stopped_put};
+use house_journal::{Leave, MemDisk};
+use kept_journals::{KeptHouse, Unkept, stopped_put};
 use script_answers::{Answer, ScriptRefusal};
 use script_forms::JournalAnswer;
 use std::alloc::{AllocError, Global};
@@ -39,9 +41,41 @@ fn gives(given: Option<&Vec<u8>>, image: &[u8]) -> bool
     ensures { result ≡ option_map_or (bytes_eq image.now) (option_map (λ v. v.items) (option_copied given.entry)) false }
 {
     match given {
-        Some(given) => given.as_slice() == image,
+        Some(given) => image == given.as_slice(),
         None => false,
     }
+}
+
+// Lets a command go. (This stands apart, since the drop of a command is long to prove.)
+fn forget(_command: Command) {}
+
+// The put of an image is stopped, and the journal opened again: whether it gives the image then.
+fn stop_kept(
+    alloc: Global,
+    kept: &mut KeptHouse,
+    disk: &mut MemDisk,
+    image: Vec<u8>,
+    call: u8,
+    leave: Leave,
+) -> Result<bool, Unkept>
+    requires open { IsKept (Some kept.old) disk.old }
+    requires first { 1 ≤ call }
+    requires last { call ≤ 4 }
+    ensures kept { OnOk result (IsKept (Some kept.new) disk.new) }
+    ensures word { is_last image.items (images disk.old.octets) ≡ false → IfOk result (λ after. after ≡ stops_after call leave) }
+    ensures images { OnOk result (images disk.new.octets ≡ (if stops_after call leave
+        then images disk.old.octets ++ image.items ∷ [] else images disk.old.octets)) }
+    ensures crash { HoldsEither disk.new (images disk.old.octets) (images disk.old.octets ++ image.items ∷ []) }
+    ensures room { OnOk result (size_of (images disk.old.octets ++ image.items ∷ []) ≤ 2 ^ 40) }
+    ensures full { result ≡ Err why.Full → 2 ^ 40 < size_of (images disk.old.octets ++ image.items ∷ []) }
+{
+    let (journal, given) = stopped_put(alloc, &mut kept.journal, disk, &image, call, leave)?;
+    kept.journal = journal;
+    if !gives(given.as_ref(), &image) {
+        return Ok(false);
+    }
+    kept.image = image;
+    Ok(true)
 }
 
 impl Keeper {
@@ -63,10 +97,17 @@ impl Keeper {
         ensures kept { OnOk result (AreKept self.new.houses.items self.new.disks.items) }
         ensures steps { self.new.replayer.steps ≤ self.old.replayer.steps + 1 }
     {
-        match self.stopping(alloc, house, &command)? {
-            Stopping::Refused(refused) => Ok(refused),
-            Stopping::Nothing => Ok(JournalAnswer::Plain(self.step(alloc, command)?)),
-            Stopping::Put(image) => self.stop_put(alloc, house, call, leave, command, image),
+        match self.stopping(alloc, house, &command) {
+            Ok(Stopping::Refused(refused)) => {
+                forget(command);
+                Ok(refused)
+            }
+            Ok(Stopping::Nothing) => Ok(JournalAnswer::Plain(self.step(alloc, command)?)),
+            Ok(Stopping::Put(image)) => self.stop_put(alloc, house, call, leave, command, image),
+            Err(AllocError) => {
+                forget(command);
+                Err(Unkept::OutOfMemory)
+            }
         }
     }
 
@@ -113,14 +154,12 @@ impl Keeper {
     {
         images_stay();
         let posted = self.replayer.cell().posted();
-        let after = self.put_stopped(alloc, house, call, leave, image)?;
-        self.step_if(alloc, after, command)?;
+        let stopped = self.put_stopped(alloc, house, call, leave, image);
+        let stepped = self.step_if(alloc, stopped.unwrap_or(false), command);
+        let after = stopped?;
+        stepped?;
         self.replayer.crash_after(alloc, house, posted)?;
-        if after {
-            Ok(JournalAnswer::StoppedAfter)
-        } else {
-            Ok(JournalAnswer::StoppedBefore)
-        }
+        Ok(word_of(after))
     }
 
     // A step of the cell, or none.
@@ -132,9 +171,11 @@ impl Keeper {
             (if wanted then (outcome g (step_of command)).cell else g)) }
         ensures steps { self.new.replayer.steps ≤ self.old.replayer.steps + 1 }
     {
-        if wanted {
-            self.replayer.step(alloc, command)?;
+        if !wanted {
+            forget(command);
+            return Ok(());
         }
+        self.replayer.step(alloc, command)?;
         Ok(())
     }
 
@@ -159,16 +200,9 @@ impl Keeper {
         let Some(at) = place_of(house) else {
             return Ok(false);
         };
-        let Some(kept) = &mut self.houses[at] else {
-            return Ok(false);
-        };
-        let disk = &mut self.disks[at];
-        let (journal, given) = stopped_put(alloc, &mut kept.journal, disk, &image, call, leave)?;
-        kept.journal = journal;
-        let after = gives(given.as_ref(), &image);
-        if after {
-            kept.image = image;
+        match &mut self.houses[at] {
+            Some(kept) => stop_kept(alloc, kept, &mut self.disks[at], image, call, leave),
+            None => Ok(false),
         }
-        Ok(after)
     }
 }

@@ -26,7 +26,7 @@ pub(crate) fn acts_alone(cell: &Cell, house: HouseNo, command: &Command) -> bool
     ensures { (g : model.Cell) → Stands cell.now g → result ≡ is_only house.0 (actors g (step_of command.now)) }
 {
     match actors_of(cell, command) {
-        (Some(actor), None) => actor == house,
-        _ => false,
+        (Some(actor), None) | (None, Some(actor)) => actor == house,
+        (None, None) | (Some(_), Some(_)) => false,
     }
 }
