@@ -159,7 +159,11 @@ impl Keeper {
         let after = stopped?;
         stepped?;
         self.replayer.crash_after(alloc, house, posted)?;
-        Ok(word_of(after))
+        if after {
+            Ok(JournalAnswer::StoppedAfter)
+        } else {
+            Ok(JournalAnswer::StoppedBefore)
+        }
     }
 
     // A step of the cell, or none.
