@@ -1,5 +1,5 @@
 -- One house whose put is stopped: the journals and the disks after that.
-use Rattle.std.proofs.Common.{◌≡◌, ◌≢◌, inl, inr, ⊎_elim, ℕ, ◌+◌, ◌^◌, ◌<◌, ◌≤◌, ◌==◌, Bool, true, false, ◌||◌, List, [], ◌∷◌, ◌++◌, length, refl, sym, ◌∙◌, ap, subst, if◌then◌else◌, arith}
+use Rattle.std.proofs.Common.{◌≡◌, ◌≢◌, inl, inr, ⊎_elim, ℕ, zero, suc, ◌+◌, ◌^◌, ◌<◌, ◌≤◌, ◌==◌, Bool, true, false, ◌||◌, List, [], ◌∷◌, ◌++◌, length, refl, sym, ◌∙◌, ap, subst, if◌then◌else◌, arith}
 use Rattle.std.specs.Prelude.{Option, Some, None, Result, Ok, Err, IfOk, IfSome, OnOk, nat_lt, slice_get, slice_set}
 use Rattle.std.specs.List.{last_or}
 use Rattle.std.specs.Option.{option_map_or}
@@ -7,8 +7,8 @@ use Rattle.std.specs.Str.{bytes_eq}
 use Rattle.std.proofs.lemmas.Bool.Decides.{nat_tests}
 use Rattle.std.proofs.lemmas.List.{length-set}
 use Rattle.house_journal.specs.MemoryDisks.{MemState}
-use Rattle.house_journal.specs.Records.{images, last_image}
-use Rattle.kept_journals.specs.KeptJournals.{Holds, HoldsEither, IsKept, is_last, size_of}
+use Rattle.house_journal.specs.Records.{images, images_after, last_image}
+use Rattle.kept_journals.specs.KeptJournals.{Holds, HoldsEither, IsKept, IsNew, is_last, size_of}
 use Rattle.kept_journals.specs.declared.faults.Unkept.{Unkept}
 use Rattle.kept_journals.specs.declared.faults.Unkept.TheVariants.{Full, OutOfMemory}
 use Rattle.kept_journals.specs.declared.kept.KeptHouse.{KeptHouse}
@@ -134,3 +134,28 @@ kept_at houses disks at k m are within is = record {
         let other : i ≢ at = grind (arith, nat_tests) in
         subst (λ (o : Option (Option KeptHouse)). IfSome o (λ h. IfSome (slice_get (slice_set disks at m) i) (IsKept h))) (sym (set_other houses at k i other))
         (subst (λ (o : Option MemState). IfSome (slice_get houses i) (λ h. IfSome o (IsKept h))) (sym (set_other disks at m i other)) (are.each i))
+
+pub kept_then : {A : Type 0} (r : Result A Unkept) (houses : List (Option KeptHouse)) (disks : List MemState) (at : ℕ) (k : Option KeptHouse) (m : MemState)
+    → AreKept houses disks → at < disk_count → OnOk r (IsKept k m) → OnOk r (AreKept (slice_set houses at k) (slice_set disks at m))
+kept_then (Ok x) houses disks at k m are within is = kept_at houses disks at k m are within is
+kept_then (Err e) houses disks at k m are within is = tt
+
+-- a house without a journal has a new disk, which holds no image
+new_images : (m : MemState) → IsNew m → images m.octets ≡ []
+unfolding images_after
+new_images m new = ap (λ (l : List ℕ). images l) new.octets
+
+some_there : {A : Type 0} (xs : List A) (i : ℕ) → i < length xs → slice_get xs i ≡ None → ⊥
+some_there [] i within is = absurd (omega (arith, within))
+some_there (x ∷ xs) zero within is = cc
+some_there (x ∷ xs) (suc i) within is = some_there xs i (omega (arith, within)) is
+
+pub none_kept : (houses : List (Option KeptHouse)) (disks : List MemState) (at : ℕ) (lists : Lists) → AreKept houses disks → at < disk_count
+    → slice_get houses at ≡ Some None → HoldAll disks lists → lists (at + 1) ≡ []
+none_kept houses disks at lists are within is hold =
+    by_disk (slice_get disks at) refl
+    (subst (λ (o : Option (Option KeptHouse)). IfSome o (λ h. IfSome (slice_get disks at) (IsKept h))) is (are.each at)) (hold at)
+  where
+    by_disk : (o : Option MemState) → slice_get disks at ≡ o → IfSome o (IsKept None) → IfSome o (λ m. Holds m (lists (at + 1))) → lists (at + 1) ≡ []
+    by_disk None there new holds = absurd (some_there disks at (omega (arith, within, are.all_disks)) there)
+    by_disk (Some m) there new holds = sym (holds_reads m (lists (at + 1)) holds) ∙ new_images m new
