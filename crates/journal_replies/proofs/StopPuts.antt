@@ -152,9 +152,10 @@ nothing_put s h c first few gives allowed none =
 pub new_image : (s : JournaledCell) (h : ℕ) (c : Command) (image : List ℕ) → 1 ≤ h → h ≤ disk_count → GiveImages s → stop_refused s.cell h c ≡ None
     → image_after s.cell h c ≡ Some image → (is_last image (s.lists h) ≡ false) × (s.lists h ≢ [])
 new_image s h c image first few gives allowed some =
-    let last = last_there s h first few gives (not_refused s.cell h c allowed).0 in
-    (last_is_not image (s.lists h) (λ same. (image_changes s.cell h c image some).1 (let e = sym last ∙ same in cc)),
-    some_list (s.lists h) (octets_at s.cell h) last)
+    let last = last_there s h first few gives (not_refused s.cell h c allowed).0 in (
+      last_is_not image (s.lists h) (λ same. (image_changes s.cell h c image some).1 (let e = sym last ∙ same in cc)),
+      some_list (s.lists h) (octets_at s.cell h) last,
+    )
 
 pub image_put : (s : JournaledCell) (h : ℕ) (c : Command) (image : List ℕ) → 1 ≤ h → h ≤ disk_count → GiveImages s → stop_refused s.cell h c ≡ None
     → image_after s.cell h c ≡ Some image → puts_of (outcome s.cell c).cell (h ∷ []) s.lists ≡ record { house = h; image = image } ∷ []

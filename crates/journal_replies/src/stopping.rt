@@ -112,16 +112,25 @@ impl Keeper {
     }
 
     // What there is to stop in a command, at a house.
-    fn stopping(&self, alloc: Global, house: HouseNo, command: &Command) -> Result<Stopping, AllocError>
+    fn stopping(
+        &self,
+        alloc: Global,
+        house: HouseNo,
+        command: &Command,
+    ) -> Result<Stopping, AllocError>
         requires few { self.now.replayer.steps < MOST_LINES }
         ensures { (g : model.Cell) → Stands self.now.replayer.cell g → IfOk result (λ w. IsToStop w g house.0 (step_of command.now)) }
     {
         let cell = self.replayer.cell();
         if !cell.has_house(house) {
-            return Ok(Stopping::Refused(JournalAnswer::Plain(Answer::Refused(ScriptRefusal::NoHouse))));
+            return Ok(Stopping::Refused(JournalAnswer::Plain(Answer::Refused(
+                ScriptRefusal::NoHouse,
+            ))));
         }
         if lacks_message(cell, command) {
-            return Ok(Stopping::Refused(JournalAnswer::Plain(Answer::Refused(ScriptRefusal::NoMessage))));
+            return Ok(Stopping::Refused(JournalAnswer::Plain(Answer::Refused(
+                ScriptRefusal::NoMessage,
+            ))));
         }
         if !acts_alone(cell, house, command) {
             return Ok(Stopping::Refused(JournalAnswer::NotActing));

@@ -1,0 +1,24 @@
+use Rattle.std.proofs.Common.{◌≡◌, ◌≤◌, refl, sym, ◌∙◌, ap, subst, arith}
+use Rattle.cell_script.specs.declared.command.ScriptLine.TheVariants as script
+use Rattle.cds_cell.specs.Scripted.{step_of}
+use Rattle.line_replies.specs.Replies.{said_of}
+use Rattle.script_forms.specs.declared.journal_line.JournalLine.{JournalLine}
+use Rattle.script_forms.specs.declared.journal_line.JournalLine.TheVariants as line
+use Rattle.kept_journals.specs.KeptJournals.{stops_after}
+use Rattle.journal_replies.specs.Disks.{disk_count}
+use Rattle.journal_replies.specs.PrivateJournals.{IsToStop}
+use Rattle.journal_replies.specs.declared.stopping.Stopping.TheVariants as stopping
+use Rattle.journal_replies.proofs.StopReplies.{replied_done}
+use Rattle.journal_replies.proofs.keeper.Keeper.stop.Goals as goal
+
+pub returns-in_ok-step-in-Ok-Nothing-clause-reply : goal.returns-in_ok-step-in-Ok-Nothing-clause-reply
+returns-in_ok-step-in-Ok-Nothing-clause-reply c s stands =
+    let h = c.args.house.0 in
+    let few : h ≤ disk_count = omega arith in
+    let step = step_of c.args.command in
+    let l : JournalLine = line.Stop c.args.house c.args.call c.args.leave c.args.command in
+    let to : IsToStop stopping.Nothing s.cell h step =
+    subst (λ w. IsToStop w s.cell h step) c.in-Ok-Nothing.field-0-is (c.in-Ok-Nothing.ensures s.cell stands.cell) in
+    replied_done c.in_ok-step-in-Ok-Nothing.field-0 c.step.new.self s l h (stops_after c.args.call c.args.leave) step
+    (said_of s.cell (script.Cell c.args.command)) refl refl refl refl c.requires.house few stands.gives to.0 to.1
+    (c.in_ok-step-in-Ok-Nothing.ensures.does s stands)
