@@ -1,6 +1,7 @@
 // The form `journal`: each line is replayed on a cell, whose houses put their images into journals.
 ghost use Rattle.std.specs.Prelude.{◌≡◌, false};
 ghost use Rattle.journal_replies.specs.Disks.{AreKept};
+ghost use Rattle.journal_replies.specs.KeptProofs.{ready_once};
 
 use crate::keeper::Keeper;
 use cds_stamps::AllocOr;
@@ -16,7 +17,7 @@ pub struct Journals {
     keeper: Keeper,
     // Whether a line was given up: then no other is answered.
     spent: bool,
-    ghost ready: { spent ≡ false → AreKept keeper.houses.items keeper.disks.items },
+    ghost ready: { spent ≡ false → AreKept keeper.houses.items keeper.disks.items } by { ready_once spent keeper.houses.items keeper.disks.items },
 }
 
 impl Journals {
