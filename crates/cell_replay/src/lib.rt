@@ -9,7 +9,7 @@ mod forms;
 pub mod laws;
 mod limits;
 mod load;
-mod mend;
+mod mending;
 mod replay;
 mod towers;
 mod whole;
@@ -18,6 +18,6 @@ pub use endings::Status;
 pub use limits::{
     LAST_DIR, MOST_KEPT, MOST_ROUNDS, MOST_TOWERS, MOST_WHOLE, TOWER_SIGHT, WHOLE_SIGHT,
 };
-pub use mend::mend;
+pub use mending::mend;
 pub use replay::{run, run_journal};
 pub use waiting_replies::{LONGEST_TOWER, MOST_WAITING};
