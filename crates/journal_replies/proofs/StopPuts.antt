@@ -1,8 +1,7 @@
 -- Lines that stop a put: which commands they are, and what their house puts.
-use Rattle.std.proofs.Common.{◌≡◌, ◌≢◌, ℕ, ◌+◌, ◌-◌, ◌<◌, ◌≤◌, ◌==◌, Bool, true, false, ◌&&◌, not, List, [], ◌∷◌, ◌++◌, map, length, refl, sym, ◌∙◌, ap, if◌then◌else◌, arith}
-use Rattle.std.specs.Prelude.{Option, Some, None, nat_lt, is_none}
+use Rattle.std.proofs.Common.{◌≡◌, ◌≢◌, ℕ, ◌+◌, ◌-◌, ◌≤◌, Bool, true, false, ◌&&◌, not, List, [], ◌∷◌, ◌++◌, map, length, refl, sym, ◌∙◌, ap, if◌then◌else◌, arith}
+use Rattle.std.specs.Prelude.{Option, Some, None, nat_lt}
 use Rattle.std.specs.List.{last_or, range_with_len}
-use Rattle.std.specs.Option.{option_map}
 use Rattle.std.specs.Str.{bytes_eq}
 use Rattle.std.proofs.lemmas.Bool.Decides.{nat_tests}
 use Rattle.std.proofs.lemmas.Slice.Eq.{bytes_eq-Decides}
@@ -50,22 +49,6 @@ pub not_refused : (g : Cell) (h : ℕ) (c : Command) → stop_refused g h c ≡ 
 not_refused g h c is =
     let allowed = allowed_by (has h g.made) (lacks_message g c) (is_only h (actors g c)) is in
     (allowed.0, only_is h (actors g c) allowed.1)
-
--- why a stop is refused, by its tests
-pub refused_made : (g : Cell) (h : ℕ) (c : Command) → has h g.made ≡ false → stop_refused g h c ≡ Some (answer.Plain (plain.Refused why.NoHouse))
-refused_made g h c made = ap (λ (b : Bool). refused_by b (lacks_message g c) (is_only h (actors g c))) made
-
-pub refused_lacks : (g : Cell) (h : ℕ) (c : Command) → has h g.made ≡ true → lacks_message g c ≡ true
-    → stop_refused g h c ≡ Some (answer.Plain (plain.Refused why.NoMessage))
-refused_lacks g h c made lacks =
-    ap (λ (b : Bool). refused_by b (lacks_message g c) (is_only h (actors g c))) made
-    ∙ ap (λ (b : Bool). refused_by true b (is_only h (actors g c))) lacks
-
-pub refused_only : (g : Cell) (h : ℕ) (c : Command) (only : Bool) → has h g.made ≡ true → lacks_message g c ≡ false → is_only h (actors g c) ≡ only
-    → stop_refused g h c ≡ (if only then None else Some answer.NotActing)
-refused_only g h c only made lacks acts =
-    ap (λ (b : Bool). refused_by b (lacks_message g c) (is_only h (actors g c))) made
-    ∙ ap (λ (b : Bool). refused_by true b (is_only h (actors g c))) lacks ∙ ap (refused_by true false) acts
 
 -- ---- the image that a command makes
 

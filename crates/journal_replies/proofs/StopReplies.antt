@@ -1,7 +1,6 @@
 -- What is replied to a line that stops a put, and what it leaves.
-use Rattle.std.proofs.Common.{◌≡◌, ℕ, ◌+◌, ◌<◌, ◌≤◌, Bool, true, false, List, [], ◌∷◌, length, refl, sym, ◌∙◌, ap, subst, if◌then◌else◌}
-use Rattle.std.specs.Prelude.{Option, Some, None, Result, IsErrAnd}
-use Rattle.std.specs.List.{last_or}
+use Rattle.std.proofs.Common.{◌≡◌, ℕ, ◌+◌, ◌≤◌, Bool, true, false, List, [], ◌∷◌, length, refl, sym, ◌∙◌, ap, subst, if◌then◌else◌}
+use Rattle.std.specs.Prelude.{Some, None, Result, IsErrAnd}
 use Rattle.std.specs.Option.{option_map}
 use Rattle.cell_model.specs.Cells.{Cell}
 use Rattle.cell_model.specs.Commands.{Command}
@@ -21,9 +20,9 @@ use Rattle.kept_journals.specs.declared.faults.Unkept.{Unkept}
 use Rattle.kept_journals.specs.declared.faults.Unkept.TheVariants.{OutOfMemory}
 use Rattle.house_journal.specs.MemoryDisks.{MemState}
 use Rattle.journal_replies.specs.declared.keeper.Keeper.{Keeper}
-use Rattle.journal_replies.specs.Journaled.{JournalSaid, done, journal_said, says, stop_refused, stop_said, stop_unless, stopped, stopped_if}
+use Rattle.journal_replies.specs.Journaled.{JournalSaid, done, journal_said, stop_refused, stop_said, stop_unless, stopped, stopped_if}
 use Rattle.journal_replies.specs.Journals.{JournaledCell, Lists, Put, lacks_room, lasts, puts_in, puts_of, stop_puts, with_put, with_puts}
-use Rattle.journal_replies.specs.Disks.{ArePutting, GiveImages, HoldAll, disk_count, image_in}
+use Rattle.journal_replies.specs.Disks.{ArePutting, GiveImages, HoldAll, disk_count}
 use Rattle.journal_replies.specs.Keeping.{StandsKeeper}
 use Rattle.journal_replies.specs.PrivateJournals.{AreDone, GivesUp, IsReplied, Replies, said_puts}
 use Rattle.journal_replies.proofs.Acting.{crash_spares, outcome_made, spared}
@@ -60,13 +59,6 @@ replied_still a k s l said said_is puts answer stands =
     replied_by a k s l said [] said_is puts answer
     (subst (λ (x : Lists). StandsKeeper k (record { cell = replay_from s.cell said.steps; lists = x })) (sym (either_same (lasts l) s.lists)) stands)
     refl
-
--- a stop that is refused
-pub replied_refused : (refused : JournalAnswer) (k : Keeper) (s : JournaledCell) (l : JournalLine) (h : ℕ) (after : Bool) (c : Command)
-    → journal_said s.cell l ≡ stop_said s.cell h after c → puts_in s l ≡ stop_puts s h c (stop_refused s.cell h c)
-    → stop_refused s.cell h c ≡ Some refused → StandsKeeper k s → IsReplied refused k s l
-replied_refused refused k s l h after c said puts is stands =
-    replied_still refused k s l (says refused) (said ∙ ap (stop_unless s.cell h after c) is) (puts ∙ ap (stop_puts s h c) is) refl stands
 
 -- ---- a stop that is not refused
 

@@ -1,9 +1,9 @@
-use Rattle.std.proofs.Common.{◌≡◌, ◌++◌, ◌∷◌, [], ℕ, Bool, false, List, if◌then◌else◌, sym, ◌∙◌, ap, subst}
-use Rattle.std.specs.Prelude.{Option, Some}
+use Rattle.std.proofs.Common.{◌≡◌, ◌++◌, ◌∷◌, [], ℕ, false, List, if◌then◌else◌, sym, ◌∙◌, subst}
+use Rattle.std.specs.Prelude.{Option}
 use Rattle.std.specs.Option.{option_map, option_map_or}
 use Rattle.std.specs.Str.{bytes_eq}
-use Rattle.house_journal.specs.Records.{images, last_image}
-use Rattle.kept_journals.specs.KeptJournals.{is_last, stops_after}
+use Rattle.house_journal.specs.Records.{images}
+use Rattle.kept_journals.specs.KeptJournals.{stops_after}
 use Rattle.journal_replies.proofs.StopHouse.{still_last, word_is}
 use Rattle.journal_replies.proofs.stopping.stop_kept.Goals as goal
 

@@ -1,4 +1,4 @@
-use Rattle.std.proofs.Common.{◌≡◌, ◌<◌, Some, None, length, sym, ◌∙◌, ap, arith}
+use Rattle.std.proofs.Common.{◌<◌, Some, length, ◌∙◌, ap, arith}
 use Rattle.kept_journals.specs.KeptJournals.{stops_after}
 use Rattle.journal_replies.proofs.OneHouse.{get_is, set_here, set_other}
 use Rattle.journal_replies.proofs.StopHouse.{house_stops, kept_then, none_kept}

@@ -1,4 +1,4 @@
-use Rattle.std.proofs.Common.{◌≡◌, ◌≤◌, refl, sym, ◌∙◌, ap, subst, arith}
+use Rattle.std.proofs.Common.{◌≤◌, refl, subst, arith}
 use Rattle.cell_script.specs.declared.command.ScriptLine.TheVariants as script
 use Rattle.cds_cell.specs.Scripted.{step_of}
 use Rattle.line_replies.specs.Replies.{said_of}

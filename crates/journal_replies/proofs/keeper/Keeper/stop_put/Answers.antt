@@ -1,7 +1,6 @@
 use Rattle.std.proofs.Common.{◌≡◌, ◌≤◌, Bool, true, false, ℕ, [], ◌∷◌, List, length, refl, sym, ◌∙◌, ap, subst, if◌then◌else◌, arith}
 use Rattle.std.specs.Result.{result_unwrap_or}
 use Rattle.house_journal.specs.MemoryDisks.{MemState}
-use Rattle.cell_model.specs.Cells.{Cell}
 use Rattle.cell_model.specs.Steps.{outcome, replay_from}
 use Rattle.cds_cell.specs.Imaging.{crash_losing}
 use Rattle.cds_cell.specs.Scripted.{step_of}
