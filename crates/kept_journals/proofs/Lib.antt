@@ -1,5 +1,5 @@
 pub mod Lasts
 mod StoppedPuts
 mod Sizes
-mod Leaving
+pub mod Leaving
 mod StopEnds
