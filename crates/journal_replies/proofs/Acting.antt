@@ -69,9 +69,9 @@ left_of_or false b is = refl
 
 effect_made : (g : Cell) (c : Command) → MadeBy g (effect g c).cell (actors g c)
 effect_made g (command.House h node) = λ x. (
-    λ stays. has-append x g.made (h ∷ []) ∙ ap (λ (b : Bool). has x g.made || b) stays ∙ or_false (has x g.made),
-    λ unmade. left_of_or (has x g.made) (has x (h ∷ [])) (sym (has-append x g.made (h ∷ [])) ∙ unmade),
-  )
+  λ stays. has-append x g.made (h ∷ []) ∙ ap (λ (b : Bool). has x g.made || b) stays ∙ or_false (has x g.made),
+  λ unmade. left_of_or (has x g.made) (has x (h ∷ [])) (sym (has-append x g.made (h ∷ [])) ∙ unmade),
+)
 effect_made g (command.Clock h time) = same_made g (set_clock g h time) [] refl
 effect_made g (command.Root m rs ss) = same_made g (effect g (command.Root m rs ss)).cell (m ∷ []) refl
 effect_made g (command.Mkdir h d n m rs ss) =

@@ -75,9 +75,10 @@ gives_up_first disks lists ps qs Full up =
 gives_up_later : (disks : List MemState) (lists : Lists) (ps qs : List Put) (e : Unkept) → lacks_room lists ps ≡ false
     → GivesUp e disks (with_puts ps lists) qs → GivesUp e disks lists (ps ++ qs)
 gives_up_later disks lists ps qs OutOfMemory room up = putting_then disks lists ps qs up
-gives_up_later disks lists ps qs Full room up =
-    (putting_then disks lists ps qs up.0,
-    room_then lists ps qs ∙ ap (λ (b : Bool). b || lacks_room (with_puts ps lists) qs) room ∙ up.1)
+gives_up_later disks lists ps qs Full room up = (
+  putting_then disks lists ps qs up.0,
+  room_then lists ps qs ∙ ap (λ (b : Bool). b || lacks_room (with_puts ps lists) qs) room ∙ up.1,
+)
 
 -- the puts of two houses
 module _ (g : Cell) (xs ys : List ℕ) (lists : Lists) where
@@ -96,9 +97,10 @@ module _ (g : Cell) (xs ys : List ℕ) (lists : Lists) where
   pub both_later : (r : Result (Unit {0}) Unkept) (disks : List MemState) → lacks_room lists first ≡ false → PutsAll r disks (with_puts first lists) second
       → PutsAll r disks lists (puts_of g (xs ++ ys) lists)
   both_later (Ok y) disks room puts =
-      rw (puts_then g xs ys lists)
-      (subst (HoldAll disks) (sym (with_puts_then first second lists)) puts.0,
-      room_then lists first second ∙ ap (λ (b : Bool). b || lacks_room (with_puts first lists) second) room ∙ puts.1)
+      rw (puts_then g xs ys lists) (
+        subst (HoldAll disks) (sym (with_puts_then first second lists)) puts.0,
+        room_then lists first second ∙ ap (λ (b : Bool). b || lacks_room (with_puts first lists) second) room ∙ puts.1,
+      )
   both_later (Err e) disks room up = rw (puts_then g xs ys lists) (gives_up_later disks lists first second e room up)
 
 -- ---- what commands leave

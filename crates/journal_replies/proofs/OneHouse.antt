@@ -167,9 +167,10 @@ module _ (g : Cell) (h at : ℕ) (house : h ≡ at + 1) (image : List ℕ) (is :
       by_end (Ok x) are images_then room full =
           let now = kept_holds kept after (images before.octets) (noted image (images before.octets)) are crash in
           let wanted : images after.octets ≡ with_put p lists (at + 1) = images_then ∙ noted_is ∙ sym list_then in
-          let few = room new_image in
-          (hold_then old new at after here others lists (with_put p lists) hold (subst (Holds after) wanted now) (put_apart p lists at house),
-          lacks false (grind (arith, nat_tests)))
+          let few = room new_image in (
+            hold_then old new at after here others lists (with_put p lists) hold (subst (Holds after) wanted now) (put_apart p lists at house),
+            lacks false (grind (arith, nat_tests)),
+          )
       by_end (Err OutOfMemory) are images_then room full = putting
       by_end (Err Full) are images_then room full = let many = (full refl).1 in (putting, lacks true (grind (arith, nat_tests)))
 

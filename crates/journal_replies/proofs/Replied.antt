@@ -1,10 +1,20 @@
 -- What is left behind a line that was answered, and how it ends.
 use Rattle.std.proofs.Common.{◌≡◌, ◌≤◌, ℕ, Bool, true, false, List, [], ◌∷◌, ◌++◌, refl, sym, ◌∙◌, ap, subst, if◌then◌else◌}
-use Rattle.std.specs.Prelude.{Option, Some, None, Result, Ok, Err, OnOk, OnErr, IfErr}
-use Rattle.std.specs.Option.{option_map_or}
+use Rattle.std.specs.Prelude.{Option, Some, None, Result, Ok, Err, OnOk, OnErr, IfErr, IsErrAnd}
+use Rattle.std.specs.Option.{option_map, option_map_or}
 use Rattle.house_journal.specs.MemoryDisks.{MemState}
 use Rattle.cell_script.specs.declared.fault.ParseFault.{ParseFault}
+use Rattle.cds_stamps.specs.declared.numbers.HouseNo.{HouseNo}
+use Rattle.cell_script.specs.declared.command.ScriptLine.{ScriptLine}
+use Rattle.cds_cell.specs.Imaging.{octets_at}
+use Rattle.cds_cell.specs.Standing.{Stands}
 use Rattle.script_answers.specs.Texts.{parse_fault_text}
+use Rattle.script_answers.specs.declared.answer.Answer.{Answer}
+use Rattle.script_answers.specs.declared.answer.Answer.TheVariants as plain
+use Rattle.script_forms.specs.declared.journal_answer.JournalAnswer.TheVariants as answer
+use Rattle.script_forms.specs.declared.journal_line.JournalLine.TheVariants as line
+use Rattle.line_replies.specs.declared.replayer.Replayer.{Replayer}
+use Rattle.line_replies.specs.Replies.{asked_of, said_of}
 use Rattle.script_forms.specs.JournalTexts.{journal_text}
 use Rattle.script_forms.specs.declared.journal_answer.JournalAnswer.{JournalAnswer}
 use Rattle.script_forms.specs.declared.journal_line.JournalLine.{JournalLine}
@@ -21,8 +31,23 @@ use Rattle.journal_replies.specs.Journaled.{journal_said}
 use Rattle.journal_replies.specs.Journals.{JournaledCell, Lists, Put, journaling, lacks_room, lasts, puts_by, puts_in, reply_text, response_to, state_after, with_puts}
 use Rattle.journal_replies.specs.Disks.{ArePutting, HoldAll}
 use Rattle.journal_replies.specs.Keeping.{LeavesDisks, StandsJournals, StandsKeeper}
-use Rattle.journal_replies.specs.PrivateJournals.{GivesUp, IsReplied}
+use Rattle.journal_replies.specs.PrivateJournals.{AreDone, GivesUp, IsReplied}
 use Rattle.journal_replies.proofs.Putting.{putting_at_end, putting_at_start}
+
+-- a line of `run`
+pub plain_replied : (k : Keeper) (s : JournaledCell) (l : ScriptLine) (a : Answer) → AreDone a k s (said_of s.cell l)
+    → IsReplied (answer.Plain a) k s (line.Plain l)
+plain_replied k s l a done = record { answer = ap (option_map answer.Plain) done.answer; stands = done.stands; room = done.room }
+
+-- a question for an image, after which all is as before
+pub image_replied : (old k : Keeper) (s : JournaledCell) (h : HouseNo) (a : Answer) → k.replayer ≡ old.replayer
+    → a ≡ asked_of s.cell h.0 (plain.Octets (octets_at s.cell h.0)) → HoldAll k.disks.items s.lists → StandsKeeper old s
+    → IsReplied (answer.Plain a) k s (line.Image h)
+image_replied old k s h a same is hold stands = record {
+  answer = ap (λ (a : Answer). Some (answer.Plain a)) (sym is);
+  stands = record { cell = subst (λ (r : Replayer). Stands r.cell s.cell) (sym same) stands.cell; disks = hold; gives = stands.gives };
+  room = refl;
+}
 
 -- the puts of a line that was answered are done, or leave nothing
 pub replied_putting : (disks : List MemState) (s : JournaledCell) (l : JournalLine) → HoldAll disks (state_after s l).lists → ArePutting disks s.lists (puts_in s l)
@@ -37,6 +62,11 @@ pub given_up_behind : (disks : List MemState) (s : JournaledCell) (l : JournalLi
     → HoldAll disks (state_after s l).lists → GivesUp e disks s.lists (puts_in s l)
 given_up_behind disks s l Full is hold = absurd (cc)
 given_up_behind disks s l OutOfMemory is hold = replied_putting disks s l hold
+
+pub err_given_up : (disks : List MemState) (s : JournaledCell) (l : JournalLine) (r : Result (Unit {0}) Unkept) → IsErrAnd r (λ e. e ≡ OutOfMemory)
+    → HoldAll disks (state_after s l).lists → IfErr r (λ e. GivesUp e disks s.lists (puts_in s l))
+err_given_up disks s l (Ok x) is hold = absurd is
+err_given_up disks s l (Err e) is hold = given_up_behind disks s l e is hold
 
 -- the text of an answer
 pub answer_text : (number : ℕ) (s : JournaledCell) (l : JournalLine) (a : JournalAnswer) → (journal_said s.cell l).answer ≡ Some a
@@ -55,3 +85,11 @@ module _ (number : ℕ) (s : JournaledCell) (l : JournalLine) (waited waits : Li
 
   pub line_full : waits ≡ waited → lacks_room s.lists (puts_in s l) ≡ true → Ends end.Full (response_to number s (Ok (Some l))) waited waits (StandsJournals j)
   line_full same full = rw (line_response true full) same
+
+-- a line at fault leaves all disks as they were
+pub fault_leaves : (e : LineEnd) (text waited waits : List ℕ) (s : JournaledCell) (fault : ParseFault) (j : Journals) → Faults e text waited waits
+    → HoldAll j.keeper.disks.items s.lists → LeavesDisks e s (Err fault) j
+fault_leaves end.GoesOn text waited waits s fault j faults hold = tt
+fault_leaves end.Stops text waited waits s fault j faults hold = hold
+fault_leaves end.NoMemory text waited waits s fault j faults hold = hold
+fault_leaves end.Full text waited waits s fault j faults hold = absurd faults

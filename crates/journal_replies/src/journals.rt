@@ -1,13 +1,15 @@
 // The form `journal`: each line is replayed on a cell, whose houses put their images into journals.
-ghost use Rattle.std.specs.Prelude.{◌≡◌, false};
+ghost use Rattle.std.specs.Prelude.{◌≡◌, false, IfOk};
+ghost use Rattle.std.proofs.Props.{props};
+ghost use Rattle.script_forms.specs.JournalTexts.{journal_text};
 ghost use Rattle.journal_replies.specs.Disks.{AreKept};
-ghost use Rattle.journal_replies.specs.KeptProofs.{ready_once};
+ghost use Rattle.journal_replies.specs.KeptProofs.{kept_prop};
 
 use crate::keeper::Keeper;
 use cds_stamps::AllocOr;
 use house_journal::MemDisk;
 use kept_journals::Unkept;
-use script_forms::{JournalLine, parse_journal_line, print_journal_answer};
+use script_forms::{JournalAnswer, JournalLine, parse_journal_line, print_journal_answer};
 use std::alloc::{AllocError, Global};
 use waiting_replies::{LineEnd, Waiting, reply_to_fault};
 
@@ -17,7 +19,14 @@ pub struct Journals {
     keeper: Keeper,
     // Whether a line was given up: then no other is answered.
     spent: bool,
-    ghost ready: { spent ≡ false → AreKept keeper.houses.items keeper.disks.items } by { ready_once spent keeper.houses.items keeper.disks.items },
+    ghost ready: { spent ≡ false → AreKept keeper.houses.items keeper.disks.items } by { Prim.hlevel (props, kept_prop) },
+}
+
+// The text of an answer. (This stands apart, since the drop of an answer is long to prove.)
+fn text_of(alloc: Global, number: u32, answer: JournalAnswer) -> Result<Vec<u8>, AllocError>
+    ensures { IfOk result (λ text. text.items ≡ journal_text number answer) }
+{
+    print_journal_answer(alloc, number, &answer)
 }
 
 impl Journals {
@@ -69,6 +78,9 @@ impl Journals {
         ensures disks { (s : JournaledCell) → StandsJournals self.old s → LeavesDisks result s (said_in (words_of line.now)) self.new }
         ensures steps { self.new.keeper.replayer.steps ≤ number }
     {
+        if self.spent {
+            return LineEnd::NoMemory;
+        }
         match parse_journal_line(alloc, line) {
             Ok(Some(line)) => self.reply_to_line(alloc, number, line, waiting),
             Ok(None) => LineEnd::GoesOn,
@@ -84,6 +96,7 @@ impl Journals {
         line: JournalLine,
         waiting: &mut Waiting,
     ) -> LineEnd
+        requires ready { self.old.spent ≡ false }
         requires few { self.old.keeper.replayer.steps < MOST_LINES }
         requires numbers { HasNumbers line }
         ensures reply { (s : JournaledCell) → StandsJournals self.old s
@@ -106,6 +119,7 @@ impl Journals {
         line: JournalLine,
         waiting: &mut Waiting,
     ) -> Result<(), Unkept>
+        requires ready { self.old.spent ≡ false }
         requires few { self.old.keeper.replayer.steps < MOST_LINES }
         requires numbers { HasNumbers line }
         ensures ok { (s : JournaledCell) → StandsJournals self.old s → OnOk result ((waiting.new ≡ waiting.old ++ reply_text number s line)
@@ -115,12 +129,9 @@ impl Journals {
         ensures err { OnErr result (waiting.new ≡ waiting.old) }
         ensures steps { self.new.keeper.replayer.steps ≤ self.old.keeper.replayer.steps + 1 }
     {
-        if self.spent {
-            return Err(Unkept::OutOfMemory);
-        }
         self.spent = true;
         let answer = self.keeper.reply(alloc, line)?;
-        let text = print_journal_answer(alloc, number, &answer)?;
+        let text = text_of(alloc, number, answer)?;
         waiting.add(&text)?;
         self.spent = false;
         Ok(())

@@ -85,7 +85,11 @@ impl Keeper {
     }
 
     /// What is replied to a line, behind the puts of the houses that it changed.
-    pub(crate) fn reply(&mut self, alloc: Global, line: JournalLine) -> Result<JournalAnswer, Unkept>
+    pub(crate) fn reply(
+        &mut self,
+        alloc: Global,
+        line: JournalLine,
+    ) -> Result<JournalAnswer, Unkept>
         requires few { self.old.replayer.steps < MOST_LINES }
         requires numbers { HasNumbers line }
         requires kept { AreKept self.old.houses.items self.old.disks.items }
