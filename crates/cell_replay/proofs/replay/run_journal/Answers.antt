@@ -26,5 +26,5 @@ returns-in-Err-clause-ends g c = unread_lines (Journaling empty_state) _ _ _ _
 
 pub returns-in-Err-clause-disks : goal.returns-in-Err-clause-disks
 returns-in-Err-clause-disks g c =
-    unread_left (AreOnDisks c.new.new._disks.items) (ArePut c.new.new._disks.items) (Journaling empty_state) _ _ _ _
-    (new_on_disks c.args.disks.now.items c.new.new._disks.items c.requires c.in-Err.ensures.err)
+    unread_left (AreOnDisks c.new.new.disks.items) (ArePut c.new.new.disks.items) (Journaling empty_state) _ _ _ _
+    (new_on_disks c.args.disks.now.items c.new.new.disks.items c.requires c.in-Err.ensures.err)
