@@ -11,7 +11,7 @@ pub mod TowerLaws
 pub mod WholeTurns
 pub mod AllForms
 pub mod RoundTrip
-mod HeadlineLaws
+pub mod HeadlineLaws
 pub mod Scripts
 pub mod JournalReplays
 mod Examples
