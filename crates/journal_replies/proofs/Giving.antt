@@ -1,19 +1,16 @@
 -- Each journal gives the image of its house, once those that act have put theirs.
-use Rattle.std.proofs.Common.{◌≡◌, ◌≢◌, ◌⊎◌, inl, inr, ℕ, ◌+◌, ◌<◌, ◌≤◌, ◌==◌, Bool, true, false, ◌||◌, ◌&&◌, not, List, [], ◌∷◌, ◌++◌, refl, sym, ◌∙◌, ap, subst, if◌then◌else◌, arith}
-use Rattle.std.specs.Prelude.{Option, Some, None, nat_lt}
+use Rattle.std.proofs.Common.{◌≡◌, ◌≢◌, ◌⊎◌, inl, inr, ℕ, ◌+◌, ◌≤◌, ◌==◌, Bool, true, false, ◌||◌, ◌&&◌, not, List, [], ◌∷◌, ◌++◌, refl, sym, ◌∙◌, ap, if◌then◌else◌, arith}
+use Rattle.std.specs.Prelude.{Some, None, nat_lt}
 use Rattle.std.specs.List.{last_or}
-use Rattle.std.specs.Option.{option_map_or}
-use Rattle.std.specs.Str.{bytes_eq}
 use Rattle.std.proofs.lemmas.Bool.Decides.{nat_tests}
-use Rattle.std.proofs.lemmas.Slice.Eq.{bytes_eq-Decides}
-use Rattle.cell_model.specs.Cells.{Cell, put}
+use Rattle.cell_model.specs.Cells.{Cell}
 use Rattle.cell_model.specs.Sets.{has}
 use Rattle.cell_model.proofs.Views.{put_other, put_same}
 use Rattle.cds_cell.specs.Imaging.{octets_at}
 use Rattle.journal_replies.specs.Journals.{Lists, JournaledCell, Put, has_to_put, puts_of, with_put, with_puts}
 use Rattle.kept_journals.specs.KeptJournals.{is_last}
 use Rattle.kept_journals.proofs.Lasts.{last_is, last_more}
-use Rattle.journal_replies.specs.Disks.{GiveImages, disk_count, image_in}
+use Rattle.journal_replies.specs.Disks.{GiveImages, image_in}
 
 -- the image of a house that was made, and of one that was not
 pub image_of_made : (g : Cell) (h : ℕ) → has h g.made ≡ true → image_in g h ≡ Some (octets_at g h)

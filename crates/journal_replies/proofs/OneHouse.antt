@@ -1,11 +1,11 @@
 -- One house puts its image: the journals and the disks after that.
-use Rattle.std.proofs.Common.{◌≡◌, ◌≢◌, ◌⊎◌, inl, inr, ⊎_elim, ℕ, zero, suc, length, get_or, ◌+◌, ◌^◌, ◌<◌, ◌≤◌, ◌==◌, Bool, true, false, ◌||◌, ◌&&◌, not, List, [], ◌∷◌, ◌++◌, refl, sym, ◌∙◌, ap, subst, if◌then◌else◌, arith}
+use Rattle.std.proofs.Common.{◌≡◌, ◌≢◌, inl, inr, ⊎_elim, ℕ, zero, suc, length, get_or, ◌+◌, ◌^◌, ◌<◌, ◌≤◌, ◌==◌, Bool, true, false, ◌||◌, ◌&&◌, not, List, [], ◌∷◌, ◌++◌, refl, sym, ◌∙◌, ap, subst, if◌then◌else◌, arith}
 use Rattle.std.specs.Prelude.{Option, Some, None, Result, Ok, Err, IfSome, OnOk, nat_lt, slice_get, slice_set}
 use Rattle.std.proofs.lemmas.Bool.Decides.{nat_tests}
 use Rattle.house_journal.specs.ClockProofs.{reads_left_lem}
 use Rattle.house_journal.specs.MemoryDisks.{MemState, left_now}
 use Rattle.house_journal.specs.Records.{IsOpenable, images}
-use Rattle.cell_model.specs.Cells.{Cell, put}
+use Rattle.cell_model.specs.Cells.{Cell}
 use Rattle.cell_model.specs.Sets.{has}
 use Rattle.cell_model.proofs.Views.{put_other, put_same}
 use Rattle.cds_cell.proofs.Vecs.{written}
@@ -15,10 +15,10 @@ use Rattle.kept_journals.specs.declared.faults.Unkept.{Unkept}
 use Rattle.kept_journals.specs.declared.faults.Unkept.TheVariants.{Full, OutOfMemory}
 use Rattle.kept_journals.specs.declared.kept.KeptHouse.{KeptHouse}
 use Rattle.kept_journals.proofs.Lasts.{noted_last, noted_new}
-use Rattle.journal_replies.specs.Journals.{Lists, Put, has_to_put, lacks_room, puts_of, with_put, with_puts}
+use Rattle.journal_replies.specs.Journals.{Lists, Put, has_to_put, lacks_room, puts_of, with_put}
 use Rattle.journal_replies.specs.Disks.{ArePutting, HoldAll, HoldBut}
 use Rattle.journal_replies.specs.PrivateJournals.{PutsAll}
-use Rattle.journal_replies.proofs.Putting.{each_some, putting_at_start, the_put}
+use Rattle.journal_replies.proofs.Putting.{each_some, the_put}
 
 -- what is read of a disk is what it holds
 pub holds_reads : (m : MemState) (list : List (List ℕ)) → Holds m list → images m.octets ≡ list

@@ -1,12 +1,12 @@
 -- Images that are put one after another: their journals, and what is on the disks meanwhile.
-use Rattle.std.proofs.Common.{◌≡◌, ◌⊎◌, inl, inr, ℕ, ◌+◌, ◌<◌, Bool, true, false, ◌||◌, ◌&&◌, not, List, [], ◌∷◌, ◌++◌, refl, sym, ◌∙◌, ap, subst, if◌then◌else◌, arith}
+use Rattle.std.proofs.Common.{◌≡◌, inl, inr, ℕ, ◌+◌, Bool, true, false, ◌||◌, List, [], ◌∷◌, ◌++◌, refl, ◌∙◌, ap, if◌then◌else◌}
 use Rattle.std.specs.Prelude.{Option, Some, None, IfSome, slice_get, nat_lt}
 use Rattle.house_journal.specs.MemoryDisks.{MemState}
 use Rattle.cell_model.specs.Cells.{Cell}
 use Rattle.cds_cell.specs.Imaging.{octets_at}
 use Rattle.journal_replies.specs.Journals.{Lists, Put, has_to_put, lacks_room, puts_of, with_put, with_puts}
 use Rattle.kept_journals.specs.KeptJournals.{size_of, Holds, HoldsEither}
-use Rattle.journal_replies.specs.Disks.{ArePutting, HoldAll, HoldBut}
+use Rattle.journal_replies.specs.Disks.{ArePutting, HoldAll}
 
 -- what holds of a value, if there is one
 pub each_some : {A : Type 0} (o : Option A) (P Q : A → Type 0) → ((a : A) → P a → Q a) → IfSome o P → IfSome o Q

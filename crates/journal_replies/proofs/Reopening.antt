@@ -1,11 +1,10 @@
 -- New disks, and what a journal gives that is opened again.
-use Rattle.std.proofs.Common.{◌≡◌, ◌≢◌, ◌⊎◌, ⊎_elim, ℕ, zero, suc, get_or, ◌+◌, ◌<◌, ◌≤◌, ◌==◌, Bool, true, false, List, [], length, refl, sym, ◌∙◌, ap, subst, if◌then◌else◌, arith}
+use Rattle.std.proofs.Common.{◌≡◌, ◌≢◌, ⊎_elim, ℕ, zero, suc, get_or, ◌+◌, ◌<◌, ◌≤◌, ◌==◌, Bool, true, false, List, [], length, refl, sym, ◌∙◌, ap, subst, if◌then◌else◌, arith}
 use Rattle.std.specs.Prelude.{Option, Some, None, IfSome, replicate, slice_get, slice_index, slice_set}
 use Rattle.std.proofs.lemmas.Bool.Decides.{nat_tests}
 use Rattle.std.proofs.lemmas.List.{length-replicate, length-set}
 use Rattle.std.proofs.lemmas.Option.{slice_get_cases}
 use Rattle.std.specs.List.{last_or}
-use Rattle.house_journal.specs.ClockProofs.{reads_left_lem}
 use Rattle.house_journal.specs.MemoryDisks.{MemState, left_now}
 use Rattle.house_journal.specs.Records.{IsOpenable, gate_of, images, images_after, last_image, octets_after}
 use Rattle.house_journal.specs.Restarts.{CanBeOpened}
@@ -13,7 +12,6 @@ use Rattle.house_journal.specs.Faults.{JournalState}
 use Rattle.kept_journals.specs.KeptJournals.{Holds, IsKept, IsNew, IsOpen}
 use Rattle.kept_journals.specs.declared.kept.KeptHouse.{KeptHouse}
 use Rattle.cell_model.specs.Cells.{Cell, empty_cell}
-use Rattle.cell_model.specs.Sets.{has}
 use Rattle.script_answers.specs.declared.answer.Answer.TheVariants as answer
 use Rattle.script_answers.specs.declared.answer.ScriptRefusal.TheVariants as why
 use Rattle.cds_cell.specs.Imaging.{octets_at}

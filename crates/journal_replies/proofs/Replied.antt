@@ -1,6 +1,6 @@
 -- What is left behind a line that was answered, and how it ends.
-use Rattle.std.proofs.Common.{◌≡◌, ◌≤◌, ℕ, Bool, true, false, List, [], ◌∷◌, ◌++◌, refl, sym, ◌∙◌, ap, subst, if◌then◌else◌}
-use Rattle.std.specs.Prelude.{Option, Some, None, Result, Ok, Err, OnOk, OnErr, IfErr, IsErrAnd}
+use Rattle.std.proofs.Common.{◌≡◌, ℕ, Bool, true, false, List, [], ◌++◌, refl, sym, ap, subst, if◌then◌else◌}
+use Rattle.std.specs.Prelude.{Some, Result, Ok, Err, IfErr, IsErrAnd}
 use Rattle.std.specs.Option.{option_map, option_map_or}
 use Rattle.house_journal.specs.MemoryDisks.{MemState}
 use Rattle.cell_script.specs.declared.fault.ParseFault.{ParseFault}
@@ -8,7 +8,6 @@ use Rattle.cds_stamps.specs.declared.numbers.HouseNo.{HouseNo}
 use Rattle.cell_script.specs.declared.command.ScriptLine.{ScriptLine}
 use Rattle.cds_cell.specs.Imaging.{octets_at}
 use Rattle.cds_cell.specs.Standing.{Stands}
-use Rattle.script_answers.specs.Texts.{parse_fault_text}
 use Rattle.script_answers.specs.declared.answer.Answer.{Answer}
 use Rattle.script_answers.specs.declared.answer.Answer.TheVariants as plain
 use Rattle.script_forms.specs.declared.journal_answer.JournalAnswer.TheVariants as answer
@@ -19,16 +18,15 @@ use Rattle.script_forms.specs.JournalTexts.{journal_text}
 use Rattle.script_forms.specs.declared.journal_answer.JournalAnswer.{JournalAnswer}
 use Rattle.script_forms.specs.declared.journal_line.JournalLine.{JournalLine}
 use Rattle.waiting_replies.specs.LineEnds.{Ends, Faults}
-use Rattle.waiting_replies.specs.Responses.{ResponseOf, GoesOn, Stops, Fills}
+use Rattle.waiting_replies.specs.Responses.{GoesOn, Fills}
 use Rattle.waiting_replies.specs.declared.replies.LineEnd.{LineEnd}
 use Rattle.waiting_replies.specs.declared.replies.LineEnd.TheVariants as end
-use Rattle.line_replies.specs.Dialogues.{replied}
 use Rattle.kept_journals.specs.declared.faults.Unkept.{Unkept}
 use Rattle.kept_journals.specs.declared.faults.Unkept.TheVariants.{Full, OutOfMemory}
 use Rattle.journal_replies.specs.declared.keeper.Keeper.{Keeper}
 use Rattle.journal_replies.specs.declared.journals.Journals.{Journals}
 use Rattle.journal_replies.specs.Journaled.{journal_said}
-use Rattle.journal_replies.specs.Journals.{JournaledCell, Lists, Put, journaling, lacks_room, lasts, puts_by, puts_in, reply_text, response_to, state_after, with_puts}
+use Rattle.journal_replies.specs.Journals.{JournaledCell, lacks_room, lasts, puts_in, reply_text, response_to, state_after, with_puts}
 use Rattle.journal_replies.specs.Disks.{ArePutting, HoldAll}
 use Rattle.journal_replies.specs.Keeping.{LeavesDisks, StandsJournals, StandsKeeper}
 use Rattle.journal_replies.specs.PrivateJournals.{AreDone, GivesUp, IsReplied}

@@ -7,7 +7,7 @@ use Rattle.house_journal.specs.MemoryDisks.{MemState}
 use Rattle.house_journal.specs.declared.leave.Leave.{Leave}
 use Rattle.house_journal.specs.declared.step.Step.{Step}
 use Rattle.house_journal.specs.declared.step.Stop.{Stop}
-use Rattle.kept_journals.specs.KeptJournals.{IsKept, IsNew, IsOpen}
+use Rattle.kept_journals.specs.KeptJournals.{IsKept}
 use Rattle.kept_journals.specs.declared.kept.KeptHouse.{KeptHouse}
 
 leave_set : IsSet Leave

@@ -1,17 +1,17 @@
 -- The kinds of the members of a list: which words they have, and that the secondary ones are some of the others.
-use Rattle.std.proofs.Common.{◌≡◌, ◌≢◌, inl, inr, ⊎_elim, ℕ, suc, ◌+◌, ◌<◌, ◌≤◌, Bool, true, false, ◌||◌, not, List, [], ◌∷◌, ◌++◌, map, refl, sym, ◌∙◌, ap, subst}
+use Rattle.std.proofs.Common.{◌≡◌, inl, inr, ⊎_elim, ℕ, ◌+◌, ◌≤◌, Bool, true, false, ◌||◌, List, [], ◌∷◌, ◌++◌, map, refl, sym, ◌∙◌, ap, subst}
 use Rattle.std.proofs.Common.{arith, if◌then◌else◌}
-use Rattle.std.specs.Prelude.{Option, None, Some, ◌==◌, nat_lt, filter}
+use Rattle.std.specs.Prelude.{None, Some, ◌==◌, nat_lt, filter}
 use Rattle.std.specs.List.{AllByRecursion}
 use Rattle.std.specs.Fmt.{decimal}
 use Rattle.std.proofs.lemmas.Bool.Decides.{nat_tests}
-use Rattle.cds_stamps.specs.Members.{Member, first_unordered, is_listed, is_master, is_secondary, master_of, members_fault, others_of, secondaries_of}
+use Rattle.cds_stamps.specs.Members.{Member, first_unordered, is_master, is_secondary, master_of, members_fault, others_of, secondaries_of}
 use Rattle.cds_stamps.specs.declared.members.MemberKind.{MemberKind}
 use Rattle.cds_stamps.specs.declared.members.MemberKind.TheVariants.{Master, ReadOnly, Secondary}
 use Rattle.cds_stamps.proofs.MemberLaws.{no_members_fault}
 use Rattle.cell_model.specs.Sets.{In, has}
 use Rattle.cell_model.proofs.Answerings.{Once}
-use Rattle.cell_model.proofs.Lists.{In-from_has, eq_from, eq_to, or_cases, or_true}
+use Rattle.cell_model.proofs.Lists.{eq_from, eq_to, or_cases}
 use Rattle.cell_model.proofs.PresentLists.{houses_of}
 use Rattle.mend_lines.specs.Lines.{listed_word, words_behind}
 use Rattle.mend_lines.specs.PrivateLines.{listed_words, member_word}

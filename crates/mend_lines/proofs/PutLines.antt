@@ -1,13 +1,12 @@
 -- Lines that are put behind others.
-use Rattle.std.proofs.Common.{◌≡◌, ℕ, zero, suc, ◌+◌, ◌-◌, ◌<◌, ◌≤◌, Bool, true, false, List, [], ◌∷◌, ◌++◌, map, drop, length, refl, sym, ◌∙◌, ap, arith, append_assoc}
+use Rattle.std.proofs.Common.{◌≡◌, ℕ, suc, ◌+◌, ◌-◌, ◌<◌, Bool, true, false, List, [], ◌∷◌, ◌++◌, map, length, refl, sym, ◌∙◌, ap, arith, append_assoc}
 use Rattle.std.proofs.Common.{append-nil, if◌then◌else◌, subst}
 use Rattle.std.specs.Prelude.{None, codes, count_by, not, ◌==◌}
 use Rattle.std.specs.Fmt.{decimal}
-use Rattle.std.specs.List.{flat_map}
 use Rattle.std.proofs.lemmas.List.Sums.{sum_by-cons}
 use Rattle.cds_stamps.specs.Members.{Member, is_secondary, master_of, members_fault, others_of, secondaries_of}
 use Rattle.cell_model.specs.Cells.{Cell}
-use Rattle.cell_model.specs.Commands.{Command, Deliver, Epoch, Skulk, Start}
+use Rattle.cell_model.specs.Commands.{Command, Deliver, Epoch, Start}
 use Rattle.cell_model.specs.Mending.{delivering, starting}
 use Rattle.cell_model.specs.Steps.{is_down}
 use Rattle.mend_lines.specs.Lines.{command_line, command_lines, command_words, line_of, listed_word, words_behind}

@@ -1,8 +1,8 @@
 -- The lines of commands that mend are read as these commands, and are lines that a script may have.
-use Rattle.std.proofs.Common.{◌≡◌, ◌≢◌, ◌⊎◌, inl, inr, ℕ, suc, ◌+◌, ◌*◌, ◌^◌, ◌<◌, ◌≤◌, Bool, true, false, List, [], ◌∷◌, ◌++◌, map, length, refl, sym, ◌∙◌}
-use Rattle.std.proofs.Common.{ap, subst, arith, if◌then◌else◌}
-use Rattle.std.specs.Prelude.{Option, None, Some, Ok, Err, Result, codes, ◌&&◌, filter, nat_lt, nat_le, ◌==◌}
-use Rattle.std.specs.List.{list_all, AllByRecursion}
+use Rattle.std.proofs.Common.{◌≡◌, ◌≢◌, inl, inr, ℕ, suc, ◌+◌, ◌<◌, ◌≤◌, Bool, true, false, List, [], ◌∷◌, map, length, refl, sym, ◌∙◌}
+use Rattle.std.proofs.Common.{ap, arith, if◌then◌else◌}
+use Rattle.std.specs.Prelude.{None, Some, Ok, codes, filter, nat_lt, nat_le, ◌==◌}
+use Rattle.std.specs.List.{list_all}
 use Rattle.std.specs.Char.{is_ascii_digit}
 use Rattle.std.specs.Fmt.{decimal}
 use Rattle.std.specs.Option.{option_map}
@@ -12,21 +12,19 @@ use Rattle.std.proofs.lemmas.Fmt.{length-decimal-le}
 use Rattle.cds_base.specs.LineFaults.{is_printable, fault_at, AreClean, IsLine}
 use Rattle.cds_stamps.specs.declared.numbers.HouseNo.{HouseNo}
 use Rattle.cds_stamps.specs.declared.numbers.DirId.{DirId}
-use Rattle.cds_stamps.specs.Members.{most_members}
 use Rattle.cell_model.specs.Commands as model
 use Rattle.cell_model.specs.Sets.{In, has}
 use Rattle.cell_script.specs.declared.command.Command.{Command}
 use Rattle.cell_script.specs.declared.command.Command.TheVariants as command
 use Rattle.cell_script.specs.declared.command.ScriptLine.TheVariants as line
-use Rattle.cell_script.specs.declared.fault.ParseFault.{ParseFault}
 use Rattle.cell_script.specs.declared.lists.Listed.{Listed}
 use Rattle.cell_script.specs.Commands.{said_in, said_by}
-use Rattle.cell_script.specs.Forms.{◌>>=◌, counted, each_word, said_at, taken}
+use Rattle.cell_script.specs.Forms.{counted, each_word, taken}
 use Rattle.cell_script.specs.Listings.{houses_in, secondaries_in}
-use Rattle.cell_script.specs.Words.{directory_of, house_of, listed_as, listed_of, most_directory, most_house, most_serial, number_end, number_to, serial_of, words_of}
+use Rattle.cell_script.specs.Words.{directory_of, house_of, listed_as, listed_of, most_directory, most_house, most_serial, number_end, serial_of, words_of}
 use Rattle.held_directories.specs.Posting.{numbers_of}
 use Rattle.cds_cell.specs.Scripted.{step_of}
-use Rattle.mend_lines.specs.Lines.{command_line, command_words, line_of, listed_word}
+use Rattle.mend_lines.specs.Lines.{command_line, command_words, listed_word}
 use Rattle.mend_lines.specs.Reading.{CanBeSaid, IsDirectory, IsHouse, IsSerial, SaysCommand}
 use Rattle.mend_lines.proofs.Digits.{number_to_again, spelled}
 use Rattle.mend_lines.proofs.Words.{AreWords, IsWord, digits_marks, is_shown, line_length, line_shown, words_again}

@@ -1,11 +1,11 @@
 -- The test whether the houses of a directory are ready tells what it is named after.
-use Rattle.std.proofs.Common.{◌≡◌, ◌≤◌, ◌↔◌, ℕ, Bool, true, false, ◌&&◌, ◌||◌, not, List, [], ◌∷◌, refl, sym, ◌∙◌, ap, subst, arith}
+use Rattle.std.proofs.Common.{◌≡◌, ◌≤◌, ℕ, Bool, true, false, ◌||◌, not, List, [], ◌∷◌, refl, ◌∙◌, ap, subst, arith}
 use Rattle.std.specs.Prelude.{◌==◌}
 use Rattle.std.proofs.lemmas.Bool.Decides.{nat_tests}
 use Rattle.std.proofs.lemmas.Bool.{and_parts}
 use Rattle.cds_stamps.specs.Members.{Member, is_listed}
-use Rattle.cell_model.specs.Cells.{Replica, Slot, Absent, Gone, Held, Cell, IsHeld}
-use Rattle.cell_model.specs.Mending.{IsHeldBy, IsReady}
+use Rattle.cell_model.specs.Cells.{Replica, Slot, Absent, Gone, Held, Cell}
+use Rattle.cell_model.specs.Mending.{IsReady}
 use Rattle.cell_model.specs.Steps.{is_unknown}
 use Rattle.cell_model.proofs.Lists.{or_true}
 use Rattle.mend_lines.specs.Readiness.{holds_at, is_held_at, is_held_by, is_ready}

@@ -1,5 +1,5 @@
 -- What a cell says of the houses of a directory is what the model says.
-use Rattle.std.proofs.Common.{◌≡◌, ◌≤◌, ◌<◌, ◌+◌, ℕ, Bool, true, false, ◌&&◌, not, if◌then◌else◌, max, List, [], ◌∷◌, refl, sym, ◌∙◌, ap, subst, arith}
+use Rattle.std.proofs.Common.{◌≡◌, ◌≤◌, ◌+◌, ℕ, Bool, true, false, ◌&&◌, not, if◌then◌else◌, max, List, ◌∷◌, refl, sym, ◌∙◌, ap, subst, arith}
 use Rattle.std.specs.Prelude.{Option, Some, None, ◌==◌, codes, is_some, length}
 use Rattle.std.specs.FinMap.{get}
 use Rattle.std.specs.Option.{option_map}
@@ -25,7 +25,7 @@ use Rattle.cds_cell.specs.declared.cell.Cell.{Cell}
 use Rattle.cds_cell.specs.declared.house.CellHouse.{CellHouse}
 use Rattle.cds_cell.specs.declared.house.HouseState.{HouseState}
 use Rattle.cds_cell.specs.declared.house.HouseState.TheVariants as state
-use Rattle.cds_cell.specs.Houses.{StandsAtHouse, StandsState, StandsUp}
+use Rattle.cds_cell.specs.Houses.{StandsState, StandsUp}
 use Rattle.mend_lines.specs.Lines.{command_lines, mend_text, mends, refusal_line}
 use Rattle.mend_lines.specs.Readiness.{holds_at, is_held_at, is_held_by, is_ready}
 use Rattle.cds_cell.specs.Listings.{IsListed}

@@ -1,5 +1,5 @@
 -- What a script is replayed for that is to be mended (own).
-use Rattle.std.specs.Prelude.{◌≡◌, ℕ, List}
+use Rattle.std.specs.Prelude.{ℕ, List}
 use Rattle.cell_model.specs.Cells as model
 use Rattle.cds_cell.specs.Standing.{Stands}
 use Rattle.waiting_replies.specs.declared.replies.LineEnd.{LineEnd}

@@ -8,7 +8,6 @@ use Rattle.cell_script.specs.declared.command.ScriptLine.TheVariants as line
 use Rattle.cell_script.specs.Commands.{said_in}
 use Rattle.cell_script.specs.Words.{most_directory, most_house, most_serial, words_of}
 use Rattle.cds_cell.specs.Scripted.{step_of}
-use Rattle.mend_lines.specs.Lines.{command_line}
 
 -- the number of a house, a directory and a message, as lines have them (own)
 abbrev pub IsHouse : ℕ → Type 0

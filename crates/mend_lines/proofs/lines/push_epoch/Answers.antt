@@ -1,6 +1,6 @@
-use Rattle.std.proofs.Common.{◌≡◌, ℕ, List, ◌∷◌, [], ◌++◌, ◌∙◌, ap, subst, sym, refl}
-use Rattle.std.specs.Prelude.{None, codes, decimal}
-use Rattle.cds_stamps.specs.Members.{Member, master_of, members_fault, members_of}
+use Rattle.std.proofs.Common.{◌≡◌, ℕ, ◌∷◌, ◌++◌, ◌∙◌, ap, subst, refl}
+use Rattle.std.specs.Prelude.{None, decimal}
+use Rattle.cds_stamps.specs.Members.{master_of, members_fault, members_of}
 use Rattle.mend_lines.specs.PrivateLines.{listed_words}
 use Rattle.mend_lines.proofs.PutLines.{put_epoch}
 use Rattle.mend_lines.proofs.lines.push_epoch.Goals as goal

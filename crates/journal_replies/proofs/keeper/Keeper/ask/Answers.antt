@@ -1,16 +1,12 @@
-use Rattle.std.proofs.Common.{◌≡◌, ◌≤◌, [], ◌∷◌, ◌++◌, List, ℕ, false, sym, ap, subst, map, take, ◌∙◌, arith}
-use Rattle.std.specs.Prelude.{Ok, Some}
-use Rattle.cell_model.specs.Cells.{Cell}
+use Rattle.std.proofs.Common.{◌≡◌, ◌≤◌, sym, subst, arith}
+use Rattle.std.specs.Prelude.{Ok}
 use Rattle.cell_model.specs.Steps.{replay_from}
-use Rattle.cds_cell.specs.Accepting.{Accepting, accepting}
 use Rattle.cds_cell.specs.Standing.{Stands}
 use Rattle.ns_commands.specs.Asks.{changes_in}
 use Rattle.line_replies.specs.declared.replayer.Replayer.{Replayer}
-use Rattle.line_replies.specs.Answering.{IsDone}
 use Rattle.line_replies.specs.Replies.{Said, does, question_said}
-use Rattle.journal_replies.specs.Journals.{acting, lacks_room, puts_of, with_puts}
-use Rattle.journal_replies.specs.Disks.{HoldAll, disk_count}
-use Rattle.journal_replies.specs.PrivateJournals.{AreDone, Does, GivesUp, said_puts}
+use Rattle.journal_replies.specs.Disks.{disk_count}
+use Rattle.journal_replies.specs.PrivateJournals.{AreDone, GivesUp, said_puts}
 use Rattle.journal_replies.proofs.Doing.{asked_done, asked_up, does_give_up, does_memory}
 use Rattle.journal_replies.proofs.keeper.Keeper.ask.Goals as goal
 

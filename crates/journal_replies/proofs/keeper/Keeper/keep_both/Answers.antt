@@ -1,4 +1,4 @@
-use Rattle.std.proofs.Common.{◌≡◌, sym, subst}
+use Rattle.std.proofs.Common.{sym, subst}
 use Rattle.cds_cell.specs.Standing.{Stands}
 use Rattle.line_replies.specs.declared.replayer.Replayer.{Replayer}
 use Rattle.journal_replies.specs.Journals.{puts_of, with_puts}

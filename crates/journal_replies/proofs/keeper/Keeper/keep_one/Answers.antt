@@ -1,5 +1,4 @@
-use Rattle.std.proofs.Common.{◌≡◌, Some, sym, ◌∙◌, ap, subst, List, ℕ, ◌<◌, length, [], ◌∷◌, arith}
-use Rattle.std.specs.Prelude.{Option}
+use Rattle.std.proofs.Common.{sym, ◌∙◌, ap, subst, ◌<◌, length, arith}
 use Rattle.std.specs.Option.{option_map}
 use Rattle.cds_cell.specs.Standing.{Stands}
 use Rattle.journal_replies.proofs.Giving.{made_of_image}

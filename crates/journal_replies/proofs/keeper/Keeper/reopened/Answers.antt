@@ -1,7 +1,6 @@
-use Rattle.std.proofs.Common.{◌≡◌, ◌≤◌, List, ℕ, Some, None, arith, ap, ◌∙◌}
+use Rattle.std.proofs.Common.{Some, None, arith, ap, ◌∙◌}
 use Rattle.std.specs.List.{last_or}
 use Rattle.kept_journals.specs.KeptJournals.{IsKept}
-use Rattle.journal_replies.specs.Disks.{disk_count}
 use Rattle.journal_replies.proofs.Reopening.{given, new_there, none_there, open_can, open_there, opened_hold, opened_kept}
 use Rattle.journal_replies.proofs.keeper.Keeper.reopened.Goals as goal
 

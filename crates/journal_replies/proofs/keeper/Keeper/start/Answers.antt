@@ -1,4 +1,4 @@
-use Rattle.std.proofs.Common.{◌≡◌, ◌∷◌, [], sym, subst, refl}
+use Rattle.std.proofs.Common.{◌∷◌, [], sym, subst, refl}
 use Rattle.cell_model.specs.Commands as model
 use Rattle.cell_script.specs.declared.command.Command.TheVariants as command
 use Rattle.cell_script.specs.declared.command.ScriptLine.TheVariants as script
