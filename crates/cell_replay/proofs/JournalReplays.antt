@@ -1,24 +1,20 @@
 -- What a run of the form `journal` that ends Ok wrote, and the commands of the model that its lines are.
-use Rattle.std.proofs.Common.{◌≡◌, ◌⊎◌, inl, inr, ℕ, Bool, true, false, if◌then◌else◌, List, [], ◌∷◌, ◌++◌, refl, sym, ap, ◌∙◌, subst}
-use Rattle.std.specs.Prelude.{Option, Some, Ok, Err, Result}
-use Rattle.tower_codec.specs.declared.binding.StringBinding.{StringBinding}
+use Rattle.std.proofs.Common.{◌≡◌, ◌⊎◌, inl, inr, ℕ, Bool, true, false, List, [], ◌∷◌, refl, sym, ◌∙◌}
 use Rattle.cell_model.specs.Commands.{Command}
-use Rattle.cell_model.specs.Cells.{empty_cell}
 use Rattle.cell_model.specs.Steps.{replay_from}
 use Rattle.cell_model.proofs.Agreeing.{converges_lem}
 use Rattle.cell_model.proofs.Runs.{replay-append}
 use Rattle.cell_script.specs.Words.{words_of}
-use Rattle.cell_script.specs.declared.fault.ParseFault.{ParseFault}
 use Rattle.script_forms.specs.JournalLines.{said_in}
 use Rattle.script_forms.specs.declared.journal_line.JournalLine.{JournalLine}
-use Rattle.waiting_replies.specs.Responses.{ResponseOf, Fills, in_state}
+use Rattle.waiting_replies.specs.Responses.{Fills, in_state}
 use Rattle.line_replies.specs.Dialogues.{NumberedOf, replied}
 use Rattle.journal_replies.specs.Journaled.{journal_said}
 use Rattle.journal_replies.specs.Journals.{JournaledCell, empty_state, journaling, lacks_room, puts_by}
 use Rattle.cell_replay.specs.Forms.{ByLines}
 use Rattle.cell_replay.specs.Headline.{commands_from}
-use Rattle.cell_replay.specs.JournalRuns.{Finds, IsJournalReplay, effective, state_behind}
-use Rattle.cell_replay.specs.LineStates.{Journaling, Response, response}
+use Rattle.cell_replay.specs.JournalRuns.{IsJournalReplay, effective, state_behind}
+use Rattle.cell_replay.specs.LineStates.{Journaling, response}
 use Rattle.cell_replay.specs.Runs.{IsWhole, Run, Wrote}
 use Rattle.cell_replay.proofs.HeadlineLaws.{import_finds}
 use Rattle.cell_replay.proofs.Scripts.{is_filling_replay}

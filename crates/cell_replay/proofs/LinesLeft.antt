@@ -1,11 +1,10 @@
 -- The lines that a run answered so far, and what it leaves when it ends.
-use Rattle.std.proofs.Common.{◌≡◌, ◌≢◌, ◌⊎◌, ◌↔◌, inl, inr, ℕ, ◌+◌, ◌≤◌, ◌<◌, Bool, List, [], ◌∷◌, ◌++◌, length, take, drop, refl, sym, ◌∙◌, ap, subst}
+use Rattle.std.proofs.Common.{◌≡◌, ◌≢◌, ◌⊎◌, ◌↔◌, inl, inr, ℕ, ◌+◌, ◌<◌, Bool, List, [], ◌∷◌, ◌++◌, length, take, drop, refl, sym, ◌∙◌, ap, subst}
 use Rattle.std.proofs.Common.{arith, append_assoc, append-nil, length-append, take-append-drop}
-use Rattle.std.specs.Prelude.{Option, None, Some, Ok, Err, Result, IsTrue}
+use Rattle.std.specs.Prelude.{Option, None, Some, Ok, Err, IsTrue}
 use Rattle.std.specs.Io.KnownBytes.{Appends, Consumes, IsAtEnd}
-use Rattle.cds_base.specs.Counts.{Rose}
 use Rattle.cds_base.specs.LineFaults.{AreClean, IsLine, ShowsFault, fault_at}
-use Rattle.cds_base.specs.Lines.{Answers, HasFault, HasMoved, IsNext, IsReady, given, held, kept}
+use Rattle.cds_base.specs.Lines.{HasFault, HasMoved, IsNext, IsReady, given, held, kept}
 use Rattle.cds_base.specs.Reading.{GrowsByReading}
 use Rattle.cds_base.specs.declared.lines.Lines.{Lines}
 use Rattle.cds_base.specs.declared.scan.LineFault.{LineFault}
@@ -18,12 +17,12 @@ use Rattle.waiting_replies.specs.Responses.{GoesOn, Stops, Fills}
 use Rattle.waiting_replies.specs.Waiting.{Flushes}
 use Rattle.cell_replay.specs.declared.endings.Status.{Status}
 use Rattle.cell_replay.specs.declared.endings.Status.TheVariants.{Ok as AllRead, BadInput, ReadFault, WriteFault, OutOfMemory, JournalFull}
-use Rattle.cell_replay.specs.Leaving.{BreaksAt, IsLeft, LeadsTo, Leaves, LinesRead, NoneFollows}
+use Rattle.cell_replay.specs.Leaving.{IsLeft, LeadsTo, Leaves, LinesRead, NoneFollows}
 use Rattle.cell_replay.specs.LineStates.{LineState, Journaling, Response, response}
 use Rattle.cell_replay.specs.declared.forms.LineForm.{LineForm}
 use Rattle.cell_replay.specs.declared.forms.LineForm.TheVariants as form
 use Rattle.cell_replay.specs.PrivateStanding.{IsAt, IsKept}
-use Rattle.cell_replay.specs.PrivateEndings.{Finishes, IsQueued, Side, StopsWith, between, side}
+use Rattle.cell_replay.specs.PrivateEndings.{Finishes, IsQueued, StopsWith, between, side}
 use Rattle.cell_replay.specs.Runs.{IsFront, Run}
 use Rattle.cell_replay.specs.Scripts.{text_of}
 use Rattle.cell_replay.proofs.Progress.{reads_on}

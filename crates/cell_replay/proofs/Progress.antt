@@ -1,5 +1,5 @@
 -- How a run goes on step by step, a line or a tower at a time, and how it ends.
-use Rattle.std.proofs.Common.{◌≡◌, ◌≢◌, ◌⊎◌, inl, inr, ⊎_elim, ℕ, ◌+◌, ◌≤◌, ◌<◌, Bool, List, []}
+use Rattle.std.proofs.Common.{◌≡◌, ◌⊎◌, inl, inr, ⊎_elim, ℕ, ◌+◌, ◌≤◌, ◌<◌, Bool, List, []}
 use Rattle.std.proofs.Common.{◌++◌, length, take, drop, refl, sym, ◌∙◌, ap, subst, arith}
 use Rattle.std.proofs.Common.{append_assoc, append-nil, length-append, take-append-drop, length-take}
 use Rattle.std.specs.Prelude.{Option, None, Some, IfSome, IsTrue}
@@ -12,7 +12,7 @@ use Rattle.cell_replay.specs.Forms.{FormState, Demands}
 use Rattle.cell_replay.specs.declared.endings.Status.{Status}
 use Rattle.cell_replay.specs.declared.endings.Status.TheVariants.{Ok as AllRead, Usage, BadInput, ReadFault, WriteFault, OutOfMemory, JournalFull}
 use Rattle.waiting_replies.specs.Waiting.{Flushes}
-use Rattle.cell_replay.specs.Runs.{IsFront, Run, Wrote, IsWhole, IsFaulty, IsFilled, IsBody, CameLate, HasReadAll, WroteAllBefore, IsPart, IsCutShort}
+use Rattle.cell_replay.specs.Runs.{IsFront, Wrote, IsWhole, IsFaulty, IsFilled, IsBody, CameLate, HasReadAll, WroteAllBefore, IsPart, IsCutShort}
 use Rattle.cell_replay.specs.Runs.{IsTakenAtOnce, read_ahead, WroteSoon, AnswersFront}
 use Rattle.cell_replay.specs.PrivateEndings.{IsDue, IsQueued, Finishes, StopsWith, side, between, EndsBetween}
 

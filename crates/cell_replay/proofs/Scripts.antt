@@ -14,7 +14,7 @@ use Rattle.line_replies.specs.Replies.{Numbered, running, transcript}
 use Rattle.clerk_replies.specs.Clerking.{Clerked, clerking, start}
 use Rattle.cell_replay.specs.LineStates.{LineState, Replaying, Clerking, Response, response, Inquiring}
 use Rattle.cell_replay.specs.Demand.{Demand, Sound, Faulty, demanded, end_text, told_fault}
-use Rattle.cell_replay.specs.Demand.{ends_with, unless_fault, then_rest, with_front, whole}
+use Rattle.cell_replay.specs.Demand.{unless_fault, then_rest, with_front, whole}
 use Rattle.cell_replay.specs.Forms.{ByLines, clerking_with, replaying, inquiring_form}
 use Rattle.script_forms.specs.declared.inquire_line.InquireLine.{InquireLine}
 use Rattle.script_forms.specs.InquireLines.{inquired_in}

@@ -1,5 +1,5 @@
 -- Between two towers of a run, and how it ends.
-use Rattle.std.proofs.Common.{◌≡◌, ◌≢◌, ◌↔◌, ◌⊎◌, inl, inr, ℕ, ◌+◌, ◌≤◌, ◌<◌, Bool, true, false, List, [], ◌∷◌, ◌++◌, length, take, drop, refl}
+use Rattle.std.proofs.Common.{◌≡◌, ◌↔◌, ◌⊎◌, inl, inr, ℕ, ◌+◌, ◌≤◌, ◌<◌, Bool, true, false, List, [], ◌∷◌, ◌++◌, length, take, drop, refl}
 use Rattle.std.proofs.Common.{sym, ◌∙◌, ap, subst, arith, append_assoc, append-nil, length-drop, take-append-drop}
 use Rattle.std.specs.Prelude.{Option, IsTrue, nat_lt, if◌then◌else◌}
 use Rattle.std.specs.Io.KnownBytes.{Appends, IsAtEnd}
