@@ -1,9 +1,7 @@
 -- What is written behind a script mends the directory.
-use Rattle.std.proofs.Common.{◌≡◌, ℕ, suc, ◌+◌, ◌*◌, ◌≤◌, Bool, true, false, List, [], ◌∷◌, ◌++◌, map, length, refl, sym, ◌∙◌, ap, subst, arith, if◌then◌else◌}
-use Rattle.std.specs.Prelude.{Option, None, Some, is_some, ◌==◌, ◌&&◌, nat_le}
-use Rattle.std.specs.Option.{option_and_then}
+use Rattle.std.proofs.Common.{◌≡◌, ℕ, suc, ◌+◌, ◌*◌, ◌≤◌, Bool, true, false, List, [], ◌∷◌, map, length, refl, ◌∙◌, ap, arith, if◌then◌else◌}
+use Rattle.std.specs.Prelude.{Option, Some, is_some, ◌==◌}
 use Rattle.std.proofs.lemmas.Bool.Decides.{nat_tests}
-use Rattle.std.proofs.lemmas.Bool.{and_parts}
 use Rattle.cds_stamps.specs.declared.stamp.Stamp.{Stamp}
 use Rattle.cds_stamps.specs.Members.{master_of}
 use Rattle.cell_model.specs.Cells.{Cell, empty_cell}
@@ -11,17 +9,15 @@ use Rattle.cell_model.specs.Commands.{Command}
 use Rattle.cell_model.specs.Mending as mending
 use Rattle.cell_model.specs.Mending.{skulking_at}
 use Rattle.cell_model.specs.Sets.{has}
-use Rattle.cell_model.specs.Steps.{is_unknown, replay, replay_from}
+use Rattle.cell_model.specs.Steps.{is_unknown}
 use Rattle.cell_model.specs.Turns.{stamp_at}
 use Rattle.cell_model.proofs.Agreed.{ready_lem}
 use Rattle.cell_model.proofs.Mended.{mended_lem}
 use Rattle.cell_model.proofs.PresentLists.{IsProper, tidy_lem}
-use Rattle.cell_model.proofs.Runs.{replay-append}
 use Rattle.mend_lines.specs.Readiness.{is_ready}
-use Rattle.cell_script.specs.Words.{most_directory, number_of, number_to}
-use Rattle.line_replies.specs.Replies.{Numbered, steps_of}
-use Rattle.cell_replay.specs.Headline.{cell_behind, commands_from, commands_of}
-use Rattle.cell_replay.specs.Scripts.{IsScript, text_of}
+use Rattle.line_replies.specs.Replies.{Numbered}
+use Rattle.cell_replay.specs.Headline.{cell_behind, commands_of}
+use Rattle.cell_replay.specs.Scripts.{IsScript}
 use Rattle.mend_lines.specs.Lines.{command_line, command_lines, mend_text, mends}
 use Rattle.mend_lines.specs.Reading.{IsDirectory, IsHouse}
 use Rattle.mend_lines.proofs.Ready.{ready_is}

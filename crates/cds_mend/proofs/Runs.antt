@@ -1,17 +1,12 @@
 -- What a run of `cdsmend` wrote that ended Ok.
-use Rattle.std.proofs.Common.{◌≡◌, ℕ, suc, ◌+◌, ◌*◌, ◌≤◌, Bool, true, false, List, [], ◌∷◌, ◌++◌, map, length, refl, sym, ◌∙◌, ap, subst, arith, if◌then◌else◌}
-use Rattle.std.specs.Prelude.{Option, None, Some, is_some, ◌==◌, ◌&&◌, nat_le}
+use Rattle.std.proofs.Common.{◌≡◌, ℕ, ◌≤◌, Bool, true, false, List, [], ◌∷◌, ◌++◌, refl, sym, ◌∙◌, ap, subst, arith, if◌then◌else◌}
+use Rattle.std.specs.Prelude.{Option, None, Some, ◌&&◌, nat_le}
 use Rattle.std.specs.Option.{option_and_then}
 use Rattle.std.specs.Io.KnownBytes.{Consumes, Appends}
 use Rattle.std.proofs.lemmas.Bool.Decides.{nat_tests}
 use Rattle.std.proofs.lemmas.Bool.{and_parts}
-use Rattle.cds_stamps.specs.declared.stamp.Stamp.{Stamp}
-use Rattle.cds_stamps.specs.Members.{master_of}
 use Rattle.cell_model.specs.Cells.{Cell, empty_cell}
-use Rattle.cell_model.specs.Commands.{Command}
-use Rattle.cell_model.specs.Sets.{has}
-use Rattle.cell_model.specs.Steps.{is_unknown, replay, replay_from}
-use Rattle.cell_model.specs.Turns.{stamp_at}
+use Rattle.cell_model.specs.Steps.{replay_from}
 use Rattle.cell_model.proofs.Runs.{replay-append}
 use Rattle.cell_script.specs.Words.{most_directory, number_of, number_to}
 use Rattle.line_replies.specs.Dialogues.{transcript_by}
@@ -19,14 +14,13 @@ use Rattle.mend_lines.specs.Quiet.{running_quietly}
 use Rattle.line_replies.specs.Replies.{Numbered, steps_of}
 use Rattle.cell_replay.specs.Demand.{Demand, Sound, demanded}
 use Rattle.cell_replay.specs.Forms as forms
-use Rattle.cell_replay.specs.Headline.{cell_behind, commands_from, commands_of}
+use Rattle.cell_replay.specs.Headline.{cell_behind, commands_from}
 use Rattle.cell_replay.specs.LineStates.{Mending}
 use Rattle.cell_replay.specs.Runs.{IsWhole, Run, Wrote}
-use Rattle.cell_replay.specs.Scripts.{IsScript, text_of}
 use Rattle.cell_replay.specs.JournalRuns.{state_behind}
 use Rattle.cell_replay.proofs.Scripts.{faultless_script, script_due, told_with}
-use Rattle.mend_lines.specs.Reading.{IsDirectory, IsHouse}
-use Rattle.cds_mend.specs.Mended.{IsMended, IsMending, MendsBehind}
+use Rattle.mend_lines.specs.Reading.{IsDirectory}
+use Rattle.cds_mend.specs.Mended.{IsMending}
 use Rattle.cds_mend.specs.Words.{directory_named}
 use Rattle.mend_lines.specs.Lines.{mend_text}
 use Rattle.cds_mend.proofs.Mendings.{is_mended}

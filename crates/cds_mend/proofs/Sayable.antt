@@ -1,16 +1,16 @@
 -- Each command that mends a directory of a script's cell can be said in a line.
-use Rattle.std.proofs.Common.{◌≡◌, ◌⊎◌, inl, inr, ⊎_elim, ℕ, zero, suc, ◌+◌, ◌*◌, ◌<◌, ◌≤◌, Bool, true, false, ◌||◌, List, [], ◌∷◌, ◌++◌, length, refl, sym, ◌∙◌, ap}
-use Rattle.std.proofs.Common.{subst, arith, if◌then◌else◌}
-use Rattle.std.specs.Prelude.{◌==◌, filter}
+use Rattle.std.proofs.Common.{◌≡◌, ℕ, zero, suc, ◌+◌, ◌*◌, ◌<◌, ◌≤◌, Bool, true, false, ◌||◌, List, [], ◌∷◌, ◌++◌, length, refl, ap}
+use Rattle.std.proofs.Common.{arith, if◌then◌else◌}
+use Rattle.std.specs.Prelude.{◌==◌}
 use Rattle.std.specs.List.{AllByRecursion}
 use Rattle.cds_stamps.specs.Members.{Member, is_listed, master_of, most_members, others_of, secondaries_of}
 use Rattle.cell_model.specs.Cells.{Cell}
-use Rattle.cell_model.specs.Commands.{Command, Deliver, Epoch, Skulk, Start}
+use Rattle.cell_model.specs.Commands.{Command, Epoch, Start}
 use Rattle.cell_model.specs.Mending.{delivering, mending, skulking, skulking_at, starting}
-use Rattle.cell_model.specs.Sets.{In, has}
+use Rattle.cell_model.specs.Sets.{has}
 use Rattle.cell_model.specs.Steps.{is_down}
 use Rattle.cell_model.proofs.Lists.{eq_to, or_true}
-use Rattle.cell_model.proofs.PresentLists.{IsProper, house_listed, houses_of}
+use Rattle.cell_model.proofs.PresentLists.{IsProper}
 use Rattle.cell_model.proofs.Terms.{In-others_of}
 use Rattle.mend_lines.specs.Readiness.{is_ready}
 use Rattle.cell_script.specs.Words.{most_serial}

@@ -1,6 +1,6 @@
 -- A script makes houses whose numbers lines can have, so that each house of its cell has such a number.
-use Rattle.std.proofs.Common.{◌≡◌, ◌⊎◌, inl, inr, ℕ, ◌+◌, ◌≤◌, Bool, true, false, ◌&&◌, ◌||◌, eqb, cond, List, [], ◌∷◌, ◌++◌, map, take, refl, sym, ◌∙◌, ap, subst}
-use Rattle.std.proofs.Common.{arith, ⊎_elim, if◌then◌else◌}
+use Rattle.std.proofs.Common.{◌≡◌, ℕ, ◌+◌, ◌≤◌, Bool, true, false, ◌&&◌, ◌||◌, List, [], ◌∷◌, ◌++◌, map, take, refl, sym, ◌∙◌, ap, subst}
+use Rattle.std.proofs.Common.{arith, if◌then◌else◌}
 use Rattle.std.specs.Prelude.{Option, None, Some, Ok, Err, Result, codes, nat_le, nat_eq, ◌==◌}
 use Rattle.std.specs.List.{AllByRecursion, starts_with}
 use Rattle.std.specs.Option.{option_and_then, option_map}
@@ -9,7 +9,7 @@ use Rattle.std.proofs.lemmas.Bool.Decides.{nat_tests}
 use Rattle.std.proofs.lemmas.Bool.{and_parts}
 use Rattle.cds_stamps.specs.declared.numbers.HouseNo.{HouseNo}
 use Rattle.cds_stamps.specs.Members.{Member}
-use Rattle.cell_model.specs.Cells.{Cell, Message, empty_cell}
+use Rattle.cell_model.specs.Cells.{Cell, Message}
 use Rattle.cell_model.specs.Commands as model
 use Rattle.cell_model.specs.Sets.{has}
 use Rattle.cell_model.specs.Turns.{accept, new_epoch, skulk, take as take_message}
@@ -29,7 +29,7 @@ use Rattle.cell_script.specs.Commands.{Row, no_command, rows, said_among, said_b
 use Rattle.cell_script.specs.Forms.{◌>>=◌, Builds, Form, House, Directory, Serial, Time, Node, SimpleName, FullName, AttrName, Value, Octets, Confidence}
 use Rattle.cell_script.specs.Forms.{Encoded, Interface, ElementInterface, InterfaceOrNone, Bindings, Objects, Object, Protocols, Priority, Note, Houses, Listeds}
 use Rattle.cell_script.specs.Forms.{Said, Words, built, counted, is_open, least_of, next_word, read_as, said_at, taken}
-use Rattle.cell_script.specs.Words.{house_of, most_house, number_of, number_to, words_of}
+use Rattle.cell_script.specs.Words.{house_of, most_house, number_of, words_of}
 use Rattle.ns_commands.specs.Asks.{Asks, add_element, add_member, delete_element, delete_member, export, unexport}
 use Rattle.cds_cell.specs.Accepting.{accepting}
 use Rattle.cds_cell.specs.Scripted.{step_of}

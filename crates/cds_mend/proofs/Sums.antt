@@ -1,9 +1,8 @@
 -- A script and the lines behind it that mend a directory are a script that mends it.
-use Rattle.std.proofs.Common.{◌≡◌, inl, inr, ⊎_elim, ℕ, suc, ◌+◌, ◌*◌, ◌<◌, ◌≤◌, Bool, true, false, List, [], ◌∷◌, ◌++◌, map, length, refl, sym, ◌∙◌, ap, subst}
-use Rattle.std.proofs.Common.{arith, append_assoc, append-nil, if◌then◌else◌, length-append}
+use Rattle.std.proofs.Common.{◌≡◌, inl, inr, ℕ, suc, ◌+◌, ◌≤◌, List, [], ◌∷◌, ◌++◌, map, length, refl, sym, ◌∙◌, ap, subst}
+use Rattle.std.proofs.Common.{arith}
 use Rattle.std.specs.Prelude.{Option, None, Some, Ok, Err, Result}
-use Rattle.std.specs.List.{AllByRecursion, flat_map}
-use Rattle.cds_base.specs.LineFaults.{IsLine}
+use Rattle.std.specs.List.{AllByRecursion}
 use Rattle.cds_stamps.specs.declared.stamp.Stamp.{Stamp}
 use Rattle.cds_stamps.specs.Members.{Member, master_of}
 use Rattle.cell_model.specs.Agreement.{place_of}
@@ -14,9 +13,6 @@ use Rattle.cell_model.specs.Mending.{Completes, IsAgreedBy, IsHeldBy, IsIdleBy, 
 use Rattle.cell_model.specs.Sets.{In}
 use Rattle.cell_model.specs.Steps.{answers_from, outcome, replay, replay_from}
 use Rattle.cell_model.proofs.Runs.{replay-append}
-use Rattle.script_answers.specs.declared.answer.Answer.{Answer}
-use Rattle.script_answers.specs.declared.answer.Answer.TheVariants as answer
-use Rattle.cell_script.specs.declared.command.Command.{Command}
 use Rattle.cell_script.specs.declared.command.ScriptLine.{ScriptLine}
 use Rattle.cell_script.specs.declared.command.ScriptLine.TheVariants as line
 use Rattle.cell_script.specs.declared.fault.ParseFault.{ParseFault}
@@ -24,11 +20,10 @@ use Rattle.cell_script.specs.Commands.{said_in}
 use Rattle.cell_script.specs.Words.{words_of}
 use Rattle.cds_cell.specs.Scripted.{answer_of, step_of}
 use Rattle.line_replies.specs.Replies.{Numbered, reply_to, steps_of}
-use Rattle.cell_replay.specs.Headline.{cell_behind, commands_from, commands_of, line_place}
+use Rattle.cell_replay.specs.Headline.{cell_behind, commands_from, commands_of}
 use Rattle.cell_replay.specs.Scripts.{IsScript, IsScriptOf, Says, text_of}
 use Rattle.cell_replay.proofs.HeadlineLaws.{commands-append}
 use Rattle.mend_lines.specs.Lines.{command_line, command_lines}
-use Rattle.mend_lines.specs.Reading.{CanBeSaid}
 use Rattle.mend_lines.proofs.ReadBack.{CanMend, as_command, is_as_command, line_fits, line_says_so}
 use Rattle.cds_mend.specs.Mended.{AllWork, HasWorked, MendsBehind}
 use Rattle.cds_mend.proofs.Sayable.{AllSaid}

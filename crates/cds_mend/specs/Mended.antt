@@ -47,7 +47,7 @@ pub record MendsBehind (said : List Numbered) (dir : ℕ) (t : Stamp) (members :
   pub idle : IsIdleBy (cell_behind (said ++ added)) dir members
   pub agreed : IsAgreedBy (commands_of (said ++ added)) dir t members
 
--- how many messages such lines post at most (own)
+-- how much room such lines want for serial numbers: they deliver no later message than so many behind the last one (own)
 abbrev pub most_posted : ℕ
 most_posted = 315
 

@@ -1,5 +1,4 @@
-use Rattle.std.proofs.Common.{◌≡◌, ℕ, sym, ◌∙◌}
-use Rattle.std.specs.Prelude.{Some}
+use Rattle.std.proofs.Common.{◌≡◌}
 use Rattle.cds_mend.proofs.Runs.{is_mending, named_directory}
 use Rattle.cds_mend.proofs.mend.run.Goals as goal
 
