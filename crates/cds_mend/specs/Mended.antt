@@ -47,9 +47,9 @@ pub record MendsBehind (said : List Numbered) (dir : ℕ) (t : Stamp) (members :
   pub idle : IsIdleBy (cell_behind (said ++ added)) dir members
   pub agreed : IsAgreedBy (commands_of (said ++ added)) dir t members
 
--- how much room such lines want for serial numbers: they deliver no later message than so many behind the last one (own)
-abbrev pub most_posted : ℕ
-most_posted = 315
+-- how far behind the last message the last one is that such lines deliver, at most (own)
+abbrev pub most_delivered : ℕ
+most_delivered = 315
 
 -- A text is lines that mend a directory behind those of a script. Both together are a script, if they are not too many lines and no serial
 -- number is too great; for n houses there are at most 6 n - 3 lines more (own)
@@ -58,7 +58,7 @@ pub record IsMended (lines : List (List ℕ)) (said : List Numbered) (dir : ℕ)
   pub added : List Numbered
   pub written : text ≡ text_of more
   pub few : length more + 3 ≤ 6 * length ((cell_behind said).present dir)
-  pub script : length lines + length more ≤ MOST_LINES → length (cell_behind said).bag + most_posted ≤ most_serial
+  pub script : length lines + length more ≤ MOST_LINES → length (cell_behind said).bag + most_delivered ≤ most_serial
       → IsScript 1 (lines ++ more) (said ++ added)
   pub mends : MendsBehind said dir t ((cell_behind said).present dir) added
 
