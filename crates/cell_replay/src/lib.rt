@@ -19,5 +19,5 @@ pub use limits::{
     LAST_DIR, MOST_KEPT, MOST_ROUNDS, MOST_TOWERS, MOST_WHOLE, TOWER_SIGHT, WHOLE_SIGHT,
 };
 pub use mending::mend;
-pub use replay::{run, run_journal};
+pub use replay::{new_disks, run, run_journal};
 pub use waiting_replies::{LONGEST_TOWER, MOST_WAITING};

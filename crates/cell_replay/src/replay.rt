@@ -190,8 +190,8 @@ fn journal_over_new_disks<S: Source, K: Sink>(alloc: Global, source: &mut S, sin
 // How many disks there are: one of each house number.
 const DISKS: usize = 255;
 
-/// A new disk for each house number.
-fn new_disks(alloc: Global) -> Result<Vec<MemDisk>, AllocError>
+/// A new disk for each house number, for `run_journal`.
+pub fn new_disks(alloc: Global) -> Result<Vec<MemDisk>, AllocError>
     ensures { IfOk result (λ v. AreNew v.items) }
 {
     let mut disks = Vec::new(alloc);
