@@ -22,10 +22,15 @@ use std::alloc::{AllocError, Global};
 use std::mem::replace;
 
 /// What is known of an attribute: its latest clear, and a mark for each value that the clear keeps.
-#[derive(Drop)]
 pub struct AttrCell {
     pub cleared: Option<Stamp>,
     pub values: ValueMap,
+}
+
+impl Drop for AttrCell {
+    fn drop(self) {
+        let AttrCell { cleared: _cleared, values: _values } = self;
+    }
 }
 
 impl Clone for AttrCell {

@@ -20,9 +20,15 @@ pub enum ValueFault {
 }
 
 /// The octets of a value, 1 to 1,024 of them, ordered by the octets.
-#[derive(Clone, Debug, PartialEq, Eq, PartialOrd, Ord, Drop)]
+#[derive(Clone, Debug, PartialEq, Eq, PartialOrd, Ord)]
 pub struct Value {
     octets: Octets,
+}
+
+impl Drop for Value {
+    fn drop(self) {
+        let Value { octets: _octets } = self;
+    }
 }
 
 impl Model for Value {

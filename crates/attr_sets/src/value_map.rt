@@ -22,9 +22,14 @@ use std::marker::Model;
 use std::mem::replace;
 
 /// A mark for each value, in ascending order of the values.
-#[derive(Drop)]
 pub struct ValueMap {
     marks: CompactMap<Value, ValueMark>,
+}
+
+impl Drop for ValueMap {
+    fn drop(self) {
+        let ValueMap { marks: _marks } = self;
+    }
 }
 
 impl Model for ValueMap {

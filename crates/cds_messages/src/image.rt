@@ -28,9 +28,14 @@ pub enum ImageDir {
 }
 
 /// The directories of a house, in ascending order of their numbers.
-#[derive(Drop)]
 pub struct ImageDirs {
     dirs: BTreeMap<DirId, ImageDir>,
+}
+
+impl Drop for ImageDirs {
+    fn drop(self) {
+        let ImageDirs { dirs: _dirs } = self;
+    }
 }
 
 impl Model for ImageDirs {
@@ -74,7 +79,8 @@ impl ImageDirs {
     pub fn into_entries(self) -> IntoIter<DirId, ImageDir, Global>
         ensures { result ≡ map.entries self }
     {
-        self.dirs.into_iter()
+        let ImageDirs { dirs } = self;
+        dirs.into_iter()
     }
 
     /// What is kept of a directory.

@@ -10,7 +10,6 @@ use purge_rule::{Delta, Replica};
 use std::alloc::{AllocError, Global};
 
 /// A message of one house to another about a directory.
-#[derive(Drop)]
 pub struct Message {
     pub dir: DirId,
     pub from: HouseNo,
@@ -18,6 +17,12 @@ pub struct Message {
     /// The sender's floor when it posted the message.
     pub floor: u64,
     pub body: Body,
+}
+
+impl Drop for Message {
+    fn drop(self) {
+        let Message { dir: _dir, from: _from, epoch: _epoch, floor: _floor, body: _body } = self;
+    }
 }
 
 /// What stands before what a message carries: the directory, and the house that posts it with its epoch and its floor.

@@ -44,9 +44,15 @@ pub enum MembersFault {
 }
 
 /// The members of a directory's replica set: 1 to 64, in ascending house number, and one of them the master.
-#[derive(Debug, Drop)]
+#[derive(Debug)]
 pub struct Members {
     list: Vec<Member>,
+}
+
+impl Drop for Members {
+    fn drop(self) {
+        let Members { list: _list } = self;
+    }
 }
 
 impl Model for Members {

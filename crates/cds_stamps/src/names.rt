@@ -86,9 +86,15 @@ fn check_attr_name(octets: &[u8]) -> Result<(), AttrFault>
 }
 
 /// A simple name: one component of a full name.
-#[derive(Clone, Debug, PartialEq, Eq, PartialOrd, Ord, Hash, Drop)]
+#[derive(Clone, Debug, PartialEq, Eq, PartialOrd, Ord, Hash)]
 pub struct SimpleName {
     octets: Octets,
+}
+
+impl Drop for SimpleName {
+    fn drop(self) {
+        let SimpleName { octets: _octets } = self;
+    }
 }
 
 impl Model for SimpleName {
@@ -144,9 +150,15 @@ impl SimpleName {
 }
 
 /// The name of an attribute.
-#[derive(Clone, Debug, PartialEq, Eq, PartialOrd, Ord, Hash, Drop)]
+#[derive(Clone, Debug, PartialEq, Eq, PartialOrd, Ord, Hash)]
 pub struct AttrName {
     octets: Octets,
+}
+
+impl Drop for AttrName {
+    fn drop(self) {
+        let AttrName { octets: _octets } = self;
+    }
 }
 
 impl Model for AttrName {

@@ -41,9 +41,15 @@ pub enum SpliceFault {
 
 /// A full name: the components behind `/.:`, each a simple name, which are none for the root of the cell. It is spelled
 /// in at most 1,023 octets.
-#[derive(Debug, Drop)]
+#[derive(Debug)]
 pub struct FullName {
     components: Vec<SimpleName>,
+}
+
+impl Drop for FullName {
+    fn drop(self) {
+        let FullName { components: _components } = self;
+    }
 }
 
 impl Model for FullName {

@@ -27,10 +27,16 @@ pub enum HousesFault {
 }
 
 /// The houses of a directory: that of the master, and the others in ascending order, 1 to 64 in all.
-#[derive(Debug, Drop)]
+#[derive(Debug)]
 pub struct HouseList {
     master: HouseNo,
     others: Vec<HouseNo>,
+}
+
+impl Drop for HouseList {
+    fn drop(self) {
+        let HouseList { master: _master, others: _others } = self;
+    }
 }
 
 impl Model for HouseList {

@@ -27,10 +27,16 @@ pub enum ChildFault {
 }
 
 /// A pointer to the directory of a child: its number, and the houses that have it.
-#[derive(Debug, PartialEq, Eq, Hash, Drop)]
+#[derive(Debug, PartialEq, Eq, Hash)]
 pub struct ChildPointer {
     pub dir: DirId,
     pub houses: HouseList,
+}
+
+impl Drop for ChildPointer {
+    fn drop(self) {
+        let ChildPointer { dir: _dir, houses: _houses } = self;
+    }
 }
 
 impl ChildPointer {

@@ -11,9 +11,14 @@ use tower_codec::StringBinding;
 use uuid::Uuid;
 
 /// Numbers of houses.
-#[derive(Drop)]
 pub struct HouseNos {
     items: Vec<HouseNo>,
+}
+
+impl Drop for HouseNos {
+    fn drop(self) {
+        let HouseNos { items: _items } = self;
+    }
 }
 
 impl Model for HouseNos {
@@ -59,10 +64,15 @@ pub struct Listed {
 }
 
 /// The other houses of a replica set. Their numbers stand apart as well, so that nobody needs memory to compare them.
-#[derive(Drop)]
 pub struct Listeds {
     list: Vec<Listed>,
     houses: Vec<HouseNo>,
+}
+
+impl Drop for Listeds {
+    fn drop(self) {
+        let Listeds { list: _list, houses: _houses } = self;
+    }
 }
 
 impl Model for Listeds {
@@ -109,9 +119,14 @@ fn houses_of(alloc: Global, list: &[Listed]) -> Result<Vec<HouseNo>, AllocError>
 }
 
 /// Octets that are asked about, or told.
-#[derive(Drop)]
 pub struct Octets {
     items: Vec<u8>,
+}
+
+impl Drop for Octets {
+    fn drop(self) {
+        let Octets { items: _items } = self;
+    }
 }
 
 impl Model for Octets {
@@ -156,9 +171,14 @@ impl Octets {
 }
 
 /// Where servers are reached.
-#[derive(Drop)]
 pub struct StringBindings {
     items: Vec<StringBinding>,
+}
+
+impl Drop for StringBindings {
+    fn drop(self) {
+        let StringBindings { items: _items } = self;
+    }
 }
 
 impl Model for StringBindings {
@@ -204,9 +224,14 @@ impl StringBindings {
 }
 
 /// UUIDs of objects.
-#[derive(Drop)]
 pub struct Uuids {
     items: Vec<Uuid>,
+}
+
+impl Drop for Uuids {
+    fn drop(self) {
+        let Uuids { items: _items } = self;
+    }
 }
 
 impl Model for Uuids {
@@ -251,9 +276,14 @@ impl Uuids {
 }
 
 /// The annotation of a profile's element: octets 0x20 to 0x7E, or none.
-#[derive(Drop)]
 pub struct Note {
     octets: Vec<u8>,
+}
+
+impl Drop for Note {
+    fn drop(self) {
+        let Note { octets: _octets } = self;
+    }
 }
 
 impl Model for Note {

@@ -10,7 +10,7 @@ use std::marker::Model;
 
 /// A question: the house that is preferred, the pointer to a directory, the name of an entry, and
 /// the attribute whose values are asked for, or none where it is asked what is seen of the entry.
-#[derive(Debug, PartialEq, Eq, Hash, Drop)]
+#[derive(Debug, PartialEq, Eq, Hash)]
 pub struct Query {
     pub prefer: HouseNo,
     pub at: ChildPointer,
@@ -18,24 +18,51 @@ pub struct Query {
     pub attr: Option<AttrName>,
 }
 
+impl Drop for Query {
+    fn drop(self) {
+        let Query { prefer: _prefer, at: _at, name: _name, attr: _attr } = self;
+    }
+}
+
 /// An answer: what was seen of an entry, or the values of an attribute.
-#[derive(Debug, Drop)]
+#[derive(Debug)]
 pub enum Told {
     Sight(Seen),
     Values(ValueList),
 }
 
+impl Drop for Told {
+    fn drop(self) {
+        match self {
+            Told::Sight(_field_1) => (),
+            Told::Values(_field_1) => (),
+        }
+    }
+}
+
 /// An answer that is kept, and the line of the script at which the reader gave it.
-#[derive(Debug, Drop)]
+#[derive(Debug)]
 pub struct Kept {
     pub told: Told,
     pub line: u32,
 }
 
+impl Drop for Kept {
+    fn drop(self) {
+        let Kept { told: _told, line: _line } = self;
+    }
+}
+
 /// Values of an attribute, in their order.
-#[derive(Debug, Drop)]
+#[derive(Debug)]
 pub struct ValueList {
     items: Vec<Value>,
+}
+
+impl Drop for ValueList {
+    fn drop(self) {
+        let ValueList { items: _items } = self;
+    }
 }
 
 impl Model for ValueList {

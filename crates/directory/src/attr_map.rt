@@ -24,9 +24,14 @@ use std::alloc::{AllocError, Global};
 use std::marker::Model;
 
 /// A cell for each attribute, in ascending order of their names.
-#[derive(Drop)]
 pub struct AttrMap {
     cells: CompactMap<AttrName, AttrCell>,
+}
+
+impl Drop for AttrMap {
+    fn drop(self) {
+        let AttrMap { cells: _cells } = self;
+    }
 }
 
 impl Model for AttrMap {

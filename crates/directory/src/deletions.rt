@@ -20,19 +20,35 @@ use std::alloc::{AllocError, Global};
 use std::collections::BTreeSet;
 
 /// What was deleted of an entry: the entry itself, all values of an attribute, or one value.
-#[derive(Clone, Debug, PartialEq, Eq, PartialOrd, Ord, Drop)]
+#[derive(Clone, Debug, PartialEq, Eq, PartialOrd, Ord)]
 pub enum What {
     Death,
     Clear(AttrName),
     Absent(AttrName, Value),
 }
 
+impl Drop for What {
+    fn drop(self) {
+        match self {
+            What::Death => (),
+            What::Clear(_field_1) => (),
+            What::Absent(_field_1, _field_2) => (),
+        }
+    }
+}
+
 /// A deletion: when, in the entry of which name, and of what. Deletions are ordered by these three.
-#[derive(Clone, Debug, PartialEq, Eq, PartialOrd, Ord, Drop)]
+#[derive(Clone, Debug, PartialEq, Eq, PartialOrd, Ord)]
 pub struct Deletion {
     pub stamp: Stamp,
     pub name: SimpleName,
     pub what: What,
+}
+
+impl Drop for Deletion {
+    fn drop(self) {
+        let Deletion { stamp: _stamp, name: _name, what: _what } = self;
+    }
 }
 
 /// The deletions that a table has, and some that it had: those are thrown away when they come first, or when it knows of more

@@ -57,12 +57,17 @@ impl Kind {
 }
 
 /// What is known of a name: its greatest birth, the least death of that birth, and its attributes.
-#[derive(Drop)]
 pub struct EntryCell {
     pub birth: Stamp,
     pub kind: Kind,
     pub death: Option<Stamp>,
     pub attrs: AttrMap,
+}
+
+impl Drop for EntryCell {
+    fn drop(self) {
+        let EntryCell { birth: _birth, kind: _kind, death: _death, attrs: _attrs } = self;
+    }
 }
 
 /// What one update adds to a table: the entry of its name, with its birth and the new marks alone.

@@ -35,10 +35,15 @@ use std::marker::Model;
 
 /// A valid entry for each simple name, in ascending order of the names; and an index of their deletions, on which `first_deletion`,
 /// `drop_first` and `drop_up_to` rest.
-#[derive(Drop)]
 pub struct Table {
     entries: EntryMap,
     deletions: Deletions,
+}
+
+impl Drop for Table {
+    fn drop(self) {
+        let Table { entries: _entries, deletions: _deletions } = self;
+    }
 }
 
 impl Model for Table {

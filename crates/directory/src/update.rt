@@ -13,7 +13,6 @@ use std::alloc::{AllocError, Global};
 use thiserror::Error;
 
 /// An update of one entry of a directory.
-#[derive(Drop)]
 pub enum Update {
     /// Makes an object.
     Create(SimpleName),
@@ -33,6 +32,22 @@ pub enum Update {
     Clear(SimpleName, AttrName),
     /// Sets the houses of a child, whose directory stays.
     Repoint(SimpleName, HouseList),
+}
+
+impl Drop for Update {
+    fn drop(self) {
+        match self {
+            Update::Create(_field_1) => (),
+            Update::MakeLink(_field_1, _field_2) => (),
+            Update::MakeChild(_field_1, _field_2) => (),
+            Update::Delete(_field_1) => (),
+            Update::Add(_field_1, _field_2, _field_3) => (),
+            Update::Remove(_field_1, _field_2, _field_3) => (),
+            Update::Put(_field_1, _field_2, _field_3) => (),
+            Update::Clear(_field_1, _field_2) => (),
+            Update::Repoint(_field_1, _field_2) => (),
+        }
+    }
 }
 
 /// An update of an entry that the table has, whatever its name.

@@ -19,11 +19,19 @@ use skulk_core::Skulk;
 use std::alloc::{AllocError, Global};
 
 /// What comes of a new epoch.
-#[derive(Drop)]
 pub enum EpochSet {
     /// The house holds it, and has posted Joins to the other members, and Leaves to those that are members no more.
     Done(PostedList),
     Refused(EpochRefusal),
+}
+
+impl Drop for EpochSet {
+    fn drop(self) {
+        match self {
+            EpochSet::Done(_field_1) => (),
+            EpochSet::Refused(_field_1) => (),
+        }
+    }
 }
 
 /// Why a house does not take a new epoch.

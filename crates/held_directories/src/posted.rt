@@ -14,9 +14,14 @@ pub struct Posted {
 }
 
 /// Messages in the order in which they are posted.
-#[derive(Drop)]
 pub struct PostedList {
     items: Vec<Posted>,
+}
+
+impl Drop for PostedList {
+    fn drop(self) {
+        let PostedList { items: _items } = self;
+    }
 }
 
 impl Model for PostedList {

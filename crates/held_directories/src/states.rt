@@ -17,7 +17,6 @@ use std::marker::Model;
 
 /// What a house holds of a directory that it is a member of: the epoch, the members, its replica, and what it does about a
 /// skulk of its own.
-#[derive(Drop)]
 pub struct Held {
     pub epoch: EpochNo,
     pub members: Members,
@@ -25,18 +24,37 @@ pub struct Held {
     pub skulk: Skulk,
 }
 
+impl Drop for Held {
+    fn drop(self) {
+        let Held { epoch: _epoch, members: _members, replica: _replica, skulk: _skulk } = self;
+    }
+}
+
 /// What a house has of a directory.
-#[derive(Drop)]
 pub enum DirState {
     Held(Held),
     /// It has left the directory in this epoch.
     Gone(EpochNo),
 }
 
+impl Drop for DirState {
+    fn drop(self) {
+        match self {
+            DirState::Held(_field_1) => (),
+            DirState::Gone(_field_1) => (),
+        }
+    }
+}
+
 /// The directories of a house, in ascending order of their numbers.
-#[derive(Drop)]
 pub struct DirStates {
     states: BTreeMap<DirId, DirState>,
+}
+
+impl Drop for DirStates {
+    fn drop(self) {
+        let DirStates { states: _states } = self;
+    }
 }
 
 impl Model for DirStates {

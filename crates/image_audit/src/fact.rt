@@ -13,12 +13,20 @@ use std::alloc::{AllocError, Global};
 use std::cmp::Ordering;
 
 /// What a replica says of an entry.
-#[derive(Drop)]
 pub enum Fact {
     /// An entry of this name and kind was born at this stamp.
     Birth(SimpleName, Kind, Stamp),
     /// The entry of this name and birth has this value of the attribute, since the last stamp.
     Value(SimpleName, Stamp, AttrName, Value, Stamp),
+}
+
+impl Drop for Fact {
+    fn drop(self) {
+        match self {
+            Fact::Birth(_field_1, _field_2, _field_3) => (),
+            Fact::Value(_field_1, _field_2, _field_3, _field_4, _field_5) => (),
+        }
+    }
 }
 
 /// A fact as the image has it.

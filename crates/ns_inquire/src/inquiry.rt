@@ -14,7 +14,7 @@ use std::alloc::{AllocError, Global};
 use tower_codec::Interface;
 
 /// Which elements of a profile are asked for.
-#[derive(Debug, PartialEq, Eq, Drop)]
+#[derive(Debug, PartialEq, Eq)]
 pub enum Inquiry {
     AllElements,
     /// The default elements.
@@ -26,6 +26,18 @@ pub enum Inquiry {
     /// Those for an interface, in a version that is meant, that lead to a member; no default
     /// elements.
     ByBoth(Interface, Version, FullName),
+}
+
+impl Drop for Inquiry {
+    fn drop(self) {
+        match self {
+            Inquiry::AllElements => (),
+            Inquiry::Default => (),
+            Inquiry::ByInterface(_field_1, _field_2) => (),
+            Inquiry::ByMember(_field_1) => (),
+            Inquiry::ByBoth(_field_1, _field_2, _field_3) => (),
+        }
+    }
 }
 
 impl Inquiry {

@@ -34,9 +34,15 @@ const NAME_LENGTH: usize = 21;
 pub(crate) const NAME: usize = 23;
 
 /// What an element says beside its interface and its member: octets 0x20 to 0x7E.
-#[derive(Debug, PartialEq, Eq, Drop)]
+#[derive(Debug, PartialEq, Eq)]
 pub struct Annotation {
     octets: Octets,
+}
+
+impl Drop for Annotation {
+    fn drop(self) {
+        let Annotation { octets: _octets } = self;
+    }
 }
 
 impl Model for Annotation {
@@ -59,7 +65,7 @@ impl Annotation {
 }
 
 /// An element of a profile: where a search for the interface may go on, or for any where the priority is 8.
-#[derive(Debug, PartialEq, Eq, Drop)]
+#[derive(Debug, PartialEq, Eq)]
 pub struct Element {
     /// 0 to 7, searched in this order; or 8, a default element.
     pub priority: u8,
@@ -68,6 +74,12 @@ pub struct Element {
     /// The entry to go on at.
     pub member: FullName,
     pub annotation: Annotation,
+}
+
+impl Drop for Element {
+    fn drop(self) {
+        let Element { priority: _priority, interface: _interface, member: _member, annotation: _annotation } = self;
+    }
 }
 
 impl Element {

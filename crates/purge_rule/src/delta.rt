@@ -15,10 +15,15 @@ use std::alloc::{AllocError, Global};
 
 /// What a house sends of a replica in a skulk: what of its table is later than a stamp, if there is one, else the whole
 /// table.
-#[derive(Drop)]
 pub struct Delta {
     pub table: Table,
     pub above: Option<Stamp>,
+}
+
+impl Drop for Delta {
+    fn drop(self) {
+        let Delta { table: _table, above: _above } = self;
+    }
 }
 
 impl Delta {

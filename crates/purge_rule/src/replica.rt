@@ -21,10 +21,15 @@ use std::alloc::{AllocError, Global};
 use std::sync::ledger::Ledger;
 
 /// What a house holds of a directory: its table, and the stamp up to which each member of the replica set has each mark.
-#[derive(Drop)]
 pub struct Replica {
     pub table: Table,
     pub all_up_to: Option<Stamp>,
+}
+
+impl Drop for Replica {
+    fn drop(self) {
+        let Replica { table: _table, all_up_to: _all_up_to } = self;
+    }
 }
 
 impl Replica {

@@ -18,10 +18,15 @@ use directory::Kind;
 use std::alloc::{AllocError, Global};
 
 /// A directory that was entered from the root directory, child by child: its full name, and the pointer to it.
-#[derive(Drop)]
 pub struct Near {
     name: FullName,
     at: ChildPointer,
+}
+
+impl Drop for Near {
+    fn drop(self) {
+        let Near { name: _name, at: _at } = self;
+    }
 }
 
 /// The entry that a full name leads to, links followed to the last: the same that `resolve` finds. The directory of the name

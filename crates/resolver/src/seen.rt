@@ -43,10 +43,16 @@ pub struct Found {
 
 /// Where an entry of a simple name is, or could be: the directory, the house that was asked, and the kind of the entry
 /// that it shows, if it shows one.
-#[derive(Debug, Drop)]
+#[derive(Debug)]
 pub struct Place {
     pub dir: DirId,
     pub house: HouseNo,
     pub name: SimpleName,
     pub kind: Option<Kind>,
+}
+
+impl Drop for Place {
+    fn drop(self) {
+        let Place { dir: _dir, house: _house, name: _name, kind: _kind } = self;
+    }
 }

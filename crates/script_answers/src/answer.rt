@@ -6,7 +6,6 @@ use cell_script::{Octets, StringBindings};
 use directory::Table;
 
 /// What the cell answers to a line.
-#[derive(Drop)]
 pub enum Answer {
     /// Nothing but that it is done.
     Done,
@@ -47,8 +46,33 @@ pub enum Answer {
     Refused(ScriptRefusal),
 }
 
+impl Drop for Answer {
+    fn drop(self) {
+        match self {
+            Answer::Done => (),
+            Answer::Posted(_field_1) => (),
+            Answer::Made(_field_1, _field_2, _field_3) => (),
+            Answer::Stamped(_field_1, _field_2) => (),
+            Answer::Epoch(_field_1, _field_2) => (),
+            Answer::Taken(_field_1) => (),
+            Answer::Late(_field_1, _field_2) => (),
+            Answer::Early(_field_1, _field_2) => (),
+            Answer::Stale(_field_1, _field_2) => (),
+            Answer::NoReplica => (),
+            Answer::Complete(_field_1, _field_2) => (),
+            Answer::Values(_field_1) => (),
+            Answer::Target(_field_1) => (),
+            Answer::Updates(_field_1, _field_2) => (),
+            Answer::Bindings(_field_1) => (),
+            Answer::Dump(_field_1, _field_2, _field_3, _field_4) => (),
+            Answer::Octets(_field_1) => (),
+            Answer::Decoded(_field_1, _field_2) => (),
+            Answer::Refused(_field_1) => (),
+        }
+    }
+}
+
 /// Why a command is refused.
-#[derive(Drop)]
 pub enum ScriptRefusal {
     HouseExists,
     NoHouse,
@@ -100,4 +124,50 @@ pub enum ScriptRefusal {
     OutOfOrder(usize),
     BadFlag(usize),
     NotAbove(usize),
+}
+
+impl Drop for ScriptRefusal {
+    fn drop(self) {
+        match self {
+            ScriptRefusal::HouseExists => (),
+            ScriptRefusal::NoHouse => (),
+            ScriptRefusal::NoDirectory => (),
+            ScriptRefusal::DirectoryExists => (),
+            ScriptRefusal::BadMembers => (),
+            ScriptRefusal::NotMember => (),
+            ScriptRefusal::Down => (),
+            ScriptRefusal::Up => (),
+            ScriptRefusal::NoMessage => (),
+            ScriptRefusal::NoReplica => (),
+            ScriptRefusal::NotMaster => (),
+            ScriptRefusal::NoSuchEntry => (),
+            ScriptRefusal::EntryExists => (),
+            ScriptRefusal::WrongKind => (),
+            ScriptRefusal::StampsSpent(_field_1, _field_2) => (),
+            ScriptRefusal::NotJoined(_field_1, _field_2) => (),
+            ScriptRefusal::NoSuchName(_field_1) => (),
+            ScriptRefusal::NotDirectory(_field_1) => (),
+            ScriptRefusal::Unreachable(_field_1) => (),
+            ScriptRefusal::LinkCycle => (),
+            ScriptRefusal::TooManyLinks => (),
+            ScriptRefusal::NameTooLong => (),
+            ScriptRefusal::RootName => (),
+            ScriptRefusal::Vanished => (),
+            ScriptRefusal::NotLink => (),
+            ScriptRefusal::NotObject => (),
+            ScriptRefusal::NothingToExport => (),
+            ScriptRefusal::NothingToUnexport => (),
+            ScriptRefusal::NoSuchMember => (),
+            ScriptRefusal::BadPriority => (),
+            ScriptRefusal::ElementTooLong => (),
+            ScriptRefusal::NoSuchElement => (),
+            ScriptRefusal::Short(_field_1) => (),
+            ScriptRefusal::BadTag(_field_1) => (),
+            ScriptRefusal::BadLength(_field_1) => (),
+            ScriptRefusal::BadName(_field_1) => (),
+            ScriptRefusal::OutOfOrder(_field_1) => (),
+            ScriptRefusal::BadFlag(_field_1) => (),
+            ScriptRefusal::NotAbove(_field_1) => (),
+        }
+    }
 }

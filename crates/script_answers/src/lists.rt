@@ -6,9 +6,14 @@ use std::alloc::{AllocError, Global};
 use std::marker::Model;
 
 /// Serial numbers of messages.
-#[derive(Drop)]
 pub struct Serials {
     items: Vec<u64>,
+}
+
+impl Drop for Serials {
+    fn drop(self) {
+        let Serials { items: _items } = self;
+    }
 }
 
 impl Model for Serials {
@@ -46,9 +51,14 @@ impl Serials {
 }
 
 /// Values of an attribute.
-#[derive(Drop)]
 pub struct Values {
     items: Vec<Value>,
+}
+
+impl Drop for Values {
+    fn drop(self) {
+        let Values { items: _items } = self;
+    }
 }
 
 impl Model for Values {

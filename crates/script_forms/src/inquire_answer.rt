@@ -22,7 +22,6 @@ use tower_codec::{Interface, StringBinding};
 use uuid::Uuid;
 
 /// What the form `inquire` answers to a line.
-#[derive(Drop)]
 pub enum InquireAnswer {
     /// The answer to a line of a script, or why an inquiry is refused.
     Plain(Answer),
@@ -34,6 +33,18 @@ pub enum InquireAnswer {
     Elements(Vec<Element>),
     /// The bindings of an import in batches: full ones, but for the last; none is empty.
     Batches(Vec<Vec<StringBinding>>),
+}
+
+impl Drop for InquireAnswer {
+    fn drop(self) {
+        match self {
+            InquireAnswer::Plain(_field_1) => (),
+            InquireAnswer::Members(_field_1) => (),
+            InquireAnswer::Entries(_field_1, _field_2) => (),
+            InquireAnswer::Elements(_field_1) => (),
+            InquireAnswer::Batches(_field_1) => (),
+        }
+    }
 }
 
 // An inquiry that is refused.

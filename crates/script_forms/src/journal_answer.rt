@@ -7,7 +7,6 @@ use script_answers::{Answer, append_answer, begin_line};
 use std::alloc::{AllocError, Global};
 
 /// What the form `journal` answers to a line.
-#[derive(Drop)]
 pub enum JournalAnswer {
     /// An answer of `run`.
     Plain(Answer),
@@ -17,6 +16,17 @@ pub enum JournalAnswer {
     StoppedAfter,
     /// A step is to be stopped at a house that does not act in it.
     NotActing,
+}
+
+impl Drop for JournalAnswer {
+    fn drop(self) {
+        match self {
+            JournalAnswer::Plain(_field_1) => (),
+            JournalAnswer::StoppedBefore => (),
+            JournalAnswer::StoppedAfter => (),
+            JournalAnswer::NotActing => (),
+        }
+    }
 }
 
 // The line of an answer of these words.
