@@ -7,6 +7,8 @@ ghost use Rattle.cds_records.specs.Octets.{dir_octets, image_octets, kept_octets
 ghost use Rattle.record_fields.specs.Octets.{items_octets};
 ghost use Rattle.cds_records.specs.Ranges.{FitsDir, FitsImage};
 ghost use Rattle.record_fields.specs.Ranges.{ItemsFit};
+ghost use Rattle.record_fields.specs.Wanting.{IfWant};
+ghost use Rattle.cds_records.specs.Wanting.{WantsForImage};
 ghost use Rattle.clearinghouse.specs.Imaging.{image_of, kept_of, restarted, started, started_from, started_of};
 ghost use Rattle.clearinghouse.specs.Lawful.{IsLawful};
 
@@ -90,9 +92,10 @@ impl Clearinghouse {
     }
 
     /// The house that kept these octets, in either format, with no skulk that runs; its floor is raised to the greatest time in
-    /// them.
+    /// them. Memory is asked for only after a whole head of an image, so a fault in the head is never answered as out of memory.
     pub fn start(alloc: Global, octets: &[u8]) -> Result<Clearinghouse, AllocOr<StartFault>>
         ensures answer { Answers result (started octets.now) }
+        ensures wanting { IfWant (WantsForImage 1 2 octets.now) result }
         ensures lawful { IfOk result IsLawful }
     {
         let image = match whole_image(alloc, octets) {
@@ -100,7 +103,8 @@ impl Clearinghouse {
             Err(AllocOr::Fault(fault)) => return Err(AllocOr::Fault(StartFault::BadImage(fault))),
             Err(AllocOr::OutOfMemory) => return Err(AllocOr::OutOfMemory),
         };
-        Ok(started_house(alloc, image)?)
+        let house = started_house(alloc, image)?;
+        Ok(house)
     }
 }
 
