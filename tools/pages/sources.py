@@ -7,7 +7,7 @@ import re
 ROOT = os.path.dirname(os.path.dirname(os.path.dirname(os.path.realpath(__file__))))
 CASES = ("crates/cdsreplay/cases", "crates/cdsmend/cases")
 # Crates whose code is no part of the program: its tests.
-TESTS = ("layer_tests", "replay_tests")
+TESTS = ("low_tests", "run_tests")
 
 
 @functools.cache
@@ -227,12 +227,12 @@ class Calls:
 
 @functools.cache
 def reached():
-    """The functions that `run` of cell_replay and of cds_mend, and `main` of either program, can come to. What implements a trait of the standard library is
+    """The functions that `run` of cell_replay and of mend_program, and `main` of either program, can come to. What implements a trait of the standard library is
     called in ways that no name tells, so of a crate of the program it counts as reached.
     """
     calls, known = Calls(), set()
     theirs = [it for it in functions() if it.crate not in TESTS]
-    roots = (("cell_replay", "run"), ("cdsreplay", "main"), ("cds_mend", "run"), ("cdsmend", "main"))
+    roots = (("cell_replay", "run"), ("cdsreplay", "main"), ("mend_program", "run"), ("cdsmend", "main"))
     begin = [it for it in theirs if (it.crate, it.name) in roots]
     begin += [it for it in theirs if it.trait and it.trait not in traits()]
     while begin:

@@ -14,8 +14,8 @@ use Rattle.cds_stamps.specs.Keyed.{get-map_some}
 use Rattle.cds_stamps.specs.Octets.{octets_exact, is_octets}
 use Rattle.attr_sets.specs.declared.mark.ValueMark.{ValueMark}
 use Rattle.attr_sets.specs.declared.cell.AttrCell.{AttrCell}
-use Rattle.attr_sets.specs.Marks.{later, later_laws, kept}
-use Rattle.attr_sets.specs.Cells.{AttrMark, Cleared, Marked, clear_in, mark_in, attr_stamp, greatest_clear, greatest_mark, cell_of, join_cells, IsValidCell}
+use Rattle.attr_sets.specs.Marks.{later, later_laws, mark_after_clear}
+use Rattle.attr_sets.specs.AttributeCells.{AttrMark, Cleared, Marked, clear_in, mark_in, attr_stamp, greatest_clear, greatest_mark, cell_of, join_cells, IsValidCell}
 use Rattle.attr_sets.specs.CellPurges.{mark_left, mark_after, purged_cell, after_cell}
 use Rattle.attr_sets.specs.CellLawProofs.{kept-later, kept-kept, get-cell_of, get-join_cells, same_cell, clears}
 use Rattle.attr_sets.proofs.Greatest.{same_inside}
@@ -33,21 +33,21 @@ get-after_cell t a v = get-map_some nat_list_cmp_total octets_exact (mark_after 
 
 -- ---- valid cells
 
-left-valid : (t : Stamp) (c : Option Stamp) (m : Option ValueMark) → kept c m ≡ m → kept (clear_after t c) (left t m) ≡ left t m
+left-valid : (t : Stamp) (c : Option Stamp) (m : Option ValueMark) → mark_after_clear c m ≡ m → mark_after_clear (clear_after t c) (left t m) ≡ left t m
 left-valid t c m valid =
     let c' = clear_after t c in
-    let stays : kept c (left t m) ≡ left t m = sym (left-kept t c m) ∙ ap (left t) valid in
-    ap (kept c') (sym stays) ∙ kept-kept c' c (left t m) ∙ ap (λ d. kept d (left t m)) (clear_after-below t c) ∙ stays
+    let stays : mark_after_clear c (left t m) ≡ left t m = sym (left-kept t c m) ∙ ap (left t) valid in
+    ap (mark_after_clear c') (sym stays) ∙ kept-kept c' c (left t m) ∙ ap (λ d. mark_after_clear d (left t m)) (clear_after-below t c) ∙ stays
 
 -- what is left of a valid cell is valid
 pub purged_cell-valid : (t : Stamp) (a : AttrCell) → IsValidCell a → IsValidCell (purged_cell t a)
 purged_cell-valid t a valid v =
-    ap (kept (clear_after t a.cleared)) (get-purged_cell t a v) ∙ left-valid t a.cleared (get a.values v) (valid v) ∙ sym (get-purged_cell t a v)
+    ap (mark_after_clear (clear_after t a.cleared)) (get-purged_cell t a v) ∙ left-valid t a.cleared (get a.values v) (valid v) ∙ sym (get-purged_cell t a v)
 
 -- and so is what of it is later
 pub after_cell-valid : (t : Stamp) (a : AttrCell) → IsValidCell a → IsValidCell (after_cell t a)
 after_cell-valid t a valid v =
-    ap (kept (clear_after t a.cleared)) (get-after_cell t a v) ∙ sym (after-kept t a.cleared (get a.values v)) ∙ ap (after t) (valid v)
+    ap (mark_after_clear (clear_after t a.cleared)) (get-after_cell t a v) ∙ sym (after-kept t a.cleared (get a.values v)) ∙ ap (after t) (valid v)
     ∙ sym (get-after_cell t a v)
 
 -- ---- up to a stamp, and then up to one that is not earlier
@@ -74,9 +74,9 @@ purged_cell-after t a = same_cell (purged_cell t (after_cell t a)) (after_cell t
 
 -- ---- what is later of one cell, joined to another
 
-joined_left : (t : Stamp) (c d : Option Stamp) (m n : Option ValueMark) → kept c m ≡ m
-    → left t (kept (maybe later_stamp c (clear_after t d)) (maybe later m (after t n)))
-    ≡ kept (maybe later_stamp (clear_after t c) (clear_after t d)) (maybe later (left t m) (after t n))
+joined_left : (t : Stamp) (c d : Option Stamp) (m n : Option ValueMark) → mark_after_clear c m ≡ m
+    → left t (mark_after_clear (maybe later_stamp c (clear_after t d)) (maybe later m (after t n)))
+    ≡ mark_after_clear (maybe later_stamp (clear_after t c) (clear_after t d)) (maybe later (left t m) (after t n))
 joined_left t c d m n valid =
     let c' = clear_after t c in
     let d' = clear_after t d in
@@ -84,13 +84,13 @@ joined_left t c d m n valid =
     let e' = maybe later_stamp c' d' in
     let x = left t m in
     let y = after t n in
-    let stays : kept c x ≡ x = sym (left-kept t c m) ∙ ap (left t) valid in
-    let stays_too : kept c' x ≡ x = left-valid t c m valid in
-    let own : kept e x ≡ kept e' x =
+    let stays : mark_after_clear c x ≡ x = sym (left-kept t c m) ∙ ap (left t) valid in
+    let stays_too : mark_after_clear c' x ≡ x = left-valid t c m valid in
+    let own : mark_after_clear e x ≡ mark_after_clear e' x =
     cc (clears.comm c d', clears.comm c' d', kept-kept d' c x, kept-kept d' c' x, stays, stays_too) in
-    let other : kept e y ≡ kept e' y = kept-after t e n ∙ ap (λ c. kept c y) (clear_after-later t c d) in
-    left-kept t e (maybe later m y) ∙ ap (kept e) (left-later t m n) ∙ kept-later e x y
-    ∙ ap (λ u. maybe later u (kept e y)) own ∙ ap (maybe later (kept e' x)) other ∙ sym (kept-later e' x y)
+    let other : mark_after_clear e y ≡ mark_after_clear e' y = kept-after t e n ∙ ap (λ c. mark_after_clear c y) (clear_after-later t c d) in
+    left-kept t e (maybe later m y) ∙ ap (mark_after_clear e) (left-later t m n) ∙ kept-later e x y
+    ∙ ap (λ u. maybe later u (mark_after_clear e y)) own ∙ ap (maybe later (mark_after_clear e' x)) other ∙ sym (kept-later e' x y)
 
 -- a cell is purged before or after what is later of another is joined in
 pub purged_cell-joined : (t : Stamp) (a b : AttrCell) → IsValidCell a
@@ -102,10 +102,10 @@ purged_cell-joined t a b valid =
     let e = maybe later_stamp a.cleared (clear_after t b.cleared) in
     let e' = maybe later_stamp (clear_after t a.cleared) (clear_after t b.cleared) in
     get-purged_cell t (join_cells a (after_cell t b)) v ∙ ap (left t) (get-join_cells a (after_cell t b) v)
-    ∙ ap (λ y. left t (kept e (maybe later m y))) (get-after_cell t b v)
+    ∙ ap (λ y. left t (mark_after_clear e (maybe later m y))) (get-after_cell t b v)
     ∙ joined_left t a.cleared b.cleared m n (valid v)
-    ∙ sym (get-join_cells (purged_cell t a) (after_cell t b) v ∙ ap (λ x. kept e' (maybe later x (get (after_cell t b).values v))) (get-purged_cell t a v)
-    ∙ ap (λ y. kept e' (maybe later (left t m) y)) (get-after_cell t b v)))
+    ∙ sym (get-join_cells (purged_cell t a) (after_cell t b) v ∙ ap (λ x. mark_after_clear e' (maybe later x (get (after_cell t b).values v))) (get-purged_cell t a v)
+    ∙ ap (λ y. mark_after_clear e' (maybe later (left t m) y)) (get-after_cell t b v)))
 
 -- ---- cells of histories
 
@@ -115,20 +115,20 @@ pub record KnowsUpTo (t : Stamp) (x y : List AttrMark) : Type 0 where
   pub mark : (v : List ℕ) → maybe later (greatest_mark x v) (greatest_mark y v) ≡ maybe later (greatest_mark x v) (after t (greatest_mark y v))
 
 merged_marks : (t : Stamp) (c d : Option Stamp) (m n : Option ValueMark)
-    → kept (maybe later_stamp (clear_after t c) (clear_after t d)) (maybe later (left t (kept c m)) (after t (kept d n)))
-    ≡ left t (kept (maybe later_stamp c (clear_after t d)) (maybe later m (after t n)))
+    → mark_after_clear (maybe later_stamp (clear_after t c) (clear_after t d)) (maybe later (left t (mark_after_clear c m)) (after t (mark_after_clear d n)))
+    ≡ left t (mark_after_clear (maybe later_stamp c (clear_after t d)) (maybe later m (after t n)))
 merged_marks t c d m n =
     let c' = clear_after t c in
     let d' = clear_after t d in
     let e = maybe later_stamp c d' in
     let e' = maybe later_stamp c' d' in
     let y = after t n in
-    let front : kept e' (left t (kept c m)) ≡ kept e (left t m) =
+    let front : mark_after_clear e' (left t (mark_after_clear c m)) ≡ mark_after_clear e (left t m) =
     cc (left-kept t c m, kept-kept e' c (left t m), clears.comm e' c, clears.assoc c c' d', clears.comm c c', clear_after-below t c) in
-    let back : kept e' (after t (kept d n)) ≡ kept e y =
+    let back : mark_after_clear e' (after t (mark_after_clear d n)) ≡ mark_after_clear e y =
     cc (after-kept t d n, kept-kept e' d' y, clears.assoc c' d' d', clears.idem d', kept-after t e n, clear_after-later t c d) in
-    kept-later e' (left t (kept c m)) (after t (kept d n)) ∙ ap (λ u. maybe later u (kept e' (after t (kept d n)))) front
-    ∙ ap (maybe later (kept e (left t m))) back ∙ sym (kept-later e (left t m) y) ∙ ap (kept e) (sym (left-later t m n))
+    kept-later e' (left t (mark_after_clear c m)) (after t (mark_after_clear d n)) ∙ ap (λ u. maybe later u (mark_after_clear e' (after t (mark_after_clear d n)))) front
+    ∙ ap (maybe later (mark_after_clear e (left t m))) back ∙ sym (kept-later e (left t m) y) ∙ ap (mark_after_clear e) (sym (left-later t m n))
     ∙ sym (left-kept t e (maybe later m y))
 
 -- what is left of the marks of one history, with what is later of those of another that it knows up to t
@@ -146,10 +146,10 @@ merged_cells t x y known =
     let e = maybe later_stamp (clear_after t c) (clear_after t d) in
     let mark : maybe later m (after t n) ≡ greatest_mark (x ++ y) v = sym (known.mark v) ∙ sym (join_of-append later_laws (mark_in v) x y) in
     get-join_cells a b v
-    ∙ ap (λ u. kept e (maybe later u (get b.values v))) (get-purged_cell t (cell_of x) v ∙ ap (left t) (get-cell_of x v))
-    ∙ ap (λ u. kept e (maybe later (left t (kept c m)) u)) (get-after_cell t (cell_of y) v ∙ ap (after t) (get-cell_of y v))
+    ∙ ap (λ u. mark_after_clear e (maybe later u (get b.values v))) (get-purged_cell t (cell_of x) v ∙ ap (left t) (get-cell_of x v))
+    ∙ ap (λ u. mark_after_clear e (maybe later (left t (mark_after_clear c m)) u)) (get-after_cell t (cell_of y) v ∙ ap (after t) (get-cell_of y v))
     ∙ merged_marks t c d m n
-    ∙ ap (λ c. left t (kept c (maybe later m (after t n)))) clear ∙ ap (λ u. left t (kept (greatest_clear (x ++ y)) u)) mark
+    ∙ ap (λ c. left t (mark_after_clear c (maybe later m (after t n)))) clear ∙ ap (λ u. left t (mark_after_clear (greatest_clear (x ++ y)) u)) mark
     ∙ sym (get-purged_cell t (cell_of (x ++ y)) v ∙ ap (left t) (get-cell_of (x ++ y) v)))
 
 -- ---- histories that know others

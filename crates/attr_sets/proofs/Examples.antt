@@ -5,8 +5,8 @@ use Rattle.cds_stamps.specs.declared.stamp.Stamp.{Stamp}
 use Rattle.attr_sets.specs.declared.mark.ValueMark.{ValueMark}
 use Rattle.attr_sets.specs.declared.value.ValueFault.TheVariants.{BadSize}
 use Rattle.attr_sets.specs.Values.{value_fault}
-use Rattle.attr_sets.specs.Marks.{later, kept}
-use Rattle.attr_sets.specs.Cells.{AttrMark, Cleared, Marked, greatest_clear, greatest_mark}
+use Rattle.attr_sets.specs.Marks.{later, mark_after_clear}
+use Rattle.attr_sets.specs.AttributeCells.{AttrMark, Cleared, Marked, greatest_clear, greatest_mark}
 use Rattle.attr_sets.specs.CellPurges.{is_above, mark_left, clear_left, mark_after}
 
 -- a stamp of one node, and marks with it
@@ -43,10 +43,10 @@ tied_absent : later (present_at 3) (absent_at 3) ≡ absent_at 3
 tied_absent = refl
 
 -- a clear takes what is earlier, and nothing of its own stamp
-kept_at_clear : kept (Some (at 3)) (Some (present_at 3)) ≡ Some (present_at 3)
+kept_at_clear : mark_after_clear (Some (at 3)) (Some (present_at 3)) ≡ Some (present_at 3)
 kept_at_clear = refl
 
-taken_before_clear : kept (Some (at 3)) (Some (present_at 2)) ≡ None
+taken_before_clear : mark_after_clear (Some (at 3)) (Some (present_at 2)) ≡ None
 taken_before_clear = refl
 
 -- value 01 is added at 2 and removed at 4, 02 is put at 3

@@ -10,7 +10,7 @@ use Rattle.cds_stamps.specs.declared.stamp.Stamp.{Stamp}
 use Rattle.cds_stamps.specs.Semilattice.{maybe, greater}
 use Rattle.cds_stamps.specs.Stamps.{stamp_total, stamp_exact, is_earlier, is_up_to, later_stamp}
 use Rattle.attr_sets.specs.declared.mark.ValueMark.{ValueMark}
-use Rattle.attr_sets.specs.Marks.{later, kept}
+use Rattle.attr_sets.specs.Marks.{later, mark_after_clear}
 use Rattle.attr_sets.specs.CellPurges.{mark_left, mark_after, clear_left}
 
 -- ---- over any order: marks with a key, and keys that clear
@@ -204,11 +204,11 @@ abbrev tie : ValueMark → ValueMark → Ordering
 tie a b = bool_cmp b.present a.present
 
 -- a clear takes of what is later what it takes of all, and only if it is later
-pub after-kept : (t : Stamp) (c : Option Stamp) (m : Option ValueMark) → after t (kept c m) ≡ kept (clear_after t c) (after t m)
+pub after-kept : (t : Stamp) (c : Option Stamp) (m : Option ValueMark) → after t (mark_after_clear c m) ≡ mark_after_clear (clear_after t c) (after t m)
 after-kept = follow_by-keep time_of is_present stamp_total stamp_exact tie
 
 -- marks are dropped and kept in either order
-pub left-kept : (t : Stamp) (c : Option Stamp) (m : Option ValueMark) → left t (kept c m) ≡ kept c (left t m)
+pub left-kept : (t : Stamp) (c : Option Stamp) (m : Option ValueMark) → left t (mark_after_clear c m) ≡ mark_after_clear c (left t m)
 left-kept = leave_by-keep time_of is_present stamp_total stamp_exact tie
 
 -- what is later is joined before or after dropping
@@ -216,7 +216,7 @@ pub left-later : (t : Stamp) (x y : Option ValueMark) → left t (maybe later x 
 left-later = leave_by-both time_of is_present stamp_total stamp_exact tie
 
 -- a clear up to t takes nothing that is later
-pub kept-after : (t : Stamp) (c : Option Stamp) (y : Option ValueMark) → kept c (after t y) ≡ kept (clear_after t c) (after t y)
+pub kept-after : (t : Stamp) (c : Option Stamp) (y : Option ValueMark) → mark_after_clear c (after t y) ≡ mark_after_clear (clear_after t c) (after t y)
 kept-after = keep_by-follow time_of is_present stamp_total stamp_exact tie
 
 -- a clear that is later is joined before or after dropping

@@ -15,7 +15,7 @@ use Rattle.std.proofs.lemmas.Map.{lookup-none}
 use Rattle.std.proofs.lemmas.Map.Keys.{sorted_tail, IsDistinct-from_sorted}
 use Rattle.std.proofs.lemmas.Map.Entries.{none_past_head}
 use Rattle.cds_stamps.specs.Semilattice.{maybe, join_of}
-use Rattle.cds_stamps.specs.Keyed.{tied, map_some, get-map_some}
+use Rattle.cds_stamps.specs.Keyed.{ties_are_equal, map_some, get-map_some}
 use Rattle.cds_stamps.specs.Joins.{EachValue}
 use Rattle.cds_stamps.proofs.TreeViews.{entry_at, get-view, item_joined}
 use Rattle.cds_stamps.proofs.ValidJoins.{each_of_map}
@@ -76,7 +76,7 @@ module _ {K X Y : Type 0} {R : K → K → Ordering} (o : IsTotalOrder R) (same 
       (ap (λ n. get n q) put ∙ get-insert o old k y q ∙ by_case (eq_by_cmp R q k) refl) (is q)
     where
       by_case : (b : Bool) → eq_by_cmp R q k ≡ b → cond b (Some y) (get old q) ≡ maybe second (get old q) (option_and_then (g q) (if b then Some x else None))
-      by_case true at = last_counts (get old q) y ∙ ap (maybe second (get old q)) (sym gives ∙ ap (λ k. g k x) (sym (tied same q k at)))
+      by_case true at = last_counts (get old q) y ∙ ap (maybe second (get old q)) (sym gives ∙ ap (λ k. g k x) (sym (ties_are_equal same q k at)))
       by_case false at = sym (alone (get old q))
 
   -- one gives nothing
@@ -87,7 +87,7 @@ module _ {K X Y : Type 0} {R : K → K → Ordering} (o : IsTotalOrder R) (same 
       (by_case (eq_by_cmp R q k) refl) (is q)
     where
       by_case : (b : Bool) → eq_by_cmp R q k ≡ b → get new q ≡ maybe second (get new q) (option_and_then (g q) (if b then Some x else None))
-      by_case true at = sym (alone (get new q)) ∙ ap (maybe second (get new q)) (sym gives ∙ ap (λ k. g k x) (sym (tied same q k at)))
+      by_case true at = sym (alone (get new q)) ∙ ap (maybe second (get new q)) (sym gives ∙ ap (λ k. g k x) (sym (ties_are_equal same q k at)))
       by_case false at = sym (alone (get new q))
 
   -- all is put

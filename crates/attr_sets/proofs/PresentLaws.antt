@@ -8,7 +8,7 @@ use Rattle.cds_stamps.proofs.AscendingLaws.{Within, one_order}
 use Rattle.attr_sets.specs.declared.mark.ValueMark.{ValueMark}
 use Rattle.attr_sets.specs.declared.cell.AttrCell.{AttrCell}
 use Rattle.attr_sets.specs.Marks.{ValueMarks}
-use Rattle.attr_sets.specs.Cells.{present_in, cell_values}
+use Rattle.attr_sets.specs.AttributeCells.{present_in, cell_values}
 use Rattle.attr_sets.specs.CellPurges.{purged_cell}
 use Rattle.attr_sets.proofs.MarkPurgeLaws.{left}
 use Rattle.attr_sets.proofs.CellPurgeLaws.{get-purged_cell}

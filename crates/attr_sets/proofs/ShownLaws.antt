@@ -15,14 +15,14 @@ use Rattle.std.proofs.lemmas.Map.Keys.{IsDistinct-from_sorted}
 use Rattle.std.proofs.lemmas.Map.Views.{Contains-from_lookup, lookup-from_Contains}
 use Rattle.cds_stamps.specs.declared.stamp.Stamp.{Stamp}
 use Rattle.cds_stamps.specs.Semilattice.{maybe}
-use Rattle.cds_stamps.specs.Keyed.{tied}
+use Rattle.cds_stamps.specs.Keyed.{ties_are_equal}
 use Rattle.cds_stamps.specs.Octets.{octets_cmp, octets_exact, is_octets}
 use Rattle.cds_stamps.specs.Stamps.{is_earlier, stamp_cmp, stamp_total, stamp_exact, later_stamp, later_stamp_laws}
 use Rattle.attr_sets.specs.declared.mark.ValueMark.{ValueMark}
-use Rattle.attr_sets.specs.Marks.{kept, mark_cmp, mark_total, mark_exact}
+use Rattle.attr_sets.specs.Marks.{mark_after_clear, mark_cmp, mark_total, mark_exact}
 use Rattle.attr_sets.specs.declared.cell.AttrCell.{AttrCell}
-use Rattle.attr_sets.specs.Cells.{AttrMark, Cleared, Marked, clear_in, mark_in}
-use Rattle.attr_sets.specs.Cells.{greatest_clear, greatest_mark, marks_kept, present_in, shown_values, cell_values}
+use Rattle.attr_sets.specs.AttributeCells.{AttrMark, Cleared, Marked, clear_in, mark_in}
+use Rattle.attr_sets.specs.AttributeCells.{greatest_clear, greatest_mark, marks_kept, present_in, shown_values, cell_values}
 use Rattle.attr_sets.specs.CellLawProofs.{get-cell_of}
 use Rattle.attr_sets.specs.ShownValues.{IsGreatestMark, IsUncleared, IsShown}
 use Rattle.attr_sets.proofs.Greatest.{not_lt-through, Contains-head, Contains-tail, Contains-none, Contains-cases}
@@ -39,7 +39,7 @@ mark_in-only v (Cleared s) m is = cc
 mark_in-only v (Marked w n) m is = by_case (is_octets v w) refl is
   where
     by_case : (b : Bool) → is_octets v w ≡ b → (if b then Some n else None) ≡ Some m → Marked w n ≡ Marked v m
-    by_case true at has = λ i. Marked (sym (tied octets_exact v w at) i) (same_inside n m has i)
+    by_case true at has = λ i. Marked (sym (ties_are_equal octets_exact v w at) i) (same_inside n m has i)
     by_case false at has = cc
 
 clear_in-only : (e : AttrMark) (s : Stamp) → clear_in e ≡ Some s → e ≡ Cleared s
@@ -68,19 +68,19 @@ if_kept true m e = cc (e)
 if_kept false m e = refl
 
 module _ (h : List AttrMark) (m : ValueMark) where
-  uncleared_to : IsUncleared h m.stamp → kept (greatest_clear h) (Some m) ≡ Some m
+  uncleared_to : IsUncleared h m.stamp → mark_after_clear (greatest_clear h) (Some m) ≡ Some m
   uncleared_to free = by_case (greatest_clear h) refl
     where
-      by_case : (c : Option Stamp) → greatest_clear h ≡ c → kept c (Some m) ≡ Some m
+      by_case : (c : Option Stamp) → greatest_clear h ≡ c → mark_after_clear c (Some m) ≡ Some m
       by_case None is = refl
       by_case (Some c) is =
           let e : HasMember clear_in h c = join_of-among stamp_cmp clear_in h c is in
           ap (λ b. if b then None else Some m) (free c (subst (Contains h) (clear_in-only e.0 c e.2) e.1))
 
-  uncleared_from : kept (greatest_clear h) (Some m) ≡ Some m → IsUncleared h m.stamp
+  uncleared_from : mark_after_clear (greatest_clear h) (Some m) ≡ Some m → IsUncleared h m.stamp
   uncleared_from keeps d among = by_case (greatest_clear h) refl keeps
     where
-      by_case : (c : Option Stamp) → greatest_clear h ≡ c → kept c (Some m) ≡ Some m → is_earlier m.stamp d ≡ false
+      by_case : (c : Option Stamp) → greatest_clear h ≡ c → mark_after_clear c (Some m) ≡ Some m → is_earlier m.stamp d ≡ false
       by_case None is k =
           absurd (nothing_later d (ap (maybe later_stamp (Some d)) (sym is) ∙ join_of-member later_stamp_laws clear_in h (Cleared d) among ∙ is))
       by_case (Some c) is k =
@@ -88,7 +88,7 @@ module _ (h : List AttrMark) (m : ValueMark) where
           (is_earlier m.stamp c) m k) (join_of-greatest stamp_cmp clear_in stamp_total stamp_exact h c is (Cleared d) d among refl)
 
 -- what is kept was there
-kept_of : (c : Option Stamp) (x : Option ValueMark) (m : ValueMark) → kept c x ≡ Some m → x ≡ Some m
+kept_of : (c : Option Stamp) (x : Option ValueMark) (m : ValueMark) → mark_after_clear c x ≡ Some m → x ≡ Some m
 kept_of c None m e = cc (e)
 kept_of None (Some n) m e = e
 kept_of (Some c) (Some n) m e = by_case (is_earlier n.stamp c) e
@@ -193,7 +193,7 @@ module _ {X : Type 0} where
 
   -- and what the map has is an entry
   pub entry_of : (m : FinMap octets_cmp X) (v : List ℕ) (x : X) → get m v ≡ Some x → Contains (entries m) (v, x)
-  entry_of m v x is = Contains-from_lookup (tied octets_exact) v x (entries m) (sym (get-entries m v ∙ find_of octets_cmp (entries m) v) ∙ is)
+  entry_of m v x is = Contains-from_lookup (ties_are_equal octets_exact) v x (entries m) (sym (get-entries m v ∙ find_of octets_cmp (entries m) v) ∙ is)
 
 -- ---- the values that show
 
@@ -208,14 +208,14 @@ shown_values-ascending h = present_rise (entries (marks_kept h)) (map_rises (mar
 shown_from : (h : List AttrMark) (v : List ℕ) → Contains (shown_values h) v → IsShown h v
 shown_from h v c =
     let p : HasPresent (entries (marks_kept h)) v = present_from (entries (marks_kept h)) v c in
-    let keeps : kept (greatest_clear h) (greatest_mark h v) ≡ Some p.0 = sym (get-cell_of h v) ∙ has_entry (marks_kept h) v p.0 p.1 in
+    let keeps : mark_after_clear (greatest_clear h) (greatest_mark h v) ≡ Some p.0 = sym (get-cell_of h v) ∙ has_entry (marks_kept h) v p.0 p.1 in
     let is : greatest_mark h v ≡ Some p.0 = kept_of (greatest_clear h) (greatest_mark h v) p.0 keeps in
-    record { mark = p.0; greatest = greatest_from h v p.0 is; present = p.2; uncleared = uncleared_from h p.0 (ap (kept (greatest_clear h)) (sym is) ∙ keeps) }
+    record { mark = p.0; greatest = greatest_from h v p.0 is; present = p.2; uncleared = uncleared_from h p.0 (ap (mark_after_clear (greatest_clear h)) (sym is) ∙ keeps) }
 
 shown_to : (h : List AttrMark) (v : List ℕ) → IsShown h v → Contains (shown_values h) v
 shown_to h v s =
     present_to (entries (marks_kept h)) v s.mark s.present
-    (entry_of (marks_kept h) v s.mark (get-cell_of h v ∙ ap (kept (greatest_clear h)) (greatest_to h v s.mark s.greatest) ∙ uncleared_to h s.mark s.uncleared))
+    (entry_of (marks_kept h) v s.mark (get-cell_of h v ∙ ap (mark_after_clear (greatest_clear h)) (greatest_to h v s.mark s.greatest) ∙ uncleared_to h s.mark s.uncleared))
 
 -- a value shows exactly where its greatest mark says so
 pub shown_values-are : (h : List AttrMark) (v : List ℕ) → Contains (shown_values h) v ↔ IsShown h v

@@ -15,8 +15,8 @@ use Rattle.cds_stamps.specs.Stamps.{stamp_total, is_earlier, is_up_to, later_sta
 use Rattle.cds_stamps.specs.Octets.{octets_cmp, octets_exact, is_octets}
 use Rattle.attr_sets.specs.declared.mark.ValueMark.{ValueMark}
 use Rattle.attr_sets.specs.declared.cell.AttrCell.{AttrCell}
-use Rattle.attr_sets.specs.Marks.{later, kept}
-use Rattle.attr_sets.specs.Cells.{AttrMark, Cleared, Marked, greatest_clear, greatest_mark, cell_of, empty_cell, join_cells, IsValidCell}
+use Rattle.attr_sets.specs.Marks.{later, mark_after_clear}
+use Rattle.attr_sets.specs.AttributeCells.{AttrMark, Cleared, Marked, greatest_clear, greatest_mark, cell_of, empty_cell, join_cells, IsValidCell}
 use Rattle.attr_sets.specs.CellPurges.{is_empty_cell, some_cell, clear_left, mark_after, cell_left, cell_after, purged_cell, after_cell}
 use Rattle.attr_sets.specs.CellPurges.{is_above, IsAboveCell}
 use Rattle.attr_sets.specs.CellLawProofs.{same_cell, get-cell_of, get-join_cells, join_cells-comm, join_held, cell_of-valid}
@@ -68,15 +68,15 @@ pub has_some : (x : AttrMark) (xs : List AttrMark) → cell_of (x ∷ xs) ≢ em
 has_some (Cleared s) xs e = some_stays later_stamp s (greatest_clear xs) (ap (λ (c : AttrCell). c.cleared) e)
 has_some (Marked v m) xs e =
     let clear : greatest_clear xs ≡ None = ap (λ (c : AttrCell). c.cleared) e in
-    let gone : kept (greatest_clear xs) (greatest_mark (Marked v m ∷ xs) v) ≡ None = sym (get-cell_of (Marked v m ∷ xs) v)
+    let gone : mark_after_clear (greatest_clear xs) (greatest_mark (Marked v m ∷ xs) v) ≡ None = sym (get-cell_of (Marked v m ∷ xs) v)
     ∙ ap (λ (c : AttrCell). get c.values v) e ∙ get-empty octets_cmp v in
-    at (is_octets v v) (ap is_eq (tied_itself nat_list_cmp_total v)) (ap (λ c. kept c (greatest_mark (Marked v m ∷ xs) v)) (sym clear) ∙ gone)
+    at (is_octets v v) (ap is_eq (tied_itself nat_list_cmp_total v)) (ap (λ c. mark_after_clear c (greatest_mark (Marked v m ∷ xs) v)) (sym clear) ∙ gone)
   where
-    kept_all : (y : Option ValueMark) → kept None y ≡ y
+    kept_all : (y : Option ValueMark) → mark_after_clear None y ≡ y
     kept_all None = refl
     kept_all (Some y) = refl
 
-    at : (t : Bool) → t ≡ true → kept None (maybe later (if t then Some m else None) (greatest_mark xs v)) ≡ None → ⊥
+    at : (t : Bool) → t ≡ true → mark_after_clear None (maybe later (if t then Some m else None) (greatest_mark xs v)) ≡ None → ⊥
     at t is gone =
         some_stays later m (greatest_mark xs v) (ap (λ t. maybe later
         (if t then Some m else None) (greatest_mark xs v)) (sym is) ∙ sym (kept_all (maybe later
@@ -95,7 +95,7 @@ some_cell-of_some x xs = some_of-other (cell_of (x ∷ xs)) (has_some x xs)
 -- the empty cell adds nothing
 pub empty-joined : (b : AttrCell) → IsValidCell b → join_cells empty_cell b ≡ b
 empty-joined b valid = same_cell (join_cells empty_cell b) b refl (λ v.
-    get-join_cells empty_cell b v ∙ ap (λ x. kept b.cleared (maybe later x (get b.values v))) (get-empty octets_cmp v) ∙ valid v)
+    get-join_cells empty_cell b v ∙ ap (λ x. mark_after_clear b.cleared (maybe later x (get b.values v))) (get-empty octets_cmp v) ∙ valid v)
 
 alone : (x : Option AttrCell) → maybe join_cells x None ≡ x
 alone None = refl

@@ -9,17 +9,17 @@ use Rattle.std.proofs.lemmas.Cmp.{nat_list_eq_equiv}
 use Rattle.std.proofs.lemmas.List.{get_or-map, length-map}
 use Rattle.std.proofs.lemmas.List.Kept.{Contains-dedup, Contains-from_dedup, IsStrictlySortedBy-dedup}
 use Rattle.std.proofs.lemmas.List.Sorted.{Contains-permutation, IsPermutation-sym, IsPermutation-map}
-use Rattle.cds_stamps.specs.Keyed.{tied}
+use Rattle.cds_stamps.specs.Keyed.{ties_are_equal}
 use Rattle.cds_stamps.specs.Octets.{octets_cmp, octets_exact}
-use Rattle.cds_stamps.specs.Ascending.{ascending}
+use Rattle.cds_stamps.specs.Ascending.{in_ascending_order}
 use Rattle.cds_stamps.proofs.AscendingLaws.{ascending-only}
 
 -- octets that were sorted, and whose repeats were removed
-sorted_once : (xs ys : List (List ℕ)) → IsPermutation xs ys → IsSorted octets_cmp ys → dedup (pointwise nat_eq) ys ≡ ascending xs
+sorted_once : (xs ys : List (List ℕ)) → IsPermutation xs ys → IsSorted octets_cmp ys → dedup (pointwise nat_eq) ys ≡ in_ascending_order xs
 sorted_once xs ys moved sorted =
     ascending-only xs (dedup (pointwise nat_eq) ys) (IsStrictlySortedBy-dedup nat_list_cmp_total texts_ties ys sorted)
     (λ q c. Contains-permutation ys xs q (IsPermutation-sym xs ys moved) (Contains-from_dedup (pointwise nat_eq) ys q c))
-    (λ q c. Contains-dedup nat_list_eq_equiv (λ x y e. tied octets_exact x y (sym (texts_ties x y) ∙ e)) ys q (Contains-permutation xs ys q moved c))
+    (λ q c. Contains-dedup nat_list_eq_equiv (λ x y e. ties_are_equal octets_exact x y (sym (texts_ties x y) ∙ e)) ys q (Contains-permutation xs ys q moved c))
 
 -- lists that are seen through a function, as borrowed values are
 module _ {X : Type 0} (f : X → List ℕ) where
@@ -52,5 +52,5 @@ module _ {X : Type 0} (f : X → List ℕ) where
 
   -- what a sort and a `dedup` leave of them
   pub seen_once : (xs ys : List X) → IsPermutation xs ys → IsSorted (λ x y. octets_cmp (f x) (f y)) ys
-      → map f (dedup (λ a b. pointwise nat_eq (f a) (f b)) ys) ≡ ascending (map f xs)
+      → map f (dedup (λ a b. pointwise nat_eq (f a) (f b)) ys) ≡ in_ascending_order (map f xs)
   seen_once xs ys moved sorted = dedup-map ys ∙ sorted_once (map f xs) (map f ys) (IsPermutation-map f xs ys moved) (sorted-map ys sorted)

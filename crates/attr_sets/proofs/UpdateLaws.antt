@@ -6,12 +6,12 @@ use Rattle.std.specs.Cmp.Lexicographic.{nat_list_cmp_total}
 use Rattle.std.specs.List.{Contains}
 use Rattle.std.proofs.lemmas.List.Elements.{Contains-append_left, Contains-append_right, Contains-append_cases}
 use Rattle.cds_stamps.specs.declared.stamp.Stamp.{Stamp}
-use Rattle.cds_stamps.specs.Keyed.{tied}
+use Rattle.cds_stamps.specs.Keyed.{ties_are_equal}
 use Rattle.cds_stamps.specs.Octets.{octets_exact, is_octets}
 use Rattle.cds_stamps.specs.Stamps.{is_earlier, stamp_total}
 use Rattle.attr_sets.specs.declared.mark.ValueMark.{ValueMark}
 use Rattle.attr_sets.specs.Marks.{mark_cmp, mark_total}
-use Rattle.attr_sets.specs.Cells.{AttrMark, Cleared, Marked, shown_values}
+use Rattle.attr_sets.specs.AttributeCells.{AttrMark, Cleared, Marked, shown_values}
 use Rattle.attr_sets.specs.ShownValues.{IsShown, IsBefore}
 use Rattle.attr_sets.proofs.Greatest.{Contains-head, Contains-none, Contains-cases}
 use Rattle.attr_sets.proofs.ShownLaws.{shown_values-are}
@@ -122,7 +122,7 @@ module _ (h : List AttrMark) (v : List ℕ) (s : Stamp) (before : IsBefore h s) 
   )
     where
       by_case : (w : List ℕ) → IsShown h w → (b : Bool) → is_octets w v ≡ b → IsShown (h ++ with_mark true) w
-      by_case w shown true is = subst (IsShown (h ++ with_mark true)) (sym (tied octets_exact w v is)) added
+      by_case w shown true is = subst (IsShown (h ++ with_mark true)) (sym (ties_are_equal octets_exact w v is)) added
       by_case w shown false is =
           other_shown true w (λ e. not_both (is_octets w v) (ap (λ x. is_octets x v) e ∙ ap is_eq (tied_itself nat_list_cmp_total v)) is) shown
 

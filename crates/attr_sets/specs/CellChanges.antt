@@ -5,7 +5,7 @@ use Rattle.attr_sets.specs.declared.cell.AttrCell.{AttrCell}
 use Rattle.attr_sets.specs.declared.change.CellChange.{CellChange}
 use Rattle.attr_sets.specs.declared.change.CellChange.TheVariants.{Add, Remove, Put, Clear}
 use Rattle.attr_sets.specs.Marks.{present_at, absent_at, RaisesKept}
-use Rattle.attr_sets.specs.Cells.{AttrMark, Cleared, Marked, cell_of, join_cells}
+use Rattle.attr_sets.specs.AttributeCells.{AttrMark, Cleared, Marked, cell_of, join_cells}
 
 -- the marks of a change with this stamp (own)
 abbrev pub change_marks : CellChange → Stamp → List AttrMark

@@ -15,9 +15,9 @@ use Rattle.cds_stamps.specs.Semilattice.{IsSemilattice, greater, maybe, maybe_se
 use Rattle.cds_stamps.specs.Keyed.{get-merge, get-of_all_keys}
 use Rattle.cds_stamps.specs.Stamps.{is_earlier, later_stamp, later_stamp_laws, stamp_total, stamp_exact}
 use Rattle.cds_stamps.specs.Octets.{octets_cmp, octets_exact}
-use Rattle.attr_sets.specs.Marks.{later, later_laws, kept, RaisesKept}
-use Rattle.attr_sets.specs.Cells.{AttrMark, Cleared, Marked, clear_in, mark_in, value_in, greatest_clear, greatest_mark, cell_of, join_cells, IsValidCell}
-use Rattle.attr_sets.specs.Cells.{empty_cell}
+use Rattle.attr_sets.specs.Marks.{later, later_laws, mark_after_clear, RaisesKept}
+use Rattle.attr_sets.specs.AttributeCells.{AttrMark, Cleared, Marked, clear_in, mark_in, value_in, greatest_clear, greatest_mark, cell_of, join_cells, IsValidCell}
+use Rattle.attr_sets.specs.AttributeCells.{empty_cell}
 
 module _ {M K : Type 0} (f : M → K) {R : K → K → Ordering} (o : IsTotalOrder R) (same : IsAntisymmetric R) (S : M → M → Ordering) where
   abbrev not_before : (c : K) (m : M) → Option M
@@ -57,7 +57,7 @@ module _ {M K : Type 0} (f : M → K) {R : K → K → Ordering} (o : IsTotalOrd
       )
 
 -- the clear takes away from each of two marks what it takes from the later
-pub kept-later : (c : Option Stamp) (m n : Option ValueMark) → kept c (maybe later m n) ≡ maybe later (kept c m) (kept c n)
+pub kept-later : (c : Option Stamp) (m n : Option ValueMark) → mark_after_clear c (maybe later m n) ≡ maybe later (mark_after_clear c m) (mark_after_clear c n)
 kept-later None None n = grind arith
 kept-later None (Some m) None = refl
 kept-later None (Some m) (Some n) = refl
@@ -66,12 +66,12 @@ kept-later (Some c) (Some m) None = grind arith
 kept-later (Some c) (Some m) (Some n) = before-later (λ (x : ValueMark). x.stamp) stamp_total stamp_exact (λ a b. bool_cmp b.present a.present) c m n
 
 -- the later of two clears takes away what either does
-pub kept-kept : (c d : Option Stamp) (m : Option ValueMark) → kept c (kept d m) ≡ kept (maybe later_stamp c d) m
+pub kept-kept : (c d : Option Stamp) (m : Option ValueMark) → mark_after_clear c (mark_after_clear d m) ≡ mark_after_clear (maybe later_stamp c d) m
 kept-kept None d None = refl
 kept-kept None None (Some m) = refl
 kept-kept None (Some d) (Some m) = keep_all _
   where
-    keep_all : (x : Option ValueMark) → kept None x ≡ x
+    keep_all : (x : Option ValueMark) → mark_after_clear None x ≡ x
     keep_all None = refl
     keep_all (Some x) = refl
 kept-kept (Some c) d None = refl
@@ -79,7 +79,7 @@ kept-kept (Some c) None (Some m) = refl
 kept-kept (Some c) (Some d) (Some m) = kept-if (is_earlier m.stamp d)
     ∙ before-before (λ (x : ValueMark). x.stamp) stamp_total stamp_exact (λ a b. bool_cmp b.present a.present) c d m
   where
-    kept-if : (b : Bool) → kept (Some c) (if b then None else Some m) ≡ (if b then None else kept (Some c) (Some m))
+    kept-if : (b : Bool) → mark_after_clear (Some c) (if b then None else Some m) ≡ (if b then None else mark_after_clear (Some c) (Some m))
     kept-if true = refl
     kept-if false = refl
 
@@ -91,9 +91,9 @@ same_cell a b e f =
 
 -- the mark that a join has of a value
 pub get-join_cells : (a b : AttrCell) (v : List ℕ)
-    → get (join_cells a b).values v ≡ kept (join_cells a b).cleared (maybe later (get a.values v) (get b.values v))
+    → get (join_cells a b).values v ≡ mark_after_clear (join_cells a b).cleared (maybe later (get a.values v) (get b.values v))
 get-join_cells a b v =
-    get-merge nat_list_cmp_total octets_exact (λ m n. kept (maybe later_stamp a.cleared b.cleared) (maybe later m n)) refl a.values b.values v
+    get-merge nat_list_cmp_total octets_exact (λ m n. mark_after_clear (maybe later_stamp a.cleared b.cleared) (maybe later m n)) refl a.values b.values v
 
 -- the laws of what may be missing
 pub clears : IsSemilattice (maybe later_stamp)
@@ -115,14 +115,14 @@ join_cells-idem a valid = same_cell _ _ (clears.idem a.cleared) (λ v.
 
 -- a clear that was kept to before counts no more
 pub kept-nested : (c d : Option Stamp) (m n : Option ValueMark)
-    → kept (maybe later_stamp c d) (maybe later (kept c m) n) ≡ kept (maybe later_stamp c d) (maybe later m n)
+    → mark_after_clear (maybe later_stamp c d) (maybe later (mark_after_clear c m) n) ≡ mark_after_clear (maybe later_stamp c d) (maybe later m n)
 kept-nested c d m n =
     let e = maybe later_stamp c d in
-    cc (kept-later e (kept c m) n, kept-later e m n, kept-kept e c m, clears.comm e c, clears.assoc c c d, clears.idem c)
+    cc (kept-later e (mark_after_clear c m) n, kept-later e m n, kept-kept e c m, clears.comm e c, clears.assoc c c d, clears.idem c)
 
 get-join_three : (a b c : AttrCell) (v : List ℕ)
     → get (join_cells (join_cells a b) c).values v
-    ≡ kept (join_cells (join_cells a b) c).cleared (maybe later (maybe later (get a.values v) (get b.values v)) (get c.values v))
+    ≡ mark_after_clear (join_cells (join_cells a b) c).cleared (maybe later (maybe later (get a.values v) (get b.values v)) (get c.values v))
 get-join_three a b c v =
     cc (
       get-join_cells (join_cells a b) c v,
@@ -167,9 +167,9 @@ greatest_mark-beyond (Marked w m ∷ h) v e =
     found_not false r p ih = ih p
 
 -- the mark that the cell of a history has of a value
-pub get-cell_of : (h : List AttrMark) (v : List ℕ) → get (cell_of h).values v ≡ kept (greatest_clear h) (greatest_mark h v)
+pub get-cell_of : (h : List AttrMark) (v : List ℕ) → get (cell_of h).values v ≡ mark_after_clear (greatest_clear h) (greatest_mark h v)
 get-cell_of h =
-    get-of_all_keys nat_list_cmp_total octets_exact (filter_map value_in h) (λ v. kept (greatest_clear h) (greatest_mark h v)) (λ v e. ap (kept
+    get-of_all_keys nat_list_cmp_total octets_exact (filter_map value_in h) (λ v. mark_after_clear (greatest_clear h) (greatest_mark h v)) (λ v e. ap (mark_after_clear
     (greatest_clear h)) (greatest_mark-beyond h v e))
 
 -- the cell of a history is valid
@@ -177,8 +177,8 @@ pub cell_of-valid : (h : List AttrMark) → IsValidCell (cell_of h)
 cell_of-valid h v = cc (get-cell_of h v, kept-kept (greatest_clear h) (greatest_clear h) (greatest_mark h v), clears.idem (greatest_clear h))
 
 kept-both : (c d : Option Stamp) (m n : Option ValueMark)
-    → kept (maybe later_stamp c d) (maybe later (kept c m) (kept d n)) ≡ kept (maybe later_stamp c d) (maybe later m n)
-kept-both c d m n = cc (kept-nested c d m (kept d n), kept-nested d c n m, marks.comm m (kept d n), clears.comm c d, marks.comm n m)
+    → mark_after_clear (maybe later_stamp c d) (maybe later (mark_after_clear c m) (mark_after_clear d n)) ≡ mark_after_clear (maybe later_stamp c d) (maybe later m n)
+kept-both c d m n = cc (kept-nested c d m (mark_after_clear d n), kept-nested d c n m, marks.comm m (mark_after_clear d n), clears.comm c d, marks.comm n m)
 
 -- two histories together
 pub join_cells-cell_of : (g h : List AttrMark) → join_cells (cell_of g) (cell_of h) ≡ cell_of (g ++ h)
@@ -202,7 +202,7 @@ join_cells-cell_of g h = same_cell (join_cells (cell_of g) (cell_of h)) (cell_of
 -- ---- what the methods of maps do
 
 -- what dropping the earlier marks leaves is what the clear keeps
-pub option_filter-kept : (c : Stamp) (m : Option ValueMark) → option_filter (λ m. not (is_earlier m.stamp c)) m ≡ kept (Some c) m
+pub option_filter-kept : (c : Stamp) (m : Option ValueMark) → option_filter (λ m. not (is_earlier m.stamp c)) m ≡ mark_after_clear (Some c) m
 option_filter-kept c None = refl
 option_filter-kept c (Some m) = turned_if (is_earlier m.stamp c)
   where
@@ -216,7 +216,7 @@ option_filter-kept c (Some m) = turned_if (is_earlier m.stamp c)
 pub get-one : (v : List ℕ) (m : ValueMark) (q : List ℕ) → get (cell_of (Marked v m ∷ [])).values q ≡ (if eq_by_cmp octets_cmp q v then Some m else None)
 get-one v m q = get-cell_of (Marked v m ∷ []) q ∙ alone (eq_by_cmp octets_cmp q v)
   where
-    alone : (b : Bool) → kept None (maybe later (if b then Some m else None) None) ≡ (if b then Some m else None)
+    alone : (b : Bool) → mark_after_clear None (maybe later (if b then Some m else None) None) ≡ (if b then Some m else None)
     alone true = refl
     alone false = refl
 
@@ -226,7 +226,7 @@ alone_clear (Some c) = refl
 
 -- the values of b are those of a with a mark, if the clear keeps it
 pub mark_given : (a b : AttrCell) (v : List ℕ) (m : ValueMark) → IsValidCell a → b.cleared ≡ a.cleared
-    → ((q : List ℕ) → get b.values q ≡ maybe later (get a.values q) (kept a.cleared (if eq_by_cmp octets_cmp q v then Some m else None)))
+    → ((q : List ℕ) → get b.values q ≡ maybe later (get a.values q) (mark_after_clear a.cleared (if eq_by_cmp octets_cmp q v then Some m else None)))
     → b ≡ join_cells a (cell_of (Marked v m ∷ []))
 mark_given a b v m valid same has = same_cell b (join_cells a (cell_of (Marked v m ∷ []))) (same ∙ alone_clear a.cleared) (λ q.
     let x : Option ValueMark = if eq_by_cmp octets_cmp q v then Some m else None in
@@ -238,10 +238,10 @@ alone_mark (Some x) = refl
 
 -- a mark that either clear was kept to before, beside another
 kept-beside : (c d : Option Stamp) (m n : Option ValueMark)
-    → kept (maybe later_stamp c d) (maybe later m (kept c n)) ≡ kept (maybe later_stamp c d) (maybe later m n)
+    → mark_after_clear (maybe later_stamp c d) (maybe later m (mark_after_clear c n)) ≡ mark_after_clear (maybe later_stamp c d) (maybe later m n)
 kept-beside c d m n =
     let e = maybe later_stamp c d in
-    ap (kept e) (marks.comm m (kept c n)) ∙ kept-nested c d n m ∙ ap (kept e) (marks.comm n m)
+    ap (mark_after_clear e) (marks.comm m (mark_after_clear c n)) ∙ kept-nested c d n m ∙ ap (mark_after_clear e) (marks.comm n m)
 
 -- a mark, unless the clear of the cell takes it, and then a clear
 pub put_joined : (a b : AttrCell) (v : List ℕ) (m : ValueMark) (s : Stamp) → b.cleared ≡ a.cleared → RaisesKept a.cleared a.values b.values v m
@@ -254,20 +254,20 @@ put_joined a b v m s same raised =
     let e : Option Stamp = maybe later_stamp a.cleared (Some s) in
     let own : Option ValueMark = get a.values q in
     get-join_cells b clear q
-    ∙ ap (λ c. kept (maybe later_stamp c (Some s)) (maybe later (get b.values q) (get clear.values q))) same
-    ∙ ap (λ y. kept e (maybe later (get b.values q) y)) (get-cell_of (Cleared s ∷ []) q)
-    ∙ ap (kept e) (alone_mark (get b.values q) ∙ raised q)
+    ∙ ap (λ c. mark_after_clear (maybe later_stamp c (Some s)) (maybe later (get b.values q) (get clear.values q))) same
+    ∙ ap (λ y. mark_after_clear e (maybe later (get b.values q) y)) (get-cell_of (Cleared s ∷ []) q)
+    ∙ ap (mark_after_clear e) (alone_mark (get b.values q) ∙ raised q)
     ∙ kept-beside a.cleared (Some s) own x
-    ∙ sym (ap (λ c. kept c (maybe later own (kept
-    (Some s) x))) (clears.comm a.cleared (Some s)) ∙ kept-beside (Some s) a.cleared own x ∙ ap (λ c. kept c (maybe later own x))
+    ∙ sym (ap (λ c. mark_after_clear c (maybe later own (mark_after_clear
+    (Some s) x))) (clears.comm a.cleared (Some s)) ∙ kept-beside (Some s) a.cleared own x ∙ ap (λ c. mark_after_clear c (maybe later own x))
     (clears.comm (Some s) a.cleared))
-    ∙ ap (λ y. kept e (maybe later own (kept (Some s) y))) (sym (alone_mark x))
-    ∙ ap (λ y. kept e (maybe later own y)) (sym (get-cell_of (Cleared s ∷ Marked v m ∷ []) q))
+    ∙ ap (λ y. mark_after_clear e (maybe later own (mark_after_clear (Some s) y))) (sym (alone_mark x))
+    ∙ ap (λ y. mark_after_clear e (maybe later own y)) (sym (get-cell_of (Cleared s ∷ Marked v m ∷ []) q))
     ∙ sym (get-join_cells a both q))
 
 -- a clear
 pub clear_joined : (a b : AttrCell) (s : Stamp) → b.cleared ≡ maybe later_stamp a.cleared (Some s)
-    → ((q : List ℕ) → get b.values q ≡ kept b.cleared (get a.values q)) → b ≡ join_cells a (cell_of (Cleared s ∷ []))
+    → ((q : List ℕ) → get b.values q ≡ mark_after_clear b.cleared (get a.values q)) → b ≡ join_cells a (cell_of (Cleared s ∷ []))
 clear_joined a b s same keeps = same_cell b (join_cells a (cell_of (Cleared s ∷ []))) same (λ q.
     cc (keeps q, same, get-join_cells a (cell_of (Cleared s ∷ [])) q, get-cell_of (Cleared s ∷ []) q, alone_value (get a.values q)))
   where
@@ -280,7 +280,7 @@ nothing_left None y e = refl
 nothing_left (Some x) None e = cc
 nothing_left (Some x) (Some y) e = cc
 
-no_mark_left : (x y : Option ValueMark) → kept None (maybe later x y) ≡ None → x ≡ None
+no_mark_left : (x y : Option ValueMark) → mark_after_clear None (maybe later x y) ≡ None → x ≡ None
 no_mark_left None y e = refl
 no_mark_left (Some x) None e = cc
 no_mark_left (Some x) (Some y) e = cc
@@ -291,6 +291,6 @@ join_held a b e =
     let none : (join_cells a b).cleared ≡ None = ap (λ (c : AttrCell). c.cleared) e in
     same_cell a empty_cell (nothing_left a.cleared b.cleared none) (λ v.
     no_mark_left (get a.values v) (get b.values v)
-    (ap (λ c. kept c (maybe later (get a.values v) (get b.values v))) (sym none) ∙ sym (get-join_cells a b v)
+    (ap (λ c. mark_after_clear c (maybe later (get a.values v) (get b.values v))) (sym none) ∙ sym (get-join_cells a b v)
     ∙ ap (λ (c : AttrCell). get c.values v) e ∙ get-empty octets_cmp v)
     ∙ sym (get-empty octets_cmp v))

@@ -1,6 +1,6 @@
 pub mod Values
 pub mod Marks
-pub mod Cells
+pub mod AttributeCells
 pub mod CellLawProofs
 pub mod CellUndoWords
 pub mod CellChanges

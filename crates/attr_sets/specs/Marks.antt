@@ -56,10 +56,10 @@ abbrev pub mark_code : Coded ValueMark
 mark_code = code_by (Bool × Stamp) (coded× coded_bool stamp_code) (λ m. (m.present, m.stamp)) (λ p. record { present = p.0; stamp = p.1 }) (λ _. refl)
 
 -- a mark, unless it is earlier than the clear (own)
-abbrev pub kept : Option Stamp → Option ValueMark → Option ValueMark
-kept c None = None
-kept None (Some m) = Some m
-kept (Some c) (Some m) = if is_earlier m.stamp c then None else Some m
+abbrev pub mark_after_clear : Option Stamp → Option ValueMark → Option ValueMark
+mark_after_clear c None = None
+mark_after_clear None (Some m) = Some m
+mark_after_clear (Some c) (Some m) = if is_earlier m.stamp c then None else Some m
 
 -- a mark for each value, as clauses see it (own)
 abbrev pub ValueMarks : Type 0
@@ -67,12 +67,12 @@ ValueMarks = FinMap octets_cmp ValueMark
 
 -- n is m with this mark of v joined in, unless the mark is earlier than the clear (own)
 abbrev pub RaisesKept : Option Stamp → ValueMarks → ValueMarks → List ℕ → ValueMark → Type 0
-RaisesKept c m n v mark = (q : List ℕ) → get n q ≡ maybe later (get m q) (kept c (if eq_by_cmp octets_cmp q v then Some mark else None))
+RaisesKept c m n v mark = (q : List ℕ) → get n q ≡ maybe later (get m q) (mark_after_clear c (if eq_by_cmp octets_cmp q v then Some mark else None))
 
 -- n is m with the marks of the other joined in that are not earlier than the clear (own)
 abbrev pub JoinsKept : Option Stamp → ValueMarks → ValueMarks → ValueMarks → Type 0
-JoinsKept c m n other = (q : List ℕ) → get n q ≡ maybe later (get m q) (kept c (get other q))
+JoinsKept c m n other = (q : List ℕ) → get n q ≡ maybe later (get m q) (mark_after_clear c (get other q))
 
 -- n has what the clear keeps of the two joined, where the clear keeps it of n (own)
 abbrev pub AgreesOnKept : Option Stamp → ValueMarks → ValueMarks → ValueMarks → Type 0
-AgreesOnKept c m other n = (q : List ℕ) → kept c (get n q) ≡ kept c (maybe later (get m q) (get other q))
+AgreesOnKept c m other n = (q : List ℕ) → mark_after_clear c (get n q) ≡ mark_after_clear c (maybe later (get m q) (get other q))

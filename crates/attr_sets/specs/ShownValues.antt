@@ -6,7 +6,7 @@ use Rattle.cds_stamps.specs.declared.stamp.Stamp.{Stamp}
 use Rattle.cds_stamps.specs.Stamps.{is_earlier}
 use Rattle.attr_sets.specs.declared.mark.ValueMark.{ValueMark}
 use Rattle.attr_sets.specs.Marks.{mark_cmp}
-use Rattle.attr_sets.specs.Cells.{AttrMark, Cleared, Marked, attr_stamp}
+use Rattle.attr_sets.specs.AttributeCells.{AttrMark, Cleared, Marked, attr_stamp}
 
 -- the history has this mark of the value, and none of it that is greater (own)
 pub record IsGreatestMark (h : List AttrMark) (v : List ℕ) (m : ValueMark) : Type 0 where

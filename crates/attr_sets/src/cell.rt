@@ -4,8 +4,8 @@ ghost use Rattle.std.specs.FinMap as map;
 ghost use Rattle.std.specs.Option.{option_and_then};
 ghost use Rattle.cds_stamps.specs.Semilattice.{maybe};
 ghost use Rattle.cds_stamps.specs.Stamps.{later_stamp};
-ghost use Rattle.attr_sets.specs.Marks.{kept, present_at, absent_at, RaisesKept, AgreesOnKept};
-ghost use Rattle.attr_sets.specs.Cells.{Cleared, Marked, cell_of, cell_values, join_cells, IsValidCell, TakesCell};
+ghost use Rattle.attr_sets.specs.Marks.{mark_after_clear, present_at, absent_at, RaisesKept, AgreesOnKept};
+ghost use Rattle.attr_sets.specs.AttributeCells.{Cleared, Marked, cell_of, cell_values, join_cells, IsValidCell, TakesCell};
 ghost use Rattle.attr_sets.specs.CellPurges.{clear_left, purged_cell, after_cell, is_empty_cell};
 ghost use Rattle.attr_sets.specs.CellUndoWords.{undo_cell};
 ghost use Rattle.attr_sets.specs.CellChanges.{change_marks, ChangesCell};
@@ -273,7 +273,7 @@ impl AttrCell {
     /// Keeps the later clear, and drops the marks that are earlier than it.
     fn join_clear(&mut self, clear: Option<Stamp>)
         ensures cleared { self.new.cleared ≡ maybe later_stamp self.old.cleared clear }
-        ensures values { (q : List ℕ) → map.get self.new.values q ≡ kept self.new.cleared (map.get self.old.values q) }
+        ensures values { (q : List ℕ) → map.get self.new.values q ≡ mark_after_clear self.new.cleared (map.get self.old.values q) }
     {
         self.cleared = later_of(self.cleared, clear);
         self.keep();
@@ -282,7 +282,7 @@ impl AttrCell {
     /// Drops the marks that are earlier than the clear.
     fn keep(&mut self)
         ensures cleared { self.new.cleared ≡ self.old.cleared }
-        ensures values { (q : List ℕ) → map.get self.new.values q ≡ kept self.old.cleared (map.get self.old.values q) }
+        ensures values { (q : List ℕ) → map.get self.new.values q ≡ mark_after_clear self.old.cleared (map.get self.old.values q) }
     {
         if let Some(clear) = self.cleared {
             self.values.keep_from(clear);

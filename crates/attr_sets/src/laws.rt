@@ -8,7 +8,7 @@ ghost use Rattle.cds_stamps.specs.declared.stamp.Stamp.{Stamp};
 ghost use Rattle.attr_sets.specs.declared.cell.AttrCell.{AttrCell};
 ghost use Rattle.attr_sets.specs.CellPurges.{is_empty_cell, purged_cell, after_cell};
 ghost use Rattle.attr_sets.specs.Marks.{present_at, absent_at};
-ghost use Rattle.attr_sets.specs.Cells.{AttrMark, Cleared, Marked, attr_stamp, cell_of, cell_values, empty_cell, join_cells, shown_values, IsValidCell};
+ghost use Rattle.attr_sets.specs.AttributeCells.{AttrMark, Cleared, Marked, attr_stamp, cell_of, cell_values, empty_cell, join_cells, shown_values, IsValidCell};
 ghost use Rattle.attr_sets.specs.ShownValues.{IsBefore, IsShown};
 ghost use Rattle.attr_sets.specs.Values.{longest_value};
 ghost use Rattle.attr_sets.specs.declared.value.TheConstants.{LONGEST_VALUE};

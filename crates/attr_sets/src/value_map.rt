@@ -2,7 +2,7 @@
 ghost use Rattle.std.specs.Prelude.{◌≡◌, ◌↔◌, IsTrue, List, ℕ, [], ◌∷◌, Some, None, MatchOption, MatchBool, IfOk, IfSome, OnOk, OnErr};
 ghost use Rattle.std.specs.Prelude.{if◌then◌else◌, option_copied};
 ghost use Rattle.std.specs.FinMap as map;
-ghost use Rattle.compact_map.specs.Entries as entries;
+ghost use Rattle.compact_map.specs.MapEntries as entries;
 ghost use Rattle.std.specs.Option.{option_and_then};
 ghost use Rattle.std.specs.Ordering.{eq_by_cmp};
 ghost use Rattle.cds_stamps.specs.Keyed.{map_some};
@@ -11,7 +11,7 @@ ghost use Rattle.cds_stamps.specs.Octets.{octets_cmp};
 ghost use Rattle.cds_stamps.specs.Semilattice.{maybe};
 ghost use Rattle.cds_stamps.specs.Undos.{RaisesAt, TakesBack, LogsChange, MendsAt, back_at, put_back};
 ghost use Rattle.attr_sets.specs.CellPurges.{mark_left, mark_after};
-ghost use Rattle.attr_sets.specs.Marks.{kept, later, RaisesKept, JoinsKept};
+ghost use Rattle.attr_sets.specs.Marks.{mark_after_clear, later, RaisesKept, JoinsKept};
 
 use crate::mark::ValueMark;
 use crate::value::Value;
@@ -372,7 +372,7 @@ impl ValueMap {
 
     /// Whether no mark is earlier than the clear.
     pub(crate) fn is_kept(&self, clear: &Option<Stamp>) -> bool
-        ensures { IsTrue result ↔ EachValue (λ m. kept clear.now (Some m) ≡ Some m) self.now }
+        ensures { IsTrue result ↔ EachValue (λ m. mark_after_clear clear.now (Some m) ≡ Some m) self.now }
     {
         for (_, mark) in self.marks.iter() {
             if covers(clear, mark) {
@@ -384,7 +384,7 @@ impl ValueMap {
 
     /// Drops the marks that are earlier than the clear.
     pub(crate) fn keep_from(&mut self, clear: Stamp)
-        ensures { (q : List ℕ) → map.get self.new q ≡ kept (Some clear) (map.get self.old q) }
+        ensures { (q : List ℕ) → map.get self.new q ≡ mark_after_clear (Some clear) (map.get self.old q) }
     {
         keep_marks_from(&mut self.marks, clear);
     }
@@ -423,7 +423,7 @@ impl ValueMap {
 }
 
 fn keep_marks_from(marks: &mut CompactMap<Value, ValueMark>, clear: Stamp)
-    ensures { (q : List ℕ) → entries.get octets_cmp marks.new q ≡ kept (Some clear) (entries.get octets_cmp marks.old q) }
+    ensures { (q : List ℕ) → entries.get octets_cmp marks.new q ≡ mark_after_clear (Some clear) (entries.get octets_cmp marks.old q) }
 {
     marks.retain(|_, mark| !(mark.stamp < clear));
 }
@@ -436,7 +436,7 @@ fn drop_marks_up_to(marks: &mut CompactMap<Value, ValueMark>, t: Stamp)
 
 /// Whether the mark is earlier than the clear.
 pub(crate) fn covers(clear: &Option<Stamp>, mark: &ValueMark) -> bool
-    ensures { kept clear.now (Some mark.now) ≡ (if result then None else Some mark.now) }
+    ensures { mark_after_clear clear.now (Some mark.now) ≡ (if result then None else Some mark.now) }
 {
     match clear {
         Some(clear) => mark.stamp < *clear,

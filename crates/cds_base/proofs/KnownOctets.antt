@@ -6,7 +6,7 @@ use Rattle.std.specs.declared.option.Option.{Option}
 use Rattle.std.proofs.lemmas.List.{append-nil}
 use Rattle.std.proofs.Math.Seq.{take-add}
 use Rattle.std.specs.Io.KnownBytes.{Appends, Keeps, Consumes, prepend_known}
-use Rattle.cds_base.specs.Reading.{GrowsByReading}
+use Rattle.cds_base.specs.SourceReading.{GrowsByReading}
 
 pub keeps_self : (known : Option (List ℕ)) → Keeps known known
 keeps_self None = tt

@@ -3,6 +3,6 @@ pub mod Counts
 pub mod LineFaults
 pub mod Lines
 pub mod MemoryEnds
-pub mod Reading
+pub mod SourceReading
 pub mod StandardEnds
 pub mod Windows

@@ -5,7 +5,7 @@ use Rattle.std.specs.Borrow.{Fml, MutBor}
 use Rattle.std.specs.Io.BufRead.{Rests}
 use Rattle.std.specs.Io.KnownBytes.{prepend_known, IsAtEnd}
 use Rattle.cds_base.specs.Counts.{Rose}
-use Rattle.cds_base.specs.Reading.{GrowsByReading}
+use Rattle.cds_base.specs.SourceReading.{GrowsByReading}
 use Rattle.cds_base.specs.Buffers.{octets_in}
 use Rattle.cds_base.specs.LineFaults.{AreClean, IsLine, ShowsFault, ShowsAnswer, BeginsWithLine}
 use Rattle.cds_base.specs.declared.scan.LineFault.{LineFault}
@@ -18,30 +18,30 @@ use Rattle.cds_base.specs.contracts.lines.Lines.{the_row}
 -- ---- what lines are to their callers
 
 -- the octets that were taken from the source and not given yet
-abbrev pub held : Lines → List ℕ
-held lines = octets_in lines.buffer
+abbrev pub octets_ahead : Lines → List ℕ
+octets_ahead lines = octets_in lines.buffer
 
 -- how many lines were given
-abbrev pub given : Lines → ℕ
-given lines = lines.number
+abbrev pub lines_so_far : Lines → ℕ
+lines_so_far lines = lines.number
 
 -- the fault that was answered, which each later call answers again
-abbrev pub kept : Lines → Option LineFault
-kept lines = lines.fault
+abbrev pub fault_of_lines : Lines → Option LineFault
+fault_of_lines lines = lines.fault
 
 -- what is still to be given, where the source tells what it has left
 abbrev pub rest_of : Lines → Option (List ℕ) → Option (List ℕ)
-rest_of lines left = prepend_known (held lines) left
+rest_of lines left = prepend_known (octets_ahead lines) left
 
 -- nothing was taken and nothing given yet
 pub record IsFresh (lines : Lines) : Type 0 where
-  pub empty : held lines ≡ []
-  pub number : given lines ≡ 0
-  pub fault : kept lines ≡ None
+  pub empty : octets_ahead lines ≡ []
+  pub number : lines_so_far lines ≡ 0
+  pub fault : fault_of_lines lines ≡ None
 
 -- the next answer is known without the source: a fault is kept, or the octets held show a line or a fault
 abbrev pub IsReady : Lines → Type 0
-IsReady lines = IsSome (kept lines) ⊎ ShowsAnswer (given lines + 1) (held lines)
+IsReady lines = IsSome (fault_of_lines lines) ⊎ ShowsAnswer (lines_so_far lines + 1) (octets_ahead lines)
 
 -- ---- one answer
 
@@ -80,9 +80,9 @@ kept_after (Err fault) = Some fault
 
 -- a call of next where no fault was kept
 pub record IsNext (left left' : Option (List ℕ)) (old new : Lines) (result : Result (Option (ℕ × List ℕ)) LineFault) : Type 0 where
-  pub answer : Answers (given old + 1) left left' (held old) (held new) result
-  pub number : given new ≡ given_after (given old) result
-  pub fault : kept new ≡ kept_after result
+  pub answer : Answers (lines_so_far old + 1) left left' (octets_ahead old) (octets_ahead new) result
+  pub number : lines_so_far new ≡ given_after (lines_so_far old) result
+  pub fault : fault_of_lines new ≡ kept_after result
 
 -- ---- the search for the next line
 
@@ -123,11 +123,11 @@ seen_line (Err e) = Err e
 -- what a call of next did to the source and to the lines, once the line that it gave is let go
 pub record HasMoved {S : Type 0} (left : S → Option (List ℕ)) (faults : S → ℕ) (source source' : S) (old new : Lines)
     (result : Result (Option (ℕ × List ℕ)) LineFault) : Type 0 where
-  pub next : kept old ≡ None → IsNext (left source) (left source') old new result
-  pub cause : kept old ≡ None → HasLineCause (faults source) (faults source') result
-  pub ready : IsReady old → (source' ≡ source) × (kept old ≡ None → result ≢ Err ReadFault)
-  pub few : length (held new) ≤ MOST_HELD
-  pub again : IfSome (kept old) (λ fault. (result ≡ Err fault) × (new ≡ old) × (source' ≡ source))
+  pub next : fault_of_lines old ≡ None → IsNext (left source) (left source') old new result
+  pub cause : fault_of_lines old ≡ None → HasLineCause (faults source) (faults source') result
+  pub ready : IsReady old → (source' ≡ source) × (fault_of_lines old ≡ None → result ≢ Err ReadFault)
+  pub few : length (octets_ahead new) ≤ MOST_HELD
+  pub again : IfSome (fault_of_lines old) (λ fault. (result ≡ Err fault) × (new ≡ old) × (source' ≡ source))
 
 -- the same where the line that was given still borrows the lines
 abbrev pub LeavesNext : {S : Type 0} → (S → Option (List ℕ)) → (S → ℕ) → MutBor Lines → S → S → Result (Option (ℕ × List ℕ)) LineFault → Fml

@@ -3,7 +3,7 @@ ghost use Rattle.std.specs.Prelude.{◌≡◌, ◌+◌, ◌-◌, ◌<◌, ◌≤
 ghost use Rattle.std.specs.Io.KnownBytes.{Consumes, Keeps, IsAtEnd};
 ghost use Rattle.std.specs.Vec.{vec_len};
 ghost use Rattle.cds_base.specs.Counts.{HasCause};
-ghost use Rattle.cds_base.specs.Reading.{GrowsByReading};
+ghost use Rattle.cds_base.specs.SourceReading.{GrowsByReading};
 
 use crate::{Failed, Source};
 use std::alloc::{AllocError, Global};

@@ -4,7 +4,7 @@ ghost use Rattle.std.specs.Vec.{vec_len};
 ghost use Rattle.std.specs.List.{prefix_len};
 ghost use Rattle.std.specs.Io.KnownBytes.{IsAtEnd};
 ghost use Rattle.cds_base.specs.Counts.{HasCause};
-ghost use Rattle.cds_base.specs.Reading.{GrowsByReading};
+ghost use Rattle.cds_base.specs.SourceReading.{GrowsByReading};
 ghost use Rattle.cds_base.specs.Buffers.{octets_in};
 ghost use Rattle.cds_base.specs.LineFaults.{is_printable};
 ghost use Rattle.cds_base.specs.declared.lines.TheConstants.{MOST_HELD};
@@ -43,7 +43,7 @@ impl Lines {
     ghost use Rattle.std.specs.Borrow.{sem};
     ghost use Rattle.cds_base.specs.LineFaults.{AreClean, Sees, ShowsAnswer};
     ghost use Rattle.cds_base.specs.Lines.{IsFresh, IsReady, IsNext, EndsInput, FindsLine, HasLineCause, LeavesNext};
-    ghost use Rattle.cds_base.specs.Lines.{held, given, kept, found_line, seen_line};
+    ghost use Rattle.cds_base.specs.Lines.{octets_ahead, lines_so_far, fault_of_lines, found_line, seen_line};
 
     /// No line was read yet. All the memory is taken here.
     pub fn new(alloc: Global) -> Result<Lines, AllocError>
@@ -73,7 +73,7 @@ impl Lines {
 
     // What the octets held show of the next line.
     fn seen(&self) -> Seen
-        ensures { Sees (given self.now + 1) (held self.now) result }
+        ensures { Sees (lines_so_far self.now + 1) (octets_ahead self.now) result }
     {
         scan(self.number + 1, self.buffer.octets(), self.printable)
     }
@@ -97,10 +97,10 @@ impl Lines {
 
     // Gives the next line: its place and its length in the buffer.
     fn advance<S: Source>(&mut self, source: &mut S) -> Result<Option<(usize, usize)>, LineFault>
-        requires { kept self.old ≡ None }
+        requires { fault_of_lines self.old ≡ None }
         ensures next { IsNext (S.left source.old) (S.left source.new) self.old self.new (found_line self.new result) }
         ensures cause { HasLineCause (S.faults source.old) (S.faults source.new) result }
-        ensures ready { ShowsAnswer (given self.old + 1) (held self.old) → (source.new ≡ source.old) × (result ≢ Err LineFault.ReadFault) }
+        ensures ready { ShowsAnswer (lines_so_far self.old + 1) (octets_ahead self.old) → (source.new ≡ source.old) × (result ≢ Err LineFault.ReadFault) }
         ensures within { IfOk result (λ o. IfSome o (λ p. p.0 + p.1 ≤ MOST_HELD)) }
     {
         match self.find_line(source) {
@@ -121,12 +121,12 @@ impl Lines {
 
     // The length of the next line, or nothing at the end of the input.
     fn find_line<S: Source>(&mut self, source: &mut S) -> Result<Option<usize>, LineFault>
-        ensures reads { GrowsByReading (S.left source.old) (S.left source.new) (held self.old) (held self.new) }
-        ensures found { FindsLine (given self.old + 1) (held self.new) (S.left source.new) result }
+        ensures reads { GrowsByReading (S.left source.old) (S.left source.new) (octets_ahead self.old) (octets_ahead self.new) }
+        ensures found { FindsLine (lines_so_far self.old + 1) (octets_ahead self.new) (S.left source.new) result }
         ensures cause { HasLineCause (S.faults source.old) (S.faults source.new) result }
-        ensures ready { ShowsAnswer (given self.old + 1) (held self.old) → (source.new ≡ source.old) × (result ≢ Err LineFault.ReadFault) }
-        ensures number { given self.new ≡ given self.old }
-        ensures fault { kept self.new ≡ kept self.old }
+        ensures ready { ShowsAnswer (lines_so_far self.old + 1) (octets_ahead self.old) → (source.new ≡ source.old) × (result ≢ Err LineFault.ReadFault) }
+        ensures number { lines_so_far self.new ≡ lines_so_far self.old }
+        ensures fault { fault_of_lines self.new ≡ fault_of_lines self.old }
     {
         'reads: loop {
             match self.seen() {
@@ -144,13 +144,13 @@ impl Lines {
 
     // Reads once, and answers how many octets came.
     fn read_more<S: Source>(&mut self, source: &mut S) -> Result<usize, Failed>
-        requires { length (held self.old) ≤ LONGEST_LINE }
-        ensures reads { GrowsByReading (S.left source.old) (S.left source.new) (held self.old) (held self.new) }
-        ensures count { IfOk result (λ n. length (held self.new) ≡ length (held self.old) + n) }
+        requires { length (octets_ahead self.old) ≤ LONGEST_LINE }
+        ensures reads { GrowsByReading (S.left source.old) (S.left source.new) (octets_ahead self.old) (octets_ahead self.new) }
+        ensures count { IfOk result (λ n. length (octets_ahead self.new) ≡ length (octets_ahead self.old) + n) }
         ensures end { IfOk result (λ n. n ≡ 0 → IsAtEnd (S.left source.new)) }
-        ensures err { OnErr result (held self.new ≡ held self.old) }
-        ensures number { given self.new ≡ given self.old }
-        ensures fault { kept self.new ≡ kept self.old }
+        ensures err { OnErr result (octets_ahead self.new ≡ octets_ahead self.old) }
+        ensures number { lines_so_far self.new ≡ lines_so_far self.old }
+        ensures fault { fault_of_lines self.new ≡ fault_of_lines self.old }
         ensures cause { HasCause (S.faults source.old) (S.faults source.new) result }
     {
         match self.buffer.read_more(source) {
@@ -164,8 +164,8 @@ impl Lines {
 
     // At the end of the input there is no next line, or one without its end.
     fn at_end(&self) -> Result<Option<usize>, LineFault>
-        requires { AreClean (given self.now + 1) 1 (held self.now) }
-        ensures { EndsInput (given self.now + 1) (held self.now) result }
+        requires { AreClean (lines_so_far self.now + 1) 1 (octets_ahead self.now) }
+        ensures { EndsInput (lines_so_far self.now + 1) (octets_ahead self.now) result }
     {
         let len = self.buffer.len();
         if len == 0 {

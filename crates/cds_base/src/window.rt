@@ -2,7 +2,7 @@
 ghost use Rattle.std.specs.Prelude.{◌≡◌, ◌<◌, ◌≤◌, ◌↔◌, [], length, drop, false, IfOk, OnErr, IsTrue};
 ghost use Rattle.std.specs.Io.KnownBytes.{IsAtEnd};
 ghost use Rattle.cds_base.specs.Counts.{HasCause};
-ghost use Rattle.cds_base.specs.Reading.{GrowsByReading};
+ghost use Rattle.cds_base.specs.SourceReading.{GrowsByReading};
 
 use crate::buffer::Buffer;
 use crate::{Failed, Source};

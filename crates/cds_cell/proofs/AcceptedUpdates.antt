@@ -11,19 +11,19 @@ use Rattle.directory.specs.declared.update.UpdateRefusal.{UpdateRefusal}
 use Rattle.directory.specs.declared.update.UpdateRefusal.TheVariants.{NotMaster, StampsSpent}
 use Rattle.directory.specs.EntryChanges.{AreAccepted}
 use Rattle.directory.specs.Histories.{IsBefore, stamp_in}
-use Rattle.directory.specs.Shown.{marks_of, refusal_of, shown}
+use Rattle.directory.specs.Shown.{marks_of, refusal_of, shown_of_name}
 use Rattle.directory.specs.Updates.{Change, changed_name}
 use Rattle.cell_model.specs.Cells.{Cell, Held, IsHeld, Replica, Slot}
 use Rattle.cell_model.specs.Commands as command
 use Rattle.cell_model.specs.Floors.{FloorsHold, ReplicaBelow}
 use Rattle.cell_model.specs.Reached.{IsReached}
 use Rattle.cell_model.specs.Steps.{Outcome, answers_from, at_house, effect, outcome, replay_from}
-use Rattle.cell_model.specs.Turns.{HouseStep, accept, accept_at, grown, update_refusal}
+use Rattle.cell_model.specs.Turns.{HouseStep, accept, accept_at, with_marks, update_refusal}
 use Rattle.cell_model.proofs.FloorTimes.{floors_lem}
 use Rattle.cell_model.proofs.Marks.{stamp_next}
 use Rattle.cell_model.proofs.Merging.{contains_in}
 use Rattle.cell_model.proofs.Standing.{on_reached}
-use Rattle.cds_cell.specs.Accepting.{Accepting, IsStamped, accepting, behind, by_answer, posted_in}
+use Rattle.cds_cell.specs.Accepting.{Accepting, IsStamped, accept_in_turn, behind, by_answer, posted_in}
 use Rattle.cds_cell.proofs.Masters.{held_accepts}
 use Rattle.cds_cell.proofs.UpdateSteps.{UpdateComes, after_commanded, after_held, after_reached, after_up, lacks, refuses, spent, stamps, update_comes}
 
@@ -38,13 +38,13 @@ refused_counts : (g : Cell) (u : Change) (us : List Change) (q : UpdateRefusal)
 refused_counts g u us q = (omega arith, (λ none. absurd (cc), λ all. absurd (omega (arith, all))))
 
 -- the updates that are accepted are all exactly where none is refused
-pub accepting_counts : (us : List Change) (g : Cell) (h d : ℕ) → Counts us (accepting g h d us)
+pub accepting_counts : (us : List Change) (g : Cell) (h d : ℕ) → Counts us (accept_in_turn g h d us)
 accepting_counts [] g h d = (omega arith, (λ none. refl, λ all. refl))
 accepting_counts (u ∷ us) g h d =
     by_case (accept h (g.house h) d u) (update_comes g h d u) (accepting_counts us (effect g (command.Accept h d u)).cell h d)
   where
-    by_case : (s : HouseStep) → UpdateComes g h d u s → Counts us (accepting (at_house g h s).cell h d us)
-        → Counts (u ∷ us) (by_answer (at_house g h s).answer (at_house g h s).cell (accepting (at_house g h s).cell h d us))
+    by_case : (s : HouseStep) → UpdateComes g h d u s → Counts us (accept_in_turn (at_house g h s).cell h d us)
+        → Counts (u ∷ us) (by_answer (at_house g h s).answer (at_house g h s).cell (accept_in_turn (at_house g h s).cell h d us))
     by_case _ (lacks none) rest = refused_counts g u us _
     by_case _ (refuses r q held why) rest = refused_counts g u us q
     by_case _ (spent r held) rest = refused_counts g u us _
@@ -95,22 +95,22 @@ more_commands g h d u us o s ns w is answer rest =
 
 -- the updates that a house accepts which is up are commands
 pub accepting_commands : (us : List Change) (g : Cell) (h d : ℕ) → IsReached g → (g.house h).up ≡ true
-    → AreAcceptedCommands g h d us (accepting g h d us)
+    → AreAcceptedCommands g h d us (accept_in_turn g h d us)
 accepting_commands [] g h d reached up = no_commands g h d [] None
 accepting_commands (u ∷ us) g h d reached up =
     by_case (accept h (g.house h) d u) (update_comes g h d u) (accepting_commands us (effect g (command.Accept h d u)).cell h d)
   where
     by_case : (s : HouseStep) → UpdateComes g h d u s
         → (IsReached (at_house g h s).cell → ((at_house g h s).cell.house h).up ≡ true
-        → AreAcceptedCommands (at_house g h s).cell h d us (accepting (at_house g h s).cell h d us))
-        → AreAcceptedCommands g h d (u ∷ us) (by_answer (at_house g h s).answer (at_house g h s).cell (accepting (at_house g h s).cell h d us))
+        → AreAcceptedCommands (at_house g h s).cell h d us (accept_in_turn (at_house g h s).cell h d us))
+        → AreAcceptedCommands g h d (u ∷ us) (by_answer (at_house g h s).answer (at_house g h s).cell (accept_in_turn (at_house g h s).cell h d us))
     by_case _ (lacks none) rest = no_commands g h d (u ∷ us) _
     by_case _ (refuses r q held why) rest = no_commands g h d (u ∷ us) _
     by_case _ (spent r held) rest = no_commands g h d (u ∷ us) _
     by_case _ (stamps r s held fine is) rest =
         let o : Outcome = at_house g h (accept_at h (g.house h) d u r (Some s)) in
         let commanded = after_commanded g h d u r s reached up held fine is in
-        more_commands g h d u us o s _ (accepting o.cell h d us) commanded refl
+        more_commands g h d u us o s _ (accept_in_turn o.cell h d us) commanded refl
         (rest (after_reached g h d u r s reached commanded) (after_up g h d u r s up))
 
 -- ---- refusals
@@ -133,7 +133,7 @@ stamped_later r floor s below above m there =
 
 -- a master refuses only for want of a stamp what the history accepts
 pub accepting_refuses : (us : List Change) (g : Cell) (h d : ℕ) (r : Replica) → IsReached g → (g.house h).up ≡ true → IsHeld g h d r
-    → master_of r.members ≡ h → AreAccepted r.history us → OnlySpent (accepting g h d us).refused
+    → master_of r.members ≡ h → AreAccepted r.history us → OnlySpent (accept_in_turn g h d us).refused
 accepting_refuses [] g h d r reached up held master accepted = inl refl
 accepting_refuses (u ∷ us) g h d r reached up held master accepted =
     by_case (accept h (g.house h) d u) (update_comes g h d u) (accepting_refuses us (effect g (command.Accept h d u)).cell h d)
@@ -141,15 +141,15 @@ accepting_refuses (u ∷ us) g h d r reached up held master accepted =
     allowed : update_refusal h u r ≡ None
     allowed =
         let accepts : is_accepting h r.members ≡ true = held_accepts g h d r reached held master in
-        ap (λ b. if b then refusal_of (shown r.history (changed_name u)) u else Some NotMaster) accepts ∙ accepted.0
+        ap (λ b. if b then refusal_of (shown_of_name r.history (changed_name u)) u else Some NotMaster) accepts ∙ accepted.0
 
     unrefused : (q : Replica) (why : UpdateRefusal) → q ≡ r → update_refusal h u q ≡ Some why → ⊥
     unrefused q why same is = let fine : update_refusal h u q ≡ None = ap (λ (z : Replica). update_refusal h u z) same ∙ allowed in absurd (cc)
 
     by_case : (s : HouseStep) → UpdateComes g h d u s
         → ((q : Replica) → IsReached (at_house g h s).cell → ((at_house g h s).cell.house h).up ≡ true → IsHeld (at_house g h s).cell h d q
-        → master_of q.members ≡ h → AreAccepted q.history us → OnlySpent (accepting (at_house g h s).cell h d us).refused)
-        → OnlySpent (by_answer (at_house g h s).answer (at_house g h s).cell (accepting (at_house g h s).cell h d us)).refused
+        → master_of q.members ≡ h → AreAccepted q.history us → OnlySpent (accept_in_turn (at_house g h s).cell h d us).refused)
+        → OnlySpent (by_answer (at_house g h s).answer (at_house g h s).cell (accept_in_turn (at_house g h s).cell h d us)).refused
     by_case _ (lacks none) rest = absurd (none r held)
     by_case _ (refuses q why holds is) rest = absurd (unrefused q why (one_held ((g.house h).slots d) r q held holds) is)
     by_case _ (spent q holds) rest = inr refl
@@ -160,5 +160,5 @@ accepting_refuses (u ∷ us) g h d r reached up held master accepted =
         let later : IsBefore q.history s =
         stamped_later q (g.house h).floor s (floors.houses h d q holds) (stamp_next (g.house h).clock (g.house h).floor (g.house h).node s is).0 in
         let more = subst (λ (z : Replica). AreAccepted z.history (u ∷ us)) same accepted in
-        rest (grown q (marks_of (shown q.history (changed_name u)) u s)) (after_reached g h d u q s reached commanded) (after_up g h d u q s up)
+        rest (with_marks q (marks_of (shown_of_name q.history (changed_name u)) u s)) (after_reached g h d u q s reached commanded) (after_up g h d u q s up)
         (after_held g h d u q s) (ap (λ (z : Replica). master_of z.members) (sym same) ∙ master) (more.1 s later)

@@ -19,7 +19,7 @@ use Rattle.cell_model.specs.Completions.{AnswersHold}
 use Rattle.cell_model.specs.Holdings.{NumbersHold}
 use Rattle.cell_model.specs.Reached.{IsReached}
 use Rattle.cell_model.specs.Sets.{In, has}
-use Rattle.cell_model.specs.Steps.{Outcome, at_house, effect, first_refusal, is_down, is_missing, message_at, refusals_of, refused, serials_of, stays}
+use Rattle.cell_model.specs.Steps.{Outcome, at_house, effect, first_refusal, is_down, is_missing, message_at, refusals_of, refusal_outcome, serials_of, stays}
 use Rattle.cell_model.specs.Taking.{CanTake}
 use Rattle.cell_model.specs.Turns as turns
 use Rattle.cell_model.specs.Turns.{HouseStep}
@@ -32,21 +32,21 @@ use Rattle.script_answers.specs.declared.answer.Answer.{Answer}
 use Rattle.script_answers.specs.declared.answer.Answer.TheVariants as answer
 use Rattle.script_answers.specs.declared.answer.ScriptRefusal.{ScriptRefusal}
 use Rattle.script_answers.specs.declared.answer.ScriptRefusal.TheVariants as why
-use Rattle.held_directories.specs.declared.skulks.Begun.{Begun}
-use Rattle.held_directories.specs.declared.taking.Taken.{Taken}
-use Rattle.held_directories.specs.Stepping.{IsBegunAnswer, IsStampAnswer, IsTakeAnswer}
+use Rattle.house_directory.specs.declared.skulks.Begun.{Begun}
+use Rattle.house_directory.specs.declared.taking.Taken.{Taken}
+use Rattle.house_directory.specs.DirectorySteps.{IsBegunAnswer, IsStampAnswer, IsTakeAnswer}
 use Rattle.clearinghouse.specs.declared.house.Clearinghouse.{Clearinghouse}
-use Rattle.held_directories.specs.Posting.{StandsMessage}
+use Rattle.house_directory.specs.HouseMessages.{StandsMessage}
 use Rattle.cds_cell.specs.declared.bag.Letter.{Letter}
 use Rattle.cds_cell.specs.declared.cell.Cell.{Cell}
 use Rattle.cds_cell.specs.declared.house.CellHouse.{CellHouse}
 use Rattle.cds_cell.specs.declared.house.HouseState.TheVariants as state
 use Rattle.cds_cell.specs.Bags.{StandsLetter, letter_at}
-use Rattle.cds_cell.specs.Houses.{StandsState}
+use Rattle.cds_cell.specs.CellHouses.{StandsState}
 use Rattle.cds_cell.specs.PrivateActs.{ActsAt, Delivers, KeepsRest, Tells}
 use Rattle.cds_cell.specs.PrivateSteps.{IsPlaceOf, IsStepAs}
 use Rattle.cds_cell.specs.Scripted as script
-use Rattle.cds_cell.specs.Standing.{Stands, StandsAs, house_of}
+use Rattle.cds_cell.specs.ModelCells.{Stands, StandsAs, house_of}
 use Rattle.cds_cell.proofs.Bags.{letter_decodes, letter_faultless, letter_there, lost_stands}
 use Rattle.cds_cell.proofs.HouseActs.{Acted, acted, house_stands, lost_elsewhere}
 use Rattle.cds_cell.proofs.Houses.{has_number, place_within}
@@ -227,7 +227,7 @@ start_down g x none = down ((g.house x).up) (passed (refusals_of g (command.Star
 pub down_comes : (c : Cell) (g : model.Cell) (n : ℕ) (m : model.Message) → Stands c g → message_at g n ≡ Some m → (g.house m.receiver).up ≡ false
     → IsStepAs (answer.Refused why.Down) c (effect g (command.Deliver n))
 down_comes c g n m s there down =
-    let is : effect g (command.Deliver n) ≡ refused g command.Down = rw (there, down) refl in
+    let is : effect g (command.Deliver n) ≡ refusal_outcome g command.Down = rw (there, down) refl in
     subst (λ (o : Outcome). IsStepAs (answer.Refused why.Down) c o) (sym is) (record { answer = refl; stands = s.stands })
 
 -- so is one that was not made

@@ -9,7 +9,7 @@ use Rattle.cell_names.specs.Houses.{Houses, count_in_order, list_fault}
 use Rattle.cell_names.specs.declared.houses.HousesFault.{HousesFault}
 use Rattle.cell_names.specs.declared.houses.HousesFault.TheVariants.{BadHouses}
 use Rattle.cell_model.specs.Sets.{has}
-use Rattle.cell_model.specs.Steps.{stands_twice, is_bad_list, insert_house, ascending}
+use Rattle.cell_model.specs.Steps.{stands_twice, is_bad_list, insert_house, sorted_houses}
 
 -- each number is at least the one before
 abbrev pub Rises : List ℕ → Type 0
@@ -83,9 +83,9 @@ rises_inserted x (y ∷ ys) rises = go (nat_lt y x) refl (rises_inserted x ys ri
     go false off rest = let more : x ≤ y = grind (arith, nat_tests, off) in ((more, all_above x y ys more rises.0), rises)
 
 -- numbers in ascending order ascend
-pub ascending_rises : (xs : List ℕ) → Rises (ascending xs)
+pub ascending_rises : (xs : List ℕ) → Rises (sorted_houses xs)
 ascending_rises [] = tt
-ascending_rises (x ∷ xs) = rises_inserted x (ascending xs) (ascending_rises xs)
+ascending_rises (x ∷ xs) = rises_inserted x (sorted_houses xs) (ascending_rises xs)
 
 times_inserted : (z x : ℕ) (ys : List ℕ) → times z (insert_house x ys) ≡ one_if (x == z) + times z ys
 unfolding times
@@ -98,10 +98,10 @@ times_inserted z x (y ∷ ys) = go (nat_lt y x) (times_inserted z x ys)
     go false rest = refl
 
 -- and each stands as often as before
-pub ascending_times : (z : ℕ) (xs : List ℕ) → times z (ascending xs) ≡ times z xs
+pub ascending_times : (z : ℕ) (xs : List ℕ) → times z (sorted_houses xs) ≡ times z xs
 unfolding times
 ascending_times z [] = refl
-ascending_times z (x ∷ xs) = times_inserted z x (ascending xs) ∙ ap (λ n. one_if (x == z) + n) (ascending_times z xs)
+ascending_times z (x ∷ xs) = times_inserted z x (sorted_houses xs) ∙ ap (λ n. one_if (x == z) + n) (ascending_times z xs)
 
 has_inserted : (z x : ℕ) (ys : List ℕ) → has z (insert_house x ys) ≡ ((z == x) || has z ys)
 has_inserted z x [] = refl
@@ -118,9 +118,9 @@ has_inserted z x (y ∷ ys) = go (nat_lt y x) (has_inserted z x ys)
     go false rest = refl
 
 -- and the same numbers stand in it
-pub has_ascending : (z : ℕ) (xs : List ℕ) → has z (ascending xs) ≡ has z xs
+pub has_ascending : (z : ℕ) (xs : List ℕ) → has z (sorted_houses xs) ≡ has z xs
 has_ascending z [] = refl
-has_ascending z (x ∷ xs) = has_inserted z x (ascending xs) ∙ ap (λ (b : Bool). (z == x) || b) (has_ascending z xs)
+has_ascending z (x ∷ xs) = has_inserted z x (sorted_houses xs) ∙ ap (λ (b : Bool). (z == x) || b) (has_ascending z xs)
 
 twice_inserted : (x : ℕ) (ys : List ℕ) → stands_twice (insert_house x ys) ≡ (has x ys || stands_twice ys)
 twice_inserted x [] = refl
@@ -141,9 +141,9 @@ twice_inserted x (y ∷ ys) = go (nat_lt y x) (twice_inserted x ys) (has_inserte
     go false rest there = refl
 
 -- a house stands twice in ascending order exactly where it did before
-pub twice_ascending : (xs : List ℕ) → stands_twice (ascending xs) ≡ stands_twice xs
+pub twice_ascending : (xs : List ℕ) → stands_twice (sorted_houses xs) ≡ stands_twice xs
 twice_ascending [] = refl
-twice_ascending (x ∷ xs) = twice_inserted x (ascending xs) ∙ ap (λ (b : Bool). b || stands_twice (ascending xs)) (has_ascending x xs)
+twice_ascending (x ∷ xs) = twice_inserted x (sorted_houses xs) ∙ ap (λ (b : Bool). b || stands_twice (sorted_houses xs)) (has_ascending x xs)
     ∙ ap (λ (b : Bool). has x xs || b) (twice_ascending xs)
 
 length_inserted : (x : ℕ) (ys : List ℕ) → length (insert_house x ys) ≡ suc (length ys)
@@ -155,9 +155,9 @@ length_inserted x (y ∷ ys) = go (nat_lt y x) (length_inserted x ys)
     go false rest = refl
 
 -- they are as many
-pub length_ascending : (xs : List ℕ) → length (ascending xs) ≡ length xs
+pub length_ascending : (xs : List ℕ) → length (sorted_houses xs) ≡ length xs
 length_ascending [] = refl
-length_ascending (x ∷ xs) = length_inserted x (ascending xs) ∙ ap suc (length_ascending xs)
+length_ascending (x ∷ xs) = length_inserted x (sorted_houses xs) ∙ ap suc (length_ascending xs)
 
 -- ---- the houses of a pointer
 
@@ -241,16 +241,16 @@ few_in_order c n true less order false few = let same : (min c 63 == n) ≡ (c =
 few_in_order c n false less order false few = let same : (min c 63 == n) ≡ (c == n) = grind (arith, nat_tests, few, less) in same ∙ order
 
 -- the houses are those of a pointer exactly where the console's list is not bad
-pub pointer_exactly : (m : ℕ) (rs : List ℕ) → is_none (list_fault m (ascending rs)) ≡ not (is_bad_list (m ∷ rs))
+pub pointer_exactly : (m : ℕ) (rs : List ℕ) → is_none (list_fault m (sorted_houses rs)) ≡ not (is_bad_list (m ∷ rs))
 pointer_exactly m rs =
-    none_if (min (count_in_order m 0 (ascending rs)) 63 == length (ascending rs)) (BadHouses (min (count_in_order m 0 (ascending rs)) 63 + 1))
-    ∙ few_in_order (count_in_order m 0 (ascending rs)) (length (ascending rs)) (has m (ascending rs) || stands_twice (ascending rs))
-    (at_most m 0 (ascending rs))
-    (in_order m 0 (ascending rs) (ascending_rises rs) (all_from_zero (ascending rs))) (nat_lt 64 (suc (length (ascending rs)))) refl
+    none_if (min (count_in_order m 0 (sorted_houses rs)) 63 == length (sorted_houses rs)) (BadHouses (min (count_in_order m 0 (sorted_houses rs)) 63 + 1))
+    ∙ few_in_order (count_in_order m 0 (sorted_houses rs)) (length (sorted_houses rs)) (has m (sorted_houses rs) || stands_twice (sorted_houses rs))
+    (at_most m 0 (sorted_houses rs))
+    (in_order m 0 (sorted_houses rs) (ascending_rises rs) (all_from_zero (sorted_houses rs))) (nat_lt 64 (suc (length (sorted_houses rs)))) refl
     ∙ cc (has_ascending m rs, twice_ascending rs, length_ascending rs)
 
 -- where there is a fault the list is bad, and where there is none it is not
-pub bad_where_fault : (m : ℕ) (rs : List ℕ) (f : HousesFault) → list_fault m (ascending rs) ≡ Some f → is_bad_list (m ∷ rs) ≡ true
+pub bad_where_fault : (m : ℕ) (rs : List ℕ) (f : HousesFault) → list_fault m (sorted_houses rs) ≡ Some f → is_bad_list (m ∷ rs) ≡ true
 bad_where_fault m rs f is = go (is_bad_list (m ∷ rs)) (sym (pointer_exactly m rs) ∙ ap is_none is)
   where
     go : (b : Bool) → not b ≡ false → b ≡ true
@@ -258,7 +258,7 @@ bad_where_fault m rs f is = go (is_bad_list (m ∷ rs)) (sym (pointer_exactly m 
     go false off = absurd (cc)
 
 -- houses in which the code finds no fault are a good list
-pub good_where_none : (m : ℕ) (rs : List ℕ) → list_fault m (ascending rs) ≡ None → is_bad_list (m ∷ rs) ≡ false
+pub good_where_none : (m : ℕ) (rs : List ℕ) → list_fault m (sorted_houses rs) ≡ None → is_bad_list (m ∷ rs) ≡ false
 good_where_none m rs is = go (is_bad_list (m ∷ rs)) (sym (pointer_exactly m rs) ∙ ap is_none is)
   where
     go : (b : Bool) → not b ≡ true → b ≡ false

@@ -13,19 +13,19 @@ use Rattle.cell_names.specs.declared.pointer.ChildFault.TheVariants.{BadChild}
 use Rattle.directory.specs.declared.entry.Kind.{Kind}
 use Rattle.directory.specs.declared.entry.Kind.TheVariants as kind
 use Rattle.directory.specs.Histories.{Mark}
-use Rattle.directory.specs.Shown.{Shown, is_readable, lead_of, shown}
+use Rattle.directory.specs.Shown.{Shown, is_readable, lead_of, shown_of_name}
 use Rattle.cell_model.specs.Cells as model
 use Rattle.resolver.specs.Readers.{Absent, Link}
 use Rattle.cds_cell.specs.declared.cell.Cell.{Cell}
 use Rattle.cds_cell.specs.declared.house.HouseState.{HouseState}
 use Rattle.cds_cell.specs.declared.house.HouseState.TheVariants as state
 use Rattle.cds_cell.specs.Accepting.{ShowsAsMaster}
-use Rattle.cds_cell.specs.Asking.{Asked, View, Views, answering, answers_with, asked}
+use Rattle.cds_cell.specs.Asking.{Asked, View, Views, answer_of_house, answers_with, house_to_ask}
 use Rattle.cds_cell.specs.AskingProofs.{asked_shows}
-use Rattle.cds_cell.specs.Houses.{is_up_state}
-use Rattle.cds_cell.specs.Readings.{child_sight, led_sight, reading, shown_sight, sight_at, slot_view, view_of, views_of}
-use Rattle.cds_cell.specs.Standing.{house_of}
-use Rattle.cds_cell.specs.Telling.{state_view, told, told_views}
+use Rattle.cds_cell.specs.CellHouses.{is_up_state}
+use Rattle.cds_cell.specs.Readings.{child_sight, led_sight, cell_reader, shown_sight, sight_at, slot_view, view_of, views_of}
+use Rattle.cds_cell.specs.ModelCells.{house_of}
+use Rattle.cds_cell.specs.Telling.{state_view, program_reader, told_views}
 use Rattle.cds_cell.proofs.WalkSights.{seen_there}
 
 -- ---- who is asked
@@ -35,7 +35,7 @@ record AnswersAsMaster (views : Views) (d : ℕ) (a : Asked) : Type 0 where
   pub shows : views d a.house ≡ Some a.view
   pub master : master_of a.view.members ≡ a.house
 
-master_answers : (views : Views) (d x : ℕ) (a : Asked) → answering views true d x ≡ Some a → AnswersAsMaster views d a
+master_answers : (views : Views) (d x : ℕ) (a : Asked) → answer_of_house views true d x ≡ Some a → AnswersAsMaster views d a
 master_answers views d x a is = by_view (views d x) refl is
   where
     by_test : (v : View) → views d x ≡ Some v → (b : Bool) → (master_of v.members == x) ≡ b
@@ -50,12 +50,12 @@ master_answers views d x a is = by_view (views d x) refl is
     by_view None there is = absurd (cc)
     by_view (Some v) there is = by_test v there (master_of v.members == x) refl is
 
-first_answers : (views : Views) (d : ℕ) (xs : List ℕ) (a : Asked) → first_some (answering views true d) xs ≡ Some a → AnswersAsMaster views d a
+first_answers : (views : Views) (d : ℕ) (xs : List ℕ) (a : Asked) → first_some (answer_of_house views true d) xs ≡ Some a → AnswersAsMaster views d a
 first_answers views d [] a is = absurd (cc)
-first_answers views d (x ∷ xs) a is = by_first (answering views true d x) refl (first_answers views d xs a) is
+first_answers views d (x ∷ xs) a is = by_first (answer_of_house views true d x) refl (first_answers views d xs a) is
   where
-    by_first : (o : Option Asked) → answering views true d x ≡ o → (first_some (answering views true d) xs ≡ Some a → AnswersAsMaster views d a)
-        → option_or o (first_some (answering views true d) xs) ≡ Some a → AnswersAsMaster views d a
+    by_first : (o : Option Asked) → answer_of_house views true d x ≡ o → (first_some (answer_of_house views true d) xs ≡ Some a → AnswersAsMaster views d a)
+        → option_or o (first_some (answer_of_house views true d) xs) ≡ Some a → AnswersAsMaster views d a
     by_first None first rest is = rest is
     by_first (Some b) first rest is = let same : b ≡ a = cc in master_answers views d x a (first ∙ ap Some same)
 
@@ -78,7 +78,7 @@ module _ (g : model.Cell) (d : ℕ) (a : Asked) (master : master_of a.view.membe
   by_up true up is = by_slot ((g.house a.house).slots d) up refl is
   by_up false down is = absurd (cc)
 
-asked_holds : (g : model.Cell) (prefer : Option ℕ) (d : ℕ) (houses : List ℕ) (a : Asked) → asked (views_of g) d prefer true houses ≡ Some a
+asked_holds : (g : model.Cell) (prefer : Option ℕ) (d : ℕ) (houses : List ℕ) (a : Asked) → house_to_ask (views_of g) d prefer true houses ≡ Some a
     → HoldsAsMaster g d a
 asked_holds g prefer d houses a is =
     let it = first_answers (views_of g) d houses a is in
@@ -94,7 +94,7 @@ holds_shows g d a n it = record {
 }
 
 -- the house that is asked shows what the reader is told, as the master
-pub asked_shows_as_master : (g : model.Cell) (prefer : Option ℕ) (d : ℕ) (houses : List ℕ) (a : Asked) → asked (views_of g) d prefer true houses ≡ Some a
+pub asked_shows_as_master : (g : model.Cell) (prefer : Option ℕ) (d : ℕ) (houses : List ℕ) (a : Asked) → house_to_ask (views_of g) d prefer true houses ≡ Some a
     → (n : List ℕ) → ShowsAsMaster g a.house d n (option_map (λ e. e.kind) (a.view.shows n))
 asked_shows_as_master g prefer d houses a is n = holds_shows g d a n (asked_holds g prefer d houses a is)
 
@@ -130,26 +130,26 @@ led_there m kind.Child (Some v) some reads = by_pointer (pointer_of v) (pointer_
 same_there : (x y : ℕ × Option Kind) → Some x ≡ Some y → x ≡ y
 same_there x y is = cc
 
-module _ (led : (h : List Mark) (n : List ℕ) (e : Shown) → shown h n ≡ Some e → e.kind ≢ kind.Object → IsSome (lead_of e))
+module _ (led : (h : List Mark) (n : List ℕ) (e : Shown) → shown_of_name h n ≡ Some e → e.kind ≢ kind.Object → IsSome (lead_of e))
     (read : (e : Shown) (v : List ℕ) → lead_of e ≡ Some v → is_readable e.kind v ≡ true) where
   -- what is seen of a name at a house is what shows of it
-  shown_there : (m : ℕ) (h : List Mark) (n : List ℕ) (o : Option Shown) → shown h n ≡ o
+  shown_there : (m : ℕ) (h : List Mark) (n : List ℕ) (o : Option Shown) → shown_of_name h n ≡ o
       → seen_there (shown_sight m o) ≡ Some (m, option_map (λ e. e.kind) o)
   shown_there m h n None is = refl
   shown_there m h n (Some e) is = led_there m e.kind (lead_of e) (led h n e is) (read e)
 
   module _ (g : model.Cell) (prefer : Option ℕ) where
     -- the house at which something is seen of a name shows it as the master
-    pub seen_as_master : (at : Pointer) (n : List ℕ) (h : ℕ) (k : Option Kind) → seen_there ((reading g prefer true).sees at n) ≡ Some (h, k)
+    pub seen_as_master : (at : Pointer) (n : List ℕ) (h : ℕ) (k : Option Kind) → seen_there ((cell_reader g prefer true).sees at n) ≡ Some (h, k)
         → ShowsAsMaster g h at.dir n k
-    seen_as_master at n h k is = by_asked (asked (views_of g) at.dir prefer true (at.master ∷ at.others)) refl is
+    seen_as_master at n h k is = by_asked (house_to_ask (views_of g) at.dir prefer true (at.master ∷ at.others)) refl is
       where
-        by_asked : (o : Option Asked) → asked (views_of g) at.dir prefer true (at.master ∷ at.others) ≡ o → seen_there (sight_at n o) ≡ Some (h, k)
+        by_asked : (o : Option Asked) → house_to_ask (views_of g) at.dir prefer true (at.master ∷ at.others) ≡ o → seen_there (sight_at n o) ≡ Some (h, k)
             → ShowsAsMaster g h at.dir n k
         by_asked None first is = absurd (cc)
         by_asked (Some a) first is =
             let it = asked_holds g prefer at.dir (at.master ∷ at.others) a first in
-            let shows : shown it.replica.history n ≡ a.view.shows n = ap (λ (v : View). v.shows n) it.view in
+            let shows : shown_of_name it.replica.history n ≡ a.view.shows n = ap (λ (v : View). v.shows n) it.view in
             let seen : seen_there (shown_sight a.house (a.view.shows n)) ≡ Some (a.house, option_map (λ e. e.kind) (a.view.shows n)) =
             shown_there a.house it.replica.history n (a.view.shows n) shows in
             let same : (a.house, option_map (λ e. e.kind) (a.view.shows n)) ≡ (h, k) =
@@ -192,10 +192,10 @@ up_shows d (Some (state.Down octets)) v is = absurd (cc)
 
 -- the house at which something is seen is up
 pub seen_up : (c : Cell) (prefer : Option ℕ) (high : Bool) (at : Pointer) (n : List ℕ) (h : ℕ) (k : Option Kind)
-    → seen_there ((told c prefer high).sees at n) ≡ Some (h, k) → IsUpAt c h
-seen_up c prefer high at n h k is = by_asked (asked (told_views c) at.dir prefer high (at.master ∷ at.others)) refl is
+    → seen_there ((program_reader c prefer high).sees at n) ≡ Some (h, k) → IsUpAt c h
+seen_up c prefer high at n h k is = by_asked (house_to_ask (told_views c) at.dir prefer high (at.master ∷ at.others)) refl is
   where
-    by_asked : (o : Option Asked) → asked (told_views c) at.dir prefer high (at.master ∷ at.others) ≡ o → seen_there (sight_at n o) ≡ Some (h, k) → IsUpAt c h
+    by_asked : (o : Option Asked) → house_to_ask (told_views c) at.dir prefer high (at.master ∷ at.others) ≡ o → seen_there (sight_at n o) ≡ Some (h, k) → IsUpAt c h
     by_asked None first is = absurd (cc)
     by_asked (Some a) first is =
         let shows = asked_shows (told_views c) at.dir prefer high (at.master ∷ at.others) a first in

@@ -16,7 +16,7 @@ use Rattle.directory.proofs.TableLaws.{entry_of-valid}
 use Rattle.directory.proofs.PurgeLaws.{purged-valid}
 use Rattle.purge_rule.specs.declared.replica.Replica.{Replica}
 use Rattle.record_fields.specs.Decoding.{Decodes, IsWhole}
-use Rattle.cds_records.specs.Octets.{message_octets}
+use Rattle.cds_records.specs.RecordOctets.{message_octets}
 use Rattle.cds_records.specs.Records as records
 use Rattle.cds_messages.specs.Validity.{IsValidBody, IsValidMessage}
 use Rattle.record_fields.specs.declared.fault.RecordFault.{RecordFault}
@@ -30,9 +30,9 @@ use Rattle.cell_model.specs.Cells as model
 use Rattle.cell_model.specs.Sets.{has}
 use Rattle.cell_model.specs.Steps.{message_at, serials}
 use Rattle.clearinghouse.specs.declared.letters.Letters.{Letters}
-use Rattle.held_directories.specs.declared.posted.Posted.{Posted}
-use Rattle.held_directories.specs.Posting.{StandEach, StandsBody, StandsCopy, StandsDelta, StandsMessage, numbers_of, posts_to}
-use Rattle.clearinghouse.specs.Posting.{AreLetters}
+use Rattle.house_directory.specs.declared.posted.Posted.{Posted}
+use Rattle.house_directory.specs.HouseMessages.{StandEach, StandsBody, StandsCopy, StandsDelta, StandsMessage, numbers_of, posts_to}
+use Rattle.clearinghouse.specs.HouseLetters.{AreLetters}
 use Rattle.cds_cell.specs.declared.bag.Bag.{Bag}
 use Rattle.cds_cell.specs.declared.bag.Letter.{Letter}
 use Rattle.cds_cell.specs.Bags.{MaybeStandsLetter, StandsBag, StandsLetter, letter_at}

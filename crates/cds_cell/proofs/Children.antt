@@ -13,8 +13,8 @@ use Rattle.cell_model.specs.Cells.{House, Replica, Slot, put}
 use Rattle.cell_model.specs.Commands as command
 use Rattle.cell_model.specs.Holdings.{NumbersHold}
 use Rattle.cell_model.specs.Sets.{has}
-use Rattle.cell_model.specs.Steps.{Outcome, ascending, at_house, effect, first_refusal, is_bad_list, is_down, is_missing, is_unknown}
-use Rattle.cell_model.specs.Steps.{listing, refusals_of, serials_of, with_directory}
+use Rattle.cell_model.specs.Steps.{Outcome, sorted_houses, at_house, effect, first_refusal, is_bad_list, is_down, is_missing, is_unknown}
+use Rattle.cell_model.specs.Steps.{member_list_of, refusals_of, serials_of, with_directory}
 use Rattle.cell_model.specs.Turns as turns
 use Rattle.cell_model.proofs.AtHouses.{at_house-here, at_house-rest, at_house-there, house_after}
 use Rattle.cell_model.proofs.Lists.{or_left, or_right}
@@ -24,13 +24,13 @@ use Rattle.cell_model.proofs.Terms.{master_new}
 use Rattle.cell_model.proofs.Views.{put_other}
 use Rattle.script_answers.specs.declared.answer.Answer.TheVariants as answer
 use Rattle.script_answers.specs.declared.answer.ScriptRefusal.{ScriptRefusal}
-use Rattle.held_directories.specs.Stepping.{IsStampAnswer}
+use Rattle.house_directory.specs.DirectorySteps.{IsStampAnswer}
 use Rattle.cds_cell.specs.declared.cell.Cell.{Cell}
 use Rattle.cds_cell.specs.declared.console.Listing.{Listing}
 use Rattle.cds_cell.specs.PrivateActs.{ActsAt, CanFound, Founds, GrowsByOne, KeepsRest, Tells, child_outcome}
 use Rattle.cds_cell.specs.PrivateSteps.{IsPlaceOf, IsStepAs, Leaves}
 use Rattle.cds_cell.specs.Scripted as script
-use Rattle.cds_cell.specs.Standing.{Stands, StandsAs, StandsListing, directory_of, greatest_epoch, house_of}
+use Rattle.cds_cell.specs.ModelCells.{Stands, StandsAs, StandsListing, directory_of, greatest_epoch, house_of}
 use Rattle.cds_cell.proofs.ActSteps.{made_where, never_missing, passed, refused_told, told_by, up_where}
 use Rattle.cds_cell.proofs.HouseActs.{Acted, acted}
 use Rattle.cds_cell.proofs.Serials.{accept_tells}
@@ -203,17 +203,17 @@ module _ (c : Cell) (g : model.Cell) (h d m : ℕ) (n rs ss : List ℕ) (s : Sta
       }
 
   -- what is done is the command
-  pub mkdir_is : (k : ℕ) (u : Change) (ms : List Member) → k ≡ g.next_dir → u ≡ updates.MakeChild n (record { dir = k; master = m; others = ascending rs })
-      → ms ≡ listing [] 1 m rs ss → child_outcome g h d u k ms ≡ effect g (command.Mkdir h d n m rs ss)
+  pub mkdir_is : (k : ℕ) (u : Change) (ms : List Member) → k ≡ g.next_dir → u ≡ updates.MakeChild n (record { dir = k; master = m; others = sorted_houses rs })
+      → ms ≡ member_list_of [] 1 m rs ss → child_outcome g h d u k ms ≡ effect g (command.Mkdir h d n m rs ss)
   mkdir_is k u ms next is members =
-      let list : List Member = listing [] 1 m rs ss in
+      let list : List Member = member_list_of [] 1 m rs ss in
       ap (λ (u : Change). child_outcome g h d u k ms) is
-      ∙ ap (λ ms. child_outcome g h d (updates.MakeChild n (record { dir = k; master = m; others = ascending rs })) k ms) members
-      ∙ ap (λ k. child_outcome g h d (updates.MakeChild n (record { dir = k; master = m; others = ascending rs })) k list) next
+      ∙ ap (λ ms. child_outcome g h d (updates.MakeChild n (record { dir = k; master = m; others = sorted_houses rs })) k ms) members
+      ∙ ap (λ k. child_outcome g h d (updates.MakeChild n (record { dir = k; master = m; others = sorted_houses rs })) k list) next
       ∙ ap (λ x. done x) (master_new [] 1 m rs ss)
     where
       done : ℕ → Outcome
       done x =
-          let u : Change = updates.MakeChild n (record { dir = g.next_dir; master = m; others = ascending rs }) in
+          let u : Change = updates.MakeChild n (record { dir = g.next_dir; master = m; others = sorted_houses rs }) in
           let o : Outcome = at_house g h (turns.accept h (g.house h) d u) in
-          with_directory o g.next_dir x (listing [] 1 m rs ss) o.answer
+          with_directory o g.next_dir x (member_list_of [] 1 m rs ss) o.answer

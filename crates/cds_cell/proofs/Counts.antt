@@ -6,7 +6,7 @@ use Rattle.std.proofs.lemmas.Bool.Decides.{nat_tests}
 use Rattle.cell_model.specs.Cells as model
 use Rattle.cds_cell.specs.declared.cell.Cell.{Cell}
 use Rattle.cds_cell.specs.declared.console.Listing.{Listing}
-use Rattle.cds_cell.specs.Standing.{IsGreatestEpoch, StandsAs, StandsListing, directory_count, directory_of, greatest_epoch}
+use Rattle.cds_cell.specs.ModelCells.{IsGreatestEpoch, StandsAs, StandsListing, directory_count, directory_of, greatest_epoch}
 
 -- the console has as many directories as the model
 pub directories_counted : (c : Cell) (g : model.Cell) → StandsAs c g → length c.directories.items ≡ directory_count g

@@ -13,16 +13,16 @@ use Rattle.cell_model.specs.Cells as model
 use Rattle.cell_model.specs.Commands as command
 use Rattle.cell_model.specs.Nevers.{Nevers}
 use Rattle.cell_model.specs.Steps.{Outcome, at_house, effect, first_refusal, is_bad_list, is_down, is_missing, is_unknown}
-use Rattle.cell_model.specs.Steps.{leaving, listing, refusals_of, with_epoch}
+use Rattle.cell_model.specs.Steps.{left_members, member_list_of, refusals_of, with_epoch}
 use Rattle.cell_model.specs.Turns as turns
 use Rattle.cell_model.proofs.NeverComes.{nevers_lem}
 use Rattle.cell_model.proofs.Standing.{on_reached}
 use Rattle.cell_model.proofs.Terms.{master_new}
 use Rattle.script_answers.specs.declared.answer.Answer.TheVariants as answer
 use Rattle.script_answers.specs.declared.answer.ScriptRefusal.{ScriptRefusal}
-use Rattle.held_directories.specs.declared.epochs.EpochRefusal.{EpochRefusal}
-use Rattle.held_directories.specs.declared.epochs.EpochRefusal.TheVariants as why
-use Rattle.held_directories.specs.Stepping.{IsEpochAnswer}
+use Rattle.house_directory.specs.declared.epochs.EpochRefusal.{EpochRefusal}
+use Rattle.house_directory.specs.declared.epochs.EpochRefusal.TheVariants as why
+use Rattle.house_directory.specs.DirectorySteps.{IsEpochAnswer}
 use Rattle.cds_cell.specs.declared.bag.Bag.{Bag}
 use Rattle.cds_cell.specs.declared.cell.Cell.{Cell}
 use Rattle.cds_cell.specs.declared.console.Listing.{Listing}
@@ -30,7 +30,7 @@ use Rattle.cds_cell.specs.PrivateActs.{ActsAt, KeepsRest, Tells}
 use Rattle.cds_cell.specs.PrivateHouses.{IsNewEpoch}
 use Rattle.cds_cell.specs.PrivateSteps.{IsPlaceOf, IsStepAs, Leaves}
 use Rattle.cds_cell.specs.Scripted as script
-use Rattle.cds_cell.specs.Standing.{Stands, StandsAs, StandsListing, directory_of, greatest_epoch, house_of}
+use Rattle.cds_cell.specs.ModelCells.{Stands, StandsAs, StandsListing, directory_of, greatest_epoch, house_of}
 use Rattle.cds_cell.proofs.HouseActs.{Acted, acted, noted_stands}
 use Rattle.cds_cell.proofs.ActSteps.{never_missing, passed, told_by, up_where}
 use Rattle.cds_cell.proofs.Serials.{new_epoch_tells}
@@ -65,8 +65,8 @@ pub record EpochCall (c : Cell) (g : model.Cell) (d m : ℕ) (rs ss : List ℕ) 
   pub place : IsPlaceOf c.houses.items m at
   pub leads : IsPlaceOf c.houses.items (master_of ms) at
   pub epoch : e.0 ≡ g.top d + 1
-  pub members : ms ≡ listing (g.present d) e.0 m rs ss
-  pub gone : left ≡ leaving (g.present d) ms
+  pub members : ms ≡ member_list_of (g.present d) e.0 m rs ss
+  pub gone : left ≡ left_members (g.present d) ms
   pub later : IsNewEpoch e.0 ((g.house m).slots d)
 
 -- a listing of the console stands for what the model's knows
@@ -111,20 +111,20 @@ module _ (c : Cell) (g : model.Cell) (d m : ℕ) (rs ss : List ℕ) (s : Stands 
   -- the call that the console's listing leads to
   pub epoch_call : (i at : ℕ) (l : Listing) (e : EpochNo) (old older : List declared.Member) (ms : List Member) (left : List ℕ) → d ≡ i + 1
       → i < length c.directories.items → l ≡ get_or c.directories.items i l → IsPlaceOf c.houses.items m at → e.0 ≡ l.epoch.0 + 1 → old ≡ l.members
-      → older ≡ l.members → ms ≡ listing (members_of old) e.0 m rs ss → left ≡ leaving (members_of older) ms → EpochCall c g d m rs ss at e ms left
+      → older ≡ l.members → ms ≡ member_list_of (members_of old) e.0 m rs ss → left ≡ left_members (members_of older) ms → EpochCall c g d m rs ss at e ms left
   epoch_call i at l e old older ms left number within here place next same still members gone =
       let known = listing_known c g d i l s.stands number (slice_get_read c.directories.items (length c.directories.items) i l refl within here) in
       let epoch : e.0 ≡ g.top d + 1 = next ∙ ap (λ n. n + 1) (sym known.1) in
       let present : members_of old ≡ g.present d = ap members_of same ∙ sym known.2 in
       let presently : members_of older ≡ g.present d = ap members_of still ∙ sym known.2 in
-      let list : ms ≡ listing (g.present d) e.0 m rs ss = members ∙ ap (λ ms. listing ms e.0 m rs ss) present in
+      let list : ms ≡ member_list_of (g.present d) e.0 m rs ss = members ∙ ap (λ ms. member_list_of ms e.0 m rs ss) present in
       let lead : master_of ms ≡ m = ap master_of list ∙ master_new (g.present d) e.0 m rs ss in
       record {
         place = place;
         leads = subst (λ x. IsPlaceOf c.houses.items x at) (sym lead) place;
         epoch = epoch;
         members = list;
-        gone = gone ∙ ap (λ old. leaving old ms) presently;
+        gone = gone ∙ ap (λ old. left_members old ms) presently;
         later = subst (λ k. IsNewEpoch k ((g.house m).slots d)) (sym epoch) (epoch_new m);
       }
 
@@ -137,8 +137,8 @@ module _ (c : Cell) (g : model.Cell) (d m : ℕ) (rs ss : List ℕ) (s : Stands 
     pub effect_is : effect g (command.Epoch d m rs ss) ≡ entered g d m e.0 ms left
     effect_is =
         let old : List Member = g.present d in
-        ap (λ k. entered g d m k (listing old k m rs ss) (leaving old (listing old k m rs ss))) (sym call.epoch)
-        ∙ ap (λ ms. entered g d m e.0 ms (leaving old ms)) (sym call.members)
+        ap (λ k. entered g d m k (member_list_of old k m rs ss) (left_members old (member_list_of old k m rs ss))) (sym call.epoch)
+        ∙ ap (λ ms. entered g d m e.0 ms (left_members old ms)) (sym call.members)
         ∙ ap (λ left. entered g d m e.0 ms left) (sym call.gone)
 
     acts_in : (Answers : command.Answer → Type 0) → ActsAt c c' at before ns Answers (g.house m) (λ h. turns.new_epoch h (g.house m) d e.0 ms left)

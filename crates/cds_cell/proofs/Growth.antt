@@ -3,7 +3,7 @@ use Rattle.std.proofs.Common.{◌≡◌, ℕ, ◌+◌, ◌≤◌, List, [], ◌�
 use Rattle.cell_model.specs.Cells as model
 use Rattle.cds_cell.specs.declared.cell.Cell.{Cell}
 use Rattle.cds_cell.specs.declared.console.Listing.{Listing}
-use Rattle.cds_cell.specs.Standing.{GrowsBy, HasRoom, IsWithin, Stands, StandsListing, directory_of, greatest_epoch}
+use Rattle.cds_cell.specs.ModelCells.{GrowsBy, HasRoom, IsWithin, Stands, StandsListing, directory_of, greatest_epoch}
 
 -- ---- cells after some steps
 

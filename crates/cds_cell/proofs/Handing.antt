@@ -7,7 +7,7 @@ use Rattle.cell_model.specs.Cells as model
 use Rattle.cell_model.specs.Commands.{Command}
 use Rattle.cell_model.specs.Steps.{effect, first_refusal, refusals_of}
 use Rattle.script_answers.specs.declared.answer.Answer.{Answer}
-use Rattle.held_directories.specs.Posting.{numbers_of}
+use Rattle.house_directory.specs.HouseMessages.{numbers_of}
 use Rattle.cds_cell.specs.declared.cell.Cell.{Cell}
 use Rattle.cds_cell.specs.PrivateSteps.{ComesTo}
 

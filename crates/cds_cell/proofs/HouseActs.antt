@@ -12,19 +12,19 @@ use Rattle.cds_stamps.specs.declared.numbers.HouseNo.{HouseNo}
 use Rattle.cds_stamps.specs.Members.{Member, members_of}
 use Rattle.cell_model.specs.Cells as model
 use Rattle.cell_model.specs.Commands as command
-use Rattle.cell_model.specs.Steps.{at_house, moved, noted, serials_of, stands_twice}
+use Rattle.cell_model.specs.Steps.{at_house, move_house, note_epoch, serials_of, stands_twice}
 use Rattle.cell_model.specs.Turns.{HouseStep, Stays, Turns}
 use Rattle.cell_model.proofs.AtHouses.{Rest, at_house-bag, at_house-here, at_house-rest, at_house-there, house_after, posts_of}
 use Rattle.cell_model.proofs.Lists.{append_nil}
 use Rattle.cell_model.proofs.Views.{put_other, put_same}
-use Rattle.held_directories.specs.declared.epochs.EpochRefusal.{EpochRefusal}
-use Rattle.held_directories.specs.declared.outgoing.Outgoing.{Outgoing}
-use Rattle.held_directories.specs.declared.outgoing.Outgoing.TheVariants as out
-use Rattle.held_directories.specs.declared.posted.Posted.{Posted}
-use Rattle.held_directories.specs.declared.taking.Taken.{Taken}
-use Rattle.held_directories.specs.declared.taking.Taken.TheVariants as taken
-use Rattle.held_directories.specs.Posting.{StandEach}
-use Rattle.held_directories.specs.Stepping.{UnlessTaken}
+use Rattle.house_directory.specs.declared.epochs.EpochRefusal.{EpochRefusal}
+use Rattle.house_directory.specs.declared.outgoing.Outgoing.{Outgoing}
+use Rattle.house_directory.specs.declared.outgoing.Outgoing.TheVariants as out
+use Rattle.house_directory.specs.declared.posted.Posted.{Posted}
+use Rattle.house_directory.specs.declared.taking.Taken.{Taken}
+use Rattle.house_directory.specs.declared.taking.Taken.TheVariants as taken
+use Rattle.house_directory.specs.HouseMessages.{StandEach}
+use Rattle.house_directory.specs.DirectorySteps.{UnlessTaken}
 use Rattle.cds_cell.specs.declared.bag.Bag.{Bag}
 use Rattle.cds_cell.specs.declared.cell.Cell.{Cell}
 use Rattle.cds_cell.specs.declared.console.Listing.{Listing}
@@ -32,11 +32,11 @@ use Rattle.cds_cell.specs.declared.house.CellHouse.{CellHouse}
 use Rattle.cds_cell.specs.declared.house.HouseState.{HouseState}
 use Rattle.cds_cell.specs.declared.house.HouseState.TheVariants as state
 use Rattle.cds_cell.specs.Bags.{StandsBag}
-use Rattle.cds_cell.specs.Houses.{StandsAtHouse}
+use Rattle.cds_cell.specs.CellHouses.{StandsAtHouse}
 use Rattle.cds_cell.specs.PrivateActs.{ActsAt, ChangesAt, KeepsRest, Posts}
 use Rattle.cds_cell.specs.PrivateHouses.{Asks, IsSameHouse, epoch_posted_by, leaves_by, posted_by}
 use Rattle.cds_cell.specs.PrivateSteps.{IsPlaceOf}
-use Rattle.cds_cell.specs.Standing.{MaybeStandsHouse, StandsAs, StandsListing, directory_of, house_of}
+use Rattle.cds_cell.specs.ModelCells.{MaybeStandsHouse, StandsAs, StandsListing, directory_of, house_of}
 use Rattle.cds_cell.proofs.Bags.{posted_both, posted_none, posted_serials, posted_stands, same_bag}
 use Rattle.cds_cell.proofs.Houses.{house_changed, house_numbers, house_of_place, numbers_kept, place_within}
 use Rattle.cds_cell.proofs.Vecs.{written}
@@ -128,31 +128,31 @@ lost_elsewhere c d g n s houses rest bag = record {
 -- the cell in which the console knows a directory's epoch and list, where the model's knows the same
 pub noted_stands : (c c' : Cell) (g : model.Cell) (d i k : ℕ) (ms : List Member) (l : Listing) → StandsAs c g → d ≡ i + 1 → i < length c.directories.items
     → c'.houses ≡ c.houses → c'.directories.items ≡ slice_set c.directories.items i l → c'.bag ≡ c.bag → c'.spent ≡ c.spent
-    → 1 ≤ l.epoch.0 → l.epoch.0 ≡ k → members_of l.members ≡ ms → StandsAs c' (noted g d k ms)
+    → 1 ≤ l.epoch.0 → l.epoch.0 ≡ k → members_of l.members ≡ ms → StandsAs c' (note_epoch g d k ms)
 noted_stands c c' g d i k ms l s number within houses directories bag spent first epoch members = record {
   made = s.made ∙ ap (λ (v : Vec CellHouse Global). house_numbers v.items) (sym houses);
   once = s.once;
   houses = λ x. rw houses (s.houses x);
   directories = λ e. rw directories (known e (s.directories e));
   next = s.next ∙ ap (λ n. max 2 (n + 1)) (sym (ap length directories ∙ length-set c.directories.items i l));
-  bag = same_bag c'.bag g (noted g d k ms) refl refl (subst (λ b. StandsBag b g) (sym bag) s.bag);
+  bag = same_bag c'.bag g (note_epoch g d k ms) refl refl (subst (λ b. StandsBag b g) (sym bag) s.bag);
   usable = spent ∙ s.usable;
 }
   where
-    here : (j : ℕ) → j ≡ i → StandsListing (Some l) (noted g d k ms) (suc j)
+    here : (j : ℕ) → j ≡ i → StandsListing (Some l) (note_epoch g d k ms) (suc j)
     here j same =
         let is : (suc j == d) ≡ true = grind (arith, nat_tests, number, same) in
         (first, rw is (sym epoch), rw is (sym members))
 
-    there : (e : ℕ) (o : Option Listing) → e ≢ d → StandsListing o g e → StandsListing o (noted g d k ms) e
-    there e o apart stands = listing_kept o g (noted g d k ms) e (put_other g.top d k e apart) (put_other g.present d ms e apart) stands
+    there : (e : ℕ) (o : Option Listing) → e ≢ d → StandsListing o g e → StandsListing o (note_epoch g d k ms) e
+    there e o apart stands = listing_kept o g (note_epoch g d k ms) e (put_other g.top d k e apart) (put_other g.present d ms e apart) stands
 
     known : (e : ℕ) → StandsListing (directory_of c.directories.items e) g e
-        → StandsListing (directory_of (slice_set c.directories.items i l) e) (noted g d k ms) e
+        → StandsListing (directory_of (slice_set c.directories.items i l) e) (note_epoch g d k ms) e
     known zero stands = there zero None (λ same. omega (arith, same, number)) stands
     known (suc j) stands = rw (listing_changed c.directories.items i j l within) (go (j == i) refl)
       where
-        go : (b : Bool) → (j == i) ≡ b → StandsListing (if b then Some l else slice_get c.directories.items j) (noted g d k ms) (suc j)
+        go : (b : Bool) → (j == i) ≡ b → StandsListing (if b then Some l else slice_get c.directories.items j) (note_epoch g d k ms) (suc j)
         go true on = here j (grind (arith, nat_tests, on))
         go false off =
             let apart : suc j ≢ d = grind (arith, nat_tests, off, number) in
@@ -242,16 +242,16 @@ untaken_same taken.Foreign c d e h k o unchanged unposted back = unposted unchan
 -- a house changes that posts nothing
 pub moved_alone : (c d : Cell) (g : model.Cell) (x at : ℕ) (h k : CellHouse) (now : model.House) → StandsAs c g → IsPlaceOf c.houses.items x at
     → h ≡ get_or c.houses.items at h → d.houses.items ≡ slice_set c.houses.items at k → d.directories ≡ c.directories → d.spent ≡ c.spent → d.bag ≡ c.bag
-    → IsSameHouse h k → (StandsAtHouse h (g.house x) → StandsAtHouse k now) → StandsAs d (moved g x now [])
+    → IsSameHouse h k → (StandsAtHouse h (g.house x) → StandsAtHouse k now) → StandsAs d (move_house g x now [])
 moved_alone c d g x at h k now s place here houses directories spent bag same stands =
     let was : slice_get c.houses.items at ≡ Some h =
     slice_get_read c.houses.items (length c.houses.items) at h refl (place_within c.houses.items x at place) here in
     let after : StandsAtHouse k now = stands (house_stands c g x at h s place was) in
-    changed_stands c d g (moved g x now []) x at h k s place
+    changed_stands c d g (move_house g x now []) x at h k s place
     (record { was = was; houses = houses; same = same; rest = record { directories = directories; spent = spent } })
     (subst (λ (n : model.House). StandsAtHouse k n) (sym (put_same g.house x now)) after) (put_other g.house x now)
     (record { made = refl; lost = refl; top = refl; present = refl; next_dir = refl })
-    (subst (λ (b : Bag). StandsBag b (moved g x now [])) (sym bag) (same_bag c.bag g (moved g x now []) (append_nil g.bag) refl s.bag))
+    (subst (λ (b : Bag). StandsBag b (move_house g x now [])) (sym bag) (same_bag c.bag g (move_house g x now []) (append_nil g.bag) refl s.bag))
 
 -- a call of the house at a place for which nothing is posted is an act
 pub acts_alone : (c d : Cell) (at : ℕ) (h k : CellHouse) (before : List ℕ) (Answers : command.Answer → Type 0) (now : model.House)

@@ -8,19 +8,19 @@ use Rattle.cell_model.specs.Cells as model
 use Rattle.cell_model.specs.Commands as command
 use Rattle.cell_model.specs.Turns.{Turn, HouseStep, Stays, Turns, crashed_house, started_house}
 use Rattle.clearinghouse.specs.declared.house.Clearinghouse.{Clearinghouse}
-use Rattle.held_directories.specs.declared.posted.Posted.{Posted}
-use Rattle.held_directories.specs.declared.states.DirState.{DirState}
-use Rattle.held_directories.specs.declared.states.DirState.TheVariants as dir_state
-use Rattle.clearinghouse.specs.Imaging.{restarted, started}
-use Rattle.clearinghouse.specs.Lawful.{IsLawful}
-use Rattle.held_directories.specs.Refusing.{IsLater}
-use Rattle.held_directories.specs.Standing.{StandsSlot}
-use Rattle.clearinghouse.specs.Standing.{StandsHouse}
-use Rattle.clearinghouse.specs.Stepping.{IsCall, IsStep, IsTurn}
+use Rattle.house_directory.specs.declared.posted.Posted.{Posted}
+use Rattle.house_directory.specs.declared.states.DirState.{DirState}
+use Rattle.house_directory.specs.declared.states.DirState.TheVariants as dir_state
+use Rattle.clearinghouse.specs.HouseImages.{house_after_restart, start_of_octets}
+use Rattle.clearinghouse.specs.LawfulHouses.{IsLawful}
+use Rattle.house_directory.specs.Refusing.{IsLater}
+use Rattle.house_directory.specs.ModelReplicas.{StandsSlot}
+use Rattle.clearinghouse.specs.ModelHouses.{StandsHouse}
+use Rattle.clearinghouse.specs.HouseSteps.{IsCall, IsStep, IsTurn}
 use Rattle.cds_cell.specs.declared.house.CellHouse.{CellHouse}
 use Rattle.cds_cell.specs.declared.house.HouseState.TheVariants as state
 use Rattle.cds_cell.proofs.KeptNodes.{KeepsNode, SameNode}
-use Rattle.cds_cell.specs.Houses.{KeepsImage, StandsAtHouse, StandsState, StandsUp}
+use Rattle.cds_cell.specs.CellHouses.{KeepsImage, StandsAtHouse, StandsState, StandsUp}
 use Rattle.cds_cell.specs.PrivateHouses.{Asks, IsNewEpoch, IsTurnAt}
 
 -- ---- what a house has
@@ -86,22 +86,22 @@ later_epoch me floor k (Some (dir_state.Held h)) (model.Gone e) stands new = eli
 
 -- a house that keeps the octets of its image stands for one that is down
 pub crashed_stands : (h : CellHouse) (c : Clearinghouse) (octets : List ℕ) (now : model.House) → h.state ≡ state.Up c → StandsAtHouse h now
-    → KeepsImage octets (restarted c) → StandsHouse (restarted c) (crashed_house now) → IsLawful (restarted c)
+    → KeepsImage octets (house_after_restart c) → StandsHouse (house_after_restart c) (crashed_house now) → IsLawful (house_after_restart c)
     → StandsAtHouse (record h { state = state.Down octets }) (crashed_house now)
 crashed_stands h c octets now is stands kept there lawful = record {
   node = stands.node;
   clock = stands.clock;
-  state = (refl, (restarted c, kept, record { number = (stands_up h c now is stands).number; stands = there; lawful = lawful; usable = refl }));
+  state = (refl, (house_after_restart c, kept, record { number = (stands_up h c now is stands).number; stands = there; lawful = lawful; usable = refl }));
 }
 
 -- ---- starts
 
 -- a house that is down starts as the clearinghouse that its octets start as
 pub started_stands : (h : CellHouse) (kept octets : List ℕ) (home : Clearinghouse) (now : model.House) → h.state ≡ state.Down kept → StandsAtHouse h now
-    → octets ≡ kept → Some home ≡ result_ok (started octets) → StandsAtHouse (with_up h home) (started_house now)
+    → octets ≡ kept → Some home ≡ result_ok (start_of_octets octets) → StandsAtHouse (with_up h home) (started_house now)
 started_stands h kept octets home now is stands same starts =
     let s = subst (λ s. StandsState h.house s now) is stands.state in
-    let told : Some home ≡ Some s.1.0 = starts ∙ ap (λ l. result_ok (started l)) same ∙ ap result_ok s.1.1.starts in
+    let told : Some home ≡ Some s.1.0 = starts ∙ ap (λ l. result_ok (start_of_octets l)) same ∙ ap result_ok s.1.1.starts in
     let own : s.1.0 ≡ home = cc in
     let up = subst (λ c. StandsUp h.house c now) own s.1.2 in
     record {

@@ -9,10 +9,10 @@ use Rattle.std.proofs.lemmas.Bool.Decides.{nat_tests}
 use Rattle.cds_stamps.specs.Keyed.{no_value}
 use Rattle.cell_model.specs.Sets.{has}
 use Rattle.cell_model.specs.Steps.{stands_twice}
-use Rattle.held_directories.specs.Posting.{numbers_of}
+use Rattle.house_directory.specs.HouseMessages.{numbers_of}
 use Rattle.cds_cell.specs.declared.house.CellHouse.{CellHouse}
 use Rattle.cds_cell.specs.PrivateSteps.{IsPlaceOf}
-use Rattle.cds_cell.specs.Standing.{house_of, MaybeStandsHouse}
+use Rattle.cds_cell.specs.ModelCells.{house_of, MaybeStandsHouse}
 
 -- the numbers of houses, in their order
 abbrev pub house_numbers : List CellHouse → List ℕ

@@ -5,14 +5,14 @@ use Rattle.std.specs.Option.{option_map}
 use Rattle.std.specs.Result.{result_err}
 use Rattle.std.specs.Str.{bytes_eq}
 use Rattle.std.proofs.lemmas.Slice.Eq.{bytes_eq-Decides}
-use Rattle.cds_records.specs.Octets.{image_octets}
+use Rattle.cds_records.specs.RecordOctets.{image_octets}
 use Rattle.cell_model.specs.Cells.{Cell}
 use Rattle.cell_model.specs.Commands.{Command, Refusal}
 use Rattle.cell_model.specs.Reached.{IsReached}
 use Rattle.cell_model.specs.Sets.{has}
 use Rattle.cell_model.specs.Steps.{effect, first_refusal, outcome, refusals_of}
 use Rattle.script_answers.specs.declared.answer.ScriptRefusal.{ScriptRefusal}
-use Rattle.cds_cell.specs.Imaging.{actors, image_after, octets_at}
+use Rattle.cds_cell.specs.CommandImages.{actors, image_after, octets_at}
 use Rattle.cds_cell.specs.Scripted.{refusal_of}
 use Rattle.cds_cell.proofs.ImagesStay.{images_stay}
 use Rattle.cds_cell.proofs.Outcomes.{unrefused}

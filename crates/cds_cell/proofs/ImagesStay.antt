@@ -12,15 +12,15 @@ use Rattle.cell_model.specs.Commands.{Answer, Command, Refusal, NewEpoch, Stampe
 use Rattle.cell_model.specs.Holdings.{NumbersHold}
 use Rattle.cell_model.specs.Reached.{IsReached}
 use Rattle.cell_model.specs.Sets.{has}
-use Rattle.cell_model.specs.Steps.{Outcome, ascending, at_house, deliver, effect, first_refusal, is_down, leaving, listing, lose, message_at, outcome}
-use Rattle.cell_model.specs.Steps.{refusals_of, refused, unless, with_directory, with_epoch}
-use Rattle.cell_model.specs.Turns.{HouseStep, Turns, accept, crashed, crashed_house, found, new_epoch, skulk, started_house, take}
+use Rattle.cell_model.specs.Steps.{Outcome, sorted_houses, at_house, deliver, effect, first_refusal, is_down, left_members, member_list_of, lose, message_at, outcome}
+use Rattle.cell_model.specs.Steps.{refusals_of, refusal_outcome, unless, with_directory, with_epoch}
+use Rattle.cell_model.specs.Turns.{HouseStep, Turns, accept, crash_slot, crashed_house, found_directory, new_epoch, skulk, started_house, take}
 use Rattle.cell_model.proofs.AtHouses.{at_house-there}
 use Rattle.cell_model.proofs.Lists.{or_left, or_right}
 use Rattle.cell_model.proofs.Numbers.{numbers_lem}
 use Rattle.cell_model.proofs.Standing.{on_reached, reached_lem}
 use Rattle.cell_model.proofs.Views.{put_at, put_other}
-use Rattle.cds_cell.specs.Imaging.{actors, receivers_of}
+use Rattle.cds_cell.specs.CommandImages.{actors, receivers_of}
 use Rattle.cds_cell.specs.Recorded.{image_at, kept_in}
 use Rattle.cds_cell.proofs.RecordedLaws.{got_recorded}
 
@@ -51,7 +51,7 @@ same_kept h k is = record {
 }
 
 -- an image has no skulk
-crashed_kept : (s : Slot) → kept_in (crashed s) ≡ kept_in s
+crashed_kept : (s : Slot) → kept_in (crash_slot s) ≡ kept_in s
 crashed_kept Absent = refl
 crashed_kept (Gone e) = refl
 crashed_kept (Held r) = refl
@@ -77,7 +77,7 @@ at_other g h x s apart = same_kept (g.house x) ((at_house g h s).cell.house x) (
 
 -- a directory that another house makes after an update
 made_there : (o : Outcome) (d m : ℕ) (ms : List Member) (a : Answer) (x : ℕ) → x ≢ m → (with_directory o d m ms a).cell.house x ≡ o.cell.house x
-made_there o d m ms (Stamped s ns) x apart = at_house-there o.cell m (Turns (found m (o.cell.house m) d ms)) x apart
+made_there o d m ms (Stamped s ns) x apart = at_house-there o.cell m (Turns (found_directory m (o.cell.house m) d ms)) x apart
 made_there o d m ms a x apart = refl
 
 -- the console notes an epoch
@@ -91,7 +91,7 @@ delivered_there g x None off = same_kept (g.house x) (g.house x) refl
 delivered_there g x (Some m) off = by (is_down g m.receiver) (at_other g m.receiver x (take (g.house m.receiver) m) (not_first x m.receiver [] off))
   where
     by : (b : Bool) → SameKept (g.house x) ((at_house g m.receiver (take (g.house m.receiver) m)).cell.house x)
-        → SameKept (g.house x) ((if b then refused g command.Down else at_house g m.receiver (take (g.house m.receiver) m)).cell.house x)
+        → SameKept (g.house x) ((if b then refusal_outcome g command.Down else at_house g m.receiver (take (g.house m.receiver) m)).cell.house x)
     by true same = same_kept (g.house x) (g.house x) refl
     by false same = same
 
@@ -107,17 +107,17 @@ effect_keeps g (command.House h node) x off = same_kept (g.house x) _ (put_other
 effect_keeps g (command.Clock h time) x off =
     put_kept g h x (record (g.house h) { clock = time }) (record { node = refl; floor = refl; kept = λ d. refl })
 effect_keeps g (command.Root m rs ss) x off =
-    at_other g m x (Turns (found m (g.house m) 1 (listing [] 1 m rs ss))) (not_first x m [] off)
+    at_other g m x (Turns (found_directory m (g.house m) 1 (member_list_of [] 1 m rs ss))) (not_first x m [] off)
 effect_keeps g (command.Mkdir h d n m rs ss) x off =
-    let u : updates.Change = updates.MakeChild n (record { dir = g.next_dir; master = m; others = ascending rs }) in
+    let u : updates.Change = updates.MakeChild n (record { dir = g.next_dir; master = m; others = sorted_houses rs }) in
     let o : Outcome = at_house g h (accept h (g.house h) d u) in
-    same_kept (g.house x) _ (made_there o g.next_dir m (listing [] 1 m rs ss) o.answer x (not_second x h m off)
+    same_kept (g.house x) _ (made_there o g.next_dir m (member_list_of [] 1 m rs ss) o.answer x (not_second x h m off)
     ∙ at_house-there g h (accept h (g.house h) d u) x (not_first x h (m ∷ []) off))
-effect_keeps g (command.Repoint h d n m rs) x off = at_other g h x (accept h (g.house h) d (updates.Repoint n m (ascending rs))) (not_first x h [] off)
+effect_keeps g (command.Repoint h d n m rs) x off = at_other g h x (accept h (g.house h) d (updates.Repoint n m (sorted_houses rs))) (not_first x h [] off)
 effect_keeps g (command.Accept h d u) x off = at_other g h x (accept h (g.house h) d u) (not_first x h [] off)
 effect_keeps g (command.Epoch d m rs ss) x off =
-    let ms : List Member = listing (g.present d) (g.top d + 1) m rs ss in
-    let s : HouseStep = new_epoch m (g.house m) d (g.top d + 1) ms (leaving (g.present d) ms) in
+    let ms : List Member = member_list_of (g.present d) (g.top d + 1) m rs ss in
+    let s : HouseStep = new_epoch m (g.house m) d (g.top d + 1) ms (left_members (g.present d) ms) in
     let o : Outcome = at_house g m s in
     same_kept (g.house x) _ (epoch_there o d ms o.answer x ∙ at_house-there g m s x (not_first x m [] off))
 effect_keeps g (command.Skulk h d) x off = at_other g h x (skulk h (g.house h) d) (not_first x h [] off)

@@ -9,7 +9,7 @@ use Rattle.directory.specs.declared.update.UpdateRefusal.TheVariants as why
 use Rattle.directory.specs.Updates.{Change}
 use Rattle.cell_model.specs.Cells as model
 use Rattle.cell_model.specs.Turns as turns
-use Rattle.cell_model.specs.Turns.{HouseStep, Stays, Turns, holding}
+use Rattle.cell_model.specs.Turns.{HouseStep, Stays, Turns, with_slot}
 
 -- it is the same in them
 pub record SameNode (now after : model.House) : Type 0 where
@@ -24,7 +24,7 @@ KeepsNode now (Turns turn) = SameNode now turn.house
 
 module _ (now : model.House) where
   -- a house that holds something else is
-  pub holding_same : (d floor : ℕ) (s : model.Slot) → SameNode now (holding now d floor s)
+  pub holding_same : (d floor : ℕ) (s : model.Slot) → SameNode now (with_slot now d floor s)
   holding_same d floor s = record { node = refl; clock = refl; up = refl }
 
   either_keeps : (b : Bool) (s t : HouseStep) → KeepsNode now s → KeepsNode now t → KeepsNode now (if b then s else t)
@@ -83,7 +83,7 @@ module _ (now : model.House) where
   pub take_keeps : (m : model.Message) → KeepsNode now (turns.take now m)
   take_keeps m = in_body m.body (now.slots m.dir)
     where
-      gathered : (r : model.Replica) (t : Stamp) (q : model.Replica) (answered : List ℕ) → KeepsNode now (turns.gathered now m r t q answered)
+      gathered : (r : model.Replica) (t : Stamp) (q : model.Replica) (answered : List ℕ) → KeepsNode now (turns.take_gathered_answer now m r t q answered)
       gathered r t q answered =
           either_keeps (turns.all_answered (others_of m.receiver r.members) answered) _ _ (record { node = refl; clock = refl; up = refl })
           (record { node = refl; clock = refl; up = refl })
@@ -95,7 +95,7 @@ module _ (now : model.House) where
 
       first : (t : Stamp) (copy : model.Copy) (r : model.Replica) (p : model.Phase) → KeepsNode now (turns.take_gathered now m t copy r p)
       first t copy r model.Idle = tt
-      first t copy r (model.Gathering u answered) = either_keeps (is_stamp t u) _ _ (gathered r u (turns.merged r copy) (m.sender ∷ answered)) tt
+      first t copy r (model.Gathering u answered) = either_keeps (is_stamp t u) _ _ (gathered r u (turns.merge_copy r copy) (m.sender ∷ answered)) tt
       first t copy r (model.Spreading u answered) = either_keeps (is_stamp t u) _ _ (record { node = refl; clock = refl; up = refl }) tt
 
       second : (t : Stamp) (r : model.Replica) (p : model.Phase) → KeepsNode now (turns.take_ack now m t r p)

@@ -14,9 +14,9 @@ use Rattle.cds_cell.specs.declared.bag.Bag.{Bag}
 use Rattle.cds_cell.specs.declared.bag.Letter.{Letter}
 use Rattle.cds_cell.specs.declared.cell.Cell.{Cell}
 use Rattle.cds_cell.specs.Bags.{MaybeStandsLetter, StandsBag, letter_at}
-use Rattle.cds_cell.specs.Imaging.{crash_losing, serials_after}
+use Rattle.cds_cell.specs.CommandImages.{crash_losing, serials_after}
 use Rattle.cds_cell.specs.PrivateActs.{KeepsRest}
-use Rattle.cds_cell.specs.Standing.{Stands, StandsAs}
+use Rattle.cds_cell.specs.ModelCells.{Stands, StandsAs}
 use Rattle.cds_cell.proofs.Bags.{lost_stands}
 use Rattle.cds_cell.proofs.HouseActs.{lost_elsewhere, rest_stands}
 

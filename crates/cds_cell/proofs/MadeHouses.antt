@@ -14,19 +14,19 @@ use Rattle.cell_model.specs.Steps.{effect, is_taken, new_house, set_clock}
 use Rattle.cell_model.proofs.Views.{put_other, put_same}
 use Rattle.script_answers.specs.declared.answer.Answer.TheVariants as answer
 use Rattle.clearinghouse.specs.declared.house.Clearinghouse.{Clearinghouse}
-use Rattle.held_directories.specs.declared.states.DirState.TheVariants as state
-use Rattle.held_directories.specs.declared.states.Held.{Held}
-use Rattle.clearinghouse.specs.Lawful.{IsLawful}
-use Rattle.held_directories.specs.Standing.{StandsSlot}
-use Rattle.clearinghouse.specs.Standing.{StandsHouse}
+use Rattle.house_directory.specs.declared.states.DirState.TheVariants as state
+use Rattle.house_directory.specs.declared.states.Held.{Held}
+use Rattle.clearinghouse.specs.LawfulHouses.{IsLawful}
+use Rattle.house_directory.specs.ModelReplicas.{StandsSlot}
+use Rattle.clearinghouse.specs.ModelHouses.{StandsHouse}
 use Rattle.cds_cell.specs.declared.cell.Cell.{Cell}
 use Rattle.cds_cell.specs.declared.console.Listing.{Listing}
 use Rattle.cds_cell.specs.declared.house.CellHouse.{CellHouse}
 use Rattle.cds_cell.specs.declared.house.HouseState.{HouseState}
 use Rattle.cds_cell.specs.declared.house.HouseState.TheVariants as house_state
-use Rattle.cds_cell.specs.Houses.{StandsAtHouse, StandsState, StandsUp}
+use Rattle.cds_cell.specs.CellHouses.{StandsAtHouse, StandsState, StandsUp}
 use Rattle.cds_cell.specs.PrivateSteps.{IsPlaceOf, IsStepAs}
-use Rattle.cds_cell.specs.Standing.{MaybeStandsHouse, Stands, directory_of, house_of}
+use Rattle.cds_cell.specs.ModelCells.{MaybeStandsHouse, Stands, directory_of, house_of}
 use Rattle.cds_cell.proofs.Bags.{same_bag}
 use Rattle.cds_cell.proofs.HouseActs.{house_stands, listing_kept, placed_stands}
 use Rattle.cds_cell.proofs.Houses.{house_added, house_numbers, house_of_place, not_there, numbers_added, once_added}

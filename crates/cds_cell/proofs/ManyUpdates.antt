@@ -15,14 +15,14 @@ use Rattle.cell_model.specs.Turns as turns
 use Rattle.cell_model.specs.Turns.{HouseStep, accept_at}
 use Rattle.cell_model.proofs.AtHouses.{posts_of}
 use Rattle.cell_model.proofs.Lists.{append_nil}
-use Rattle.held_directories.specs.Stepping.{IsStampAnswer}
+use Rattle.house_directory.specs.DirectorySteps.{IsStampAnswer}
 use Rattle.cds_cell.specs.declared.cell.Cell.{Cell}
 use Rattle.cds_cell.specs.declared.house.CellHouse.{CellHouse}
 use Rattle.cds_cell.specs.declared.updating.AcceptedAll.{AcceptedAll}
-use Rattle.cds_cell.specs.Accepting.{Accepting, IsAccepting, accepting, behind, by_answer, stopped}
+use Rattle.cds_cell.specs.Accepting.{Accepting, IsAccepting, accept_in_turn, behind, by_answer, no_more_updates}
 use Rattle.cds_cell.specs.PrivateActs.{ActsAt}
 use Rattle.cds_cell.specs.PrivateSteps.{IsPlaceOf}
-use Rattle.cds_cell.specs.Standing.{Stands}
+use Rattle.cds_cell.specs.ModelCells.{Stands}
 use Rattle.cds_cell.proofs.HouseActs.{Acted, acted}
 use Rattle.cds_cell.proofs.Houses.{house_of_place}
 use Rattle.cds_cell.proofs.UpdateSteps.{UpdateComes, after_commanded, after_reached, after_up, lacks, refuses, spent, stamps, update_comes}
@@ -44,20 +44,20 @@ pub record Midway (c : Cell) (g : model.Cell) (x at d n : ℕ) (ns : List ℕ) (
   pub stands : Stands c cell
   pub place : IsPlaceOf c.houses.items x at
   pub up : (cell.house x).up ≡ true
-  pub so_far : accepting g x d all ≡ behind n ns (accepting cell x d rest)
+  pub so_far : accept_in_turn g x d all ≡ behind n ns (accept_in_turn cell x d rest)
 
 -- before the first
 pub none_done : (c : Cell) (g : model.Cell) (x at d : ℕ) (all : List Change) → Stands c g → IsPlaceOf c.houses.items x at → (g.house x).up ≡ true
     → Midway c g x at d 0 [] all all
 none_done c g x at d all stands place up =
-    record { cell = g; stands = stands; place = place; up = up; so_far = behind_none (accepting g x d all) }
+    record { cell = g; stands = stands; place = place; up = up; so_far = behind_none (accept_in_turn g x d all) }
   where
     behind_none : (w : Accepting) → w ≡ behind 0 [] w
     behind_none w = ap (λ n. record w { count = n }) (sym (zero-add w.count))
 
 -- behind the last
 pub all_done : (c : Cell) (g : model.Cell) (x at d n : ℕ) (ns : List ℕ) (all : List Change) (a : AcceptedAll) → Midway c g x at d n ns all []
-    → a.count ≡ n → a.posted ≡ ns → a.refused ≡ None → IsAccepting a c (accepting g x d all)
+    → a.count ≡ n → a.posted ≡ ns → a.refused ≡ None → IsAccepting a c (accept_in_turn g x d all)
 all_done c g x at d n ns all a m count posted refused =
     subst (λ (w : Accepting). IsAccepting a c w) (sym m.so_far) (record {
       count = omega (arith, count);
@@ -100,8 +100,8 @@ module _ (c c' : Cell) (g : model.Cell) (x at d n : ℕ) (ns ms : List ℕ) (all
       unstamped why a = absurd (subst (λ z. IsStampAnswer z (command.Refused (command.Update why))) ok a.answer)
 
       by_case : (step : HouseStep) → UpdateComes m.cell x d u step → Acted c' m.cell x ns ms (IsStampAnswer r) step
-          → accepting g x d all ≡ behind n ns
-          (by_answer (at_house m.cell x step).answer (at_house m.cell x step).cell (accepting (at_house m.cell x step).cell x d rest))
+          → accept_in_turn g x d all ≡ behind n ns
+          (by_answer (at_house m.cell x step).answer (at_house m.cell x step).cell (accept_in_turn (at_house m.cell x step).cell x d rest))
           → Midway c' g x at d (n + 1) ms all rest
       by_case _ (lacks none) a so_far = unstamped NoReplica a
       by_case _ (refuses q why held is) a so_far = unstamped why a
@@ -114,17 +114,17 @@ module _ (c c' : Cell) (g : model.Cell) (x at d n : ℕ) (ns ms : List ℕ) (all
             stands = record { reached = after_reached m.cell x d u q t m.stands.reached commanded; stands = a.stands };
             place = place;
             up = after_up m.cell x d u q t m.up;
-            so_far = so_far ∙ behind_more n ns (serials_of m.cell (posts_of step)) (accepting (at_house m.cell x step).cell x d rest)
-                ∙ ap (λ ks. behind (n + 1) ks (accepting (at_house m.cell x step).cell x d rest)) (sym a.told);
+            so_far = so_far ∙ behind_more n ns (serials_of m.cell (posts_of step)) (accept_in_turn (at_house m.cell x step).cell x d rest)
+                ∙ ap (λ ks. behind (n + 1) ks (accept_in_turn (at_house m.cell x step).cell x d rest)) (sym a.told);
           }
 
   -- an update is refused
   pub one_refused : (why : UpdateRefusal) (a : AcceptedAll) → r ≡ Err why → a.count ≡ n → a.posted ≡ ms → a.refused ≡ Some why
-      → IsAccepting a c' (accepting g x d all)
+      → IsAccepting a c' (accept_in_turn g x d all)
   one_refused why a err count posted refused = by_case (turns.accept x (m.cell.house x) d u) (update_comes m.cell x d u) moves m.so_far
     where
       stops : (q : UpdateRefusal) → Acted c' m.cell x ns ms (IsStampAnswer r) (turns.refuses q)
-          → accepting g x d all ≡ behind n ns (stopped m.cell (Some q)) → IsAccepting a c' (accepting g x d all)
+          → accept_in_turn g x d all ≡ behind n ns (no_more_updates m.cell (Some q)) → IsAccepting a c' (accept_in_turn g x d all)
       stops q it so_far =
           let same : why ≡ q = subst (λ z. IsStampAnswer z (command.Refused (command.Update q))) err it.answer in
           subst (λ (w : Accepting). IsAccepting a c' w) (sym so_far) (record {
@@ -135,9 +135,9 @@ module _ (c c' : Cell) (g : model.Cell) (x at d n : ℕ) (ns ms : List ℕ) (all
           })
 
       by_case : (step : HouseStep) → UpdateComes m.cell x d u step → Acted c' m.cell x ns ms (IsStampAnswer r) step
-          → accepting g x d all ≡ behind n ns
-          (by_answer (at_house m.cell x step).answer (at_house m.cell x step).cell (accepting (at_house m.cell x step).cell x d rest))
-          → IsAccepting a c' (accepting g x d all)
+          → accept_in_turn g x d all ≡ behind n ns
+          (by_answer (at_house m.cell x step).answer (at_house m.cell x step).cell (accept_in_turn (at_house m.cell x step).cell x d rest))
+          → IsAccepting a c' (accept_in_turn g x d all)
       by_case _ (lacks none) it so_far = stops NoReplica it so_far
       by_case _ (refuses q quit held is) it so_far = stops quit it so_far
       by_case _ (spent q held) it so_far = stops StampsSpent it so_far

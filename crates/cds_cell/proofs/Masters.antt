@@ -8,7 +8,7 @@ use Rattle.cell_model.specs.Cells.{Cell, IsHeld, Replica, empty_cell, put}
 use Rattle.cell_model.specs.Commands.{Accepted, Answer, Command}
 use Rattle.cell_model.specs.Reached.{IsReached}
 use Rattle.cell_model.specs.Sets.{has}
-use Rattle.cell_model.specs.Steps.{ascending, kind_among, listing, outcome, replay}
+use Rattle.cell_model.specs.Steps.{sorted_houses, kind_among, member_list_of, outcome, replay}
 use Rattle.cell_model.proofs.Moves.{Move, Steps, acts, clocks, crashes, crowns, founds, houses, loses, mkdirs, one, outcome_steps, starts, stays}
 use Rattle.cell_model.proofs.NeverComes.{reaching_last}
 use Rattle.cell_model.proofs.Runs.{lists_of}
@@ -34,16 +34,16 @@ named_accepts old k m ss (h ∷ hs) is = by_test (h == m) (named_accepts old k m
     by_test false rest is = rest is
 
 -- so the master of a new list does
-listing_accepts : (old : List Member) (k m : ℕ) (rs ss : List ℕ) → is_accepting (master_of (listing old k m rs ss)) (listing old k m rs ss) ≡ true
+listing_accepts : (old : List Member) (k m : ℕ) (rs ss : List ℕ) → is_accepting (master_of (member_list_of old k m rs ss)) (member_list_of old k m rs ss) ≡ true
 listing_accepts old k m rs ss =
-    ap (λ x. is_accepting x (listing old k m rs ss)) (master_new old k m rs ss)
-    ∙ named_accepts old k m ss (ascending (m ∷ rs)) (master_listed old k m rs ss)
+    ap (λ x. is_accepting x (member_list_of old k m rs ss)) (master_new old k m rs ss)
+    ∙ named_accepts old k m ss (sorted_houses (m ∷ rs)) (master_listed old k m rs ss)
 
 -- nobody is listed, or the master accepts updates
 abbrev HasMaster : List Member → Type 0
 HasMaster ms = (ms ≡ []) ⊎ (is_accepting (master_of ms) ms ≡ true)
 
-listing_has : (old : List Member) (k m : ℕ) (rs ss : List ℕ) → HasMaster (listing old k m rs ss)
+listing_has : (old : List Member) (k m : ℕ) (rs ss : List ℕ) → HasMaster (member_list_of old k m rs ss)
 listing_has old k m rs ss = inr (listing_accepts old k m rs ss)
 
 -- ---- cells
@@ -64,14 +64,14 @@ move_masters g g' p a n all (loses i) = all
 move_masters g g' p a n all (crashes h up) = all
 move_masters g g' p a n all (starts h made) = all
 move_masters g g' p a n all (acts h d at floor o posts b l act) = all
-move_masters g g' p a n all (founds d m rs ss ns root up none) = put_masters g.present d (listing [] 1 m rs ss) all (listing_has [] 1 m rs ss)
+move_masters g g' p a n all (founds d m rs ss ns root up none) = put_masters g.present d (member_list_of [] 1 m rs ss) all (listing_has [] 1 m rs ss)
 move_masters g g' p a n all (crowns d m rs ss r up known at l since) =
-    put_masters g.present d (listing (g.present d) (g.top d + 1) m rs ss) all (listing_has (g.present d) (g.top d + 1) m rs ss)
+    put_masters g.present d (member_list_of (g.present d) (g.top d + 1) m rs ss) all (listing_has (g.present d) (g.top d + 1) m rs ss)
 
 step_masters : (g g' : Cell) (p : Option (ℕ × ℕ)) (a : Answer) (n : List Accepted) → HasMasters g → Steps g p g' a n → HasMasters g'
 step_masters g g' p a n all (one _ _ _ m) = move_masters g g' p a n all m
 step_masters g g' p a n all (mkdirs h d m u rs ss r s ns at i fine up known) =
-    put_masters g.present g.next_dir (listing [] 1 m rs ss) all (listing_has [] 1 m rs ss)
+    put_masters g.present g.next_dir (member_list_of [] 1 m rs ss) all (listing_has [] 1 m rs ss)
 
 -- and with the list of each epoch of a run
 lists_masters : (d : ℕ) (cs : List Command) (g : Cell) → HasMasters g → (e : ℕ) → HasMaster (lists_of d cs g e)

@@ -12,10 +12,10 @@ use Rattle.cds_stamps.specs.declared.members.MemberKind.TheVariants.{Master, Rea
 use Rattle.cds_stamps.specs.declared.numbers.HouseNo.{HouseNo}
 use Rattle.cds_stamps.specs.Members.{Member, is_master, is_listed, since_in, members_of, masters_in, most_members, first_unordered, members_fault}
 use Rattle.cell_model.specs.Sets.{has}
-use Rattle.cell_model.specs.Steps.{ascending, is_bad_list, kind_among, leaving, listing, stands_twice}
+use Rattle.cell_model.specs.Steps.{sorted_houses, is_bad_list, kind_among, left_members, member_list_of, stands_twice}
 use Rattle.cell_script.specs.declared.lists.Listed.{Listed}
 use Rattle.cell_script.specs.Listings.{secondaries_in}
-use Rattle.held_directories.specs.Posting.{numbers_of}
+use Rattle.house_directory.specs.HouseMessages.{numbers_of}
 use Rattle.cds_cell.proofs.Ascending.{Rises, above_all, all_from_zero, ascending_rises, ascending_times, length_ascending, one_if, times, twice_ascending}
 
 -- ---- tests
@@ -122,42 +122,42 @@ module _ (old : List Member) (k m : ℕ) (ss : List ℕ) where
       is_one false false = refl
 
   -- a list that is not bad has no fault
-  pub good_listing : (rs : List ℕ) → is_bad_list (m ∷ rs) ≡ false → members_fault (listing old k m rs ss) ≡ None
+  pub good_listing : (rs : List ℕ) → is_bad_list (m ∷ rs) ≡ false → members_fault (member_list_of old k m rs ss) ≡ None
   good_listing rs good =
       let tests = neither (stands_twice (m ∷ rs)) (nat_lt most_members (length (m ∷ rs))) good in
       let lone = neither (has m rs) (stands_twice rs) tests.0 in
-      let count : length (listing old k m rs ss) ≡ suc (length rs) = length-map (ascending (m ∷ rs)) listed_as ∙ length_ascending (m ∷ rs) in
+      let count : length (member_list_of old k m rs ss) ≡ suc (length rs) = length-map (sorted_houses (m ∷ rs)) listed_as ∙ length_ascending (m ∷ rs) in
       let few = tests.1 in
-      let counted : ((length (listing old k m rs ss) == 0) || nat_lt most_members (length (listing old k m rs ss))) ≡ false = grind (arith, nat_tests, count, few) in
-      let ordered = rising_is_ordered 1 0 (ascending (m ∷ rs)) (ascending_rises (m ∷ rs)) (all_from_zero (ascending (m ∷ rs)))
+      let counted : ((length (member_list_of old k m rs ss) == 0) || nat_lt most_members (length (member_list_of old k m rs ss))) ≡ false = grind (arith, nat_tests, count, few) in
+      let ordered = rising_is_ordered 1 0 (sorted_houses (m ∷ rs)) (ascending_rises (m ∷ rs)) (all_from_zero (sorted_houses (m ∷ rs)))
       (twice_ascending (m ∷ rs) ∙ tests.0) in
-      let one : masters_in (listing old k m rs ss) ≡ 1 = masters_listed (ascending (m ∷ rs)) ∙ ascending_times m (m ∷ rs) ∙ stands_first m rs lone.0 in
+      let one : masters_in (member_list_of old k m rs ss) ≡ 1 = masters_listed (sorted_houses (m ∷ rs)) ∙ ascending_times m (m ∷ rs) ∙ stands_first m rs lone.0 in
       rw (counted, ordered, one) refl
 
 -- ---- loops
 
 -- the members so far, and those that the other houses are to be, are the whole list
 pub record ListsRest (old : List Member) (k m : ℕ) (rs ss : List ℕ) (rest : List HouseNo) (made : List declared.Member) : Type 0 where
-  pub is : members_of made ++ map (listed_as old k m ss) (numbers_of rest) ≡ listing old k m rs ss
+  pub is : members_of made ++ map (listed_as old k m ss) (numbers_of rest) ≡ member_list_of old k m rs ss
 
 -- where no house is left they are the whole list
 pub lists_end : (old : List Member) (k m : ℕ) (rs ss : List ℕ) (rest : List HouseNo) (made : List declared.Member) → ListsRest old k m rs ss rest made → rest ≡ []
-    → members_of made ≡ listing old k m rs ss
+    → members_of made ≡ member_list_of old k m rs ss
 lists_end old k m rs ss rest made h none =
     sym (append-nil (members_of made)) ∙ ap (λ hs. members_of made ++ map (listed_as old k m ss) (numbers_of hs)) (sym none) ∙ h.is
 
 -- the houses that leave so far, and those of the rest that do, are all that leave
 pub record LeavesRest (old now : List Member) (rest : List declared.Member) (left : List HouseNo) : Type 0 where
-  pub is : numbers_of left ++ leaving (members_of rest) now ≡ leaving old now
+  pub is : numbers_of left ++ left_members (members_of rest) now ≡ left_members old now
 
 -- a house that is still listed does not leave
 pub leaves_pass : (old now : List Member) (before : List declared.Member) (i : ℕ) (d : declared.Member) (left : List HouseNo) → i < length before
     → is_listed (get_or before i d).house.0 now ≡ true → LeavesRest old now (drop i before) left → LeavesRest old now (drop (i + 1) before) left
 leaves_pass old now before i d left within listed h = record {
   is =
-      rw add-one (ap (λ b. numbers_of left ++ (if b then leaving (members_of (drop (suc i) before)) now
-      else (get_or before i d).house.0 ∷ leaving (members_of (drop (suc i) before)) now)) (sym listed)
-      ∙ ap (λ ms. numbers_of left ++ leaving (members_of ms) now) (sym (drop-cons before i d within)) ∙ h.is);
+      rw add-one (ap (λ b. numbers_of left ++ (if b then left_members (members_of (drop (suc i) before)) now
+      else (get_or before i d).house.0 ∷ left_members (members_of (drop (suc i) before)) now)) (sym listed)
+      ∙ ap (λ ms. numbers_of left ++ left_members (members_of ms) now) (sym (drop-cons before i d within)) ∙ h.is);
 }
 
 -- one that is not does
@@ -165,11 +165,11 @@ pub leaves_on : (old now : List Member) (before : List declared.Member) (i : ℕ
     → is_listed (get_or before i d).house.0 now ≡ false → more ≡ left ++ (get_or before i d).house ∷ [] → LeavesRest old now (drop i before) left
     → LeavesRest old now (drop (i + 1) before) more
 leaves_on old now before i d left more within unlisted pushed h =
-    let rest : List ℕ = leaving (members_of (drop (suc i) before)) now in
-    let goes : numbers_of more ++ rest ≡ leaving old now =
+    let rest : List ℕ = left_members (members_of (drop (suc i) before)) now in
+    let goes : numbers_of more ++ rest ≡ left_members old now =
     ap (λ hs. numbers_of hs ++ rest) pushed
     ∙ ap (λ ns. ns ++ rest) (map-append (λ (x : HouseNo). x.0) left ((get_or before i d).house ∷ []))
     ∙ append_assoc (numbers_of left) ((get_or before i d).house.0 ∷ []) rest
     ∙ ap (λ b. numbers_of left ++ (if b then rest else (get_or before i d).house.0 ∷ rest)) (sym unlisted)
-    ∙ ap (λ ms. numbers_of left ++ leaving (members_of ms) now) (sym (drop-cons before i d within)) ∙ h.is in
+    ∙ ap (λ ms. numbers_of left ++ left_members (members_of ms) now) (sym (drop-cons before i d within)) ∙ h.is in
     record { is = rw add-one goes }

@@ -5,11 +5,11 @@ use Rattle.std.specs.List.{Contains, flat_map, range_with_len}
 use Rattle.std.proofs.lemmas.Bool.Decides.{nat_tests}
 use Rattle.cds_stamps.proofs.ListMembers.{Contains-flat_map, Contains-head, Contains-tail, Contains-map}
 use Rattle.directory.specs.Histories.{Birth, name_in}
-use Rattle.directory.specs.Shown.{Shown, shown}
+use Rattle.directory.specs.Shown.{Shown, shown_of_name}
 use Rattle.cell_model.specs.Cells.{Cell, Replica, Slot, Absent, Gone, Held}
 use Rattle.cell_model.specs.Commands.{Command}
 use Rattle.cell_model.specs.Sets.{In, has}
-use Rattle.cell_model.specs.Steps.{replay, accepted}
+use Rattle.cell_model.specs.Steps.{replay, accepted_updates}
 use Rattle.cell_model.proofs.Bounds.{held_low}
 use Rattle.cell_model.proofs.Facts.{view}
 use Rattle.cell_model.proofs.Marks.{shown_birth}
@@ -19,9 +19,9 @@ use Rattle.cell_model.proofs.Runs.{roll_of}
 use Rattle.cell_model.proofs.Wholes.{Plain, up_made, run_onward, empty_plain}
 use Rattle.cell_model.specs.Cells.{empty_cell}
 use Rattle.resolver.specs.Readers.{Object, ShowsOnly, object_found}
-use Rattle.cds_cell.specs.Asking.{Asked, View, asked}
+use Rattle.cds_cell.specs.Asking.{Asked, View, house_to_ask}
 use Rattle.cds_cell.specs.AskingProofs.{asked_shows, shown_object}
-use Rattle.cds_cell.specs.Readings.{sight_at, slot_view, view_of, views_of, reading, objects_in, objects_of}
+use Rattle.cds_cell.specs.Readings.{sight_at, slot_view, view_of, views_of, cell_reader, objects_in, objects_of}
 
 -- ---- lists
 
@@ -80,7 +80,7 @@ module _ (commands : List Command) where
   plain = (run_onward commands empty_cell empty_plain).plain
 
   module _ (d x : ℕ) (name : List ℕ) (v : View) (there : Shows g d x v) where
-    sound : Reaching (roll_of d commands) (view d g) (accepted commands)
+    sound : Reaching (roll_of d commands) (view d g) (accepted_updates commands)
     sound = reaching_last commands d
 
     top : 1 ≤ g.top d
@@ -96,32 +96,32 @@ module _ (commands : List Command) where
         by_test true on = Contains-range 0 g.next_dir d (omega arith) (grind (arith, nat_tests, on))
         by_test false off = let beyond : g.next_dir ≤ d = grind (arith, nat_tests, off) in absurd (omega (arith, top, plain.unknown d beyond))
 
-    among : (e : Shown) → shown there.replica.history name ≡ Some e → Contains (objects_in x d ((g.house x).slots d)) (object_found d x name)
+    among : (e : Shown) → shown_of_name there.replica.history name ≡ Some e → Contains (objects_in x d ((g.house x).slots d)) (object_found d x name)
     among e shows =
         let mark = Contains-map (λ m. object_found d x (name_in m)) there.replica.history (Birth name e.kind e.birth)
         (Contains-from_In _ there.replica.history (shown_birth there.replica.history name e shows)) in
         subst (λ s. Contains (objects_in x d s) (object_found d x name)) (sym there.held) mark
 
     -- an object that a house shows is listed
-    listed : (e : Shown) → shown there.replica.history name ≡ Some e → Contains (objects_of g) (object_found d x name)
+    listed : (e : Shown) → shown_of_name there.replica.history name ≡ Some e → Contains (objects_of g) (object_found d x name)
     listed e shows =
         Contains-flat_map (λ y. flat_map (λ k. objects_in y k ((g.house y).slots k)) (range_with_len 0 g.next_dir)) g.made x _
         (Contains-from_has x g.made (up_made g x plain there.up))
         (Contains-flat_map (λ k. objects_in x k ((g.house x).slots k)) (range_with_len 0 g.next_dir) d _ known (among e shows))
 
-    listed_shown : (o : Option Shown) → shown there.replica.history name ≡ o → is_some o ≡ true → Contains (objects_of g) (object_found d x name)
+    listed_shown : (o : Option Shown) → shown_of_name there.replica.history name ≡ o → is_some o ≡ true → Contains (objects_of g) (object_found d x name)
     listed_shown None none h = cc
     listed_shown (Some e) shows h = listed e shows
 
     -- the same, where something shows
     listed_view : is_some (v.shows name) ≡ true → Contains (objects_of g) (object_found d x name)
-    listed_view h = listed_shown (shown there.replica.history name) refl (ap (λ (w : View). is_some (w.shows name)) there.seen ∙ h)
+    listed_view h = listed_shown (shown_of_name there.replica.history name) refl (ap (λ (w : View). is_some (w.shows name)) there.seen ∙ h)
 
   -- each object that a cell of a run shows is listed
-  pub reading_shows_only : (prefer : Option ℕ) (high : Bool) → ShowsOnly (reading g prefer high) (objects_of g)
-  reading_shows_only prefer high at house name h = by_asked (asked (views_of g) at.dir prefer high (at.master ∷ at.others)) refl h
+  pub reading_shows_only : (prefer : Option ℕ) (high : Bool) → ShowsOnly (cell_reader g prefer high) (objects_of g)
+  reading_shows_only prefer high at house name h = by_asked (house_to_ask (views_of g) at.dir prefer high (at.master ∷ at.others)) refl h
     where
-      by_asked : (o : Option Asked) → asked (views_of g) at.dir prefer high (at.master ∷ at.others) ≡ o → sight_at name o ≡ Object house
+      by_asked : (o : Option Asked) → house_to_ask (views_of g) at.dir prefer high (at.master ∷ at.others) ≡ o → sight_at name o ≡ Object house
           → Contains (objects_of g) (object_found at.dir house name)
       by_asked None is h = cc
       by_asked (Some a) is h =

@@ -12,22 +12,22 @@ use Rattle.cell_model.specs.Cells as model
 use Rattle.cell_model.specs.Commands as command
 use Rattle.cell_model.specs.Holdings.{NumbersHold}
 use Rattle.cell_model.specs.Sets.{has}
-use Rattle.cell_model.specs.Steps.{at_house, effect, first_refusal, founded, is_bad_list, is_down, is_missing, is_unknown, listing, noted, refusals_of, root, serials_of}
-use Rattle.cell_model.specs.Turns.{Turns, first_joins, found}
+use Rattle.cell_model.specs.Steps.{at_house, effect, first_refusal, cell_with_directory, is_bad_list, is_down, is_missing, is_unknown, member_list_of, note_epoch, refusals_of, root, serials_of}
+use Rattle.cell_model.specs.Turns.{Turns, first_joins, found_directory}
 use Rattle.cell_model.proofs.Numbers.{numbers_lem}
 use Rattle.cell_model.proofs.Standing.{on_reached}
 use Rattle.cell_model.proofs.Terms.{master_new}
 use Rattle.cell_model.proofs.Views.{put_other}
 use Rattle.script_answers.specs.declared.answer.Answer.TheVariants as answer
-use Rattle.held_directories.specs.declared.outgoing.Outgoing.{Outgoing}
+use Rattle.house_directory.specs.declared.outgoing.Outgoing.{Outgoing}
 use Rattle.cds_cell.specs.declared.cell.Cell.{Cell}
 use Rattle.cds_cell.specs.declared.console.Listing.{Listing}
 use Rattle.cds_cell.specs.declared.house.CellHouse.{CellHouse}
-use Rattle.cds_cell.specs.Houses.{StandsAtHouse}
+use Rattle.cds_cell.specs.CellHouses.{StandsAtHouse}
 use Rattle.cds_cell.specs.PrivateActs.{ActsAt, CanFound, Founds, GrowsByOne, KeepsRest, MasterFounds, Posts}
 use Rattle.cds_cell.specs.PrivateHouses.{IsSameHouse, IsTurnAt, posted_at}
 use Rattle.cds_cell.specs.PrivateSteps.{IsPlaceOf, IsStepAs}
-use Rattle.cds_cell.specs.Standing.{Stands, StandsAs, StandsListing, directory_of, greatest_epoch, house_of}
+use Rattle.cds_cell.specs.ModelCells.{Stands, StandsAs, StandsListing, directory_of, greatest_epoch, house_of}
 use Rattle.cds_cell.proofs.ActSteps.{made_where, missing_where, passed, up_where}
 use Rattle.cds_cell.proofs.Bags.{same_bag}
 use Rattle.cds_cell.proofs.HouseActs.{Acted, acted, acts_at, listing_kept}
@@ -48,7 +48,7 @@ pub master_founds : (c d e : Cell) (g : model.Cell) (at : ℕ) (h k : CellHouse)
     → d.houses.items ≡ slice_set c.houses.items at k → d.directories ≡ c.directories → d.spent ≡ c.spent → d.bag ≡ c.bag → IsSameHouse h k
     → e.houses ≡ d.houses → KeepsRest d e → ((j : CellHouse) → slice_get d.houses.items at ≡ Some j → Posts d.bag e.bag before after (posted_at j dir o))
     → ((now : model.House) → StandsAtHouse h now → now.up ≡ true → now.slots dir.0 ≡ model.Absent → master_of ms ≡ h.house.0
-    → IsTurnAt (found h.house.0 now dir.0 ms) k (posted_at k dir o)) → MasterFounds e g dir.0 ms before after
+    → IsTurnAt (found_directory h.house.0 now dir.0 ms) k (posted_at k dir o)) → MasterFounds e g dir.0 ms before after
 master_founds c d e g at h k dir ms before after o s can place here houses directories spent bag same kept rest posts turn =
     record { stands = a.stands; told = a.told }
   where
@@ -58,13 +58,13 @@ master_founds c d e g at h k dir ms before after o s can place here houses direc
     is : slice_get c.houses.items at ≡ Some h
     is = slice_get_read c.houses.items (length c.houses.items) at h refl (place_within c.houses.items (master_of ms) at place) here
 
-    acts : ActsAt c e at before after (λ a. Unit {0}) (g.house (master_of ms)) (λ y. Turns (found y (g.house (master_of ms)) dir.0 ms))
-    acts = acts_at c d e at h k before after (λ a. Unit {0}) (g.house (master_of ms)) (λ y. Turns (found y (g.house (master_of ms)) dir.0 ms))
+    acts : ActsAt c e at before after (λ a. Unit {0}) (g.house (master_of ms)) (λ y. Turns (found_directory y (g.house (master_of ms)) dir.0 ms))
+    acts = acts_at c d e at h k before after (λ a. Unit {0}) (g.house (master_of ms)) (λ y. Turns (found_directory y (g.house (master_of ms)) dir.0 ms))
         (λ j. posted_at j dir o) (place_within c.houses.items (master_of ms) at place) here houses directories spent bag same kept rest posts
         (λ stands up. ((λ ns. tt), turn (g.house (master_of ms)) stands up can.absent (sym (house_of_place c.houses.items (master_of ms) at h place is).1)))
 
-    a : Acted e g (master_of ms) before after (λ a. Unit {0}) (Turns (found (master_of ms) (g.house (master_of ms)) dir.0 ms))
-    a = acted c e g (master_of ms) at before after (λ a. Unit {0}) (λ y. Turns (found y (g.house (master_of ms)) dir.0 ms)) s place acts can.up
+    a : Acted e g (master_of ms) before after (λ a. Unit {0}) (Turns (found_directory (master_of ms) (g.house (master_of ms)) dir.0 ms))
+    a = acted c e g (master_of ms) at before after (λ a. Unit {0}) (λ y. Turns (found_directory y (g.house (master_of ms)) dir.0 ms)) s place acts can.up
 
 -- ---- at the console
 
@@ -85,7 +85,7 @@ count_added (k ∷ ls) l = let rest = count_added ls l in omega (arith, rest)
 
 -- the model's cell in which the console knows a new directory
 abbrev with_new : model.Cell → (d next : ℕ) → List Member → model.Cell
-with_new g d next ms = record (noted g d 1 ms) { next_dir = next }
+with_new g d next ms = record (note_epoch g d 1 ms) { next_dir = next }
 
 -- the cell in which the console knows a directory more, where the model's knows the same
 pub added_stands : (c e : Cell) (g : model.Cell) (d next : ℕ) (ms : List Member) (l : Listing) → StandsAs c g → d ≡ length c.directories.items + 1
@@ -126,7 +126,7 @@ pub founds_listed : (c d e : Cell) (g : model.Cell) (dir : ℕ) (ms : List Membe
 founds_listed c d e g dir ms before after l m kept number houses directories bag spent epoch members =
     let same : length c.directories.items ≡ length d.directories.items = ap (λ (v : Vec Listing Global). length v.items) (sym kept.directories) in record {
       stands = λ next is.
-          added_stands d e (at_house g (master_of ms) (Turns (found (master_of ms) (g.house (master_of ms)) dir ms))).cell dir next ms l m.stands
+          added_stands d e (at_house g (master_of ms) (Turns (found_directory (master_of ms) (g.house (master_of ms)) dir ms))).cell dir next ms l m.stands
           (number ∙ ap (λ n. n + 1) same) is houses directories bag spent epoch members;
       told = m.told;
     }
@@ -179,7 +179,7 @@ module _ (c : Cell) (g : model.Cell) (m : ℕ) (rs ss : List ℕ) (s : Stands c 
   root_listed = passed (refusals_of g (command.Root m rs ss)) (is_bad_list (m ∷ rs)) command.BadMembers (inr (inr (inl refl))) none
 
   -- the root, whose master holds it
-  pub root_comes : (e : Cell) (ms : List Member) (before after : List ℕ) → ms ≡ listing [] 1 m rs ss → before ≡ []
+  pub root_comes : (e : Cell) (ms : List Member) (before after : List ℕ) → ms ≡ member_list_of [] 1 m rs ss → before ≡ []
       → (CanFound g 1 (master_of ms) → 1 ≡ length c.directories.items + 1 → Founds e g 1 ms before after)
       → IsStepAs (answer.Posted after) e (effect g (command.Root m rs ss))
   root_comes e ms before after is first founds =
@@ -187,10 +187,10 @@ module _ (c : Cell) (g : model.Cell) (m : ℕ) (rs ss : List ℕ) (s : Stands c 
       let f : Founds e g 1 ms before after =
       founds (subst (CanFound g 1) (sym lead) can) (sym (ap (λ n. n + 1) no_directory)) in
       let next : g.next_dir ≡ max 2 (1 + 1) = s.stands.next ∙ ap (λ n. max 2 (n + 1)) no_directory in
-      let made : StandsAs e (founded g 1 (master_of ms) ms) = f.stands g.next_dir next in
+      let made : StandsAs e (cell_with_directory g 1 (master_of ms) ms) = f.stands g.next_dir next in
       let told : after ≡ serials_of g (first_joins (g.house (master_of ms)).floor 1 (master_of ms) ms) =
       f.told ∙ ap (λ ns. ns ++ serials_of g (first_joins (g.house (master_of ms)).floor 1 (master_of ms) ms)) first in
       let whole : IsStepAs (answer.Posted after) e (root g (master_of ms) ms) =
       record { answer = ap (λ ns. Some (answer.Posted ns)) (sym told); stands = made } in
-      subst (λ x. IsStepAs (answer.Posted after) e (root g x (listing [] 1 m rs ss))) lead
+      subst (λ x. IsStepAs (answer.Posted after) e (root g x (member_list_of [] 1 m rs ss))) lead
       (subst (λ ms'. IsStepAs (answer.Posted after) e (root g (master_of ms) ms')) is whole)

@@ -13,7 +13,7 @@ use Rattle.script_answers.specs.declared.answer.ScriptRefusal.{ScriptRefusal}
 use Rattle.cds_cell.specs.declared.cell.Cell.{Cell}
 use Rattle.cds_cell.specs.PrivateSteps.{ComesTo, IsStepAs}
 use Rattle.cds_cell.specs.Scripted as script
-use Rattle.cds_cell.specs.Standing.{IsStep, Stands, StandsAs}
+use Rattle.cds_cell.specs.ModelCells.{IsStep, Stands, StandsAs}
 
 -- what is mapped to none is none
 pub unrefused : (o : Option command.Refusal) (r : Option ScriptRefusal) → r ≡ option_map script.refusal_of o → r ≡ None → o ≡ None

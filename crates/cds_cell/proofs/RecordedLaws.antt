@@ -19,9 +19,9 @@ use Rattle.directory.specs.Histories.{Mark, entry_of}
 use Rattle.directory.specs.declared.entry.Fragment.{Fragment}
 use Rattle.purge_rule.specs.Replicas.{IsFragmentOf}
 use Rattle.purge_rule.specs.declared.replica.Replica.{Replica}
-use Rattle.record_fields.specs.Decoding.{Decodes, IsWhole, decoding, with_memory}
+use Rattle.record_fields.specs.Decoding.{Decodes, IsWhole, decode_by, with_memory}
 use Rattle.cds_messages.specs.Dirs.{dir_cmp, dir_exact, dir_total}
-use Rattle.cds_records.specs.Octets.{image_octets, message_octets}
+use Rattle.cds_records.specs.RecordOctets.{image_octets, message_octets}
 use Rattle.cds_records.specs.Records.{message}
 use Rattle.record_fields.specs.declared.fault.RecordFault.{RecordFault}
 use Rattle.cds_messages.specs.declared.image.ImageDir.{ImageDir}
@@ -35,18 +35,18 @@ use Rattle.cell_model.specs.Sets.{has}
 use Rattle.cell_model.specs.Steps.{message_at}
 use Rattle.cell_model.proofs.Numbers.{numbers_lem}
 use Rattle.cell_model.proofs.Standing.{on_reached}
-use Rattle.clearinghouse.specs.Imaging.{image_of, kept_of, started}
-use Rattle.held_directories.specs.Posting.{StandsBody, StandsMessage}
-use Rattle.held_directories.specs.Standing.{StandsHeld, StandsSlot}
+use Rattle.clearinghouse.specs.HouseImages.{image_of, kept_of, start_of_octets}
+use Rattle.house_directory.specs.HouseMessages.{StandsBody, StandsMessage}
+use Rattle.house_directory.specs.ModelReplicas.{StandsHeld, StandsSlot}
 use Rattle.clearinghouse.specs.declared.house.Clearinghouse.{Clearinghouse}
-use Rattle.held_directories.specs.declared.states.DirState.{DirState}
-use Rattle.held_directories.specs.declared.states.DirState.TheVariants as state
-use Rattle.held_directories.specs.declared.states.Held.{Held}
+use Rattle.house_directory.specs.declared.states.DirState.{DirState}
+use Rattle.house_directory.specs.declared.states.DirState.TheVariants as state
+use Rattle.house_directory.specs.declared.states.Held.{Held}
 use Rattle.clearinghouse.proofs.Starting.{got_kept}
 use Rattle.cds_cell.specs.Bags.{MaybeStandsLetter, StandsLetter, letter_at}
-use Rattle.cds_cell.specs.Houses.{StandsState, StandsUp}
+use Rattle.cds_cell.specs.CellHouses.{StandsState, StandsUp}
 use Rattle.cds_cell.specs.Recorded.{body_of, declared_members, first_dirs, image_at, kept_in, message_of, octets_of, update_body}
-use Rattle.cds_cell.specs.Standing.{MaybeStandsHouse, Stands, house_of}
+use Rattle.cds_cell.specs.ModelCells.{MaybeStandsHouse, Stands, house_of}
 use Rattle.cds_cell.specs.declared.bag.Letter.{Letter}
 use Rattle.cds_cell.specs.declared.cell.Cell.{Cell}
 use Rattle.cds_cell.specs.declared.house.CellHouse.{CellHouse}
@@ -257,7 +257,7 @@ module _ (c : Cell) (g : model.Cell) (stands : Stands c g) where
 
   -- the octets of a message in the bag decode to it
   pub letter_decodes : (n : ℕ) (octets : List ℕ) → option_map (λ l. rc_slice_items l.shared) (letter_at c.bag n) ≡ Some octets
-      → Decodes message octets (with_memory (decoding message octets)) → (m : Message) × (decoding message octets ≡ Ok (m, length octets))
+      → Decodes message octets (with_memory (decode_by message octets)) → (m : Message) × (decode_by message octets ≡ Ok (m, length octets))
   letter_decodes n octets is decodes = by_letter (letter_at c.bag n) (message_at g n) is (stands.stands.bag.letters n)
     where
       answered : (m : Message) (r : Result (Message × ℕ) RecordFault) → Answers (with_memory r) (Ok (m, length octets)) → r ≡ Ok (m, length octets)
@@ -265,16 +265,16 @@ module _ (c : Cell) (g : model.Cell) (stands : Stands c g) where
       answered m (Err f) is = absurd (cc)
 
       by_letter : (o : Option Letter) (p : Option model.Message) → option_map (λ l. rc_slice_items l.shared) o ≡ Some octets → MaybeStandsLetter o p
-          → (m : Message) × (decoding message octets ≡ Ok (m, length octets))
+          → (m : Message) × (decode_by message octets ≡ Ok (m, length octets))
       by_letter None None is there = absurd (cc)
       by_letter None (Some m) is there = elim there [ ]
       by_letter (Some l) None is there = elim there [ ]
       by_letter (Some l) (Some m) is there =
           let same : rc_slice_items l.shared ≡ octets = cc in
           let whole : IsWhole message there.carried octets = subst (λ xs. IsWhole message there.carried xs) same there.whole in
-          (there.carried, answered there.carried (decoding message octets) (decodes.only there.carried octets [] whole (sym (append-nil octets))))
+          (there.carried, answered there.carried (decode_by message octets) (decodes.only there.carried octets [] whole (sym (append-nil octets))))
 
   -- a house that is down starts of its octets
   pub house_starts : (x : ℕ) (octets : List ℕ) → option_map (λ h. h.state) (house_of c.houses.items x) ≡ Some (house_state.Down octets)
-      → (home : Clearinghouse) × (started octets ≡ Ok home)
+      → (home : Clearinghouse) × (start_of_octets octets ≡ Ok home)
   house_starts x octets is = let house = house_recorded x (house_state.Down octets) is in (house.stands.1.0, house.stands.1.1.starts)

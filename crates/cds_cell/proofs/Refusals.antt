@@ -19,10 +19,10 @@ use Rattle.cds_cell.specs.declared.console.Listing.{Listing}
 use Rattle.cds_cell.specs.declared.house.CellHouse.{CellHouse}
 use Rattle.cds_cell.specs.declared.house.HouseState.{HouseState}
 use Rattle.cds_cell.specs.declared.house.HouseState.TheVariants as state
-use Rattle.cds_cell.specs.Houses.{StandsAtHouse, StandsState, is_up_state}
+use Rattle.cds_cell.specs.CellHouses.{StandsAtHouse, StandsState, is_up_state}
 use Rattle.cds_cell.specs.PrivateSteps.{IsPlaceOf}
 use Rattle.cds_cell.specs.Scripted.{refusal_of}
-use Rattle.cds_cell.specs.Standing.{MaybeStandsHouse, Stands, StandsListing, directory_of, house_of}
+use Rattle.cds_cell.specs.ModelCells.{MaybeStandsHouse, Stands, StandsListing, directory_of, house_of}
 use Rattle.cds_cell.proofs.Houses.{has_number, house_of_place}
 
 -- ---- directories

@@ -6,12 +6,12 @@ use Rattle.std.specs.Option.{option_map, option_and_then}
 use Rattle.std.proofs.lemmas.Bool.Decides.{nat_tests}
 use Rattle.cds_stamps.specs.declared.stamp.Stamp.{Stamp}
 use Rattle.cds_stamps.specs.Numbers.{root_dir}
-use Rattle.held_directories.specs.declared.states.DirState.{DirState}
-use Rattle.held_directories.specs.declared.states.DirState.TheVariants as dir
-use Rattle.held_directories.specs.declared.states.Held.{Held}
-use Rattle.held_directories.specs.Standing.{StandsHeld, StandsSlot}
+use Rattle.house_directory.specs.declared.states.DirState.{DirState}
+use Rattle.house_directory.specs.declared.states.DirState.TheVariants as dir
+use Rattle.house_directory.specs.declared.states.Held.{Held}
+use Rattle.house_directory.specs.ModelReplicas.{StandsHeld, StandsSlot}
 use Rattle.directory.specs.Histories.{Mark}
-use Rattle.directory.specs.Shown.{shown, shown_in}
+use Rattle.directory.specs.Shown.{shown_of_name, shown_in}
 use Rattle.purge_rule.specs.declared.replica.Replica as declared
 use Rattle.purge_rule.specs.Replicas.{replica_of}
 use Rattle.cell_model.specs.Cells as model
@@ -23,14 +23,14 @@ use Rattle.cds_cell.specs.declared.console.Listing.{Listing}
 use Rattle.cds_cell.specs.declared.house.CellHouse.{CellHouse}
 use Rattle.cds_cell.specs.declared.house.HouseState.{HouseState}
 use Rattle.cds_cell.specs.declared.house.HouseState.TheVariants as state
-use Rattle.cds_cell.specs.Houses.{StandsState}
-use Rattle.cds_cell.specs.Readings.{pointer_to, reader_of, reading, root_pointer, slot_view, view_of, views_of}
-use Rattle.cds_cell.specs.Standing.{MaybeStandsHouse, Stands, StandsListing, directory_of, house_of}
+use Rattle.cds_cell.specs.CellHouses.{StandsState}
+use Rattle.cds_cell.specs.Readings.{pointer_to, reader_of, cell_reader, root_pointer, slot_view, view_of, views_of}
+use Rattle.cds_cell.specs.ModelCells.{MaybeStandsHouse, Stands, StandsListing, directory_of, house_of}
 use Rattle.cds_cell.proofs.Houses.{has_number}
-use Rattle.cds_cell.specs.Telling.{dir_view, first_pointer, held_view, state_view, told, told_views}
+use Rattle.cds_cell.specs.Telling.{dir_view, first_pointer, held_view, state_view, program_reader, told_views}
 
 module _ (numbers : (g : model.Cell) → IsReached g → NumbersHold g)
-    (seen : (h : List Mark) (t : Option Stamp) (n : List ℕ) → shown_in (replica_of h t).table n ≡ shown h n) where
+    (seen : (h : List Mark) (t : Option Stamp) (n : List ℕ) → shown_in (replica_of h t).table n ≡ shown_of_name h n) where
   -- ---- what a house shows
 
   held_alike : (me floor : ℕ) (h : Held) (r : model.Replica) → StandsHeld me floor h r → held_view h ≡ view_of r
@@ -73,5 +73,5 @@ module _ (numbers : (g : model.Cell) → IsReached g → NumbersHold g)
         rw there (ap (λ ms. Some (pointer_to root_dir ms)) (sym known.2))
 
     -- what the program tells a reader is what the model tells it
-    pub told_is_reading : (prefer : Option ℕ) (high : Bool) → told c prefer high ≡ reading g prefer high
+    pub told_is_reading : (prefer : Option ℕ) (high : Bool) → program_reader c prefer high ≡ cell_reader g prefer high
     told_is_reading prefer high i = reader_of (root_alike c.directories.items (s.stands.directories 1) i) (λ d x. views_alike d x i) prefer high

@@ -14,8 +14,8 @@ use Rattle.cell_model.specs.Cells as model
 use Rattle.cell_model.specs.Commands as command
 use Rattle.cell_model.specs.Holdings.{NumbersHold}
 use Rattle.cell_model.specs.Sets.{has}
-use Rattle.cell_model.specs.Steps.{Outcome, at_house, effect, first_refusal, is_bad_list, is_down, is_missing, is_taken, is_unknown, leaving, listing}
-use Rattle.cell_model.specs.Steps.{message_at, outcome, refusals_of, refused, serials_of, with_directory, with_epoch}
+use Rattle.cell_model.specs.Steps.{Outcome, at_house, effect, first_refusal, is_bad_list, is_down, is_missing, is_taken, is_unknown, left_members, member_list_of}
+use Rattle.cell_model.specs.Steps.{message_at, outcome, refusals_of, refusal_outcome, serials_of, with_directory, with_epoch}
 use Rattle.cell_model.specs.Turns as turns
 use Rattle.cell_model.specs.Turns.{HouseStep, Stays, Turns}
 use Rattle.cell_model.proofs.AtHouses.{at_house-here, at_house-there, house_after}
@@ -24,24 +24,24 @@ use Rattle.cell_model.proofs.Numbers.{numbers_lem}
 use Rattle.cell_model.proofs.Standing.{on_reached, reached_lem}
 use Rattle.cell_model.proofs.Terms.{master_new}
 use Rattle.cell_model.proofs.Views.{put_same}
-use Rattle.cds_records.specs.Octets.{image_octets}
+use Rattle.cds_records.specs.RecordOctets.{image_octets}
 use Rattle.cds_messages.specs.declared.message.Message.{Message}
 use Rattle.cds_messages.specs.Validity.{IsValidMessage}
 use Rattle.cell_model.specs.Taking.{CanTake}
-use Rattle.held_directories.specs.declared.posted.Posted.{Posted}
-use Rattle.held_directories.specs.Posting.{StandsMessage, numbers_of}
+use Rattle.house_directory.specs.declared.posted.Posted.{Posted}
+use Rattle.house_directory.specs.HouseMessages.{StandsMessage, numbers_of}
 use Rattle.cds_cell.specs.declared.cell.Cell.{Cell}
 use Rattle.cds_cell.specs.declared.house.CellHouse.{CellHouse}
 use Rattle.cds_cell.specs.declared.house.HouseState.{HouseState}
 use Rattle.cds_cell.specs.declared.house.HouseState.TheVariants as state
-use Rattle.held_directories.specs.Stepping.{IsStampAnswer}
+use Rattle.house_directory.specs.DirectorySteps.{IsStampAnswer}
 use Rattle.cds_cell.specs.Accepting.{IsStamped}
-use Rattle.cds_cell.specs.Houses.{StandsAtHouse, StandsState}
-use Rattle.cds_cell.specs.Imaging.{octets_at, receivers_of}
+use Rattle.cds_cell.specs.CellHouses.{StandsAtHouse, StandsState}
+use Rattle.cds_cell.specs.CommandImages.{octets_at, receivers_of}
 use Rattle.cds_cell.specs.PrivateActs.{CanFound, Delivers, IsAfter, child_outcome}
 use Rattle.cds_cell.specs.PrivateHouses.{Asks, IsSameHouse, IsTurnAt, octets_in}
 use Rattle.cds_cell.specs.PrivateSteps.{IsPlaceOf}
-use Rattle.cds_cell.specs.Standing.{MaybeStandsHouse, Stands, StandsAs, house_of}
+use Rattle.cds_cell.specs.ModelCells.{MaybeStandsHouse, Stands, StandsAs, house_of}
 use Rattle.cds_cell.proofs.ActSteps.{can_take, passed, up_where}
 use Rattle.cds_cell.proofs.EpochSteps.{entered}
 use Rattle.cds_cell.proofs.Houses.{has_number, house_there}
@@ -158,19 +158,19 @@ placed_octets c g x at h s place here =
 module _ (c : Cell) (g : model.Cell) (s : Stands c g) (h : CellHouse) (there : house_of c.houses.items h.house.0 ≡ Some h) where
   -- the master of a root that it made has its image
   pub root_octets : (m : ℕ) (rs ss : List ℕ) (none : first_refusal (refusals_of g (command.Root m rs ss)) ≡ None) (new : CellHouse) → new.house ≡ h.house
-      → m ≡ h.house.0 → (ms : List Member) → ms ≡ listing [] 1 m rs ss → (ps : List Posted)
+      → m ≡ h.house.0 → (ms : List Member) → ms ≡ member_list_of [] 1 m rs ss → (ps : List Posted)
       → (StandsAtHouse h (g.house h.house.0) → (g.house h.house.0).up ≡ true → (g.house h.house.0).slots 1 ≡ model.Absent → master_of ms ≡ h.house.0
-      → IsTurnAt (turns.found h.house.0 (g.house h.house.0) 1 ms) new ps)
+      → IsTurnAt (turns.found_directory h.house.0 (g.house h.house.0) 1 ms) new ps)
       → octets_in new.state ≡ octets_at (effect g (command.Root m rs ss)).cell h.house.0
   root_octets m rs ss none new same is ms members ps turn =
       let can : CanFound g 1 h.house.0 = subst (CanFound g 1) is (root_can c g m rs ss s none) in
       let lead : master_of ms ≡ h.house.0 = ap master_of members ∙ master_new [] 1 m rs ss ∙ is in
-      let made : IsTurnAt (turns.found h.house.0 (g.house h.house.0) 1 ms) new ps = turn (twin_stands c g s h there g s.stands) can.up can.absent lead in
-      let house : (effect g (command.Root m rs ss)).cell.house h.house.0 ≡ (turns.found h.house.0 (g.house h.house.0) 1 ms).house =
+      let made : IsTurnAt (turns.found_directory h.house.0 (g.house h.house.0) 1 ms) new ps = turn (twin_stands c g s h there g s.stands) can.up can.absent lead in
+      let house : (effect g (command.Root m rs ss)).cell.house h.house.0 ≡ (turns.found_directory h.house.0 (g.house h.house.0) 1 ms).house =
       ap (λ x. (effect g (command.Root m rs ss)).cell.house x) (sym is)
-      ∙ put_same g.house m (turns.found m (g.house m) 1 (listing [] 1 m rs ss)).house
-      ∙ ap (λ x. (turns.found x (g.house x) 1 (listing [] 1 m rs ss)).house) is
-      ∙ ap (λ ms. (turns.found h.house.0 (g.house h.house.0) 1 ms).house) (sym members) in
+      ∙ put_same g.house m (turns.found_directory m (g.house m) 1 (member_list_of [] 1 m rs ss)).house
+      ∙ ap (λ x. (turns.found_directory x (g.house x) 1 (member_list_of [] 1 m rs ss)).house) is
+      ∙ ap (λ ms. (turns.found_directory h.house.0 (g.house h.house.0) 1 ms).house) (sym members) in
       stands_octets c g s h there (command.Root m rs ss) none new same (subst (λ n. StandsAtHouse new n) (sym house) made.stands)
 
   -- the master of a new epoch has its image
@@ -223,13 +223,13 @@ asks_answer g x Answers (Turns t) old new ps asks = asks.0 (serials_of g t.posts
 
 -- a directory is made exactly where the update was accepted
 with_child : (o : Outcome) (k m : ℕ) (ms : List Member) (a : command.Answer) (x : ℕ) → IsStamped a
-    → (with_directory o k m ms a).cell.house x ≡ (at_house o.cell m (Turns (turns.found m (o.cell.house m) k ms))).cell.house x
+    → (with_directory o k m ms a).cell.house x ≡ (at_house o.cell m (Turns (turns.found_directory m (o.cell.house m) k ms))).cell.house x
 with_child o k m ms (command.Stamped t ns) x stamped = refl
 with_child o k m ms a x stamped = absurd stamped
 
 without_child : (o : Outcome) (k m : ℕ) (ms : List Member) (a : command.Answer) → (IsStamped a → ⊥) → with_directory o k m ms a ≡ o
-without_child o k m ms (command.Stamped t ns) refused = absurd (refused tt)
-without_child o k m ms a refused = refl
+without_child o k m ms (command.Stamped t ns) refusal_outcome = absurd (refusal_outcome tt)
+without_child o k m ms a refusal_outcome = refl
 
 module _ (c : Cell) (g : model.Cell) (s : Stands c g) (h : CellHouse) (there : house_of c.houses.items h.house.0 ≡ Some h) (x d m : ℕ) (n rs ss : List ℕ)
     (none : first_refusal (refusals_of g (command.Mkdir x d n m rs ss)) ≡ None) (k : ℕ) (u : Change) (ms : List Member)
@@ -259,18 +259,18 @@ module _ (c : Cell) (g : model.Cell) (s : Stands c g) (h : CellHouse) (there : h
   apart_octets on apart =
       let house : (child_outcome g x d u k ms).cell.house h.house.0 ≡ updated.cell.house h.house.0 =
       with_child updated k (master_of ms) ms updated.answer h.house.0 (after.stamped on)
-      ∙ at_house-there updated.cell (master_of ms) (Turns (turns.found (master_of ms) (updated.cell.house (master_of ms)) k ms)) h.house.0 apart in
+      ∙ at_house-there updated.cell (master_of ms) (Turns (turns.found_directory (master_of ms) (updated.cell.house (master_of ms)) k ms)) h.house.0 apart in
       leaves_so mid after.house (subst (λ now. StandsAtHouse mid now) (sym house) after.stands)
 
   -- the house makes it
   pub founds_octets : accepted ≡ true → h.house.0 ≡ master_of ms → (new : CellHouse) → new.house ≡ mid.house → (ps : List Posted)
-      → IsTurnAt (turns.found h.house.0 (updated.cell.house h.house.0) k ms) new ps
+      → IsTurnAt (turns.found_directory h.house.0 (updated.cell.house h.house.0) k ms) new ps
       → octets_in new.state ≡ octets_at (effect g mkdir).cell h.house.0
   founds_octets on leads new same ps made =
-      let house : (child_outcome g x d u k ms).cell.house h.house.0 ≡ (turns.found h.house.0 (updated.cell.house h.house.0) k ms).house =
+      let house : (child_outcome g x d u k ms).cell.house h.house.0 ≡ (turns.found_directory h.house.0 (updated.cell.house h.house.0) k ms).house =
       with_child updated k (master_of ms) ms updated.answer h.house.0 (after.stamped on)
-      ∙ ap (λ y. (at_house updated.cell y (Turns (turns.found y (updated.cell.house y) k ms))).cell.house h.house.0) (sym leads)
-      ∙ at_house-here updated.cell h.house.0 (Turns (turns.found h.house.0 (updated.cell.house h.house.0) k ms)) in
+      ∙ ap (λ y. (at_house updated.cell y (Turns (turns.found_directory y (updated.cell.house y) k ms))).cell.house h.house.0) (sym leads)
+      ∙ at_house-here updated.cell h.house.0 (Turns (turns.found_directory h.house.0 (updated.cell.house h.house.0) k ms)) in
       leaves_so new (same ∙ after.house) (subst (λ now. StandsAtHouse new now) (sym house) made.stands)
 
 -- ---- updates of a house that may be another one

@@ -5,7 +5,7 @@ use Rattle.std.proofs.lemmas.Bool.Decides.{nat_tests}
 use Rattle.cds_stamps.specs.declared.stamp.Stamp.{Stamp}
 use Rattle.directory.specs.declared.update.UpdateRefusal.{UpdateRefusal}
 use Rattle.directory.specs.declared.update.UpdateRefusal.TheVariants.{NoReplica, StampsSpent}
-use Rattle.directory.specs.Shown.{marks_of, shown}
+use Rattle.directory.specs.Shown.{marks_of, shown_of_name}
 use Rattle.directory.specs.Updates.{Change, changed_name}
 use Rattle.cell_model.specs.Cells.{Absent, Cell, Gone, Held, House, IsHeld, Replica, Slot}
 use Rattle.cell_model.specs.Commands as command
@@ -14,7 +14,7 @@ use Rattle.cell_model.specs.Reached.{IsReached}
 use Rattle.cell_model.specs.Sets.{has}
 use Rattle.cell_model.specs.Steps.{Outcome, at_house, effect, first_refusal, outcome, refusals_of, unless}
 use Rattle.cell_model.specs.Turns as turns
-use Rattle.cell_model.specs.Turns.{HouseStep, accept, accept_at, accept_in, grown, holding, stamp_at, unless_refused, update_refusal}
+use Rattle.cell_model.specs.Turns.{HouseStep, accept, accept_at, accept_in, with_marks, with_slot, stamp_at, unless_refused, update_refusal}
 use Rattle.cell_model.proofs.Numbers.{numbers_lem}
 use Rattle.cell_model.proofs.Standing.{on_reached, reached_lem}
 use Rattle.cell_model.proofs.Views.{put_same}
@@ -76,16 +76,16 @@ module _ (g : Cell) (h d : ℕ) (u : Change) where
     abbrev pub after : Cell
     after = (at_house g h (accept_at h (g.house h) d u r (Some s))).cell
 
-    here : after.house h ≡ holding (g.house h) d s.time (Held (grown r (marks_of (shown r.history (changed_name u)) u s)))
-    here = put_same g.house h (holding (g.house h) d s.time (Held (grown r (marks_of (shown r.history (changed_name u)) u s))))
+    here : after.house h ≡ with_slot (g.house h) d s.time (Held (with_marks r (marks_of (shown_of_name r.history (changed_name u)) u s)))
+    here = put_same g.house h (with_slot (g.house h) d s.time (Held (with_marks r (marks_of (shown_of_name r.history (changed_name u)) u s))))
 
     -- is up
     pub after_up : (g.house h).up ≡ true → (after.house h).up ≡ true
     after_up up = ap (λ (now : House). now.up) here ∙ up
 
     -- and holds the longer history
-    pub after_held : IsHeld after h d (grown r (marks_of (shown r.history (changed_name u)) u s))
-    after_held = ap (λ (now : House). now.slots d) here ∙ put_same (g.house h).slots d (Held (grown r (marks_of (shown r.history (changed_name u)) u s)))
+    pub after_held : IsHeld after h d (with_marks r (marks_of (shown_of_name r.history (changed_name u)) u s))
+    after_held = ap (λ (now : House). now.slots d) here ∙ put_same (g.house h).slots d (Held (with_marks r (marks_of (shown_of_name r.history (changed_name u)) u s)))
 
     -- the cell is reached, as the command leads there
     pub after_commanded : IsReached g → (g.house h).up ≡ true → IsHeld g h d r → update_refusal h u r ≡ None → stamp_at (g.house h) ≡ Some s

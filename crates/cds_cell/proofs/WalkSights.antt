@@ -8,7 +8,7 @@ use Rattle.resolver.specs.declared.refusal.Refusal.{Refusal}
 use Rattle.resolver.specs.declared.seen.Found.{Found}
 use Rattle.resolver.specs.declared.seen.Place.{Place}
 use Rattle.resolver.specs.Readers.{Absent, Child, Link, Object, Reader, Sight, Unreachable}
-use Rattle.resolver.specs.Walks.{EndsFrom, Goes, Step, Stops, Walker, at_inner, at_last, follow_unless, found, found_of, goes, link_refusal, missing}
+use Rattle.resolver.specs.Walks.{EndsFrom, Goes, Step, Stops, Walker, at_inner, at_last, follow_unless, find_step, found_of, goes, link_refusal, missing_step}
 use Rattle.resolver.specs.Walks.{place_of, step_from, stops}
 
 -- the house of a sight, and the kind of the entry there, if there is one
@@ -28,7 +28,7 @@ module _ (reader : Reader) (Q : ℕ → ℕ → List ℕ → Option Kind → Typ
   StopsWhere (Stops e) =
       ((f : Found) → found_of e ≡ Ok f → Q f.house.0 f.dir.0 f.name (Some f.kind)) × ((p : Place) → place_of e ≡ Ok p → Q p.house.0 p.dir.0 p.name p.kind)
 
-  found_stops : (d h : ℕ) (n : List ℕ) (k : Kind) → Q h d n (Some k) → StopsWhere (found d h n k)
+  found_stops : (d h : ℕ) (n : List ℕ) (k : Kind) → Q h d n (Some k) → StopsWhere (find_step d h n k)
   found_stops d h n k holds = (
     λ f is. let same : record { dir = record { 0 = d }; house = record { 0 = h }; name = n; kind = k } ≡ f = cc in
         subst (λ (z : Found). Q z.house.0 z.dir.0 z.name (Some z.kind)) same holds,
@@ -36,7 +36,7 @@ module _ (reader : Reader) (Q : ℕ → ℕ → List ℕ → Option Kind → Typ
         subst (λ (z : Place). Q z.house.0 z.dir.0 z.name z.kind) same holds,
   )
 
-  missing_stops : (d h : ℕ) (n : List ℕ) (done : ℕ) → Q h d n None → StopsWhere (missing d h n done)
+  missing_stops : (d h : ℕ) (n : List ℕ) (done : ℕ) → Q h d n None → StopsWhere (missing_step d h n done)
   missing_stops d h n done holds = (
     λ f is. absurd (cc),
     λ p is. let same : record { dir = record { 0 = d }; house = record { 0 = h }; name = n; kind = None } ≡ p = cc in

@@ -4,14 +4,14 @@ use Rattle.std.specs.Option.{option_map}
 use Rattle.cds_stamps.specs.Members.{master_of}
 use Rattle.directory.specs.declared.entry.Kind.{Kind}
 use Rattle.directory.specs.declared.update.UpdateRefusal.{UpdateRefusal}
-use Rattle.directory.specs.Shown.{shown}
+use Rattle.directory.specs.Shown.{shown_of_name}
 use Rattle.directory.specs.Updates.{Change}
 use Rattle.cell_model.specs.Cells as model
 use Rattle.cell_model.specs.Commands as command
 use Rattle.cell_model.specs.Steps.{Outcome, effect}
 use Rattle.cds_cell.specs.declared.cell.Cell.{Cell}
 use Rattle.cds_cell.specs.declared.updating.AcceptedAll.{AcceptedAll}
-use Rattle.cds_cell.specs.Standing.{Stands}
+use Rattle.cds_cell.specs.ModelCells.{Stands}
 
 -- what comes of updates at a house: how many were accepted, the serials of the messages that they posted, why the next one was
 -- refused, if one was, and the cell behind them (own)
@@ -22,8 +22,8 @@ pub record Accepting : Type 0 where
   pub cell : model.Cell
 
 -- no update more is accepted (own)
-abbrev pub stopped : model.Cell → Option UpdateRefusal → Accepting
-stopped g refused = record { count = 0; posted = []; refused = refused; cell = g }
+abbrev pub no_more_updates : model.Cell → Option UpdateRefusal → Accepting
+no_more_updates g refused = record { count = 0; posted = []; refused = refused; cell = g }
 
 -- so many updates were accepted before, which posted these messages (own)
 abbrev pub behind : (n : ℕ) → (ns : List ℕ) → Accepting → Accepting
@@ -33,15 +33,15 @@ behind n ns w = record w { count = n + w.count; posted = ns ++ w.posted }
 -- else is answered to an update (own)
 abbrev pub by_answer : command.Answer → model.Cell → (rest : Accepting) → Accepting
 by_answer (command.Stamped s ns) g rest = behind 1 ns rest
-by_answer (command.Refused (command.Update r)) g rest = stopped g (Some r)
-by_answer _ g rest = stopped g None
+by_answer (command.Refused (command.Update r)) g rest = no_more_updates g (Some r)
+by_answer _ g rest = no_more_updates g None
 
 -- updates of the directory d at the house h, one after another up to the first that is refused (own, after C705, updates)
-abbrev pub accepting : model.Cell → (h d : ℕ) → List Change → Accepting
-accepting g h d [] = stopped g None
-accepting g h d (u ∷ us) =
+abbrev pub accept_in_turn : model.Cell → (h d : ℕ) → List Change → Accepting
+accept_in_turn g h d [] = no_more_updates g None
+accept_in_turn g h d (u ∷ us) =
     let o : Outcome = effect g (command.Accept h d u) in
-    by_answer o.answer o.cell (accepting o.cell h d us)
+    by_answer o.answer o.cell (accept_in_turn o.cell h d us)
 
 -- the answer is that of an update which was accepted (own)
 abbrev pub IsStamped : command.Answer → Type 0
@@ -67,4 +67,4 @@ pub record ShowsAsMaster (g : model.Cell) (h d : ℕ) (n : List ℕ) (kind : Opt
   pub up : (g.house h).up ≡ true
   pub held : model.IsHeld g h d replica
   pub master : master_of replica.members ≡ h
-  pub shows : option_map (λ e. e.kind) (shown replica.history n) ≡ kind
+  pub shows : option_map (λ e. e.kind) (shown_of_name replica.history n) ≡ kind

@@ -26,18 +26,18 @@ abbrev pub answers_with : (high : Bool) → (x : ℕ) → View → Option Asked
 answers_with high x v = if not high || (master_of v.members == x) then Some (record { house = x; view = v }) else None
 
 -- the same of a house that shows something of the directory, if it does (own)
-abbrev pub answering : Views → (high : Bool) → (d x : ℕ) → Option Asked
-answering views high d x = option_and_then (answers_with high x) (views d x)
+abbrev pub answer_of_house : Views → (high : Bool) → (d x : ℕ) → Option Asked
+answer_of_house views high d x = option_and_then (answers_with high x) (views d x)
 
 -- the preferred house first, where it is listed (own)
-abbrev pub preferring : Option ℕ → List ℕ → List ℕ
-preferring None houses = houses
-preferring (Some x) houses = if has x houses then x ∷ houses else houses
+abbrev pub preferred_first : Option ℕ → List ℕ → List ℕ
+preferred_first None houses = houses
+preferred_first (Some x) houses = if has x houses then x ∷ houses else houses
 
 -- the order in which the listed houses are asked: no house is preferred at high confidence (own, after C705, confidence of lookups)
 abbrev pub in_turn : (prefer : Option ℕ) → (high : Bool) → List ℕ → List ℕ
-in_turn prefer high houses = if high then houses else preferring prefer houses
+in_turn prefer high houses = if high then houses else preferred_first prefer houses
 
 -- of the listed houses of a directory, the one that is asked: the first that answers (own, after C705, confidence of lookups)
-abbrev pub asked : Views → (d : ℕ) → (prefer : Option ℕ) → (high : Bool) → List ℕ → Option Asked
-asked views d prefer high houses = first_some (answering views high d) (in_turn prefer high houses)
+abbrev pub house_to_ask : Views → (d : ℕ) → (prefer : Option ℕ) → (high : Bool) → List ℕ → Option Asked
+house_to_ask views d prefer high houses = first_some (answer_of_house views high d) (in_turn prefer high houses)

@@ -10,7 +10,7 @@ use Rattle.directory.specs.declared.entry.Kind.{Kind}
 use Rattle.directory.specs.declared.entry.Kind.TheVariants as kind
 use Rattle.directory.specs.Shown.{Shown, lead_of}
 use Rattle.resolver.specs.Readers.{Object, Absent, Link}
-use Rattle.cds_cell.specs.Asking.{Asked, View, Views, answers_with, answering, asked, in_turn}
+use Rattle.cds_cell.specs.Asking.{Asked, View, Views, answers_with, answer_of_house, house_to_ask, in_turn}
 use Rattle.cds_cell.specs.Readings.{child_sight, led_sight, shown_sight}
 
 -- ---- who is asked
@@ -32,7 +32,7 @@ answer_shows high x v a h = by_test (not high || (master_of v.members == x)) h
     by_test true h = cc
     by_test false h = cc
 
-answering_shows : (views : Views) (high : Bool) (d x : ℕ) (a : Asked) → answering views high d x ≡ Some a → views d a.house ≡ Some a.view
+answering_shows : (views : Views) (high : Bool) (d x : ℕ) (a : Asked) → answer_of_house views high d x ≡ Some a → views d a.house ≡ Some a.view
 answering_shows views high d x a h = by_view (views d x) refl h
   where
     by_view : (o : Option View) → views d x ≡ o → option_and_then (answers_with high x) o ≡ Some a → views d a.house ≡ Some a.view
@@ -40,10 +40,10 @@ answering_shows views high d x a h = by_view (views d x) refl h
     by_view (Some v) is h = subst (λ (z : Asked). views d z.house ≡ Some z.view) (answer_shows high x v a h) is
 
 -- the house that is asked shows what it is asked for
-pub asked_shows : (views : Views) (d : ℕ) (prefer : Option ℕ) (high : Bool) (houses : List ℕ) (a : Asked) → asked views d prefer high houses ≡ Some a
+pub asked_shows : (views : Views) (d : ℕ) (prefer : Option ℕ) (high : Bool) (houses : List ℕ) (a : Asked) → house_to_ask views d prefer high houses ≡ Some a
     → views d a.house ≡ Some a.view
 asked_shows views d prefer high houses a h =
-    first_given (λ (z : Asked). views d z.house ≡ Some z.view) (answering views high d) (answering_shows views high d) (in_turn prefer high houses) a h
+    first_given (λ (z : Asked). views d z.house ≡ Some z.view) (answer_of_house views high d) (answering_shows views high d) (in_turn prefer high houses) a h
 
 -- ---- the objects that show
 

@@ -3,14 +3,14 @@ use Rattle.std.specs.Prelude.{◌≡◌, ◌<◌, ℕ, false, nat_eq, length, Op
 use Rattle.std.specs.Rc.{rc_slice_items}
 use Rattle.indexmap.specs.IndexMap.{get}
 use Rattle.record_fields.specs.Decoding.{IsWhole}
-use Rattle.cds_records.specs.Octets.{message_octets}
+use Rattle.cds_records.specs.RecordOctets.{message_octets}
 use Rattle.cds_records.specs.Records.{message}
 use Rattle.cds_messages.specs.Validity.{IsValidMessage}
 use Rattle.cds_messages.specs.declared.message.Message.{Message}
 use Rattle.cell_model.specs.Cells as model
 use Rattle.cell_model.specs.Sets.{has}
 use Rattle.cell_model.specs.Steps.{message_at}
-use Rattle.held_directories.specs.Posting.{StandsMessage}
+use Rattle.house_directory.specs.HouseMessages.{StandsMessage}
 use Rattle.cds_cell.specs.declared.bag.Bag.{Bag}
 use Rattle.cds_cell.specs.declared.bag.Letter.{Letter}
 

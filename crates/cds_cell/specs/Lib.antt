@@ -2,9 +2,9 @@ pub mod Accepting
 pub mod Asking
 pub mod AskingProofs
 pub mod Bags
-pub mod Houses
-pub mod Listings
-pub mod Imaging
+pub mod CellHouses
+pub mod ConsoleLists
+pub mod CommandImages
 pub mod PrivateActs
 pub mod PrivateBags
 pub mod PrivateHouses
@@ -13,6 +13,6 @@ pub mod PrivateTelling
 pub mod Readings
 pub mod Recorded
 pub mod Scripted
-pub mod Standing
+pub mod ModelCells
 pub mod Telling
 pub mod TellingProofs

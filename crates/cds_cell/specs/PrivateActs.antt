@@ -5,27 +5,27 @@ use Rattle.cds_stamps.specs.declared.numbers.HouseNo.{HouseNo}
 use Rattle.cds_stamps.specs.Members.{Member, master_of}
 use Rattle.directory.specs.Updates.{Change}
 use Rattle.record_fields.specs.Decoding.{IsWhole}
-use Rattle.cds_records.specs.Octets.{message_octets}
+use Rattle.cds_records.specs.RecordOctets.{message_octets}
 use Rattle.cds_records.specs.Records as records
 use Rattle.cds_messages.specs.Validity.{IsValidMessage}
 use Rattle.cds_messages.specs.declared.message.Message.{Message}
 use Rattle.cell_model.specs.Cells as model
 use Rattle.cell_model.specs.Commands as command
 use Rattle.cell_model.specs.Sets.{has}
-use Rattle.cell_model.specs.Steps.{Outcome, at_house, founded, message_at, serials_of, with_directory}
-use Rattle.cell_model.specs.Turns.{HouseStep, Turns, accept, first_joins, found}
-use Rattle.held_directories.specs.declared.posted.Posted.{Posted}
-use Rattle.held_directories.specs.Posting.{StandsMessage}
+use Rattle.cell_model.specs.Steps.{Outcome, at_house, cell_with_directory, message_at, serials_of, with_directory}
+use Rattle.cell_model.specs.Turns.{HouseStep, Turns, accept, first_joins, found_directory}
+use Rattle.house_directory.specs.declared.posted.Posted.{Posted}
+use Rattle.house_directory.specs.HouseMessages.{StandsMessage}
 use Rattle.cds_cell.specs.declared.bag.Bag.{Bag}
 use Rattle.cds_cell.specs.declared.bag.Letter.{Letter}
 use Rattle.cds_cell.specs.declared.cell.Cell.{Cell}
 use Rattle.cds_cell.specs.declared.house.CellHouse.{CellHouse}
 use Rattle.cds_cell.specs.Accepting.{IsStamped}
 use Rattle.cds_cell.specs.Bags.{letter_at}
-use Rattle.cds_cell.specs.Houses.{StandsAtHouse}
+use Rattle.cds_cell.specs.CellHouses.{StandsAtHouse}
 use Rattle.cds_cell.specs.PrivateHouses.{Asks, IsSameHouse}
 use Rattle.cds_cell.specs.PrivateSteps.{IsPlaceOf}
-use Rattle.cds_cell.specs.Standing.{StandsAs, greatest_epoch}
+use Rattle.cds_cell.specs.ModelCells.{StandsAs, greatest_epoch}
 
 -- a letter carries a message that was posted (own)
 pub record Carries (l : Letter) (p : Posted) : Type 0 where
@@ -102,12 +102,12 @@ pub record CanFound (g : model.Cell) (d m : ℕ) : Type 0 where
 
 -- the master of a directory holds it with these members, and the Joins that it posted are told behind other numbers (own)
 pub record MasterFounds (c : Cell) (g : model.Cell) (d : ℕ) (ms : List Member) (before after : List ℕ) : Type 0 where
-  pub stands : StandsAs c (at_house g (master_of ms) (Turns (found (master_of ms) (g.house (master_of ms)) d ms))).cell
+  pub stands : StandsAs c (at_house g (master_of ms) (Turns (found_directory (master_of ms) (g.house (master_of ms)) d ms))).cell
   pub told : after ≡ before ++ serials_of g (first_joins (g.house (master_of ms)).floor d (master_of ms) ms)
 
 -- the cell has one directory more, which its master holds with these members, and the Joins that it posted are told behind other numbers (own)
 pub record Founds (c : Cell) (g : model.Cell) (d : ℕ) (ms : List Member) (before after : List ℕ) : Type 0 where
-  pub stands : (next : ℕ) → next ≡ max 2 (d + 1) → StandsAs c (record (founded g d (master_of ms) ms) { next_dir = next })
+  pub stands : (next : ℕ) → next ≡ max 2 (d + 1) → StandsAs c (record (cell_with_directory g d (master_of ms) ms) { next_dir = next })
   pub told : after ≡ before ++ serials_of g (first_joins (g.house (master_of ms)).floor d (master_of ms) ms)
 
 -- the cell has one directory more, in epoch 1, and at most 64 messages more (own)

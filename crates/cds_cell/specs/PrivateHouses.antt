@@ -3,20 +3,20 @@ use Rattle.std.specs.Prelude.{◌≡◌, ◌<◌, ℕ, List, [], Option}
 use Rattle.cds_stamps.specs.declared.numbers.DirId.{DirId}
 use Rattle.cds_stamps.specs.declared.numbers.EpochNo.{EpochNo}
 use Rattle.cds_stamps.specs.declared.numbers.HouseNo.{HouseNo}
-use Rattle.cds_records.specs.Octets.{image_octets}
+use Rattle.cds_records.specs.RecordOctets.{image_octets}
 use Rattle.cell_model.specs.Cells as model
 use Rattle.cell_model.specs.Commands as command
 use Rattle.cell_model.specs.Turns.{Turn, HouseStep, Stays, Turns}
-use Rattle.held_directories.specs.declared.epochs.EpochRefusal.{EpochRefusal}
-use Rattle.held_directories.specs.declared.outgoing.Outgoing.{Outgoing}
-use Rattle.held_directories.specs.declared.posted.Posted.{Posted}
-use Rattle.held_directories.specs.Posting.{StandEach, posts_to, leave_of, numbers_of}
-use Rattle.clearinghouse.specs.Imaging.{image_of}
-use Rattle.clearinghouse.specs.Posting.{posts_at, epoch_posts_at, sender_of}
+use Rattle.house_directory.specs.declared.epochs.EpochRefusal.{EpochRefusal}
+use Rattle.house_directory.specs.declared.outgoing.Outgoing.{Outgoing}
+use Rattle.house_directory.specs.declared.posted.Posted.{Posted}
+use Rattle.house_directory.specs.HouseMessages.{StandEach, posts_to, leave_of, numbers_of}
+use Rattle.clearinghouse.specs.HouseImages.{image_of}
+use Rattle.clearinghouse.specs.HouseLetters.{posts_at, epoch_posts_at, sender_of}
 use Rattle.cds_cell.specs.declared.house.CellHouse.{CellHouse}
 use Rattle.cds_cell.specs.declared.house.HouseState.{HouseState}
 use Rattle.cds_cell.specs.declared.house.HouseState.TheVariants as state
-use Rattle.cds_cell.specs.Houses.{StandsAtHouse}
+use Rattle.cds_cell.specs.CellHouses.{StandsAtHouse}
 
 -- a house of the cell after a call: its number, node and clock are the same (own)
 pub record IsSameHouse (old new : CellHouse) : Type 0 where

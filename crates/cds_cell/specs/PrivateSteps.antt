@@ -9,13 +9,13 @@ use Rattle.cell_model.specs.Steps.{Outcome, first_refusal}
 use Rattle.cell_script.specs.Listings.{houses_in, secondaries_in}
 use Rattle.script_answers.specs.declared.answer.Answer.{Answer}
 use Rattle.script_answers.specs.declared.answer.ScriptRefusal.{ScriptRefusal}
-use Rattle.held_directories.specs.Posting.{numbers_of}
+use Rattle.house_directory.specs.HouseMessages.{numbers_of}
 use Rattle.cds_cell.specs.declared.cell.Cell.{Cell}
 use Rattle.cds_cell.specs.declared.house.CellHouse.{CellHouse}
 use Rattle.cds_cell.specs.declared.step.Step.{Step}
 use Rattle.cds_cell.specs.declared.step.Step.TheVariants as step
 use Rattle.cds_cell.specs.Scripted.{answer_of, refusal_of}
-use Rattle.cds_cell.specs.Standing.{GrowsBy, StandsAs, UnlessDone}
+use Rattle.cds_cell.specs.ModelCells.{GrowsBy, StandsAs, UnlessDone}
 
 -- the house of a number stands at this place, and none before it (own)
 abbrev pub IsPlaceOf : List CellHouse → ℕ → ℕ → Type 0

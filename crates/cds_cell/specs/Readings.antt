@@ -8,12 +8,12 @@ use Rattle.cell_names.specs.ChildPointers.{Pointer, pointer_of}
 use Rattle.directory.specs.declared.entry.Kind.{Kind}
 use Rattle.directory.specs.declared.entry.Kind.TheVariants as kind
 use Rattle.directory.specs.Histories.{name_in}
-use Rattle.directory.specs.Shown.{Shown, shown, lead_of}
+use Rattle.directory.specs.Shown.{Shown, shown_of_name, lead_of}
 use Rattle.cell_model.specs.Cells.{Cell, Replica, Slot}
 use Rattle.cell_model.specs.Cells as slot
 use Rattle.resolver.specs.declared.seen.Found.{Found}
 use Rattle.resolver.specs.Readers.{Reader, Sight, Unreachable, Absent, Object, Link, Child, object_found}
-use Rattle.cds_cell.specs.Asking.{Asked, View, Views, asked}
+use Rattle.cds_cell.specs.Asking.{Asked, View, Views, house_to_ask}
 
 -- a directory and the houses of its member list (own)
 abbrev pub pointer_to : (d : ℕ) → List Member → Pointer
@@ -67,13 +67,13 @@ values_at at attr (Some v) = values_of attr (v.shows at.name)
 abbrev pub reader_of : Option Pointer → Views → (prefer : Option ℕ) → (high : Bool) → Reader
 reader_of root views prefer high = record {
   root = root;
-  sees = λ p name. sight_at name (asked views p.dir prefer high (p.master ∷ p.others));
+  sees = λ p name. sight_at name (house_to_ask views p.dir prefer high (p.master ∷ p.others));
   values = λ at attr. values_at at attr (views at.dir.0 at.house.0);
 }
 
 -- what shows of a history, to those members (own)
 abbrev pub view_of : Replica → View
-view_of r = record { members = r.members; shows = shown r.history }
+view_of r = record { members = r.members; shows = shown_of_name r.history }
 
 -- what a house shows by what it has of a directory (own)
 abbrev pub slot_view : Slot → Option View
@@ -86,8 +86,8 @@ abbrev pub views_of : Cell → Views
 views_of g d x = if (g.house x).up then slot_view ((g.house x).slots d) else None
 
 -- what a cell tells such a reader (own, after C705, lookups of clerks)
-abbrev pub reading : Cell → (prefer : Option ℕ) → (high : Bool) → Reader
-reading g prefer high = reader_of (root_pointer g) (views_of g) prefer high
+abbrev pub cell_reader : Cell → (prefer : Option ℕ) → (high : Bool) → Reader
+cell_reader g prefer high = reader_of (root_pointer g) (views_of g) prefer high
 
 -- an object for each mark that a house has of a directory: more than show, but finitely many (own)
 abbrev pub objects_in : (x d : ℕ) → Slot → List Found

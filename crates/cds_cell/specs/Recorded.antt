@@ -8,7 +8,7 @@ use Rattle.cds_stamps.specs.declared.numbers.DirId.{DirId}
 use Rattle.cds_stamps.specs.Members.{Member}
 use Rattle.directory.specs.Histories.{Mark, name_in, entry_of}
 use Rattle.purge_rule.specs.Replicas.{replica_of, delta_of}
-use Rattle.cds_records.specs.Octets.{message_octets}
+use Rattle.cds_records.specs.RecordOctets.{message_octets}
 use Rattle.cds_messages.specs.declared.image.Image.{Image}
 use Rattle.cds_messages.specs.declared.image.ImageDir.{ImageDir}
 use Rattle.cds_messages.specs.declared.image.ImageDir.TheVariants as kept

@@ -7,9 +7,9 @@ use Rattle.cds_stamps.specs.declared.numbers.DirId.{DirId}
 use Rattle.cds_stamps.specs.Members.{members_of}
 use Rattle.cds_stamps.specs.Numbers.{root_dir}
 use Rattle.cell_names.specs.ChildPointers.{Pointer}
-use Rattle.held_directories.specs.declared.states.Held.{Held}
-use Rattle.held_directories.specs.declared.states.DirState.{DirState}
-use Rattle.held_directories.specs.declared.states.DirState.TheVariants as dir
+use Rattle.house_directory.specs.declared.states.Held.{Held}
+use Rattle.house_directory.specs.declared.states.DirState.{DirState}
+use Rattle.house_directory.specs.declared.states.DirState.TheVariants as dir
 use Rattle.directory.specs.Shown.{shown_in}
 use Rattle.resolver.specs.declared.seen.Found.{Found}
 use Rattle.resolver.specs.Readers.{Reader, object_found}
@@ -19,7 +19,7 @@ use Rattle.cds_cell.specs.declared.house.HouseState.{HouseState}
 use Rattle.cds_cell.specs.declared.house.HouseState.TheVariants as state
 use Rattle.cds_cell.specs.Asking.{View, Views}
 use Rattle.cds_cell.specs.Readings.{pointer_to, reader_of}
-use Rattle.cds_cell.specs.Standing.{house_of}
+use Rattle.cds_cell.specs.ModelCells.{house_of}
 
 -- where the first directory is, if there is one (own)
 abbrev pub first_pointer : List Listing → Option Pointer
@@ -46,8 +46,8 @@ abbrev pub told_views : Cell → Views
 told_views c d x = option_and_then (state_view (record { 0 = d })) (option_map (λ h. h.state) (house_of c.houses.items x))
 
 -- what a cell of the program tells a reader that prefers a house, or none, and trusts any replica or the master's alone (own)
-abbrev pub told : Cell → (prefer : Option ℕ) → (high : Bool) → Reader
-told c prefer high = reader_of (first_pointer c.directories.items) (told_views c) prefer high
+abbrev pub program_reader : Cell → (prefer : Option ℕ) → (high : Bool) → Reader
+program_reader c prefer high = reader_of (first_pointer c.directories.items) (told_views c) prefer high
 
 -- an object for each name in the table of what is held: more than show, but finitely many (own)
 abbrev pub objects_held : (x : ℕ) → DirId → Option DirState → List Found

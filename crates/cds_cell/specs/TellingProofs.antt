@@ -11,15 +11,15 @@ use Rattle.std.proofs.Common.{sym, ◌∙◌, ap, subst, arith}
 use Rattle.std.proofs.lemmas.Bool.Decides.{nat_tests}
 use Rattle.std.proofs.lemmas.List.Elements.{Contains-append_left, Contains-append_right}
 use Rattle.attr_sets.specs.declared.cell.AttrCell.{AttrCell}
-use Rattle.attr_sets.specs.Cells.{cell_values}
+use Rattle.attr_sets.specs.AttributeCells.{cell_values}
 use Rattle.attr_sets.proofs.ShownLaws.{cell_values-ascending}
 use Rattle.cds_messages.specs.Dirs.{dir_exact}
 use Rattle.cds_stamps.proofs.ListMembers.{Contains-flat_map, Contains-head, Contains-tail, Contains-map}
 use Rattle.cds_stamps.specs.declared.numbers.DirId.{DirId}
-use Rattle.cds_stamps.specs.Keyed.{tied}
+use Rattle.cds_stamps.specs.Keyed.{ties_are_equal}
 use Rattle.cds_stamps.specs.Octets.{octets_cmp, octets_exact}
-use Rattle.held_directories.specs.declared.states.DirState.{DirState}
-use Rattle.held_directories.specs.declared.states.DirState.TheVariants as dir
+use Rattle.house_directory.specs.declared.states.DirState.{DirState}
+use Rattle.house_directory.specs.declared.states.DirState.TheVariants as dir
 use Rattle.directory.specs.declared.entry.EntryCell.{EntryCell}
 use Rattle.directory.specs.Entries.{Entries}
 use Rattle.directory.specs.Shown.{Shown, shown_entry, shown_in, entry_values, face_of, leads}
@@ -29,11 +29,11 @@ use Rattle.cds_cell.specs.declared.cell.Cell.{Cell}
 use Rattle.cds_cell.specs.declared.house.CellHouse.{CellHouse}
 use Rattle.cds_cell.specs.declared.house.HouseState.{HouseState}
 use Rattle.cds_cell.specs.declared.house.HouseState.TheVariants as state
-use Rattle.cds_cell.specs.Asking.{Asked, View, asked}
+use Rattle.cds_cell.specs.Asking.{Asked, View, house_to_ask}
 use Rattle.cds_cell.specs.AskingProofs.{asked_shows, shown_object}
 use Rattle.cds_cell.specs.Readings.{sight_at, values_of, values_at}
-use Rattle.cds_cell.specs.Standing.{house_of}
-use Rattle.cds_cell.specs.Telling.{dir_view, state_view, told_views, told, objects_held, objects_at, told_objects}
+use Rattle.cds_cell.specs.ModelCells.{house_of}
+use Rattle.cds_cell.specs.Telling.{dir_view, state_view, told_views, program_reader, objects_held, objects_at, told_objects}
 
 -- ---- maps
 
@@ -44,7 +44,7 @@ any_has {K = K} {R = R} exact k (j ∷ ks) h = by_test (eq_by_cmp R k j) refl (a
   where
     by_test : (b : Bool) → eq_by_cmp R k j ≡ b → (list_any (eq_by_cmp R k) ks ≡ true → Contains ks k)
         → (b || list_any (eq_by_cmp R k) ks) ≡ true → Contains (j ∷ ks) k
-    by_test true is rest h = subst (λ (n : K). Contains (j ∷ ks) n) (sym (tied exact k j is)) (Contains-head j ks)
+    by_test true is rest h = subst (λ (n : K). Contains (j ∷ ks) n) (sym (ties_are_equal exact k j is)) (Contains-head j ks)
     by_test false is rest h = Contains-tail j ks k (rest h)
 
 listed_key : {K X : Type 0} {R : K → K → Ordering} → IsAntisymmetric R → (m : FinMap R X) (k : K) → is_some (get m k) ≡ true → Contains (keys m) k
@@ -141,10 +141,10 @@ house_listed x d name (k ∷ ks) v is h = by_test (k.house.0 == x) refl is (λ t
         Contains-append_right (objects_at k.house.0 k.state) (flat_map (λ h. objects_at h.house.0 h.state) ks) (object_found d.0 x name) (rest is)
 
 -- each object that a cell shows is listed
-pub told_shows_only : (c : Cell) (prefer : Option ℕ) (high : Bool) → ShowsOnly (told c prefer high) (told_objects c)
-told_shows_only c prefer high at house name h = by_asked (asked (told_views c) at.dir prefer high (at.master ∷ at.others)) refl h
+pub told_shows_only : (c : Cell) (prefer : Option ℕ) (high : Bool) → ShowsOnly (program_reader c prefer high) (told_objects c)
+told_shows_only c prefer high at house name h = by_asked (house_to_ask (told_views c) at.dir prefer high (at.master ∷ at.others)) refl h
   where
-    by_asked : (o : Option Asked) → asked (told_views c) at.dir prefer high (at.master ∷ at.others) ≡ o → sight_at name o ≡ Object house
+    by_asked : (o : Option Asked) → house_to_ask (told_views c) at.dir prefer high (at.master ∷ at.others) ≡ o → sight_at name o ≡ Object house
         → Contains (told_objects c) (object_found at.dir house name)
     by_asked None is h = cc
     by_asked (Some a) is h =

@@ -8,13 +8,13 @@ ghost use Rattle.cell_model.specs.Commands as command;
 ghost use Rattle.cell_model.specs.Steps.{effect, first_refusal, refusals_of};
 ghost use Rattle.cell_model.specs.Turns as turns;
 ghost use Rattle.cell_script.specs.Listings.{houses_in, secondaries_in};
-ghost use Rattle.held_directories.specs.Posting.{numbers_of};
-ghost use Rattle.held_directories.specs.Stepping.{IsBegunAnswer, IsEpochAnswer, IsStampAnswer};
+ghost use Rattle.house_directory.specs.HouseMessages.{numbers_of};
+ghost use Rattle.house_directory.specs.DirectorySteps.{IsBegunAnswer, IsEpochAnswer, IsStampAnswer};
 ghost use Rattle.cds_cell.specs.declared.house.CellHouse.{CellHouse};
 ghost use Rattle.cds_cell.specs.PrivateActs.{ActsAt, KeepsRest, Posts};
 ghost use Rattle.cds_cell.specs.PrivateHouses.{IsNewEpoch, leaves_by, posted_at};
 ghost use Rattle.cds_cell.specs.PrivateSteps.{ComesTo, IsPlaceOf, Leaves, step_meant};
-ghost use Rattle.cds_cell.specs.Standing.{HasRoom, Stands};
+ghost use Rattle.cds_cell.specs.ModelCells.{HasRoom, Stands};
 
 use crate::answers::{begun_in_script, epoch_refusal_in_script, refusal_in_script};
 use crate::cell::Cell;

@@ -1,12 +1,12 @@
 // The answers of the script.
 ghost use Rattle.std.specs.Prelude.{◌≡◌, ◌≢◌, ℕ, Some, OnErr};
 ghost use Rattle.cell_model.specs.Commands as command;
-ghost use Rattle.held_directories.specs.Stepping.{IsBegunAnswer, IsEpochAnswer, IsTakeAnswer, UnlessTaken};
+ghost use Rattle.house_directory.specs.DirectorySteps.{IsBegunAnswer, IsEpochAnswer, IsTakeAnswer, UnlessTaken};
 ghost use Rattle.script_answers.specs.declared.answer.Answer.TheVariants as answer;
 ghost use Rattle.cds_cell.specs.declared.cell.Cell.{Cell};
 ghost use Rattle.cds_cell.specs.PrivateActs.{Tells};
 ghost use Rattle.cds_cell.specs.Scripted.{answer_of, update_refusal_of};
-ghost use Rattle.cds_cell.specs.Standing.{UnlessDone};
+ghost use Rattle.cds_cell.specs.ModelCells.{UnlessDone};
 
 use clearinghouse::{Begun, EpochRefusal, Taken};
 use directory::UpdateRefusal;

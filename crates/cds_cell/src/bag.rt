@@ -1,8 +1,8 @@
 // The messages of a cell, as octets, until they are lost.
 ghost use Rattle.std.specs.Prelude.{◌≡◌, ◌≤◌, ◌<◌, ◌+◌, ◌^◌, ℕ, List, if◌then◌else◌, ◌==◌, length, None, OnOk, option_copied};
 ghost use Rattle.std.specs.Rc.{rc_slice_items};
-ghost use Rattle.held_directories.specs.declared.posted.Posted.{Posted};
-ghost use Rattle.clearinghouse.specs.Posting.{AreLetters};
+ghost use Rattle.house_directory.specs.declared.posted.Posted.{Posted};
+ghost use Rattle.clearinghouse.specs.HouseLetters.{AreLetters};
 ghost use Rattle.cds_cell.specs.Bags.{letter_at};
 ghost use Rattle.cds_cell.specs.PrivateActs.{Posts};
 ghost use Rattle.cds_cell.specs.PrivateBags.{IsEmptyBag, PostsOne};

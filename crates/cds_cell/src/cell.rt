@@ -6,14 +6,14 @@ ghost use Rattle.directory.specs.EntryChanges.{changes};
 ghost use Rattle.cell_model.specs.Cells as model;
 ghost use Rattle.cell_model.specs.Sets.{has};
 ghost use Rattle.cell_model.specs.Steps.{message_at, outcome};
-ghost use Rattle.cds_cell.specs.Accepting.{IsAccepting, accepting};
+ghost use Rattle.cds_cell.specs.Accepting.{IsAccepting, accept_in_turn};
 ghost use Rattle.cds_cell.specs.Bags.{letter_at};
-ghost use Rattle.cds_cell.specs.Houses.{is_up_state};
+ghost use Rattle.cds_cell.specs.CellHouses.{is_up_state};
 ghost use Rattle.cds_cell.specs.PrivateSteps.{IsPlaceOf, step_meant};
 ghost use Rattle.cds_cell.specs.Recorded.{octets_of};
 ghost use Rattle.cds_cell.specs.Scripted.{step_of};
-ghost use Rattle.cds_cell.specs.Standing.{GrowsBy, GrowsByUpdates, HasRoom, IsCall, IsGreatestEpoch, IsStep, IsWithin, Stands, UnlessDone};
-ghost use Rattle.cds_cell.specs.Standing.{directory_count, directory_of, greatest_epoch, house_of};
+ghost use Rattle.cds_cell.specs.ModelCells.{GrowsBy, GrowsByUpdates, HasRoom, IsCall, IsGreatestEpoch, IsStep, IsWithin, Stands, UnlessDone};
+ghost use Rattle.cds_cell.specs.ModelCells.{directory_count, directory_of, greatest_epoch, house_of};
 
 use crate::bag::Bag;
 use crate::console::Listing;
@@ -147,7 +147,7 @@ impl Cell {
         ensures call { IsCall self.old self.new result }
         ensures grows { OnOk result (GrowsByUpdates (length updates.now) self.old self.new) }
         ensures same { IfOk result (λ a. a.count ≡ 0 → self.new ≡ self.old) }
-        ensures all { (g : model.Cell) → Stands self.old g → IfOk result (λ a. IsAccepting a self.new (accepting g house.0 dir.0 (changes updates.now))) }
+        ensures all { (g : model.Cell) → Stands self.old g → IfOk result (λ a. IsAccepting a self.new (accept_in_turn g house.0 dir.0 (changes updates.now))) }
     {
         self.usable()?;
         let Some(at) = self.position(house) else {

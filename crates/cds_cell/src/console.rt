@@ -2,8 +2,8 @@
 ghost use Rattle.std.specs.Prelude.{◌≡◌, MatchOption};
 ghost use Rattle.cds_stamps.specs.Members.{members_of};
 ghost use Rattle.cell_model.specs.Cells as model;
-ghost use Rattle.cds_cell.specs.Listings.{IsListed};
-ghost use Rattle.cds_cell.specs.Standing.{Stands};
+ghost use Rattle.cds_cell.specs.ConsoleLists.{IsListed};
+ghost use Rattle.cds_cell.specs.ModelCells.{Stands};
 
 use crate::cell::Cell;
 use cds_stamps::{DirId, EpochNo, Members};

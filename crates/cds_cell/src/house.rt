@@ -9,11 +9,11 @@ ghost use Rattle.directory.specs.Updates.{change_of};
 ghost use Rattle.cell_model.specs.Cells as model;
 ghost use Rattle.cell_model.specs.Taking.{CanTake};
 ghost use Rattle.cell_model.specs.Turns as turns;
-ghost use Rattle.held_directories.specs.Posting.{StandsMessage, numbers_of};
-ghost use Rattle.clearinghouse.specs.Imaging.{started};
-ghost use Rattle.clearinghouse.specs.Posting.{AreLetters};
-ghost use Rattle.held_directories.specs.Stepping.{IsStampAnswer, IsBegunAnswer, IsEpochAnswer, IsTakeAnswer, UnlessTaken};
-ghost use Rattle.cds_cell.specs.Houses.{StandsAtHouse};
+ghost use Rattle.house_directory.specs.HouseMessages.{StandsMessage, numbers_of};
+ghost use Rattle.clearinghouse.specs.HouseImages.{start_of_octets};
+ghost use Rattle.clearinghouse.specs.HouseLetters.{AreLetters};
+ghost use Rattle.house_directory.specs.DirectorySteps.{IsStampAnswer, IsBegunAnswer, IsEpochAnswer, IsTakeAnswer, UnlessTaken};
+ghost use Rattle.cds_cell.specs.CellHouses.{StandsAtHouse};
 ghost use Rattle.cds_cell.specs.PrivateHouses.{Asks, IsNewEpoch, IsSameHouse, IsTurnAt, epoch_posted_by, leaves_by, octets_in, posted_at};
 
 use cds_messages::Message;
@@ -63,7 +63,7 @@ impl CellHouse {
         ensures none { IfOk result (λ o. IfNone o (self.new ≡ self.old)) }
         ensures step { (now : model.House) → StandsAtHouse self.old now → now.up ≡ true → now.slots dir.0 ≡ model.Absent
             → master_of (members_of members.now) ≡ self.old.house.0
-            → IfOk result (λ o. IsTurnAt (turns.found self.old.house.0 now dir.0 (members_of members.now)) self.new (posted_at self.new dir o)) }
+            → IfOk result (λ o. IsTurnAt (turns.found_directory self.old.house.0 now dir.0 (members_of members.now)) self.new (posted_at self.new dir o)) }
     {
         match &mut self.state {
             HouseState::Up(home)
@@ -269,7 +269,7 @@ impl HouseState {
 
 // The clearinghouse that starts of these octets; none, where they are no image.
 fn home_of(alloc: Global, octets: &[u8]) -> Result<Option<Clearinghouse>, AllocError>
-    ensures { IfOk result (λ o. o ≡ result_ok (started octets.now)) }
+    ensures { IfOk result (λ o. o ≡ result_ok (start_of_octets octets.now)) }
 {
     match Clearinghouse::start(alloc, octets) {
         Ok(home) => Ok(Some(home)),

@@ -8,13 +8,13 @@ ghost use Rattle.cell_model.specs.Sets.{has};
 ghost use Rattle.cell_model.specs.Steps.{at_house, effect, first_refusal, message_at, refusals_of};
 ghost use Rattle.cell_model.specs.Turns.{accept};
 ghost use Rattle.cell_script.specs.Listings.{houses_in, secondaries_in};
-ghost use Rattle.held_directories.specs.Posting.{numbers_of};
-ghost use Rattle.cds_cell.specs.Imaging.{actors, image_after, octets_at, receivers_of};
+ghost use Rattle.house_directory.specs.HouseMessages.{numbers_of};
+ghost use Rattle.cds_cell.specs.CommandImages.{actors, image_after, octets_at, receivers_of};
 ghost use Rattle.cds_cell.specs.PrivateActs.{IsAfter};
 ghost use Rattle.cds_cell.specs.PrivateHouses.{octets_in};
 ghost use Rattle.cds_cell.specs.PrivateSteps.{step_meant};
 ghost use Rattle.cds_cell.specs.Scripted.{step_of};
-ghost use Rattle.cds_cell.specs.Standing.{HasRoom, Stands, house_of};
+ghost use Rattle.cds_cell.specs.ModelCells.{HasRoom, Stands, house_of};
 
 use crate::cell::Cell;
 use crate::house::CellHouse;

@@ -5,12 +5,12 @@ ghost use Rattle.directory.specs.Updates as updates;
 ghost use Rattle.directory.specs.Updates.{change_of};
 ghost use Rattle.cell_model.specs.Cells as model;
 ghost use Rattle.cell_model.specs.Commands as command;
-ghost use Rattle.cell_model.specs.Steps.{ascending, effect, first_refusal, is_bad_list, refusals_of};
+ghost use Rattle.cell_model.specs.Steps.{sorted_houses, effect, first_refusal, is_bad_list, refusals_of};
 ghost use Rattle.cell_script.specs.Listings.{houses_in, secondaries_in};
-ghost use Rattle.held_directories.specs.Posting.{numbers_of};
+ghost use Rattle.house_directory.specs.HouseMessages.{numbers_of};
 ghost use Rattle.cds_cell.specs.PrivateActs.{CanFound, Founds, GrowsByOne, KeepsRest, MasterFounds, child_outcome};
 ghost use Rattle.cds_cell.specs.PrivateSteps.{ComesTo, IsPlaceOf, IsStepAs, Leaves};
-ghost use Rattle.cds_cell.specs.Standing.{HasRoom, Stands, StandsAs};
+ghost use Rattle.cds_cell.specs.ModelCells.{HasRoom, Stands, StandsAs};
 
 use crate::answers::refusal_in_script;
 use crate::cell::Cell;
@@ -35,7 +35,7 @@ pub(crate) fn child_of(
     others: &[HouseNo],
 ) -> Result<Option<Update>, AllocError>
     ensures { IfOk result (λ o. MatchOption o (is_bad_list (master.0 ∷ numbers_of others.now) ≡ true)
-        (λ u. change_of u ≡ updates.MakeChild name (record { dir = child.0; master = master.0; others = ascending (numbers_of others.now) }))) }
+        (λ u. change_of u ≡ updates.MakeChild name (record { dir = child.0; master = master.0; others = sorted_houses (numbers_of others.now) }))) }
 {
     let Some(houses) = house_list(alloc, master, others)? else {
         return Ok(None);

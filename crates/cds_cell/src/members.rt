@@ -5,7 +5,7 @@ ghost use Rattle.cds_stamps.specs.Members.{members_of};
 ghost use Rattle.cell_model.specs.Sets.{has};
 ghost use Rattle.cell_model.specs.Steps as model;
 ghost use Rattle.cell_script.specs.Listings.{houses_in, secondaries_in};
-ghost use Rattle.held_directories.specs.Posting.{numbers_of};
+ghost use Rattle.house_directory.specs.HouseMessages.{numbers_of};
 
 use cds_stamps::{EpochNo, HouseNo, MOST_MEMBERS, Member, MemberKind, Members};
 use cell_script::{Listed, Listeds};
@@ -43,7 +43,7 @@ pub(crate) fn listing(
 ) -> Result<Option<Members>, AllocError>
     ensures { IfOk result (λ o. let rs = numbers_of (houses_in others.now) in let ss = numbers_of (secondaries_in others.now) in
         MatchOption o (model.is_bad_list (master.0 ∷ rs) ≡ true) (λ ms. (model.is_bad_list (master.0 ∷ rs) ≡ false)
-        × (members_of ms ≡ model.listing (members_of before.now) epoch.0 master.0 rs ss))) }
+        × (members_of ms ≡ model.member_list_of (members_of before.now) epoch.0 master.0 rs ss))) }
 {
     if is_bad_list(master, others.houses()) {
         return Ok(None);
@@ -65,7 +65,7 @@ fn all_in_order(
     master: HouseNo,
     others: &[HouseNo],
 ) -> Result<Vec<HouseNo>, AllocError>
-    ensures { IfOk result (λ v. numbers_of v.items ≡ model.ascending (master.0 ∷ numbers_of others.now)) }
+    ensures { IfOk result (λ v. numbers_of v.items ≡ model.sorted_houses (master.0 ∷ numbers_of others.now)) }
 {
     let mut all = Vec::new(alloc);
     all.push(master)?;
@@ -75,7 +75,7 @@ fn all_in_order(
 
 /// The houses in ascending order.
 pub(crate) fn in_order(mut houses: Vec<HouseNo>) -> Vec<HouseNo>
-    ensures { numbers_of result.items ≡ model.ascending (numbers_of houses.items) }
+    ensures { numbers_of result.items ≡ model.sorted_houses (numbers_of houses.items) }
 {
     houses.sort_unstable();
     houses
@@ -122,7 +122,7 @@ pub(crate) fn leaving(
     now: &Members,
 ) -> Result<Vec<HouseNo>, AllocError>
     ensures few { IfOk result (λ v. length v.items ≤ length before.now) }
-    ensures houses { IfOk result (λ v. numbers_of v.items ≡ model.leaving (members_of before.now) (members_of now.now)) }
+    ensures houses { IfOk result (λ v. numbers_of v.items ≡ model.left_members (members_of before.now) (members_of now.now)) }
 {
     let mut left = Vec::new(alloc);
     for member in before {

@@ -6,13 +6,13 @@ ghost use Rattle.cell_model.specs.Commands as command;
 ghost use Rattle.cell_model.specs.Steps.{effect, first_refusal, refusals_of, replay_from};
 ghost use Rattle.cell_model.specs.Taking.{CanTake};
 ghost use Rattle.cell_model.specs.Turns as turns;
-ghost use Rattle.held_directories.specs.Posting.{StandsMessage};
-ghost use Rattle.held_directories.specs.Stepping.{IsTakeAnswer, UnlessTaken};
+ghost use Rattle.house_directory.specs.HouseMessages.{StandsMessage};
+ghost use Rattle.house_directory.specs.DirectorySteps.{IsTakeAnswer, UnlessTaken};
 ghost use Rattle.script_answers.specs.declared.answer.Answer.TheVariants as answer;
-ghost use Rattle.cds_cell.specs.Imaging.{serials_after};
+ghost use Rattle.cds_cell.specs.CommandImages.{serials_after};
 ghost use Rattle.cds_cell.specs.PrivateActs.{ActsAt, Delivers, KeepsRest};
 ghost use Rattle.cds_cell.specs.PrivateSteps.{ComesTo, IsPlaceOf, IsStepAs, Leaves};
-ghost use Rattle.cds_cell.specs.Standing.{HasRoom, Stands};
+ghost use Rattle.cds_cell.specs.ModelCells.{HasRoom, Stands};
 
 use crate::answers::taken_in_script;
 use crate::cell::Cell;

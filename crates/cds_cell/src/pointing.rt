@@ -1,7 +1,7 @@
 // The houses of a child pointer, as a command names them: in any order.
 ghost use Rattle.std.specs.Prelude.{◌≡◌, ◌∷◌, [], true, false, IfOk, MatchOption};
-ghost use Rattle.cell_model.specs.Steps.{ascending, is_bad_list};
-ghost use Rattle.held_directories.specs.Posting.{numbers_of};
+ghost use Rattle.cell_model.specs.Steps.{sorted_houses, is_bad_list};
+ghost use Rattle.house_directory.specs.HouseMessages.{numbers_of};
 
 use crate::members::in_order;
 use cds_stamps::{AllocOr, HouseNo};
@@ -16,7 +16,7 @@ pub(crate) fn house_list(
 ) -> Result<Option<HouseList>, AllocError>
     ensures { IfOk result (λ o. MatchOption o (is_bad_list (master.0 ∷ numbers_of others.now) ≡ true)
         (λ h. (is_bad_list (master.0 ∷ numbers_of others.now) ≡ false)
-        × (h ≡ record { master = master.0; others = ascending (numbers_of others.now) }))) }
+        × (h ≡ record { master = master.0; others = sorted_houses (numbers_of others.now) }))) }
 {
     let others = in_order(Vec::from_slice(alloc, others)?);
     match HouseList::new(alloc, master, &others) {

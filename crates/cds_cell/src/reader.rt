@@ -7,11 +7,11 @@ ghost use Rattle.cell_names.specs.ChildPointers.{pointer_of};
 ghost use Rattle.directory.specs.Shown.{shown_entry, shown_in};
 ghost use Rattle.cell_model.specs.Sets.{has};
 ghost use Rattle.resolver.specs.Readers.{sight_of};
-ghost use Rattle.held_directories.specs.Posting.{numbers_of};
-ghost use Rattle.cds_cell.specs.Asking.{answering, asked};
+ghost use Rattle.house_directory.specs.HouseMessages.{numbers_of};
+ghost use Rattle.cds_cell.specs.Asking.{answer_of_house, house_to_ask};
 ghost use Rattle.cds_cell.specs.PrivateTelling.{asked_of};
 ghost use Rattle.cds_cell.specs.Readings.{child_sight, led_sight, link_sight, shown_sight, values_of};
-ghost use Rattle.cds_cell.specs.Telling.{held_view, told, told_objects, told_views};
+ghost use Rattle.cds_cell.specs.Telling.{held_view, program_reader, told_objects, told_views};
 ghost use Rattle.cds_cell.specs.TellingProofs.{told_shows_only};
 
 use crate::cell::Cell;
@@ -41,7 +41,7 @@ struct Holder<'a> {
 }
 
 impl EntryReader for CellReader<'_> {
-    ghost tells = { λ r. told r.cell.now (option_map (λ h. h.0) r.prefer) r.high };
+    ghost tells = { λ r. program_reader r.cell.now (option_map (λ h. h.0) r.prefer) r.high };
 
     ghost objects = { λ r. told_objects r.cell.now };
 
@@ -120,7 +120,7 @@ fn asked<'a>(
     high: bool,
 ) -> Option<Holder<'a>>
     ensures { option_map asked_of result
-        ≡ asked (told_views cell.now) at.now.dir.0 (option_map (λ h. h.0) prefer) high (at.now.houses.master ∷ at.now.houses.others) }
+        ≡ house_to_ask (told_views cell.now) at.now.dir.0 (option_map (λ h. h.0) prefer) high (at.now.houses.master ∷ at.now.houses.others) }
 {
     match prefer {
         Some(house) if !high && is_listed(&at.houses, house) => {
@@ -143,7 +143,7 @@ fn is_listed(houses: &HouseList, house: HouseNo) -> bool
 // The first of the listed houses that answers.
 fn first_answering<'a>(cell: &'a Cell, at: &ChildPointer, high: bool) -> Option<Holder<'a>>
     ensures { option_map asked_of result
-        ≡ first_some (answering (told_views cell.now) high at.now.dir.0) (at.now.houses.master ∷ at.now.houses.others) }
+        ≡ first_some (answer_of_house (told_views cell.now) high at.now.dir.0) (at.now.houses.master ∷ at.now.houses.others) }
 {
     match answering(cell, at.dir, at.houses.master(), high) {
         Some(holder) => Some(holder),
@@ -154,7 +154,7 @@ fn first_answering<'a>(cell: &'a Cell, at: &ChildPointer, high: bool) -> Option<
 // The first of these houses that answers.
 fn first_of<'a>(cell: &'a Cell, dir: DirId, houses: &[HouseNo], high: bool) -> Option<Holder<'a>>
     ensures { option_map asked_of result
-        ≡ first_some (answering (told_views cell.now) high dir.0) (numbers_of houses.now) }
+        ≡ first_some (answer_of_house (told_views cell.now) high dir.0) (numbers_of houses.now) }
 {
     for house in houses {
         if let Some(holder) = answering(cell, dir, *house, high) {
@@ -166,7 +166,7 @@ fn first_of<'a>(cell: &'a Cell, dir: DirId, houses: &[HouseNo], high: bool) -> O
 
 // What a house answers with: at high confidence only a master does.
 fn answering<'a>(cell: &'a Cell, dir: DirId, house: HouseNo, high: bool) -> Option<Holder<'a>>
-    ensures { option_map asked_of result ≡ answering (told_views cell.now) high dir.0 house.0 }
+    ensures { option_map asked_of result ≡ answer_of_house (told_views cell.now) high dir.0 house.0 }
 {
     let held = held(cell, dir, house)?;
     if !high || held.members.master() == house {

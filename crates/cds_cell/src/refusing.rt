@@ -6,10 +6,10 @@ ghost use Rattle.cds_stamps.specs.Members.{is_listed};
 ghost use Rattle.cell_model.specs.Cells as model;
 ghost use Rattle.cell_model.specs.Commands as command;
 ghost use Rattle.cell_model.specs.Steps.{is_bad_list, is_down, is_missing, is_taken, is_unknown, refusals_of};
-ghost use Rattle.held_directories.specs.Posting.{numbers_of};
-ghost use Rattle.cds_cell.specs.Houses.{is_up_state};
+ghost use Rattle.house_directory.specs.HouseMessages.{numbers_of};
+ghost use Rattle.cds_cell.specs.CellHouses.{is_up_state};
 ghost use Rattle.cds_cell.specs.PrivateSteps.{IsAllowed, step_meant};
-ghost use Rattle.cds_cell.specs.Standing.{Stands, directory_of, house_of};
+ghost use Rattle.cds_cell.specs.ModelCells.{Stands, directory_of, house_of};
 
 use crate::cell::Cell;
 use crate::house::HouseState;

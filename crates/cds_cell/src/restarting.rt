@@ -3,10 +3,10 @@ ghost use Rattle.std.specs.Prelude.{◌≡◌, None, IfOk, OnOk};
 ghost use Rattle.cell_model.specs.Cells as model;
 ghost use Rattle.cell_model.specs.Commands as command;
 ghost use Rattle.cell_model.specs.Steps.{effect, first_refusal, outcome, refusals_of, replay_from};
-ghost use Rattle.cds_cell.specs.Imaging.{crash_losing, octets_at};
+ghost use Rattle.cds_cell.specs.CommandImages.{crash_losing, octets_at};
 ghost use Rattle.cds_cell.specs.PrivateActs.{KeepsRest};
 ghost use Rattle.cds_cell.specs.PrivateSteps.{ComesTo, Leaves};
-ghost use Rattle.cds_cell.specs.Standing.{GrowsBy, IsCall, IsStep, Stands, UnlessDone};
+ghost use Rattle.cds_cell.specs.ModelCells.{GrowsBy, IsCall, IsStep, Stands, UnlessDone};
 
 use crate::cell::Cell;
 use crate::step::Step;

@@ -2,10 +2,10 @@
 ghost use Rattle.std.specs.Prelude.{◌≡◌, ◌≤◌, ◌<◌, ◌+◌, ◌*◌, ◌^◌, ℕ, true, IfOk, OnOk, length};
 ghost use Rattle.directory.specs.EntryChanges.{changes};
 ghost use Rattle.cell_model.specs.Cells as model;
-ghost use Rattle.cds_cell.specs.Accepting.{IsAccepting, accepting};
+ghost use Rattle.cds_cell.specs.Accepting.{IsAccepting, accept_in_turn};
 ghost use Rattle.cds_cell.specs.PrivateActs.{KeepsRest};
 ghost use Rattle.cds_cell.specs.PrivateSteps.{IsPlaceOf};
-ghost use Rattle.cds_cell.specs.Standing.{Stands};
+ghost use Rattle.cds_cell.specs.ModelCells.{Stands};
 
 use crate::cell::Cell;
 use cds_stamps::DirId;
@@ -39,7 +39,7 @@ impl Cell {
         ensures few { OnOk result (self.new.bag.posted ≤ self.old.bag.posted + 64 * length updates.now) }
         ensures same { IfOk result (λ a. a.count ≡ 0 → self.new ≡ self.old) }
         ensures all { (g : model.Cell) (x : ℕ) → Stands self.old g → IsPlaceOf self.old.houses.items x at → (g.house x).up ≡ true
-            → IfOk result (λ a. IsAccepting a self.new (accepting g x dir.0 (changes updates.now))) }
+            → IfOk result (λ a. IsAccepting a self.new (accept_in_turn g x dir.0 (changes updates.now))) }
     {
         let mut posted = Serials::new(alloc);
         for (count, update) in updates.iter().enumerate() {

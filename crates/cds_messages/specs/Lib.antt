@@ -1,5 +1,5 @@
 pub mod Dirs
-pub mod Kinds
+pub mod KindNumbers
 pub mod PrivateDirCodes
 pub mod Messages
 pub mod Validity

@@ -12,7 +12,7 @@ use Rattle.cds_stamps.specs.Octets.{octets_code}
 use Rattle.directory.specs.Entries.{Entries, entry_code}
 use Rattle.purge_rule.specs.declared.delta.Delta.{Delta}
 use Rattle.purge_rule.specs.declared.replica.Replica.{Replica}
-use Rattle.cds_messages.specs.Kinds.{kind_in, kind_number, kind_back}
+use Rattle.cds_messages.specs.KindNumbers.{kind_in, kind_number, kind_back}
 use Rattle.cds_messages.specs.declared.image.ImageDir.{ImageDir}
 use Rattle.cds_messages.specs.declared.image.ImageDir.TheVariants.{Held, Gone}
 

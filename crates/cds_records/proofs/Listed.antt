@@ -9,10 +9,10 @@ use Rattle.cds_stamps.specs.Members.{Member as listed_member}
 use Rattle.cds_stamps.specs.Members.{is_master, member_of, members_of, members_fault, first_unordered, masters_in, most_members}
 use Rattle.record_fields.specs.declared.fault.Broken.{Broken}
 use Rattle.record_fields.specs.Layouts.{next, done}
-use Rattle.record_fields.specs.Reading.{◌>>=◌, read}
+use Rattle.record_fields.specs.LayoutReading.{◌>>=◌, read}
 use Rattle.record_fields.specs.Fields.{number_order, octet}
-use Rattle.cds_messages.specs.Kinds.{kind_in}
-use Rattle.cds_records.specs.Records.{kind_rule, member_kind, member, listed}
+use Rattle.cds_messages.specs.KindNumbers.{kind_in}
+use Rattle.cds_records.specs.Records.{kind_rule, member_kind, member, member_list}
 use Rattle.record_fields.proofs.LayoutLaws.{ok_is, bind_ok, read_stands}
 
 -- the members before, and those that are still to be read
@@ -25,8 +25,8 @@ regroup front m (Ok y) = ap (λ (ms : List Member). Ok (ms, y.1)) (sym (append_a
 regroup front m (Err b) = refl
 
 -- before the first member all of the list is to come
-pub members_begin : (secondary : Bool) (count : ℕ) (x : List ℕ) → behind [] (read (listed secondary (count - 0) None false) x) ≡ read (listed secondary count None false) x
-members_begin secondary count x = let k : count - 0 ≡ count = omega arith in rw k (nothing_before (read (listed secondary count None false) x))
+pub members_begin : (secondary : Bool) (count : ℕ) (x : List ℕ) → behind [] (read (member_list secondary (count - 0) None false) x) ≡ read (member_list secondary count None false) x
+members_begin secondary count x = let k : count - 0 ≡ count = omega arith in rw k (nothing_before (read (member_list secondary count None false) x))
   where
     nothing_before : (r : Result (List Member × List ℕ) Broken) → behind [] r ≡ r
     nothing_before (Ok y) = refl
@@ -35,37 +35,37 @@ members_begin secondary count x = let k : count - 0 ≡ count = omega arith in r
 -- a member that was read brings the loop one further
 pub members_go_on : (secondary : Bool) (front : List Member) (count i : ℕ) (before : Option ℕ) (master : Bool) (x : List ℕ) (m : Member) (z : List ℕ)
     (total : Result (List Member × List ℕ) Broken) → i < count → read (member secondary (count - i - 1) before master) x ≡ Ok (m, z)
-    → behind front (read (listed secondary (count - i) before master) x) ≡ total
-    → behind (front ++ m ∷ []) (read (listed secondary (count - (i + 1)) (Some m.house.0) (master || is_master m.kind)) z) ≡ total
-unfolding listed
+    → behind front (read (member_list secondary (count - i) before master) x) ≡ total
+    → behind (front ++ m ∷ []) (read (member_list secondary (count - (i + 1)) (Some m.house.0) (master || is_master m.kind)) z) ≡ total
+unfolding member_list
 members_go_on secondary front count i before master x m z total lt h so_far =
     let k : count - i ≡ suc (count - (i + 1)) = omega arith in
     let j : count - i - 1 ≡ count - (i + 1) = omega arith in
     let read_here : read (member secondary (count - (i + 1)) before master) x ≡ Ok (m, z) = ap (λ n. read (member secondary n before master) x) (sym j) ∙ h in
-    let one : behind front (read (listed secondary (count - i) before master) x) ≡ behind (front ++ m ∷ [])
-    (read (listed secondary (count - (i + 1)) (Some m.house.0) (master || is_master m.kind)) z) = rw (k, read_here)
-    (regroup front m (read (listed secondary (count - (i + 1)) (Some m.house.0) (master || is_master m.kind)) z)) in
+    let one : behind front (read (member_list secondary (count - i) before master) x) ≡ behind (front ++ m ∷ [])
+    (read (member_list secondary (count - (i + 1)) (Some m.house.0) (master || is_master m.kind)) z) = rw (k, read_here)
+    (regroup front m (read (member_list secondary (count - (i + 1)) (Some m.house.0) (master || is_master m.kind)) z)) in
     sym one ∙ so_far
 
 -- a member that fails fails the list
 pub members_end : (secondary : Bool) (b : Broken) (front : List Member) (count i : ℕ) (before : Option ℕ) (master : Bool) (x start : List ℕ) → i < count
     → read (member secondary (count - i - 1) before master) x ≡ Err b
-    → behind front (read (listed secondary (count - i) before master) x) ≡ read (listed secondary count None false) start → read (listed secondary count None false) start ≡ Err b
-unfolding listed
+    → behind front (read (member_list secondary (count - i) before master) x) ≡ read (member_list secondary count None false) start → read (member_list secondary count None false) start ≡ Err b
+unfolding member_list
 members_end secondary b front count i before master x start lt h so_far =
     let k : count - i ≡ suc (count - (i + 1)) = omega arith in
     let j : count - i - 1 ≡ count - (i + 1) = omega arith in
     let read_here : read (member secondary (count - (i + 1)) before master) x ≡ Err b = ap (λ n. read (member secondary n before master) x) (sym j) ∙ h in
-    let one : behind front (read (listed secondary (count - i) before master) x) ≡ Err b = rw (k, read_here) refl in
+    let one : behind front (read (member_list secondary (count - i) before master) x) ≡ Err b = rw (k, read_here) refl in
     sym so_far ∙ one
 
 -- behind the last member the list is read
 pub members_done : (secondary : Bool) (front : List Member) (count i : ℕ) (before : Option ℕ) (master : Bool) (x : List ℕ) (total : Result (List Member × List ℕ) Broken)
-    → count ≤ i → behind front (read (listed secondary (count - i) before master) x) ≡ total → total ≡ Ok (front, x)
-unfolding listed
+    → count ≤ i → behind front (read (member_list secondary (count - i) before master) x) ≡ total → total ≡ Ok (front, x)
+unfolding member_list
 members_done secondary front count i before master x total le so_far =
     let k : count - i ≡ 0 = omega arith in
-    let one : behind front (read (listed secondary (count - i) before master) x) ≡ Ok (front, x) = rw k (ap (λ (ms : List Member). Ok (ms, x)) (append-nil front)) in
+    let one : behind front (read (member_list secondary (count - i) before master) x) ≡ Ok (front, x) = rw k (ap (λ (ms : List Member). Ok (ms, x)) (append-nil front)) in
     sym so_far ∙ one
 
 -- ---- the lists that are read are member lists
@@ -126,9 +126,9 @@ one_more_master n master true rest first later h =
 one_more_master n true false rest first later h = (let k = h refl in omega arith)
 one_more_master n false false rest first later h = (let k = h (later refl) in omega arith)
 
-list_lawful : (secondary : Bool) (n : ℕ) (before : Option ℕ) (master : Bool) (x : List ℕ) (ms : List Member) (y : List ℕ) → read (listed secondary n before master) x ≡ Ok (ms, y)
+list_lawful : (secondary : Bool) (n : ℕ) (before : Option ℕ) (master : Bool) (x : List ℕ) (ms : List Member) (y : List ℕ) → read (member_list secondary n before master) x ≡ Ok (ms, y)
     → IsLawful n before master ms
-unfolding listed
+unfolding member_list
 list_lawful secondary zero before master x ms y e =
     let none : [] ≡ ms = ap (λ (p : List Member × List ℕ). p.0) (ok_is ([], x) (ms, y) e) in
     subst (IsLawful zero before master) none (record { len = refl; order = λ place. refl; masters = nothing master })
@@ -139,10 +139,10 @@ list_lawful secondary zero before master x ms y e =
 list_lawful secondary (suc n) before master x ms y e =
     let a =
     bind_ok (read (member secondary n before master) x)
-    (λ w. read (next (listed secondary n (Some w.0.house.0) (master || is_master w.0.kind)) (λ ms. done (w.0 ∷ ms))) w.1)
+    (λ w. read (next (member_list secondary n (Some w.0.house.0) (master || is_master w.0.kind)) (λ ms. done (w.0 ∷ ms))) w.1)
     (ms, y) e in
     let m = a.0.0 in
-    let b = bind_ok (read (listed secondary n (Some m.house.0) (master || is_master m.kind)) a.0.1) (λ w. Ok (m ∷ w.0, w.1)) (ms, y) a.2 in
+    let b = bind_ok (read (member_list secondary n (Some m.house.0) (master || is_master m.kind)) a.0.1) (λ w. Ok (m ∷ w.0, w.1)) (ms, y) a.2 in
     let all : m ∷ b.0.0 ≡ ms = ap (λ (p : List Member × List ℕ). p.0) (ok_is (m ∷ b.0.0, b.0.1) (ms, y) b.2) in
     let one = member_lawful secondary n before master x m a.0.1 a.1 in
     let rest = list_lawful secondary n (Some m.house.0) (master || is_master m.kind) a.0.1 b.0.0 b.0.1 b.1 in
@@ -155,7 +155,7 @@ list_lawful secondary (suc n) before master x ms y e =
     })
 
 -- a list of 1 to 64 members that was read is a member list
-pub listed_lawful : (secondary : Bool) (n : ℕ) (x : List ℕ) (ms : List Member) (y : List ℕ) → 1 ≤ n → n ≤ most_members → read (listed secondary n None false) x ≡ Ok (ms, y)
+pub listed_lawful : (secondary : Bool) (n : ℕ) (x : List ℕ) (ms : List Member) (y : List ℕ) → 1 ≤ n → n ≤ most_members → read (member_list secondary n None false) x ≡ Ok (ms, y)
     → members_fault (members_of ms) ≡ None
 listed_lawful secondary n x ms y some few e =
     let h = list_lawful secondary n None false x ms y e in

@@ -6,10 +6,10 @@ use Rattle.cds_stamps.specs.declared.numbers.DirId.{DirId}
 use Rattle.cds_stamps.specs.declared.numbers.HouseNo.{HouseNo}
 use Rattle.cds_messages.specs.declared.image.ImageDir.{ImageDir}
 use Rattle.cds_messages.specs.Dirs.{dir_cmp, dir_total, dir_exact}
-use Rattle.record_fields.specs.Octets.{items_octets}
-use Rattle.cds_records.specs.Octets.{dir_octets, kept_octets, image_head, image_octets}
-use Rattle.record_fields.specs.Ranges.{ItemsFit}
-use Rattle.cds_records.specs.Ranges.{FitsDir, FitsImage}
+use Rattle.record_fields.specs.FieldOctets.{items_octets}
+use Rattle.cds_records.specs.RecordOctets.{dir_octets, kept_octets, image_head, image_octets}
+use Rattle.record_fields.specs.FieldRanges.{ItemsFit}
+use Rattle.cds_records.specs.RecordRanges.{FitsDir, FitsImage}
 use Rattle.record_fields.proofs.Mapped.{len_mapped, items_mapped, entries_mapped, fits_mapped}
 
 module _ {X : Type 0} (f : X → ImageDir) (m : FinMap dir_cmp X) (house : HouseNo) (node floor : ℕ) where

@@ -24,13 +24,13 @@ use Rattle.cds_messages.specs.declared.message.Message.{Message}
 use Rattle.cds_messages.specs.declared.message.Body.{Body}
 use Rattle.cds_messages.specs.declared.message.Body.TheVariants.{Update, Gather, Gathered, Spread, SpreadAck, Advance, Join, Leave}
 use Rattle.cds_messages.specs.Dirs.{dir_cmp, dir_total}
-use Rattle.cds_messages.specs.Kinds.{kind_in, kind_number}
+use Rattle.cds_messages.specs.KindNumbers.{kind_in, kind_number}
 use Rattle.record_fields.specs.Layouts.{done, choose, Stands}
 use Rattle.record_fields.specs.Fields.{free, outside, number_order, octet, number, simple_name, attr_name}
-use Rattle.record_fields.specs.Records.{cell}
-use Rattle.cds_records.specs.Records.{kind, entry, replica, delta, kind_rule, member_kind, member, listed, has_secondary, members_in, fragment, copied, joined, body, message}
+use Rattle.record_fields.specs.ListLayouts.{cell}
+use Rattle.cds_records.specs.Records.{kind, entry, replica, delta, kind_rule, member_kind, member, member_list, has_secondary, members_in, fragment, stamped_delta, join_parts, body, message}
 use Rattle.cds_messages.specs.Messages.{tag_of}
-use Rattle.cds_records.specs.Images.{dir_number, held_rule, held_count, held, dir_state, image_behind, image_in, image, image_1}
+use Rattle.cds_records.specs.Images.{dir_number, held_rule, held_count, held_directory, dir_state, image_behind, image_in, image, image_1}
 use Rattle.record_fields.proofs.Spelling.{OneSpelling, tells, spell_next, spell_done, spell_last, spell_choose, spell_cons, spell_octet, spell_32, spell_64}
 use Rattle.record_fields.proofs.Spelling.{spell_node, spell_stamp, spell_counted}
 use Rattle.record_fields.proofs.SpellingCells.{spell_simple_name, spell_attr_name, simple_names_rise, attr_names_rise, spell_optional_stamp, spell_cell}
@@ -95,14 +95,14 @@ spell_member secondary left before master =
     spell_last (λ k. record { house = record { 0 = house }; since = record { 0 = since }; kind = k }) (λ k j e. ap (λ (m : Member). m.kind) e)
     (spell_member_kind secondary left master)))
 
-spell_listed : (secondary : Bool) (n : ℕ) (before : Option ℕ) (master : Bool) → OneSpelling (listed secondary n before master)
-unfolding listed
+spell_listed : (secondary : Bool) (n : ℕ) (before : Option ℕ) (master : Bool) → OneSpelling (member_list secondary n before master)
+unfolding member_list
 spell_listed secondary zero before master = spell_done []
 spell_listed secondary (suc n) before master = spell_cons (spell_member secondary n before master) (λ m. spell_listed secondary n (Some m.house.0) (master || is_master m.kind))
 
 member_count : (secondary : Bool) (n : ℕ) (before : Option ℕ) (master : Bool) (x : List ℕ) (ms : List Member) (y : List ℕ)
-    → Stands (listed secondary n before master) x ms y → length ms ≡ n
-unfolding listed
+    → Stands (member_list secondary n before master) x ms y → length ms ≡ n
+unfolding member_list
 member_count secondary zero before master x ms y h = ap length (sym h.0)
 member_count secondary (suc n) before master x ms y h = ap length (sym h.3.3.0) ∙ ap suc (member_count secondary n _ _ h.1 h.3.0 h.3.1 h.3.2)
 
@@ -120,14 +120,14 @@ spell_fragment =
     spell_next (tells (λ f. f.name) (λ n f w x g h. ap (λ (f : Fragment). f.name) (sym h.3.0))) (spell_simple_name None) (λ n.
     spell_last (λ e. record { name = n; entry = e }) (λ d e s. ap (λ (f : Fragment). f.entry) s) (spell_entry None))
 
-spell_copied : OneSpelling copied
-unfolding copied
+spell_copied : OneSpelling stamped_delta
+unfolding stamped_delta
 spell_copied =
     spell_next (tells (λ c. c.0) (λ t c w x g h. ap (λ (c : Stamp × Delta). c.0) (sym h.3.0))) (spell_stamp free) (λ t.
     spell_last (λ d. (t, d)) (λ d e s. ap (λ (c : Stamp × Delta). c.1) s) spell_delta)
 
-spell_joined : OneSpelling joined
-unfolding joined
+spell_joined : OneSpelling join_parts
+unfolding join_parts
 spell_joined =
     spell_next (tells (λ j. j.0) (λ ms j w x g h. ap (λ (j : List Member × Replica). j.0) (sym h.3.0))) (spell_members 2) (λ ms.
     spell_last (λ r. (ms, r)) (λ r s e. ap (λ (j : List Member × Replica). j.1) e) spell_replica)
@@ -217,23 +217,23 @@ spell_count format r =
     spell_choose (format == 1) (spell_done tt)
     (spell_next (tells (λ _. min (held_in r.table) most_held) (λ n u w x g h. lawful_count r n g.4)) (spell_64 (held_rule r)) (λ n. spell_done tt))
 
-spell_held : (format epoch : ℕ) → OneSpelling (held format epoch)
-unfolding held members_of
+spell_held : (format epoch : ℕ) → OneSpelling (held_directory format epoch)
+unfolding held_directory members_of
 spell_held format epoch =
     spell_next (tells members_of (λ ms d w x g h. ap members_of (sym h.3.3.0))) (spell_members format) (λ ms.
     spell_next (record { told = λ r s d w x y z g h i j. same_replica epoch ms r s (h.3.0 ∙ sym j.3.0) }) spell_replica (λ r.
     spell_next (record { told = λ a b d w x y z g h i j. refl }) (spell_count format r) (λ _. spell_done (Held (record { 0 = epoch }) ms r))))
 
 module _ (format : ℕ) where
-  said_epoch : (test : Bool) (epoch : ℕ) (d : ImageDir) (x y : List ℕ) → Stands (choose test (held format epoch) (done (Gone (record { 0 = epoch })))) x d y
+  said_epoch : (test : Bool) (epoch : ℕ) (d : ImageDir) (x y : List ℕ) → Stands (choose test (held_directory format epoch) (done (Gone (record { 0 = epoch })))) x d y
       → epoch_of d ≡ epoch
-  unfolding held epoch_of
+  unfolding held_directory epoch_of
   said_epoch true epoch d x y h = ap epoch_of (sym h.3.3.3.0)
   said_epoch false epoch d x y h = ap epoch_of (sym h.0)
 
   said_state : (state epoch : ℕ) (d : ImageDir) (x y : List ℕ) → outside BadFlag 1 2 state ≡ None
-      → Stands (choose (state == 1) (held format epoch) (done (Gone (record { 0 = epoch })))) x d y → state_of d ≡ state
-  unfolding held state_of
+      → Stands (choose (state == 1) (held_directory format epoch) (done (Gone (record { 0 = epoch })))) x d y → state_of d ≡ state
+  unfolding held_directory state_of
   said_state zero epoch d x y e h = absurd (grind (arith, e))
   said_state (suc zero) epoch d x y e h = ap state_of (sym h.3.3.3.0)
   said_state (suc (suc zero)) epoch d x y e h = ap state_of (sym h.0)

@@ -25,12 +25,12 @@ use Rattle.cds_messages.specs.declared.image.ImageDir.{ImageDir}
 use Rattle.cds_messages.specs.declared.image.ImageDir.TheVariants.{Gone}
 use Rattle.cds_messages.specs.declared.image.Image.{Image}
 use Rattle.cds_messages.specs.Dirs.{dir_cmp, dir_total}
-use Rattle.cds_records.specs.Images.{dir_number, held, dir_state, image_behind, image_in}
+use Rattle.cds_records.specs.Images.{dir_number, held_directory, dir_state, image_behind, image_in}
 use Rattle.record_fields.specs.Layouts.{Layout, next, done, choose}
-use Rattle.record_fields.specs.Reading.{read}
+use Rattle.record_fields.specs.LayoutReading.{read}
 use Rattle.record_fields.specs.Fields.{free, mark_rule, number, stamp, value, attr_name, simple_name}
-use Rattle.record_fields.specs.Records.{map_of, mark, cell}
-use Rattle.cds_records.specs.Records.{entry, replica, delta, fragment, copied, joined, body, message}
+use Rattle.record_fields.specs.ListLayouts.{map_of, mark, cell}
+use Rattle.cds_records.specs.Records.{entry, replica, delta, fragment, stamped_delta, join_parts, body, message}
 use Rattle.record_fields.proofs.LayoutLaws.{ok_is, bind_ok, stands_read, read_stands}
 use Rattle.record_fields.proofs.Valid.{map_valid, mark_valid, stamp_above, kept_all, above_all, not_empty}
 
@@ -110,16 +110,16 @@ fragment_valid x f y e =
     let h = read_stands fragment x f y e in
     subst (λ (f : Fragment). IsValidEntry f.entry) h.3.3.0 (entry_valid None h.1 h.3.0 h.3.1 (stands_read (entry None) h.1 h.3.0 h.3.1 h.3.2))
 
-copied_valid : (x : List ℕ) (c : Stamp × Delta) (y : List ℕ) → read copied x ≡ Ok (c, y) → IsDelta c.1
-unfolding copied
+copied_valid : (x : List ℕ) (c : Stamp × Delta) (y : List ℕ) → read stamped_delta x ≡ Ok (c, y) → IsDelta c.1
+unfolding stamped_delta
 copied_valid x c y e =
-    let h = read_stands copied x c y e in
+    let h = read_stands stamped_delta x c y e in
     subst (λ (c : Stamp × Delta). IsDelta c.1) h.3.3.0 (delta_valid h.1 h.3.0 h.3.1 (stands_read delta h.1 h.3.0 h.3.1 h.3.2))
 
-joined_valid : (x : List ℕ) (c : List Member × Replica) (y : List ℕ) → read joined x ≡ Ok (c, y) → IsValidTable c.1.table
-unfolding joined
+joined_valid : (x : List ℕ) (c : List Member × Replica) (y : List ℕ) → read join_parts x ≡ Ok (c, y) → IsValidTable c.1.table
+unfolding join_parts
 joined_valid x c y e =
-    let h = read_stands joined x c y e in
+    let h = read_stands join_parts x c y e in
     subst (λ (c : List Member × Replica). IsValidTable c.1.table) h.3.3.0 (replica_valid h.1 h.3.0 h.3.1 (stands_read replica h.1 h.3.0 h.3.1 h.3.2))
 
 -- each body that the layout reads is valid
@@ -141,11 +141,11 @@ unfolding body
 body_valid tag =
     pick (tag == 1) _ _ (made fragment (λ f. Update f) fragment_valid)
     (pick (tag == 2) _ _ (made (stamp free) (λ t. Gather t) (λ x b y e. tt))
-    (pick (tag == 3) _ _ (made copied (λ c. Gathered c.0 c.1) copied_valid)
-    (pick (tag == 4) _ _ (made copied (λ c. Spread c.0 c.1) copied_valid)
+    (pick (tag == 3) _ _ (made stamped_delta (λ c. Gathered c.0 c.1) copied_valid)
+    (pick (tag == 4) _ _ (made stamped_delta (λ c. Spread c.0 c.1) copied_valid)
     (pick (tag == 5) _ _ (made (stamp free) (λ t. SpreadAck t) (λ x b y e. tt))
     (pick (tag == 6) _ _ (made (stamp free) (λ t. Advance t) (λ x b y e. tt))
-    (pick (tag == 7) _ (done Leave) (made joined (λ j. Join j.0 j.1) joined_valid)
+    (pick (tag == 7) _ (done Leave) (made join_parts (λ j. Join j.0 j.1) joined_valid)
     (λ x b y e. subst (λ (p : Body × List ℕ). IsValidBody p.0) (ok_is (Leave, x) (b, y) e) tt)))))))
 
 -- a message that was read is valid
@@ -159,19 +159,19 @@ message_valid x m y e =
 
 -- ---- images
 
-held_is_valid : (format epoch : ℕ) (x : List ℕ) (d : ImageDir) (y : List ℕ) → read (held format epoch) x ≡ Ok (d, y) → IsValidDir d
-unfolding held
+held_is_valid : (format epoch : ℕ) (x : List ℕ) (d : ImageDir) (y : List ℕ) → read (held_directory format epoch) x ≡ Ok (d, y) → IsValidDir d
+unfolding held_directory
 held_is_valid format epoch x d y e =
-    let h = read_stands (held format epoch) x d y e in
+    let h = read_stands (held_directory format epoch) x d y e in
     subst IsValidDir h.3.3.3.0 (replica_valid h.1 h.3.0 h.3.1 (stands_read replica h.1 h.3.0 h.3.1 h.3.2))
 
 dir_valid : (format : ℕ) (x : List ℕ) (d : ImageDir) (y : List ℕ) → read (dir_state format) x ≡ Ok (d, y) → IsValidDir d
 unfolding dir_state
 dir_valid format x d y e =
     let h = read_stands (dir_state format) x d y e in
-    at (h.0 == 1) h.3.0 h.3.1 d y (stands_read (choose (h.0 == 1) (held format h.3.0) (done (Gone (record { 0 = h.3.0 })))) h.3.1 d y h.3.3)
+    at (h.0 == 1) h.3.0 h.3.1 d y (stands_read (choose (h.0 == 1) (held_directory format h.3.0) (done (Gone (record { 0 = h.3.0 })))) h.3.1 d y h.3.3)
   where
-    at : (t : Bool) (epoch : ℕ) (x : List ℕ) (d : ImageDir) (y : List ℕ) → read (choose t (held format epoch) (done (Gone (record { 0 = epoch })))) x ≡ Ok (d, y)
+    at : (t : Bool) (epoch : ℕ) (x : List ℕ) (d : ImageDir) (y : List ℕ) → read (choose t (held_directory format epoch) (done (Gone (record { 0 = epoch })))) x ≡ Ok (d, y)
         → IsValidDir d
     at true epoch x d y e = held_is_valid format epoch x d y e
     at false epoch x d y e = subst (λ (p : ImageDir × List ℕ). IsValidDir p.0) (ok_is (Gone (record { 0 = epoch }), x) (d, y) e) tt

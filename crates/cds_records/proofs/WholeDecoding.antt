@@ -12,18 +12,18 @@ use Rattle.record_fields.specs.declared.fault.RecordFault.{RecordFault}
 use Rattle.record_fields.specs.declared.fault.RecordFault.TheVariants.{Trailing}
 use Rattle.record_fields.specs.declared.fault.RecordFault.TheVariants as fault
 use Rattle.record_fields.specs.declared.fault.Broken.{Broken}
-use Rattle.record_fields.specs.Reading.{read}
+use Rattle.record_fields.specs.LayoutReading.{read}
 use Rattle.record_fields.specs.Layouts.{Layout}
 use Rattle.record_fields.specs.Fields.{outside, octet}
-use Rattle.record_fields.specs.Decoding.{Decodes, IsFault, IsWhole, decoding, with_memory}
+use Rattle.record_fields.specs.Decoding.{Decodes, IsFault, IsWhole, decode_by, with_memory}
 use Rattle.record_fields.proofs.OneDecoding.{of_read, answers_decoding, decoding_decodes}
 use Rattle.record_fields.proofs.LayoutLaws.{read_stands, stands_read}
 use Rattle.cds_messages.specs.declared.image.Image.{Image}
 use Rattle.cds_records.specs.Images.{image_behind, image_in, image, image_1, either_image}
-use Rattle.cds_records.specs.Wanting.{image_head, WantsForImage}
-use Rattle.cds_records.specs.Octets.{image_octets}
-use Rattle.cds_records.specs.Ranges.{FitsImage}
-use Rattle.cds_records.specs.Migration.{whole_of, whole_image, migrated}
+use Rattle.cds_records.specs.RecordMemory.{image_head, WantsForImage}
+use Rattle.cds_records.specs.RecordOctets.{image_octets}
+use Rattle.cds_records.specs.RecordRanges.{FitsImage}
+use Rattle.cds_records.specs.Migration.{whole_of, whole_image, migrated_image}
 use Rattle.cds_records.proofs.SpellingRecords.{spell_image}
 use Rattle.cds_records.proofs.Valid.{image_valid}
 use Rattle.cds_records.proofs.WholeImages.{the_image_whole}
@@ -32,36 +32,36 @@ use Rattle.cds_records.proofs.WholeImages.{the_image_whole}
 
 module _ {A : Type 0} (l : Layout A) (octets : List ℕ) where
   -- an error is handed on
-  pub error_is : (e : AllocOr RecordFault) → Decodes l octets (Err e) → Answers {T = A} (Err e) (whole_of octets (decoding l octets))
+  pub error_is : (e : AllocOr RecordFault) → Decodes l octets (Err e) → Answers {T = A} (Err e) (whole_of octets (decode_by l octets))
   error_is (Fault f) decodes = ap (whole_of octets) (answers_decoding l octets (Err (Fault f)) decodes)
   error_is OutOfMemory decodes = tt
 
   -- octets that follow are a fault
   pub trailing_is : (value : A) (size : ℕ) → Decodes l octets (Ok (value, size)) → size < length octets
-      → whole_of octets (decoding l octets) ≡ Err (Trailing (size + 1))
+      → whole_of octets (decode_by l octets) ≡ Err (Trailing (size + 1))
   trailing_is value size decodes more =
       ap (whole_of octets) (answers_decoding l octets (Ok (value, size)) decodes)
       ∙ ap (λ b. if b then Ok value else Err (Trailing (size + 1))) (other_place size (length octets) (λ e. absurd (omega arith)))
 
   -- with none they are the whole
-  pub whole_is : (value : A) (size : ℕ) → Decodes l octets (Ok (value, size)) → length octets ≤ size → whole_of octets (decoding l octets) ≡ Ok value
+  pub whole_is : (value : A) (size : ℕ) → Decodes l octets (Ok (value, size)) → length octets ≤ size → whole_of octets (decode_by l octets) ≡ Ok value
   whole_is value size decodes all =
       let within : size ≤ length octets = decodes.within in
       ap (whole_of octets) (answers_decoding l octets (Ok (value, size)) decodes)
       ∙ ap (λ b. if b then Ok value else Err (Trailing (size + 1))) (same_place size (length octets) (omega arith))
 
   -- the first fault is what they decode to
-  pub fault_is : (f : RecordFault) → IsFault l octets f → decoding l octets ≡ Err f
-  fault_is f is = by (decoding l octets) ((decoding_decodes l octets).each_fault f is)
+  pub fault_is : (f : RecordFault) → IsFault l octets f → decode_by l octets ≡ Err f
+  fault_is f is = by (decode_by l octets) ((decoding_decodes l octets).each_fault f is)
     where
       by : (d : Result (A × ℕ) RecordFault) → Answers (with_memory d) (Err f) → d ≡ Err f
       by (Ok y) h = absurd (cc)
       by (Err g) h = sym h
 
 -- octets that are the whole of a value are decoded as it
-pub whole_decoded : {A : Type 0} (l : Layout A) (v : A) (octets : List ℕ) → IsWhole l v octets → whole_of octets (decoding l octets) ≡ Ok v
+pub whole_decoded : {A : Type 0} (l : Layout A) (v : A) (octets : List ℕ) → IsWhole l v octets → whole_of octets (decode_by l octets) ≡ Ok v
 whole_decoded {A} l v octets whole =
-    ap (whole_of octets) (by (decoding l octets) ((decoding_decodes l octets).only v octets [] whole (sym (append-nil octets))))
+    ap (whole_of octets) (by (decode_by l octets) ((decoding_decodes l octets).only v octets [] whole (sym (append-nil octets))))
     ∙ ap (λ b. if b then Ok v else Err (Trailing (length octets + 1))) (same_place (length octets) (length octets) refl)
   where
     by : (d : Result (A × ℕ) RecordFault) → Answers (with_memory d) (Ok (v, length octets)) → d ≡ Ok (v, length octets)
@@ -93,7 +93,7 @@ unknown (suc zero) a b = absurd (a refl)
 unknown (suc (suc zero)) a b = absurd (b refl)
 unknown (suc (suc (suc n))) a b = grind arith
 
-pub format_unknown : (n : ℕ) (rest : List ℕ) → (n ≡ 1 → ⊥) → (n ≡ 2 → ⊥) → decoding either_image (n ∷ rest) ≡ Err (fault.BadTag 1)
+pub format_unknown : (n : ℕ) (rest : List ℕ) → (n ≡ 1 → ⊥) → (n ≡ 2 → ⊥) → decode_by either_image (n ∷ rest) ≡ Err (fault.BadTag 1)
 unfolding either_image image_in octet
 format_unknown n rest a b = fault_is either_image (n ∷ rest) (fault.BadTag 1) (record {
   rule = BadTag;
@@ -105,7 +105,7 @@ format_unknown n rest a b = fault_is either_image (n ∷ rest) (fault.BadTag 1) 
 })
 
 -- no octet
-pub format_missing : decoding either_image [] ≡ Err (fault.Short 1)
+pub format_missing : decode_by either_image [] ≡ Err (fault.Short 1)
 unfolding either_image image_in octet
 format_missing = fault_is either_image [] (fault.Short 1) (record {
   rule = Short;
@@ -117,12 +117,12 @@ format_missing = fault_is either_image [] (fault.Short 1) (record {
 })
 
 -- behind a first octet 1 an image is of format 1
-pub format_former : (rest : List ℕ) → decoding either_image (1 ∷ rest) ≡ decoding image_1 (1 ∷ rest)
+pub format_former : (rest : List ℕ) → decode_by either_image (1 ∷ rest) ≡ decode_by image_1 (1 ∷ rest)
 unfolding either_image image_1 image_in octet
 format_former rest = refl
 
 -- behind 2 it is of format 2
-pub format_present : (rest : List ℕ) → decoding either_image (2 ∷ rest) ≡ decoding image (2 ∷ rest)
+pub format_present : (rest : List ℕ) → decode_by either_image (2 ∷ rest) ≡ decode_by image (2 ∷ rest)
 unfolding either_image image image_in octet
 format_present rest = refl
 
@@ -173,12 +173,12 @@ image_has_head octets i is = by (read (image_in 1 2) octets) refl is
 -- ---- migration
 
 -- the image of these octets is written in format 2
-pub image_migrated : (i : Image) (octets : List ℕ) → IsWhole either_image i octets → migrated octets ≡ Ok (image_octets i)
+pub image_migrated : (i : Image) (octets : List ℕ) → IsWhole either_image i octets → migrated_image octets ≡ Ok (image_octets i)
 image_migrated i octets whole = ap (result_map_both image_octets (λ fault. fault)) (whole_decoded either_image i octets whole)
 
 -- octets of an image of format 2 that fits stay as they are
 pub image_stays : (i : Image) (octets : List ℕ) → FitsImage i → All (λ n. n < 256) octets → All (λ n. n < 256) (image_octets i) → IsWhole image i octets
-    → migrated octets ≡ Ok octets
+    → migrated_image octets ≡ Ok octets
 unfolding image
 image_stays i octets fits bytes own_bytes whole =
     image_migrated i octets (image_in_either i octets whole)

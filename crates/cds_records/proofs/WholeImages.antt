@@ -13,11 +13,11 @@ use Rattle.cds_messages.specs.declared.image.ImageDir.TheVariants.{Held, Gone}
 use Rattle.record_fields.specs.Layouts.{done, next, choose}
 use Rattle.record_fields.specs.Decoding.{IsWhole}
 use Rattle.record_fields.specs.Fields.{free, outside, number, node_octets, number_order}
-use Rattle.cds_records.specs.Images.{dir_number, held_rule, held_count, held, dir_state, image_behind, image_in, image}
+use Rattle.cds_records.specs.Images.{dir_number, held_rule, held_count, held_directory, dir_state, image_behind, image_in, image}
 use Rattle.std.specs.Int.{w64, to_be_bytes}
-use Rattle.cds_records.specs.Octets.{members_octets, replica_octets, dir_octets, kept_octets, image_head, image_octets}
-use Rattle.record_fields.specs.Octets.{each_octets}
-use Rattle.cds_records.specs.Ranges.{FitsDir, FitsImage}
+use Rattle.cds_records.specs.RecordOctets.{members_octets, replica_octets, dir_octets, kept_octets, image_head, image_octets}
+use Rattle.record_fields.specs.FieldOctets.{each_octets}
+use Rattle.cds_records.specs.RecordRanges.{FitsDir, FitsImage}
 use Rattle.cds_messages.specs.Validity.{IsValidDir, IsValidImage}
 use Rattle.record_fields.proofs.WholeFields.{Whole, Keyed, whole_next, whole_last, whole_as, octet_whole, u32_whole, u64_whole, node_whole}
 use Rattle.record_fields.proofs.WholeFields.{map_whole, KeyOrder}
@@ -67,17 +67,17 @@ count_whole r =
     whole_last {f = λ _. tt} (u64_whole (held_rule r) n (omega arith) (ap (λ b. if b then None else Some BadHeld) (same_place n n refl))) refl
 
 kept_whole : (d : ImageDir) → IsValidDir d → FitsDir d → Whole (dir_state 2) d (kept_octets d)
-unfolding dir_state held kept_octets
+unfolding dir_state held_directory kept_octets
 kept_whole (Held e ms r) valid fits =
     whole_as
-    (whole_next {second = λ state. next (number w64 free) (λ epoch. choose (state == 1) (held 2 epoch) (done (Gone (record { 0 = epoch }))))}
+    (whole_next {second = λ state. next (number w64 free) (λ epoch. choose (state == 1) (held_directory 2 epoch) (done (Gone (record { 0 = epoch }))))}
     (octet_whole (outside BadFlag 1 2) 1 refl)
-    (whole_next {second = held 2} (u64_whole free e.0 fits.0 refl)
+    (whole_next {second = held_directory 2} (u64_whole free e.0 fits.0 refl)
     (whole_next (members_whole ms fits.1)
     (whole_next (replica_whole r valid fits.2) (whole_last {f = λ _. Held e ms r} (count_whole r) refl)))))
     (five (1 ∷ []) (to_be_bytes w64 e.0) (members_octets ms) (replica_octets r) (to_be_bytes w64 (min (held_in r.table) most_held)))
 kept_whole (Gone e) valid fits =
-    whole_next {second = λ state. next (number w64 free) (λ epoch. choose (state == 1) (held 2 epoch) (done (Gone (record { 0 = epoch }))))}
+    whole_next {second = λ state. next (number w64 free) (λ epoch. choose (state == 1) (held_directory 2 epoch) (done (Gone (record { 0 = epoch }))))}
     (octet_whole (outside BadFlag 1 2) 2 refl) (whole_last {f = λ epoch. Gone (record { 0 = epoch })} (u64_whole free e.0 fits refl) refl)
 
 dirs : Keyed dir_keys IsValidDir dir_number (dir_state 2) (λ d. d.0 < 2 ^ 32) FitsDir dir_octets kept_octets

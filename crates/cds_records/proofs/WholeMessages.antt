@@ -19,11 +19,11 @@ use Rattle.cds_messages.specs.declared.message.Body.{Body}
 use Rattle.cds_messages.specs.declared.message.Body.TheVariants.{Update, Gather, Gathered, Spread, SpreadAck, Advance, Join, Leave}
 use Rattle.record_fields.specs.Decoding.{IsWhole}
 use Rattle.record_fields.specs.Fields.{free, outside, number_order}
-use Rattle.cds_messages.specs.Kinds.{kind_in, kind_number, kind_back}
+use Rattle.cds_messages.specs.KindNumbers.{kind_in, kind_number, kind_back}
 use Rattle.cds_messages.specs.Messages.{tag_of}
-use Rattle.cds_records.specs.Records.{kind_rule, member_kind, member, listed, members_in, fragment, copied, joined, body, message}
-use Rattle.cds_records.specs.Octets.{member_octets, members_octets, body_octets, message_head, message_octets, message_with}
-use Rattle.cds_records.specs.Ranges.{FitsMembers, FitsBody, FitsHead, FitsMessage}
+use Rattle.cds_records.specs.Records.{kind_rule, member_kind, member, member_list, members_in, fragment, stamped_delta, join_parts, body, message}
+use Rattle.cds_records.specs.RecordOctets.{member_octets, members_octets, body_octets, message_head, message_octets, message_with}
+use Rattle.cds_records.specs.RecordRanges.{FitsMembers, FitsBody, FitsHead, FitsMessage}
 use Rattle.cds_messages.specs.Validity.{IsValidBody, IsValidMessage}
 use Rattle.record_fields.proofs.WholeFields.{Whole, whole_next, whole_done, whole_last, whole_as, within_lawful, octet_whole, u32_whole, u64_whole}
 use Rattle.record_fields.proofs.WholeFields.{stamp_whole, simple_name_whole}
@@ -108,8 +108,8 @@ member_whole left before master m above lawful fits =
     (three (m.house.0 ∷ []) (to_be_bytes w64 m.since.0) (kind_number m.kind ∷ []))
 
 listed_whole : (before : Option ℕ) (master : Bool) (ms : List Member) → IsListed before master ms → AllByRecursion (λ m. m.since.0 < 2 ^ 64) ms
-    → Whole (listed true (length ms) before master) ms (flat_map member_octets ms)
-unfolding listed
+    → Whole (member_list true (length ms) before master) ms (flat_map member_octets ms)
+unfolding member_list
 listed_whole before master [] lawful fits = whole_done []
 listed_whole before master (m ∷ ms) lawful fits =
     whole_next (member_whole (length ms) before master m lawful.0 lawful.1 fits.0)
@@ -120,14 +120,14 @@ pub members_whole : (ms : List Member) → FitsMembers ms → Whole (members_in 
 unfolding members_in members_octets
 members_whole ms fits =
     let l = members_lawful ms fits.lawful in
-    whole_next {second = λ n. listed true n None false}
+    whole_next {second = λ n. member_list true n None false}
     (octet_whole (outside BadLength 1 most_members) (length ms) (within_lawful BadLength 1 most_members (length ms) l.1 l.2))
     (listed_whole None false ms l.0 fits.since)
 
 -- ---- messages
 
 body_whole : (b : Body) → IsValidBody b → FitsBody b → Whole (body (tag_of b)) b (body_octets b)
-unfolding body fragment copied joined body_octets
+unfolding body fragment stamped_delta join_parts body_octets
 body_whole (Update f) valid fits =
     whole_last {f = Update}
     (whole_next (simple_name_whole None f.name fits.0 refl) (whole_last (entry_whole None f.entry valid (entry_above_none f.entry) fits.1) refl)) refl

@@ -19,13 +19,13 @@ use Rattle.purge_rule.specs.declared.replica.Replica.{Replica}
 use Rattle.purge_rule.specs.Replicas.{IsDelta}
 use Rattle.record_fields.specs.declared.fault.Rule.TheVariants.{BadFlag}
 use Rattle.record_fields.specs.Fields.{free, outside, attr_name, simple_name}
-use Rattle.record_fields.specs.Records.{empty_cell, cell}
+use Rattle.record_fields.specs.ListLayouts.{empty_cell, cell}
 use Rattle.cds_records.specs.Records.{kind, entry, replica, delta}
 use Rattle.std.specs.Int.{w64, to_be_bytes}
-use Rattle.record_fields.specs.Octets.{stamp_octets, optional_stamp_octets, each_octets, name_octets, value_octets, mark_octets, cell_octets}
-use Rattle.cds_records.specs.Octets.{entry_octets, stamped_table_octets, replica_octets, delta_octets}
-use Rattle.record_fields.specs.Ranges.{FitsCell}
-use Rattle.cds_records.specs.Ranges.{FitsEntry, FitsReplica, FitsDelta}
+use Rattle.record_fields.specs.FieldOctets.{stamp_octets, optional_stamp_octets, each_octets, name_octets, value_octets, mark_octets, cell_octets}
+use Rattle.cds_records.specs.RecordOctets.{entry_octets, stamped_table_octets, replica_octets, delta_octets}
+use Rattle.record_fields.specs.FieldRanges.{FitsCell}
+use Rattle.cds_records.specs.RecordRanges.{FitsEntry, FitsReplica, FitsDelta}
 use Rattle.record_fields.proofs.WholeFields.{Whole, Keyed, octets_keys, whole_next, whole_last, whole_as, octet_whole, u64_whole, stamp_whole}
 use Rattle.record_fields.proofs.WholeFields.{optional_stamp_whole, any_above, simple_name_whole, attr_name_whole, map_whole}
 use Rattle.record_fields.proofs.WholeMarks.{marks, mark_in_order}

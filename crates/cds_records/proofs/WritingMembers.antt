@@ -3,7 +3,7 @@ use Rattle.std.proofs.Common.{◌≡◌, ℕ, List, [], ◌∷◌, ◌++◌, ref
 use Rattle.std.specs.Prelude.{◌<◌, ◌^◌}
 use Rattle.std.specs.List.{AllByRecursion, flat_map}
 use Rattle.cds_stamps.specs.declared.members.Member.{Member}
-use Rattle.cds_records.specs.Octets.{member_octets}
+use Rattle.cds_records.specs.RecordOctets.{member_octets}
 
 -- of these members all but the rest are written, each of which fits
 pub record ListWritten (all rest : List Member) (old out : List ℕ) : Type 0 where

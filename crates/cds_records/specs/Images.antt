@@ -13,7 +13,7 @@ use Rattle.cds_messages.specs.declared.image.Image.{Image}
 use Rattle.cds_messages.specs.Dirs.{dir_cmp}
 use Rattle.record_fields.specs.Layouts.{Layout, done, next, choose}
 use Rattle.record_fields.specs.Fields.{free, outside, number_order, octet, number, node}
-use Rattle.record_fields.specs.Records.{map_of}
+use Rattle.record_fields.specs.ListLayouts.{map_of}
 use Rattle.cds_records.specs.Records.{members_in, replica}
 
 -- a directory above the one before it (own)
@@ -29,14 +29,14 @@ unfoldable pub held_count : (format : ℕ) → Replica → Layout (Unit {0})
 held_count format r = choose (format == 1) (done tt) (next (number w64 (held_rule r)) (λ _. done tt))
 
 -- the members and the replica of a directory that is held, and how much that holds (own)
-unfoldable pub held : (format epoch : ℕ) → Layout ImageDir
-held format epoch = next (members_in format) (λ ms. next replica (λ r. next (held_count format r) (λ _. done (Held (record { 0 = epoch }) ms r))))
+unfoldable pub held_directory : (format epoch : ℕ) → Layout ImageDir
+held_directory format epoch = next (members_in format) (λ ms. next replica (λ r. next (held_count format r) (λ _. done (Held (record { 0 = epoch }) ms r))))
 
 -- the state of a directory: held is 1, gone 2; its epoch; and where it is held what the house has of it (own)
 unfoldable pub dir_state : (format : ℕ) → Layout ImageDir
 dir_state format =
     next (octet (outside BadFlag 1 2))
-    (λ state. next (number w64 free) (λ epoch. choose (state == 1) (held format epoch) (done (Gone (record { 0 = epoch })))))
+    (λ state. next (number w64 free) (λ epoch. choose (state == 1) (held_directory format epoch) (done (Gone (record { 0 = epoch })))))
 
 -- an image of this format behind its first octet: its tag, house, node, floor, and the directories (own)
 unfoldable pub image_behind : (format : ℕ) → Layout Image

@@ -1,6 +1,6 @@
 pub mod Records
-pub mod Wanting
+pub mod RecordMemory
 pub mod Images
-pub mod Octets
+pub mod RecordOctets
 pub mod Migration
-pub mod Ranges
+pub mod RecordRanges

@@ -16,10 +16,10 @@ use Rattle.record_fields.specs.declared.fault.Rule.TheVariants.{BadTag, BadLengt
 use Rattle.cds_messages.specs.declared.message.Message.{Message}
 use Rattle.cds_messages.specs.declared.message.Body.{Body}
 use Rattle.cds_messages.specs.declared.message.Body.TheVariants.{Update, Gather, Gathered, Spread, SpreadAck, Advance, Join, Leave}
-use Rattle.cds_messages.specs.Kinds.{kind_in}
+use Rattle.cds_messages.specs.KindNumbers.{kind_in}
 use Rattle.record_fields.specs.Layouts.{Layout, done, next, choose}
 use Rattle.record_fields.specs.Fields.{free, outside, number_order, octet, number, stamp, optional_stamp, simple_name, attr_name}
-use Rattle.record_fields.specs.Records.{cell, map_of}
+use Rattle.record_fields.specs.ListLayouts.{cell, map_of}
 
 -- ---- replicas
 
@@ -71,14 +71,14 @@ member secondary left before master =
     done (record { house = record { 0 = house }; since = record { 0 = since }; kind = kind }))))
 
 -- so many members (own)
-unfoldable pub listed : (secondary : Bool) → ℕ → (before : Option ℕ) → (master : Bool) → Layout (List Member)
-listed secondary zero before master = done []
-listed secondary (suc n) before master =
-    next (member secondary n before master) (λ m. next (listed secondary n (Some m.house.0) (master || is_master m.kind)) (λ ms. done (m ∷ ms)))
+unfoldable pub member_list : (secondary : Bool) → ℕ → (before : Option ℕ) → (master : Bool) → Layout (List Member)
+member_list secondary zero before master = done []
+member_list secondary (suc n) before master =
+    next (member secondary n before master) (λ m. next (member_list secondary n (Some m.house.0) (master || is_master m.kind)) (λ ms. done (m ∷ ms)))
 
 -- 1 to 64 members, of which one is master (own)
 unfoldable pub members_in : (format : ℕ) → Layout (List Member)
-members_in format = next (octet (outside BadLength 1 most_members)) (λ n. listed (has_secondary format) n None false)
+members_in format = next (octet (outside BadLength 1 most_members)) (λ n. member_list (has_secondary format) n None false)
 
 -- ---- messages
 
@@ -87,23 +87,23 @@ unfoldable pub fragment : Layout Fragment
 fragment = next (simple_name None) (λ n. next (entry None) (λ e. done (record { name = n; entry = e })))
 
 -- the stamp of a skulk, and a delta (own)
-unfoldable pub copied : Layout (Stamp × Delta)
-copied = next (stamp free) (λ t. next delta (λ d. done (t, d)))
+unfoldable pub stamped_delta : Layout (Stamp × Delta)
+stamped_delta = next (stamp free) (λ t. next delta (λ d. done (t, d)))
 
 -- the members of an epoch, and the master's replica (own)
-unfoldable pub joined : Layout (List Member × Replica)
-joined = next (members_in 2) (λ ms. next replica (λ r. done (ms, r)))
+unfoldable pub join_parts : Layout (List Member × Replica)
+join_parts = next (members_in 2) (λ ms. next replica (λ r. done (ms, r)))
 
 -- what a message of this tag carries behind its head (own)
 unfoldable pub body : ℕ → Layout Body
 body tag =
     choose (tag == 1) (next fragment (λ f. done (Update f)))
     (choose (tag == 2) (next (stamp free) (λ t. done (Gather t)))
-    (choose (tag == 3) (next copied (λ c. done (Gathered c.0 c.1)))
-    (choose (tag == 4) (next copied (λ c. done (Spread c.0 c.1)))
+    (choose (tag == 3) (next stamped_delta (λ c. done (Gathered c.0 c.1)))
+    (choose (tag == 4) (next stamped_delta (λ c. done (Spread c.0 c.1)))
     (choose (tag == 5) (next (stamp free) (λ t. done (SpreadAck t)))
     (choose (tag == 6) (next (stamp free) (λ t. done (Advance t)))
-    (choose (tag == 7) (next joined (λ j. done (Join j.0 j.1)))
+    (choose (tag == 7) (next join_parts (λ j. done (Join j.0 j.1)))
     (done Leave)))))))
 
 -- a message of format 2: format and tag, the directory, the sender's house, epoch and floor, and what it carries (own)

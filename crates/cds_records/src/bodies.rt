@@ -1,9 +1,9 @@
 // Readers of messages.
 ghost use Rattle.std.specs.Prelude.{◌≡◌, ◌≤◌, true};
-ghost use Rattle.record_fields.specs.Readers.{Reads};
-ghost use Rattle.cds_records.specs.Wanting.{takes_memory, WantsForMessage};
-ghost use Rattle.record_fields.specs.Wanting.{IfWant};
-ghost use Rattle.cds_records.specs.Records.{fragment, copied, joined, body, message};
+ghost use Rattle.record_fields.specs.FieldReaders.{Reads};
+ghost use Rattle.cds_records.specs.RecordMemory.{takes_memory, WantsForMessage};
+ghost use Rattle.record_fields.specs.MemoryFaults.{IfWant};
+ghost use Rattle.cds_records.specs.Records.{fragment, stamped_delta, join_parts, body, message};
 
 use crate::format::FORMAT;
 use crate::members::read_members;
@@ -31,7 +31,7 @@ fn read_fragment(reader: &mut Reader<'_>, alloc: Global) -> Result<Fragment, Rea
 /// The stamp of a skulk, and a delta.
 #[tactic(auto, unfolding(crate::specs::Records::copied))]
 fn read_copied(reader: &mut Reader<'_>, alloc: Global) -> Result<(Stamp, Delta), ReadError>
-    ensures { Reads (λ x. x) copied reader.old reader.new result }
+    ensures { Reads (λ x. x) stamped_delta reader.old reader.new result }
 {
     let stamp = reader.stamp()?;
     let delta = read_delta(reader, alloc)?;
@@ -41,7 +41,7 @@ fn read_copied(reader: &mut Reader<'_>, alloc: Global) -> Result<(Stamp, Delta),
 /// The members of an epoch, and the master's replica.
 #[tactic(auto, unfolding(crate::specs::Records::joined))]
 fn read_joined(reader: &mut Reader<'_>, alloc: Global) -> Result<(Members, Replica), ReadError>
-    ensures { Reads (λ x. x) joined reader.old reader.new result }
+    ensures { Reads (λ x. x) join_parts reader.old reader.new result }
 {
     let members = read_members(reader, alloc, FORMAT)?;
     let replica = read_replica(reader, alloc)?;

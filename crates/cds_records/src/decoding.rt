@@ -7,8 +7,8 @@ ghost use Rattle.cds_records.specs.Migration as migration;
 ghost use Rattle.cds_records.specs.Records.{message};
 ghost use Rattle.record_fields.specs.Decoding.{fault_at, error_of, IsLeftWithin, IsWhole, Decodes};
 ghost use Rattle.cds_messages.specs.declared.image.Image.{Image};
-ghost use Rattle.record_fields.specs.Wanting.{IfWant};
-ghost use Rattle.cds_records.specs.Wanting.{WantsForMessage, WantsForImage};
+ghost use Rattle.record_fields.specs.MemoryFaults.{IfWant};
+ghost use Rattle.cds_records.specs.RecordMemory.{WantsForMessage, WantsForImage};
 ghost use Rattle.cds_messages.specs.Validity.{IsValidImage, IsValidMessage};
 
 use crate::bodies::read_message;
@@ -69,7 +69,7 @@ pub fn whole_image(alloc: Global, octets: &[u8]) -> Result<Image, AllocOr<Record
 
 /// The octets in format 2 of the image of either format that the octets are. Else the fault of `whole_image`.
 pub fn migrate_image(alloc: Global, octets: &[u8]) -> Result<Vec<u8>, AllocOr<RecordFault>>
-    ensures answer { Answers (result_map_both (λ v. v.items) (λ e. e) result) (migration.migrated octets.now) }
+    ensures answer { Answers (result_map_both (λ v. v.items) (λ e. e) result) (migration.migrated_image octets.now) }
     ensures format_2 { IfOk result (λ v. (i : Image) × IsWhole image i v.items) }
     ensures wanting { IfWant (WantsForImage 1 2 octets.now) result }
 {

@@ -4,10 +4,10 @@ ghost use Rattle.std.specs.FinMap.{entries};
 ghost use Rattle.cds_stamps.specs.declared.numbers.DirId as number;
 ghost use Rattle.record_fields.specs.Decoding.{IsWhole};
 ghost use Rattle.cds_records.specs.Images as images;
-ghost use Rattle.record_fields.specs.Octets.{each_octets};
-ghost use Rattle.cds_records.specs.Octets.{dir_octets, kept_octets, image_head, image_octets};
-ghost use Rattle.record_fields.specs.Ranges.{ItemsFit};
-ghost use Rattle.cds_records.specs.Ranges.{FitsDir};
+ghost use Rattle.record_fields.specs.FieldOctets.{each_octets};
+ghost use Rattle.cds_records.specs.RecordOctets.{dir_octets, kept_octets, image_head, image_octets};
+ghost use Rattle.record_fields.specs.FieldRanges.{ItemsFit};
+ghost use Rattle.cds_records.specs.RecordRanges.{FitsDir};
 ghost use Rattle.cds_messages.specs.Validity.{IsValidImage};
 ghost use Rattle.cds_messages.specs.declared.image.ImageDir.TheVariants as states;
 

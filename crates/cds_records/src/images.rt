@@ -3,13 +3,13 @@ ghost use Rattle.std.specs.Prelude.{◌≡◌, Some, None, OnOk, if◌then◌els
 ghost use Rattle.std.specs.FinMap as map;
 ghost use Rattle.std.specs.Int.{w32};
 ghost use Rattle.std.specs.Option.{option_map};
-ghost use Rattle.record_fields.specs.Readers.{Reads, ReadsSurely, Adds};
+ghost use Rattle.record_fields.specs.FieldReaders.{Reads, ReadsSurely, Adds};
 ghost use Rattle.record_fields.specs.Fields.{number_order, number};
-ghost use Rattle.record_fields.specs.Records.{item, map_of};
+ghost use Rattle.record_fields.specs.ListLayouts.{item, map_of};
 ghost use Rattle.cds_messages.specs.Dirs.{dir_cmp};
-ghost use Rattle.cds_records.specs.Images.{dir_number, held_count, held, dir_state, image_in};
-ghost use Rattle.record_fields.specs.Wanting.{IfWant};
-ghost use Rattle.cds_records.specs.Wanting.{WantsForImage};
+ghost use Rattle.cds_records.specs.Images.{dir_number, held_count, held_directory, dir_state, image_in};
+ghost use Rattle.record_fields.specs.MemoryFaults.{IfWant};
+ghost use Rattle.cds_records.specs.RecordMemory.{WantsForImage};
 ghost use Rattle.record_fields.specs.declared.fault.Rule.TheVariants.{OutOfOrder};
 
 use crate::format::{FORMER_FORMAT, GONE, HELD, IMAGE};
@@ -58,7 +58,7 @@ fn read_held_dir(
     format: u8,
     epoch: u64,
 ) -> Result<ImageDir, ReadError>
-    ensures { Reads (λ x. x) (held format epoch) reader.old reader.new result }
+    ensures { Reads (λ x. x) (held_directory format epoch) reader.old reader.new result }
 {
     let members = read_members(reader, alloc, format)?;
     let replica = read_replica(reader, alloc)?;

@@ -2,13 +2,13 @@
 ghost use Rattle.std.specs.Prelude.{◌≡◌, ◌++◌, ◌∷◌, ◌<◌, [], ℕ, List, Ok, Err};
 ghost use Rattle.std.specs.List.{All};
 ghost use Rattle.cds_messages.specs.declared.message.Message.{Message};
-ghost use Rattle.record_fields.specs.Decoding.{IsWhole, Decodes, decoding, with_memory};
+ghost use Rattle.record_fields.specs.Decoding.{IsWhole, Decodes, decode_by, with_memory};
 ghost use Rattle.record_fields.specs.declared.fault.RecordFault.TheVariants.{Short, BadTag};
 ghost use Rattle.cds_messages.specs.declared.image.Image.{Image};
 ghost use Rattle.cds_records.specs.Images.{image, image_1, either_image};
-ghost use Rattle.cds_records.specs.Migration.{migrated};
-ghost use Rattle.cds_records.specs.Octets.{message_octets, image_octets};
-ghost use Rattle.cds_records.specs.Ranges.{FitsMessage, FitsImage};
+ghost use Rattle.cds_records.specs.Migration.{migrated_image};
+ghost use Rattle.cds_records.specs.RecordOctets.{message_octets, image_octets};
+ghost use Rattle.cds_records.specs.RecordRanges.{FitsMessage, FitsImage};
 ghost use Rattle.cds_records.specs.Records.{message};
 ghost use Rattle.cds_messages.specs.Validity.{IsValidMessage, IsValidImage};
 
@@ -37,10 +37,10 @@ pub fn an_image_has_one_spelling()
 /// What octets decode to as a function is what the grammar says of them: the message at their front, or their first fault;
 /// and so it is with images of each format, and of either.
 pub fn octets_decode_to_one_thing()
-    ensures messages { (octets : List ℕ) → Decodes message octets (with_memory (decoding message octets)) }
-    ensures images { (octets : List ℕ) → Decodes image octets (with_memory (decoding image octets)) }
-    ensures former_images { (octets : List ℕ) → Decodes image_1 octets (with_memory (decoding image_1 octets)) }
-    ensures either { (octets : List ℕ) → Decodes either_image octets (with_memory (decoding either_image octets)) }
+    ensures messages { (octets : List ℕ) → Decodes message octets (with_memory (decode_by message octets)) }
+    ensures images { (octets : List ℕ) → Decodes image octets (with_memory (decode_by image octets)) }
+    ensures former_images { (octets : List ℕ) → Decodes image_1 octets (with_memory (decode_by image_1 octets)) }
+    ensures either { (octets : List ℕ) → Decodes either_image octets (with_memory (decode_by either_image octets)) }
 {}
 
 /// The octets of a message are the whole of it, if its entries, tables and deltas are valid, its numbers fit their fields, and its
@@ -56,15 +56,15 @@ pub fn octets_of_an_image_are_whole()
 
 /// The first octet of an image says its format: behind 1 it is read by format 1, behind 2 by format 2, and no other is known.
 pub fn the_first_octet_says_the_format()
-    ensures former { (rest : List ℕ) → decoding either_image (1 ∷ rest) ≡ decoding image_1 (1 ∷ rest) }
-    ensures present { (rest : List ℕ) → decoding either_image (2 ∷ rest) ≡ decoding image (2 ∷ rest) }
-    ensures unknown { (n : ℕ) (rest : List ℕ) → (n ≡ 1 → ⊥) → (n ≡ 2 → ⊥) → decoding either_image (n ∷ rest) ≡ Err (BadTag 1) }
-    ensures nothing { decoding either_image [] ≡ Err (Short 1) }
+    ensures former { (rest : List ℕ) → decode_by either_image (1 ∷ rest) ≡ decode_by image_1 (1 ∷ rest) }
+    ensures present { (rest : List ℕ) → decode_by either_image (2 ∷ rest) ≡ decode_by image (2 ∷ rest) }
+    ensures unknown { (n : ℕ) (rest : List ℕ) → (n ≡ 1 → ⊥) → (n ≡ 2 → ⊥) → decode_by either_image (n ∷ rest) ≡ Err (BadTag 1) }
+    ensures nothing { decode_by either_image [] ≡ Err (Short 1) }
 {}
 
 /// Octets of an image of format 1 are migrated to those of the same image in format 2. Those of an image of format 2 stay.
 pub fn an_image_is_migrated()
-    ensures former { (i : Image) (octets : List ℕ) → IsWhole image_1 i octets → migrated octets ≡ Ok (image_octets i) }
+    ensures former { (i : Image) (octets : List ℕ) → IsWhole image_1 i octets → migrated_image octets ≡ Ok (image_octets i) }
     ensures present { (i : Image) (octets : List ℕ) → FitsImage i → All (λ n. n < 256) octets → All (λ n. n < 256) (image_octets i)
-        → IsWhole image i octets → migrated octets ≡ Ok octets }
+        → IsWhole image i octets → migrated_image octets ≡ Ok octets }
 {}

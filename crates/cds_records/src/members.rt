@@ -1,10 +1,10 @@
 // Readers of member lists.
 ghost use Rattle.std.specs.Prelude.{◌≡◌, ◌-◌, ◌||◌, Some, None, MatchOption, false, if◌then◌else◌};
 ghost use Rattle.cds_stamps.specs.Members.{is_master, members_of, members_fault};
-ghost use Rattle.record_fields.specs.Readers.{Reads, ReadsSurely};
+ghost use Rattle.record_fields.specs.FieldReaders.{Reads, ReadsSurely};
 ghost use Rattle.record_fields.specs.Fields.{number_order, octet};
-ghost use Rattle.cds_messages.specs.Kinds.{kind_in};
-ghost use Rattle.cds_records.specs.Records.{kind_rule, member_kind, member, listed, members_in};
+ghost use Rattle.cds_messages.specs.KindNumbers.{kind_in};
+ghost use Rattle.cds_records.specs.Records.{kind_rule, member_kind, member, member_list, members_in};
 ghost use Rattle.record_fields.specs.declared.fault.Rule.TheVariants.{OutOfOrder, BadFlag};
 
 use crate::format::FORMER_FORMAT;
@@ -71,7 +71,7 @@ fn read_listed(
     secondary: bool,
     count: u8,
 ) -> Result<Vec<Member>, ReadError>
-    ensures { Reads (λ v. v.items) (listed secondary count None false) reader.old reader.new result }
+    ensures { Reads (λ v. v.items) (member_list secondary count None false) reader.old reader.new result }
 {
     let mut list = Vec::new(alloc);
     let mut before = None;

@@ -3,9 +3,9 @@ ghost use Rattle.std.specs.Prelude.{◌≡◌, ◌-◌, ◌≤◌, Some, None, O
 ghost use Rattle.std.specs.FinMap as map;
 ghost use Rattle.std.specs.Option.{option_map};
 ghost use Rattle.directory.specs.Kinds.{kind_of_rank};
-ghost use Rattle.record_fields.specs.Readers.{Reads, ReadsSurely, Adds, Puts};
+ghost use Rattle.record_fields.specs.FieldReaders.{Reads, ReadsSurely, Adds, Puts};
 ghost use Rattle.record_fields.specs.Fields.{number, attr_name, simple_name};
-ghost use Rattle.record_fields.specs.Records.{item, ascending, map_of, cell};
+ghost use Rattle.record_fields.specs.ListLayouts.{item, ascending_items, map_of, cell};
 ghost use Rattle.cds_records.specs.Records.{kind, entry, replica, delta};
 
 use attr_sets::AttrCell;
@@ -120,7 +120,7 @@ fn read_entries(
     above: &Option<Stamp>,
     count: u64,
 ) -> Result<Vec<(SimpleName, EntryCell)>, ReadError>
-    ensures { Reads (λ v. v.items) (ascending simple_name (entry above.now) count None) reader.old reader.new result }
+    ensures { Reads (λ v. v.items) (ascending_items simple_name (entry above.now) count None) reader.old reader.new result }
 {
     let mut entries = Vec::new(alloc);
     let mut before = None;

@@ -4,10 +4,10 @@ ghost use Rattle.std.specs.Prelude.{◌≡◌, ◌+◌, ◌<◌, ◌++◌, None,
 ghost use Rattle.std.specs.FinMap.{entries};
 ghost use Rattle.cds_stamps.specs.Names.{simple_name_fault, attr_fault};
 ghost use Rattle.directory.specs.Kinds.{rank};
-ghost use Rattle.record_fields.specs.Octets.{name_octets, each_octets, cell_octets};
-ghost use Rattle.cds_records.specs.Octets.{entry_octets, stamped_table_octets, replica_octets, delta_octets};
-ghost use Rattle.record_fields.specs.Ranges.{ItemsFit, FitsMap, FitsStamp, FitsCell};
-ghost use Rattle.cds_records.specs.Ranges.{FitsEntry, FitsReplica, FitsDelta};
+ghost use Rattle.record_fields.specs.FieldOctets.{name_octets, each_octets, cell_octets};
+ghost use Rattle.cds_records.specs.RecordOctets.{entry_octets, stamped_table_octets, replica_octets, delta_octets};
+ghost use Rattle.record_fields.specs.FieldRanges.{ItemsFit, FitsMap, FitsStamp, FitsCell};
+ghost use Rattle.cds_records.specs.RecordRanges.{FitsEntry, FitsReplica, FitsDelta};
 
 use attr_sets::AttrCell;
 use cds_stamps::{AttrName, SimpleName, Stamp};

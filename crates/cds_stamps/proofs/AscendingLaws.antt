@@ -11,7 +11,7 @@ use Rattle.std.specs.List.Sorted.{IsStrictlySortedBy}
 use Rattle.std.proofs.lemmas.List.Elements.{Contains-append_left, Contains-push, Contains-push_cases}
 use Rattle.std.proofs.lemmas.List.Kept.{IsStrictlySortedBy-filter}
 use Rattle.cds_stamps.specs.Octets.{octets_cmp, octets_exact}
-use Rattle.cds_stamps.specs.Ascending.{put_in_order, ascending}
+use Rattle.cds_stamps.specs.Ascending.{put_in_order, in_ascending_order}
 use Rattle.cds_stamps.proofs.ListMembers.{Contains-head, Contains-tail, Contains-none, Contains-cases, Contains-filter, filter-Contains}
 
 -- the octets of a list ascend, each once
@@ -125,47 +125,47 @@ put-had o (p ∷ ps) q c = by_case (octets_cmp o p) (put-had o ps q) c
 -- ---- the list in order
 
 -- it ascends
-pub ascending-rises : (os : List (List ℕ)) → Rises (ascending os)
+pub ascending-rises : (os : List (List ℕ)) → Rises (in_ascending_order os)
 unfolding IsStrictlySortedBy
 ascending-rises [] = tt
-ascending-rises (o ∷ os) = put-rises o (ascending os) (ascending-rises os)
+ascending-rises (o ∷ os) = put-rises o (in_ascending_order os) (ascending-rises os)
 
 -- it has what was given
-pub ascending-has : (os : List (List ℕ)) (q : List ℕ) → Contains os q → Contains (ascending os) q
+pub ascending-has : (os : List (List ℕ)) (q : List ℕ) → Contains os q → Contains (in_ascending_order os) q
 ascending-has [] q c = c
-ascending-has (o ∷ os) q c = put-has o (ascending os) q (⊎_elim (λ is. inl is) (λ later. inr (ascending-has os q later)) (Contains-cases o os q c))
+ascending-has (o ∷ os) q c = put-has o (in_ascending_order os) q (⊎_elim (λ is. inl is) (λ later. inr (ascending-has os q later)) (Contains-cases o os q c))
 
 -- and nothing else
-pub ascending-had : (os : List (List ℕ)) (q : List ℕ) → Contains (ascending os) q → Contains os q
+pub ascending-had : (os : List (List ℕ)) (q : List ℕ) → Contains (in_ascending_order os) q → Contains os q
 ascending-had [] q c = c
 ascending-had (o ∷ os) q c =
-    ⊎_elim (λ is. subst (Contains (o ∷ os)) is (Contains-head o os)) (λ later. Contains-tail o os q (ascending-had os q later)) (put-had o (ascending os) q c)
+    ⊎_elim (λ is. subst (Contains (o ∷ os)) is (Contains-head o os)) (λ later. Contains-tail o os q (ascending-had os q later)) (put-had o (in_ascending_order os) q c)
 
 -- a list that ascends and has the same octets is that list
-pub ascending-only : (os once : List (List ℕ)) → Rises once → Within once os → Within os once → once ≡ ascending os
+pub ascending-only : (os once : List (List ℕ)) → Rises once → Within once os → Within os once → once ≡ in_ascending_order os
 ascending-only os once rises within all =
-    one_order once (ascending os) rises (ascending-rises os) (λ q c. ascending-has os q (within q c)) (λ q c. all q (ascending-had os q c))
+    one_order once (in_ascending_order os) rises (ascending-rises os) (λ q c. ascending-has os q (within q c)) (λ q c. all q (ascending-had os q c))
 
 -- octets that ascend keep their order
-pub ascending-kept : (os : List (List ℕ)) → Rises os → ascending os ≡ os
+pub ascending-kept : (os : List (List ℕ)) → Rises os → in_ascending_order os ≡ os
 ascending-kept os rises = sym (ascending-only os os rises (λ q c. c) (λ q c. c))
 
 -- what passes a test keeps the order
-pub ascending-filter : (p : List ℕ → Bool) (os : List (List ℕ)) → ascending (filter p os) ≡ filter p (ascending os)
+pub ascending-filter : (p : List ℕ → Bool) (os : List (List ℕ)) → in_ascending_order (filter p os) ≡ filter p (in_ascending_order os)
 ascending-filter p os =
     sym
-    (ascending-only (filter p os) (filter p (ascending os)) (IsStrictlySortedBy-filter octets_cmp p (ascending os) (ascending-rises os))
-    (λ q c. let found = filter-Contains p (ascending os) q c in Contains-filter p os q (ascending-had os q found.0) found.1)
-    (λ q c. let found = filter-Contains p os q c in Contains-filter p (ascending os) q (ascending-has os q found.0) found.1))
+    (ascending-only (filter p os) (filter p (in_ascending_order os)) (IsStrictlySortedBy-filter octets_cmp p (in_ascending_order os) (ascending-rises os))
+    (λ q c. let found = filter-Contains p (in_ascending_order os) q c in Contains-filter p os q (ascending-had os q found.0) found.1)
+    (λ q c. let found = filter-Contains p os q c in Contains-filter p (in_ascending_order os) q (ascending-has os q found.0) found.1))
 
 -- one more at the end is put at its place
-pub ascending-push : (os : List (List ℕ)) (o : List ℕ) → ascending (os ++ o ∷ []) ≡ put_in_order o (ascending os)
+pub ascending-push : (os : List (List ℕ)) (o : List ℕ) → in_ascending_order (os ++ o ∷ []) ≡ put_in_order o (in_ascending_order os)
 ascending-push os o =
     sym
-    (ascending-only (os ++ o ∷ []) (put_in_order o (ascending os)) (put-rises o (ascending os) (ascending-rises os))
+    (ascending-only (os ++ o ∷ []) (put_in_order o (in_ascending_order os)) (put-rises o (in_ascending_order os) (ascending-rises os))
     (λ q c.
     ⊎_elim
     (λ is. subst (Contains (os ++ o ∷ [])) is (Contains-push os o))
     (λ old. Contains-append_left os (o ∷ []) q (ascending-had os q old))
-    (put-had o (ascending os) q c))
-    (λ q c. put-has o (ascending os) q (⊎_elim (λ old. inr (ascending-has os q old)) (λ is. inl is) (Contains-push_cases os o q c))))
+    (put-had o (in_ascending_order os) q c))
+    (λ q c. put-has o (in_ascending_order os) q (⊎_elim (λ old. inr (ascending-has os q old)) (λ is. inl is) (Contains-push_cases os o q c))))

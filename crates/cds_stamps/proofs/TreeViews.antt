@@ -20,7 +20,7 @@ use Rattle.std.proofs.lemmas.Map.{NonePasses, lookup-none}
 use Rattle.std.proofs.lemmas.Map.Keys.{sorted_head, sorted_tail, IsDistinct-head, IsDistinct-from_sorted}
 use Rattle.std.proofs.lemmas.Map.Entries.{none_past_head}
 use Rattle.cds_stamps.specs.Semilattice.{maybe, join_of}
-use Rattle.cds_stamps.specs.Keyed.{tied}
+use Rattle.cds_stamps.specs.Keyed.{ties_are_equal}
 use Rattle.cds_stamps.specs.Joins.{join_maps, get-join_maps}
 
 -- a tree's look-up is a finite map's
@@ -86,7 +86,7 @@ raised {X = X} {R = R} o same f m n k x next inserted is q = ap (λ n. get n q) 
     alone (Some y) = refl
 
     by_case : (b : Bool) → eq_by_cmp R q k ≡ b → cond b (Some next) (get m q) ≡ maybe f (get m q) (if b then Some x else None)
-    by_case true e = sym is ∙ ap (λ k. maybe f (get m k) (Some x)) (sym (tied same q k e))
+    by_case true e = sym is ∙ ap (λ k. maybe f (get m k) (Some x)) (sym (ties_are_equal same q k e))
     by_case false e = alone (get m q)
 
 -- a loop's end: no entry is to come, and the map is the join

@@ -10,15 +10,15 @@ use Rattle.std.specs.BTreeMap.{is_at}
 use Rattle.std.specs.Cmp.{IsTotalOrder, eq_by_cmp_equiv}
 use Rattle.std.specs.FinMap.{FinMap, IsAntisymmetric, get, insert, from_entries, get-insert, same_map}
 use Rattle.cds_stamps.specs.Semilattice.{maybe}
-use Rattle.cds_stamps.specs.Keyed.{tied}
-use Rattle.cds_stamps.specs.Undos.{mended, back_at, RaisesAt, TakesBack, LogsChange, MendsAt, taken_back, get-taken_back}
+use Rattle.cds_stamps.specs.Keyed.{ties_are_equal}
+use Rattle.cds_stamps.specs.Undos.{value_taken_back, back_at, RaisesAt, TakesBack, LogsChange, MendsAt, taken_back, get-taken_back}
 use Rattle.cds_stamps.proofs.TreeViews.{get-view, view-insert, raised}
 
 -- the last change of a log is taken back first
 pub back_at-push : {K X U : Type 0} (R : K → K → Ordering) (undo : U → X → X) (log : List (K × Option U)) (e : K × Option U) (q : K) (x : Option X)
     → back_at R undo (log ++ e ∷ []) q x ≡ back_at R undo log q (back_at R undo (e ∷ []) q x)
 back_at-push R undo [] e q x = refl
-back_at-push R undo (d ∷ log) e q x = ap (λ y. if eq_by_cmp R q d.0 then mended undo d.1 y else y) (back_at-push R undo log e q x)
+back_at-push R undo (d ∷ log) e q x = ap (λ y. if eq_by_cmp R q d.0 then value_taken_back undo d.1 y else y) (back_at-push R undo log e q x)
 
 -- a change with its entry at the end of the log
 pub logged : {K X U : Type 0} {R : K → K → Ordering} (undo : U → X → X) (m n : FinMap R X) (log longer : List (K × Option U)) (e : K × Option U)
@@ -37,7 +37,7 @@ module _ {K X : Type 0} {R : K → K → Ordering} (o : IsTotalOrder R) (same : 
         ∙ ap (back_at R undo ((k, Some u) ∷ []) q) (get-insert o m k next q) ∙ by_case (eq_by_cmp R q k) refl
       where
         by_case : (b : Bool) → eq_by_cmp R q k ≡ b → (if b then option_map (undo u) (cond b (Some next) (get m q)) else cond b (Some next) (get m q)) ≡ get m q
-        by_case true e = ap Some mends ∙ sym had ∙ ap (get m) (sym (tied same q k e))
+        by_case true e = ap Some mends ∙ sym had ∙ ap (get m) (sym (ties_are_equal same q k e))
         by_case false e = refl
 
     pub back_new : (m n : FinMap R X) (k : K) (x : X) → n ≡ insert m k x → get m k ≡ None → TakesBack undo m n ((k, None) ∷ [])
@@ -46,7 +46,7 @@ module _ {K X : Type 0} {R : K → K → Ordering} (o : IsTotalOrder R) (same : 
         ∙ ap (back_at R undo ((k, None) ∷ []) q) (get-insert o m k x q) ∙ by_case (eq_by_cmp R q k) refl
       where
         by_case : (b : Bool) → eq_by_cmp R q k ≡ b → (if b then None else cond b (Some x) (get m q)) ≡ get m q
-        by_case true e = sym had ∙ ap (get m) (sym (tied same q k e))
+        by_case true e = sym had ∙ ap (get m) (sym (ties_are_equal same q k e))
         by_case false e = refl
 
     -- a value that the tree had, joined in place
@@ -74,7 +74,7 @@ module _ {K X : Type 0} {R : K → K → Ordering} (o : IsTotalOrder R) (same : 
         ∙ by_case (eq_by_cmp R q k) refl
       where
         by_case : (b : Bool) → eq_by_cmp R q k ≡ b → cond b (Some (undo u own)) (get m q) ≡ (if b then option_map (undo u) (get m q) else get m q)
-        by_case true e = ap (option_map (undo u)) (had ∙ sym (get-view o es k) ∙ ap (λ m. get m k) view ∙ ap (get m) (sym (tied same q k e)))
+        by_case true e = ap (option_map (undo u)) (had ∙ sym (get-view o es k) ∙ ap (λ m. get m k) view ∙ ap (get m) (sym (ties_are_equal same q k e)))
         by_case false e = refl
 
     -- a change taken back at a key that is gone
@@ -84,7 +84,7 @@ module _ {K X : Type 0} {R : K → K → Ordering} (o : IsTotalOrder R) (same : 
       where
         by_case : (b : Bool) → eq_by_cmp R q k ≡ b → get m q ≡ (if b then option_map (undo u) (get m q) else get m q)
         by_case true e =
-            let none : get m q ≡ None = ap (get m) (tied same q k e) ∙ ap (λ m. get m k) (sym view) ∙ get-view o es k ∙ sym had in
+            let none : get m q ≡ None = ap (get m) (ties_are_equal same q k e) ∙ ap (λ m. get m k) (sym view) ∙ get-view o es k ∙ sym had in
             none ∙ ap (option_map (undo u)) (sym none)
         by_case false e = refl
 

@@ -9,6 +9,6 @@ put_in_order o [] = o ∷ []
 put_in_order o (p ∷ ps) = by_order (octets_cmp o p) (o ∷ p ∷ ps) (p ∷ ps) (p ∷ put_in_order o ps)
 
 -- each of these octets once, in ascending order (own)
-abbrev pub ascending : List (List ℕ) → List (List ℕ)
-ascending [] = []
-ascending (o ∷ os) = put_in_order o (ascending os)
+abbrev pub in_ascending_order : List (List ℕ) → List (List ℕ)
+in_ascending_order [] = []
+in_ascending_order (o ∷ os) = put_in_order o (in_ascending_order os)

@@ -41,8 +41,8 @@ any_back t [] ys e = e
 any_back t (x ∷ xs) ys e = grind (arith, any_back t xs ys, e)
 
 -- keys that an exact order ties are one
-pub tied : {K : Type 0} {R : K → K → Ordering} → IsAntisymmetric R → (q k : K) → eq_by_cmp R q k ≡ true → q ≡ k
-tied {R = R} same q k e = same q k ((Equal-is (R q k)).0 e)
+pub ties_are_equal : {K : Type 0} {R : K → K → Ordering} → IsAntisymmetric R → (q k : K) → eq_by_cmp R q k ≡ true → q ≡ k
+ties_are_equal {R = R} same q k e = same q k ((Equal-is (R q k)).0 e)
 
 either : {X : Type 0} (b : Bool) (x : Option X) → x ≡ None → cond b x None ≡ x
 either true x e = refl
@@ -62,12 +62,12 @@ module _ {K X : Type 0} {R : K → K → Ordering} (o : IsTotalOrder R) (same : 
   get-of_keys [] f q = get-empty R q
   get-of_keys (k ∷ ks) f q =
       get-put_some (of_keys ks f) k (f k) q _ refl (λ e none. let gone : f q ≡ None = ap f
-      (tied same q k e) ∙ none in get-of_keys ks f q ∙ either _ (f q) gone ∙ gone)
+      (ties_are_equal same q k e) ∙ none in get-of_keys ks f q ∙ either _ (f q) gone ∙ gone)
       ∙ step (eq_by_cmp R q k) refl (get-of_keys ks f q)
     where
       step : (b : Bool) → eq_by_cmp R q k ≡ b → get (of_keys {R = R} ks f) q ≡ cond (list_any (eq_by_cmp R q) ks) (f q) None
           → cond b (f k) (get (of_keys {R = R} ks f) q) ≡ cond (b || list_any (eq_by_cmp R q) ks) (f q) None
-      step true e ih = ap f (sym (tied same q k e))
+      step true e ih = ap f (sym (ties_are_equal same q k e))
       step false e ih = ih
 
   -- where f has nothing beyond the keys

@@ -12,9 +12,9 @@ use Rattle.cds_stamps.specs.Semilattice.{maybe}
 use Rattle.cds_stamps.specs.Keyed.{of_keys, get-of_all_keys, no_value}
 
 -- what one change leaves when it is taken back: nothing at a new key, else the mended value (own)
-abbrev pub mended : {X U : Type 0} → (U → X → X) → Option U → Option X → Option X
-mended undo None x = None
-mended undo (Some u) x = option_map (undo u) x
+abbrev pub value_taken_back : {X U : Type 0} → (U → X → X) → Option U → Option X → Option X
+value_taken_back undo None x = None
+value_taken_back undo (Some u) x = option_map (undo u) x
 
 -- the way back to a value that was replaced whole is the value itself (own)
 abbrev pub put_back : {X : Type 0} → X → X → X
@@ -23,7 +23,7 @@ put_back old x = old
 -- what a log leaves at a key when it is taken back, the last change first (own)
 abbrev pub back_at : {K X U : Type 0} → (K → K → Ordering) → (U → X → X) → List (K × Option U) → K → Option X → Option X
 back_at R undo [] q x = x
-back_at R undo (e ∷ log) q x = if eq_by_cmp R q e.0 then mended undo e.1 (back_at R undo log q x) else back_at R undo log q x
+back_at R undo (e ∷ log) q x = if eq_by_cmp R q e.0 then value_taken_back undo e.1 (back_at R undo log q x) else back_at R undo log q x
 
 -- n is m with x joined in at k (own)
 abbrev pub RaisesAt : {K X : Type 0} {R : K → K → Ordering} → (X → X → X) → FinMap R X → FinMap R X → K → X → Type 0
@@ -46,7 +46,7 @@ pub taken_back : {K X U : Type 0} {R : K → K → Ordering} → (U → X → X)
 taken_back {R = R} undo log m = of_keys (keys m) (λ q. back_at R undo log q (get m q))
 
 -- nothing is taken back of nothing
-mended-none : {X U : Type 0} (undo : U → X → X) (u : Option U) (b : Bool) (x : Option X) → x ≡ None → (if b then mended undo u x else x) ≡ None
+mended-none : {X U : Type 0} (undo : U → X → X) (u : Option U) (b : Bool) (x : Option X) → x ≡ None → (if b then value_taken_back undo u x else x) ≡ None
 mended-none undo None true x e = refl
 mended-none undo (Some u) true x e = ap (option_map (undo u)) e
 mended-none undo u false x e = e

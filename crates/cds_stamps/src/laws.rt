@@ -2,7 +2,7 @@
 ghost use Rattle.std.specs.Prelude.{◌≡◌, ◌≢◌, ◌⊎◌, ◌↔◌, ◌-◌, ◌<◌, ◌≤◌, ℕ, Bool, true, false, List, [], length, get_or, Some, None};
 ghost use Rattle.std.specs.List.{Contains, IsDistinct};
 ghost use Rattle.std.specs.List.Sorted.{IsStrictlySortedBy};
-ghost use Rattle.cds_stamps.specs.Ascending.{ascending};
+ghost use Rattle.cds_stamps.specs.Ascending.{in_ascending_order};
 ghost use Rattle.cds_stamps.specs.Firsts.{has, firsts};
 ghost use Rattle.cds_stamps.specs.Fronts.{IsFirstBad, EndsEarly};
 ghost use Rattle.cds_stamps.specs.Members.{Member, members_fault, most_members, masters_in, IsAscending, IsMembers};
@@ -77,10 +77,10 @@ pub fn named_numbers_are_those_of_the_definitions()
 
 /// Octets in ascending order ascend, each once, and are those that were given; and no other list does and has them.
 pub fn octets_ascend_once()
-    ensures rises { (all : List (List ℕ)) → IsStrictlySortedBy octets_cmp (ascending all) }
-    ensures same { (all : List (List ℕ)) (o : List ℕ) → Contains (ascending all) o ↔ Contains all o }
+    ensures rises { (all : List (List ℕ)) → IsStrictlySortedBy octets_cmp (in_ascending_order all) }
+    ensures same { (all : List (List ℕ)) (o : List ℕ) → Contains (in_ascending_order all) o ↔ Contains all o }
     ensures only { (all once : List (List ℕ)) → IsStrictlySortedBy octets_cmp once
-        → ((o : List ℕ) → Contains once o ↔ Contains all o) → once ≡ ascending all }
+        → ((o : List ℕ) → Contains once o ↔ Contains all o) → once ≡ in_ascending_order all }
 {}
 
 /// The first places of a list have its items, each once.

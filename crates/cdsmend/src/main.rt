@@ -2,7 +2,7 @@
 #![tactic(auto)]
 
 use cds_base::{StdSink, StdSource, words_of};
-use cds_mend::run;
+use mend_program::run;
 use cell_replay::Status;
 use std::process::ExitCode;
 

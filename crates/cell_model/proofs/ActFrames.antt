@@ -9,7 +9,7 @@ use Rattle.cell_model.specs.Cells.{Idle, Gathering, Spreading, Replica, Slot, Go
 use Rattle.cell_model.specs.Cells.{Advance, Join, Leave, Message, Cell, IsHeld}
 use Rattle.cell_model.specs.Commands.{Accepted}
 use Rattle.cell_model.specs.Sets.{In, IsPart}
-use Rattle.cell_model.specs.Turns.{grown, copy_of, merged, to_each, raised, copied as copied_at, kept_at_join}
+use Rattle.cell_model.specs.Turns.{with_marks, copy_of, merge_copy, to_each, later_up_to, replica_of_copy as copied_at, kept_at_join}
 use Rattle.cell_model.proofs.Lists.{In-append_left, In-append_right, In-append_cases, In-map}
 use Rattle.cell_model.proofs.Terms.{Listed, listed_once}
 use Rattle.cell_model.proofs.Facts.{View, view, IsPosted, Holds, Roll, marks_in, round_of, Reached, Kind, Sound, Turn, same, idle, begins, answered}
@@ -65,9 +65,9 @@ module _ (roll : Roll) (g : Cell) (m : Message) (s : Sound roll (view m.dir g)) 
   }
 
   -- an update that is taken frames the step
-  pub updates_frame : (marks : List Mark) (r : Replica) → Taking g m (Update marks) r → Frame roll v (left (Held (grown r marks)) []) []
+  pub updates_frame : (marks : List Mark) (r : Replica) → Taking g m (Update marks) r → Frame roll v (left (Held (with_marks r marks)) []) []
   updates_frame marks r k =
-      taken_frame (Update marks) r (grown r marks) [] k refl refl (grows r marks) (same refl) (λ j i. In-append_cases j r.history marks i)
+      taken_frame (Update marks) r (with_marks r marks) [] k refl refl (grows r marks) (same refl) (λ j i. In-append_cases j r.history marks i)
       (λ j i. In-append_right j r.history marks i) (nothing _)
 
   -- so does a Gather that is answered
@@ -81,9 +81,9 @@ module _ (roll : Roll) (g : Cell) (m : Message) (s : Sound roll (view m.dir g)) 
 
   -- an answer in the first round, where others are still to come
   pub gathers_frame : (t : Stamp) (copy : Copy) (a : List ℕ) (r : Replica) → Taking g m (Gathered t copy) r → r.phase ≡ Gathering t a
-      → Frame roll v (left (Held (record (merged r copy) { phase = Gathering t (m.sender ∷ a) })) []) []
+      → Frame roll v (left (Held (record (merge_copy r copy) { phase = Gathering t (m.sender ∷ a) })) []) []
   gathers_frame t copy a r k run =
-      let q : Replica = record (merged r copy) { phase = Gathering t (m.sender ∷ a) } in
+      let q : Replica = record (merge_copy r copy) { phase = Gathering t (m.sender ∷ a) } in
       taken_frame (Gathered t copy) r q [] k refl refl (grows r copy.history)
       (answered t a m copy run refl (at_dir k.posted) k.is (λ j i. In-append_right j r.history copy.history i))
       (λ j i. In-append_cases j r.history copy.history i) (λ j i. In-append_right j r.history copy.history i) (nothing q)
@@ -91,31 +91,31 @@ module _ (roll : Roll) (g : Cell) (m : Message) (s : Sound roll (view m.dir g)) 
   -- the last answer in the first round, with which the second begins
   pub turns_frame : (t : Stamp) (copy : Copy) (a : List ℕ) (r : Replica) → Taking g m (Gathered t copy) r → r.phase ≡ Gathering t a
       → ((x : ℕ) → In x (others_of m.receiver r.members) → In x (m.sender ∷ a))
-      → Frame roll v (left (Held (record (merged r copy) { phase = Spreading t [] })) (others_at g m r (Spread t (copy_of (merged r copy))))) []
+      → Frame roll v (left (Held (record (merge_copy r copy) { phase = Spreading t [] })) (others_at g m r (Spread t (copy_of (merge_copy r copy))))) []
   turns_frame t copy a r k run all =
-      let q : Replica = record (merged r copy) { phase = Spreading t [] } in
+      let q : Replica = record (merge_copy r copy) { phase = Spreading t [] } in
       let head : master_of r.members ≡ m.receiver = ((s.held m.receiver r k.held).phase t (cc)).0 in
-      taken_frame (Gathered t copy) r q (others_at g m r (Spread t (copy_of (merged r copy)))) k refl refl (grows r copy.history)
+      taken_frame (Gathered t copy) r q (others_at g m r (Spread t (copy_of (merge_copy r copy)))) k refl refl (grows r copy.history)
       (turned t a m copy run refl (at_dir k.posted) k.is (λ j i. In-append_right j r.history copy.history i)
       (λ y o. all y (subst (λ (z : ℕ). In y (others_of z r.members)) head o)))
       (λ j i. In-append_cases j r.history copy.history i) (λ j i. In-append_right j r.history copy.history i)
       (new_each roll v [] m.receiver (floor_at g m) (Held q) _ v.top v.present s q refl (others_of m.receiver r.members) m.dir r.epoch (floor_at g m)
-      (Spread t (copy_of (merged r copy))) refl refl (λ j i. i) (inl (λ j i. i)) (λ c e. cc) (λ _ _. (refl, λ j i. i)))
+      (Spread t (copy_of (merge_copy r copy))) refl refl (λ j i. i) (inl (λ j i. i)) (λ c e. cc) (λ _ _. (refl, λ j i. i)))
 
   -- an answer of the first round that comes in the second
-  pub gathers_again_frame : (t : Stamp) (copy : Copy) (r : Replica) → Taking g m (Gathered t copy) r → Frame roll v (left (Held (merged r copy)) []) []
+  pub gathers_again_frame : (t : Stamp) (copy : Copy) (r : Replica) → Taking g m (Gathered t copy) r → Frame roll v (left (Held (merge_copy r copy)) []) []
   gathers_again_frame t copy r k =
-      taken_frame (Gathered t copy) r (merged r copy) [] k refl refl (grows r copy.history) (same refl) (λ j i. In-append_cases j r.history copy.history i)
-      (λ j i. In-append_right j r.history copy.history i) (nothing (merged r copy))
+      taken_frame (Gathered t copy) r (merge_copy r copy) [] k refl refl (grows r copy.history) (same refl) (λ j i. In-append_cases j r.history copy.history i)
+      (λ j i. In-append_right j r.history copy.history i) (nothing (merge_copy r copy))
 
   -- a Spread that is taken and answered
   pub spreads_frame : (t : Stamp) (copy : Copy) (r : Replica) → Taking g m (Spread t copy) r
-      → Frame roll v (left (Held (merged r copy)) (reply_at g m (SpreadAck t))) []
+      → Frame roll v (left (Held (merge_copy r copy)) (reply_at g m (SpreadAck t))) []
   spreads_frame t copy r k =
-      taken_frame (Spread t copy) r (merged r copy) (reply_at g m (SpreadAck t)) k refl refl (grows r copy.history) (same refl)
+      taken_frame (Spread t copy) r (merge_copy r copy) (reply_at g m (SpreadAck t)) k refl refl (grows r copy.history) (same refl)
       (λ j i. In-append_cases j r.history copy.history i) (λ j i. In-append_right j r.history copy.history i)
-      (one_post roll v [] m.receiver (floor_at g m) (Held (merged r copy)) _ v.top v.present s _
-      (new_post roll v [] m.receiver (floor_at g m) (Held (merged r copy)) _ v.top v.present s (merged r copy) refl m.dir m.sender m.epoch (floor_at g m)
+      (one_post roll v [] m.receiver (floor_at g m) (Held (merge_copy r copy)) _ v.top v.present s _
+      (new_post roll v [] m.receiver (floor_at g m) (Held (merge_copy r copy)) _ v.top v.present s (merge_copy r copy) refl m.dir m.sender m.epoch (floor_at g m)
       (SpreadAck t) (sym k.epoch) refl (λ j i. elim i [ ]) (inr (λ j i. elim i [ ])) (λ c e. cc)
       (copy, answer (Spread t copy) r _ k refl refl (omega arith), λ j i. In-append_right j r.history copy.history i)))
 
@@ -132,18 +132,18 @@ module _ (roll : Roll) (g : Cell) (m : Message) (s : Sound roll (view m.dir g)) 
 
   -- the last answer in the second round, with which the skulk completes
   pub completes_frame : (t : Stamp) (r : Replica) → Taking g m (SpreadAck t) r
-      → Frame roll v (left (Held (record r { all_up_to = raised r.all_up_to t; phase = Idle })) (others_at g m r (Advance t))) []
+      → Frame roll v (left (Held (record r { all_up_to = later_up_to r.all_up_to t; phase = Idle })) (others_at g m r (Advance t))) []
   completes_frame t r k =
-      let q : Replica = record r { all_up_to = raised r.all_up_to t; phase = Idle } in
+      let q : Replica = record r { all_up_to = later_up_to r.all_up_to t; phase = Idle } in
       taken_frame (SpreadAck t) r q (others_at g m r (Advance t)) k refl refl (λ j i. i) (idle refl) (λ j i. inl i) (λ j i. elim i [ ])
       (new_each roll v [] m.receiver (floor_at g m) (Held q) _ v.top v.present s q refl (others_of m.receiver r.members) m.dir r.epoch (floor_at g m)
       (Advance t) refl refl (λ j i. elim i [ ]) (inr (λ j i. elim i [ ])) (λ c e. cc)
       (λ _ _. (m, at_dir k.posted, k.is, k.epoch, omega arith)))
 
   -- an Advance that is taken
-  pub advances_frame : (t : Stamp) (r : Replica) → Taking g m (Advance t) r → Frame roll v (left (Held (record r { all_up_to = raised r.all_up_to t })) []) []
+  pub advances_frame : (t : Stamp) (r : Replica) → Taking g m (Advance t) r → Frame roll v (left (Held (record r { all_up_to = later_up_to r.all_up_to t })) []) []
   advances_frame t r k =
-      let q : Replica = record r { all_up_to = raised r.all_up_to t } in
+      let q : Replica = record r { all_up_to = later_up_to r.all_up_to t } in
       taken_frame (Advance t) r q [] k refl refl (λ j i. i) (same refl) (λ j i. inl i) (λ j i. elim i [ ]) (nothing q)
 
   -- a Join
@@ -254,7 +254,7 @@ module _ (roll : Roll) (g : Cell) (h d : ℕ) (r : Replica) (t : Stamp) (i : Iss
 
   -- a house that accepts an update
   pub accepts_frame : d ≡ roll.dir → (c : Change)
-      → Frame roll u (altered u h t.time (Held (grown r (new_marks r c t))) (to_each (others_of h r.members) d h r.epoch t.time (Update (new_marks r c t))) u.top
+      → Frame roll u (altered u h t.time (Held (with_marks r (new_marks r c t))) (to_each (others_of h r.members) d h r.epoch t.time (Update (new_marks r c t))) u.top
       u.present) (accepting h d c r t ∷ [])
   accepts_frame dir c =
       altered_frame roll u new h t.time (Held q) posts u.top u.present s
@@ -269,7 +269,7 @@ module _ (roll : Roll) (g : Cell) (h d : ℕ) (r : Replica) (t : Stamp) (i : Iss
       marks = new_marks r c t
 
       q : Replica
-      q = grown r (new_marks r c t)
+      q = with_marks r (new_marks r c t)
 
       posts : List Message
       posts = to_each (others_of h r.members) d h r.epoch t.time (Update (new_marks r c t))
@@ -310,9 +310,9 @@ module _ (roll : Roll) (g : Cell) (h d : ℕ) (r : Replica) (t : Stamp) (i : Iss
       (le_refl _) s.good s.present (λ e z. inl z)
 
   -- a master without others, whose skulk begins and completes at once
-  pub lone_frame : Frame roll u (altered u h t.time (Held (record r { all_up_to = raised r.all_up_to t; phase = Idle })) [] u.top u.present) []
+  pub lone_frame : Frame roll u (altered u h t.time (Held (record r { all_up_to = later_up_to r.all_up_to t; phase = Idle })) [] u.top u.present) []
   lone_frame =
-      let q : Replica = record r { all_up_to = raised r.all_up_to t; phase = Idle } in
+      let q : Replica = record r { all_up_to = later_up_to r.all_up_to t; phase = Idle } in
       altered_frame roll u [] h t.time (Held q) [] u.top u.present s
       (grown_owed roll u [] h t.time (Held q) [] u.top u.present s r q refl i.held later refl refl (λ k z. z) (idle refl) (λ k z. inl z))
       (λ m z. elim z [ ]) (le_refl _) s.good s.present (λ e z. inl z)

@@ -4,8 +4,8 @@ use Rattle.cds_stamps.specs.declared.stamp.Stamp.{Stamp}
 use Rattle.cds_stamps.specs.Members.{Member, master_of, is_listed}
 use Rattle.cell_model.specs.Cells.{Phase, Idle, Gathering, Spreading, Replica, Cell, IsHeld, empty_cell}
 use Rattle.cell_model.specs.Commands.{Command, Complete}
-use Rattle.cell_model.specs.Turns.{running}
-use Rattle.cell_model.specs.Steps.{outcome, replay_from, replay, accepted}
+use Rattle.cell_model.specs.Turns.{running_skulk_stamp}
+use Rattle.cell_model.specs.Steps.{outcome, replay_from, replay, accepted_updates}
 use Rattle.cell_model.specs.Agreement.{place_of, Agrees}
 use Rattle.cell_model.specs.Mending.{IsIdleBy, IsAgreedBy, IsSettled, SkulkCompletes, skulking_at}
 use Rattle.cell_model.proofs.Lists.{append_nil}
@@ -29,9 +29,9 @@ agreed_at early last t ns d k ms answer place epochs listed =
     let same : Some (w.0, w.1) ≡ Some (master_of ms, d) = sym w.3 ∙ place in
     let pair : (w.0, w.1) ≡ (master_of ms, d) = cc in
     let v : (r : Replica) × IsHeld (replay all) (master_of ms) d r
-    × ((x : ℕ) (q : Replica) → IsHeld (replay all) x d q → r.epoch ≤ q.epoch → Agrees d t (accepted all) (accepted all) r.history x q) =
+    × ((x : ℕ) (q : Replica) → IsHeld (replay all) x d q → r.epoch ≤ q.epoch → Agrees d t (accepted_updates all) (accepted_updates all) r.history x q) =
     subst (λ (p : ℕ × ℕ). (r : Replica) × IsHeld (replay all) p.0 p.1 r
-    × ((x : ℕ) (q : Replica) → IsHeld (replay all) x p.1 q → r.epoch ≤ q.epoch → Agrees p.1 t (accepted all) (accepted all) r.history x q))
+    × ((x : ℕ) (q : Replica) → IsHeld (replay all) x p.1 q → r.epoch ≤ q.epoch → Agrees p.1 t (accepted_updates all) (accepted_updates all) r.history x q))
     pair (w.2, w.4, w.5) in
     record {
       replica = v.0;
@@ -40,7 +40,7 @@ agreed_at early last t ns d k ms answer place epochs listed =
     }
 
 -- where no skulk has a stamp, none runs
-idle_when : (p : Phase) → ((t : Stamp) → running p ≡ Some t → ⊥) → p ≡ Idle
+idle_when : (p : Phase) → ((t : Stamp) → running_skulk_stamp p ≡ Some t → ⊥) → p ≡ Idle
 idle_when Idle none = refl
 idle_when (Gathering t a) none = absurd (none t refl)
 idle_when (Spreading t a) none = absurd (none t refl)
@@ -50,7 +50,7 @@ idle_all : (all : List Command) (d m k : ℕ) (ms now : List Member) → master_
     → Skulked d m k now (replay all) → IsIdleBy (replay all) d ms
 idle_all all d m k ms now head kept s x q l at = idle_when q.phase runs
   where
-    runs : (t : Stamp) → running q.phase ≡ Some t → ⊥
+    runs : (t : Stamp) → running_skulk_stamp q.phase ≡ Some t → ⊥
     runs t run =
         let h = s.ready.holds x (kept x l) in
         let same : q.members ≡ now = ap (λ (r : Replica). r.members) (same_held _ q h.0 at h.1) ∙ h.3 in

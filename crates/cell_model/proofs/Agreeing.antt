@@ -6,8 +6,8 @@ use Rattle.directory.specs.Histories.{Mark, stamp_in}
 use Rattle.cell_model.specs.Cells.{Replica, Cell, IsHeld, empty_cell}
 use Rattle.cell_model.specs.Commands.{Command, Answer, Complete, Accepted}
 use Rattle.cell_model.specs.Sets.{In, IsPart}
-use Rattle.cell_model.specs.Turns.{holding}
-use Rattle.cell_model.specs.Steps.{moved, outcome, replay, accepted}
+use Rattle.cell_model.specs.Turns.{with_slot}
+use Rattle.cell_model.specs.Steps.{move_house, outcome, replay, accepted_updates}
 use Rattle.cell_model.specs.Agreement.{place_of, IsAgreed, Agrees, Converges}
 use Rattle.cell_model.proofs.Lists.{append_nil, up_to_trans, In-append_left}
 use Rattle.cell_model.proofs.Terms.{Listed}
@@ -57,7 +57,7 @@ finished all early late c t ns is complete =
     let r = reaching_at z.dir all early (c ∷ late) is in
     let w = whole_at roll g (fit_at z.dir all early (c ∷ late) is) in
     let done = act_completed roll g z.house z.dir z.floor z.slot z.posts t ns o.accepted w r.sound r.rounds refl z.act in
-    let cell : replay (early ++ c ∷ []) ≡ moved g z.house (holding (g.house z.house) z.dir z.floor z.slot) z.posts = replay-append early (c ∷ []) empty_cell
+    let cell : replay (early ++ c ∷ []) ≡ move_house g z.house (with_slot (g.house z.house) z.dir z.floor z.slot) z.posts = replay-append early (c ∷ []) empty_cell
     ∙ z.is in
     record {
       house = z.house;
@@ -110,14 +110,14 @@ converges_lem all early late c t ns is complete =
     subst (λ (l : List Command). Done roll (view f.dir (replay l)) f.replica.epoch t f.replica.history) is'
     (done_run f.dir all (early ++ c ∷ []) late [] f.replica.epoch t f.replica.history (ap (λ (l : List Command). (early ++ c ∷ []) ++ l) (append_nil late)
     ∙ is') f.done) in
-    let more : IsPart (accepted (early ++ c ∷ [])) (accepted all) =
-    λ a i. subst (λ (l : List Command). In a (accepted l)) is'
-    (subst (λ (l : List Accepted). In a l) (sym (accepted-append (early ++ c ∷ []) late empty_cell)) (In-append_left a (accepted (early ++ c ∷ [])) _ i)) in (
+    let more : IsPart (accepted_updates (early ++ c ∷ [])) (accepted_updates all) =
+    λ a i. subst (λ (l : List Command). In a (accepted_updates l)) is'
+    (subst (λ (l : List Accepted). In a l) (sym (accepted-append (early ++ c ∷ []) late empty_cell)) (In-append_left a (accepted_updates (early ++ c ∷ [])) _ i)) in (
       f.house,
       f.dir,
       f.replica,
       f.at,
       f.holds,
-      λ x q held le. agrees f.dir t roll refl (view f.dir (replay (early ++ c ∷ []))) (view f.dir (replay all)) (accepted (early ++ c ∷ [])) (accepted all)
+      λ x q held le. agrees f.dir t roll refl (view f.dir (replay (early ++ c ∷ []))) (view f.dir (replay all)) (accepted_updates (early ++ c ∷ [])) (accepted_updates all)
           f.house x f.replica q last.sound before.known last.known f.holds end held le (logged_at all).once more,
     )

@@ -11,8 +11,8 @@ use Rattle.cell_model.specs.Commands as command
 use Rattle.cell_model.specs.Commands.{Command, Refusal, Answer, Stamped, Taken, Foreign, Complete, Refused}
 use Rattle.cell_model.specs.Turns.{HouseStep, refuses, unless_refused, accept_at, update_refusal, accept_in, stamp_at, begin, skulk_at, skulk_in}
 use Rattle.cell_model.specs.Turns.{new_epoch_in}
-use Rattle.cell_model.specs.Steps.{Outcome, at_house, unless, with_directory, with_epoch, lose, message_at, refusals_of, first_refusal, ascending}
-use Rattle.cell_model.specs.Steps.{listing, leaving, effect, outcome}
+use Rattle.cell_model.specs.Steps.{Outcome, at_house, unless, with_directory, with_epoch, lose, message_at, refusals_of, first_refusal, sorted_houses}
+use Rattle.cell_model.specs.Steps.{member_list_of, left_members, effect, outcome}
 
 -- ---- all but skulks and messages
 
@@ -117,14 +117,14 @@ said g (command.House h node) = plain_of g (command.House h node) tt
 said g (command.Clock h time) = plain_of g (command.Clock h time) tt
 said g (command.Root m rs ss) = plain_of g (command.Root m rs ss) tt
 said g (command.Mkdir h d n m rs ss) =
-    let u : Change = changes.MakeChild n (record { dir = g.next_dir; master = m; others = ascending rs }) in
-    plain_of g (command.Mkdir h d n m rs ss) (mkdir_plain g h d m (listing [] 1 m rs ss) u ((g.house h).slots d))
+    let u : Change = changes.MakeChild n (record { dir = g.next_dir; master = m; others = sorted_houses rs }) in
+    plain_of g (command.Mkdir h d n m rs ss) (mkdir_plain g h d m (member_list_of [] 1 m rs ss) u ((g.house h).slots d))
 said g (command.Repoint h d n m rs) =
-    plain_of g (command.Repoint h d n m rs) (slot_plain g h d (changes.Repoint n m (ascending rs)) ((g.house h).slots d))
+    plain_of g (command.Repoint h d n m rs) (slot_plain g h d (changes.Repoint n m (sorted_houses rs)) ((g.house h).slots d))
 said g (command.Accept h d u) = plain_of g (command.Accept h d u) (slot_plain g h d u ((g.house h).slots d))
 said g (command.Epoch d m rs ss) =
-    let ms : List Member = listing (g.present d) (g.top d + 1) m rs ss in
-    plain_of g (command.Epoch d m rs ss) (epoch_plain g d m (g.top d + 1) ms (leaving (g.present d) ms) ((g.house m).slots d))
+    let ms : List Member = member_list_of (g.present d) (g.top d + 1) m rs ss in
+    plain_of g (command.Epoch d m rs ss) (epoch_plain g d m (g.top d + 1) ms (left_members (g.present d) ms) ((g.house m).slots d))
 said g (command.Skulk h d) =
     unless_begun g (first_refusal (refusals_of g (command.Skulk h d))) (effect g (command.Skulk h d)) (skulk_begun g h d ((g.house h).slots d))
 said g (command.Deliver n) = tt

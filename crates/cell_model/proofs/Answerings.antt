@@ -4,8 +4,8 @@ use Rattle.std.proofs.Common.{arith, append_assoc, ⊎_elim}
 use Rattle.cds_stamps.specs.Members.{Member, is_listed}
 use Rattle.cell_model.specs.Cells.{Replica, Held, House, Body, Message, Cell, IsHeld}
 use Rattle.cell_model.specs.Sets.{In, has}
-use Rattle.cell_model.specs.Turns.{floor_after, taken, reply, to_each, all_answered, take}
-use Rattle.cell_model.specs.Mending.{delivering}
+use Rattle.cell_model.specs.Turns.{floor_after, take_and_answer, reply, to_each, all_answered, take}
+use Rattle.cell_model.specs.Mending.{deliver_commands}
 use Rattle.cell_model.proofs.Lists.{append_nil, has-from_In, answered_all}
 use Rattle.cell_model.proofs.Deliveries.{Run, run_none, run_first, run_map, Waiting, delivered, waiting_next}
 use Rattle.cell_model.proofs.Readiness.{Ready, changed, letter, held_there, ready_changed}
@@ -81,7 +81,7 @@ AreAnswers d m k P (y ∷ ys) (z ∷ zs) = IsAnswer d m k P y z × AreAnswers d 
 pub record TakesAsk (d m k : ℕ) (ms : List Member) (ask : Body) (P : Body → Type 0) (now : House) (y floor : ℕ) : Type 0 where
   pub replica : Replica
   pub answer : Body
-  pub is : take now (letter d k y m floor ask) ≡ taken now (letter d k y m floor ask) (Held replica) (reply now (letter d k y m floor ask) answer)
+  pub is : take now (letter d k y m floor ask) ≡ take_and_answer now (letter d k y m floor ask) (Held replica) (reply now (letter d k y m floor ask) answer)
   pub epoch : replica.epoch ≡ k
   pub members : replica.members ≡ ms
   pub says : P answer
@@ -130,7 +130,7 @@ module _ (d m k : ℕ) (ms : List Member) (ask : Body) (P : Body → Type 0) (an
 
   -- where the master asked each of these, and nothing stands before that, so many deliveries bring their answers
   pub asked_run : (ys : List ℕ) (g : Cell) (p floor : ℕ) (later : List Message) → AreOthers m ms ys → Ready d k ms g → IsHeld g m d q
-      → Waiting g p (to_each ys d m k floor ask ++ later) → Run g (delivering p (length ys)) (Asked d m k ms P q ys (p + length ys) later)
+      → Waiting g p (to_each ys d m k floor ask ++ later) → Run g (deliver_commands p (length ys)) (Asked d m k ms P q ys (p + length ys) later)
   asked_run [] g p floor later others s at w = run_none g (Asked d m k ms P q [] (p + 0) later) (asked_none g p later s at w)
   asked_run (y ∷ ys) g p floor later others s at w =
       let here = others y (inl refl) in
@@ -145,6 +145,6 @@ module _ (d m k : ℕ) (ms : List Member) (ask : Body) (P : Body → Type 0) (an
       (ready_changed d k ms g y f a.replica posts s a.epoch a.members) (held_there g y d f a.replica posts m q (λ e. here.0 (sym e)) at)
       (subst (λ (l : List Message). Waiting h (p + 1) l) (append_assoc (to_each ys d m k floor ask) later posts)
       (waiting_next g h p asks rest posts w refl refl)) in
-      run_first g _ (delivering (p + 1) (length ys)) (Asked d m k ms P q (y ∷ ys) (p + suc (length ys)) later) _
+      run_first g _ (deliver_commands (p + 1) (length ys)) (Asked d m k ms P q (y ∷ ys) (p + suc (length ys)) later) _
       (delivered g p asks rest _ w (s.up y here.1) a.is) tt
-      (run_map h (delivering (p + 1) (length ys)) _ _ more (λ c z. asked_more c p y f ys a.answer later a.says z))
+      (run_map h (deliver_commands (p + 1) (length ys)) _ _ more (λ c z. asked_more c p y f ys a.answer later a.says z))

@@ -7,7 +7,7 @@ use Rattle.directory.specs.Histories.{Mark, stamp_in}
 use Rattle.cell_model.specs.Cells.{Phase, Idle, Replica, Slot, Held, Body, Message}
 use Rattle.cell_model.specs.Commands.{Accepted}
 use Rattle.cell_model.specs.Sets.{In, IsUpTo}
-use Rattle.cell_model.specs.Turns.{running}
+use Rattle.cell_model.specs.Turns.{running_skulk_stamp}
 use Rattle.cell_model.proofs.Lists.{time_up_to, earlier_up_to}
 use Rattle.cell_model.proofs.Terms.{Listed}
 use Rattle.cell_model.proofs.Facts.{View, IsPosted, Holds, Roll, marks_in, round_of, Reached, Good, Sound, Turn, same, idle, begins, answered}
@@ -30,27 +30,27 @@ abbrev pub Begun : Roll → View → ℕ → ℕ → Replica → Stamp → Type 
 Begun roll g x floor r t = (master_of r.members ≡ x) × (roll.home t.node ≡ x) × ((g.house x).floor < t.time) × (t.time ≤ floor)
 
 -- no skulk runs where nothing runs
-pub not_idle : (p : Phase) (t : Stamp) → p ≡ Idle → running p ≡ Some t → ⊥
-not_idle p t e q = let z : running Idle ≡ Some t = subst (λ (z : Phase). running z ≡ Some t) e q in cc
+pub not_idle : (p : Phase) (t : Stamp) → p ≡ Idle → running_skulk_stamp p ≡ Some t → ⊥
+not_idle p t e q = let z : running_skulk_stamp Idle ≡ Some t = subst (λ (z : Phase). running_skulk_stamp z ≡ Some t) e q in cc
 
-turn_round : (roll : Roll) (g : View) (x floor : ℕ) (r r' : Replica) (t : Stamp) → Turn roll g x floor r r' → running r'.phase ≡ Some t
-    → (running r.phase ≡ Some t) ⊎ Begun roll g x floor r t
-turn_round roll g x floor r r' t (same e) q = inl (subst (λ (z : Phase). running z ≡ Some t) e q)
+turn_round : (roll : Roll) (g : View) (x floor : ℕ) (r r' : Replica) (t : Stamp) → Turn roll g x floor r r' → running_skulk_stamp r'.phase ≡ Some t
+    → (running_skulk_stamp r.phase ≡ Some t) ⊎ Begun roll g x floor r t
+turn_round roll g x floor r r' t (same e) q = inl (subst (λ (z : Phase). running_skulk_stamp z ≡ Some t) e q)
 turn_round roll g x floor r r' t (idle e) q = absurd (not_idle _ t e q)
 turn_round roll g x floor r r' t (begins u e head node low high _) q =
-    let z : Some u ≡ Some t = subst (λ (p : Phase). running p ≡ Some t) e q in
+    let z : Some u ≡ Some t = subst (λ (p : Phase). running_skulk_stamp p ≡ Some t) e q in
     let is : u ≡ t = cc in
     inr (subst (λ (v : Stamp). Begun roll g x floor r v) is (head, node, low, high))
 turn_round roll g x floor r r' t (answered u a m copy e e' _ _ _) q =
-    inl (subst (λ (p : Phase). running p ≡ Some t) (sym e) (subst (λ (p : Phase). running p ≡ Some t) e' q))
+    inl (subst (λ (p : Phase). running_skulk_stamp p ≡ Some t) (sym e) (subst (λ (p : Phase). running_skulk_stamp p ≡ Some t) e' q))
 turn_round roll g x floor r r' t (turned u a m copy e e' _ _ _ _) q =
-    inl (subst (λ (p : Phase). running p ≡ Some t) (sym e) (subst (λ (p : Phase). running p ≡ Some t) e' q))
+    inl (subst (λ (p : Phase). running_skulk_stamp p ≡ Some t) (sym e) (subst (λ (p : Phase). running_skulk_stamp p ≡ Some t) e' q))
 turn_round roll g x floor r r' t (acked u a m e e' _ _) q =
-    inl (subst (λ (p : Phase). running p ≡ Some t) (sym e) (subst (λ (p : Phase). running p ≡ Some t) e' q))
+    inl (subst (λ (p : Phase). running_skulk_stamp p ≡ Some t) (sym e) (subst (λ (p : Phase). running_skulk_stamp p ≡ Some t) e' q))
 
 -- a skulk that runs after a step ran before it, or begins in it
-pub past_round : (roll : Roll) (g g' : View) (x floor : ℕ) (r' : Replica) (t : Stamp) → Past roll g g' x floor r' → running r'.phase ≡ Some t
-    → (r : Replica) × Holds g x r × (r.epoch ≡ r'.epoch) × (r'.members ≡ r.members) × ((running r.phase ≡ Some t) ⊎ Begun roll g x floor r t)
+pub past_round : (roll : Roll) (g g' : View) (x floor : ℕ) (r' : Replica) (t : Stamp) → Past roll g g' x floor r' → running_skulk_stamp r'.phase ≡ Some t
+    → (r : Replica) × Holds g x r × (r.epoch ≡ r'.epoch) × (r'.members ≡ r.members) × ((running_skulk_stamp r.phase ≡ Some t) ⊎ Begun roll g x floor r t)
 past_round roll g g' x floor r' t (grew r h e m _ st) q = (r, h, e, m, turn_round roll g x floor r r' t st q)
 past_round roll g g' x floor r' t (rose _ _ _ _ _ _ _ _ _ took) q = absurd (not_idle _ t took.idle q)
 past_round roll g g' x floor r' t (crowned _ _ _ _ _ _ _ _ _ i) q = absurd (not_idle _ t i q)
@@ -86,7 +86,7 @@ pub record Bounded (roll : Roll) (g : View) (k : ℕ) (t : Stamp) (all : List Ma
   pub members : (y s : ℕ) → Listed (roll.list k) y s → Reached k (g.house y).slot
   pub floors : (x : ℕ) (q : Replica) → Holds g x q → k ≤ q.epoch → t.time ≤ (g.house x).floor
   pub sent : (m : Message) → IsPosted g m → k < m.epoch → t.time ≤ m.floor
-  pub rounds : (x : ℕ) (q : Replica) (u : Stamp) → Holds g x q → k ≤ q.epoch → running q.phase ≡ Some u → IsUpTo t u
+  pub rounds : (x : ℕ) (q : Replica) (u : Stamp) → Holds g x q → k ≤ q.epoch → running_skulk_stamp q.phase ≡ Some u → IsUpTo t u
   pub within : (x : ℕ) (q : Replica) (j : Mark) → Holds g x q → k ≤ q.epoch → In j q.history → IsUpTo (stamp_in j) t → In j all
   pub within_m : (m : Message) (j : Mark) → IsPosted g m → k ≤ m.epoch → In j (marks_in m.body) → IsUpTo (stamp_in j) t → In j all
 

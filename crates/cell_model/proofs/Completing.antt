@@ -10,7 +10,7 @@ use Rattle.cell_model.specs.Commands as command
 use Rattle.cell_model.specs.Commands.{Command, Refusal, Answer, Foreign, Complete, Accepted}
 use Rattle.cell_model.specs.Sets.{In, has}
 use Rattle.cell_model.specs.Turns.{HouseStep, refuses, stamp_at, begin, skulk_at, skulk_in, take}
-use Rattle.cell_model.specs.Steps.{refused, at_house, deliver, message_at, is_down, refusals_of, first_refusal}
+use Rattle.cell_model.specs.Steps.{refusal_outcome, at_house, deliver, message_at, is_down, refusals_of, first_refusal}
 use Rattle.cell_model.specs.Steps.{effect, outcome, replay}
 use Rattle.cell_model.specs.Rounds.{TookSpread}
 use Rattle.cell_model.specs.Completions.{IsLastAck, IsLone, with_last, at_once, AnswersHold}
@@ -149,7 +149,7 @@ deliver_known commands n (Some m) at e = by_down (is_down (replay commands) m.re
     posted = message_posted (replay commands) n ((eqb n 0) || has n (replay commands).lost) m at
 
     by_down : (b : Bool)
-        → (cond b (refused (replay commands) command.Down) (at_house (replay commands) m.receiver (take ((replay commands).house m.receiver) m))).answer ≡ Foreign
+        → (cond b (refusal_outcome (replay commands) command.Down) (at_house (replay commands) m.receiver (take ((replay commands).house m.receiver) m))).answer ≡ Foreign
         → ⊥
     by_down true q = absurd (cc)
     by_down false q = row_known commands m posted _ (rows.take_row ((replay commands).house m.receiver) m) q
@@ -163,7 +163,7 @@ deliver_completes commands n (Some m) t ns at e = by_down (is_down (replay comma
     posted = message_posted (replay commands) n ((eqb n 0) || has n (replay commands).lost) m at
 
     by_down : (b : Bool)
-        → (cond b (refused (replay commands) command.Down) (at_house (replay commands) m.receiver (take ((replay commands).house m.receiver) m))).answer
+        → (cond b (refusal_outcome (replay commands) command.Down) (at_house (replay commands) m.receiver (take ((replay commands).house m.receiver) m))).answer
         ≡ Complete t ns → IsLastAck (replay commands) n t
     by_down true q = absurd (cc)
     by_down false q = row_completes commands m posted n t ns _ at (rows.take_row ((replay commands).house m.receiver) m) q

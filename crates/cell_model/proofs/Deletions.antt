@@ -12,10 +12,10 @@ use Rattle.cds_stamps.specs.Semilattice.{maybe, join_of, greater}
 use Rattle.cds_stamps.specs.Stamps.{stamp_cmp, stamp_total, stamp_exact, is_earlier, is_stamp, earlier_stamp, later_stamp}
 use Rattle.cds_stamps.specs.Octets.{octets_cmp, is_octets}
 use Rattle.attr_sets.specs.declared.mark.ValueMark.{ValueMark}
-use Rattle.attr_sets.specs.Marks.{mark_cmp, mark_total, mark_exact, kept}
-use Rattle.attr_sets.specs.Cells.{AttrMark, Cleared, Marked, clear_in, mark_in, greatest_clear, greatest_mark}
+use Rattle.attr_sets.specs.Marks.{mark_cmp, mark_total, mark_exact, mark_after_clear}
+use Rattle.attr_sets.specs.AttributeCells.{AttrMark, Cleared, Marked, clear_in, mark_in, greatest_clear, greatest_mark}
 use Rattle.directory.specs.Histories.{Mark, Birth, Death, Attr, name_in, born_in, death_in, death_of, attr_mark_in, attr_history}
-use Rattle.directory.specs.Shown.{shown}
+use Rattle.directory.specs.Shown.{shown_of_name}
 use Rattle.cell_model.specs.Sets.{In, IsUpTo}
 use Rattle.cell_model.specs.Agreement.{IsLive, IsShown, Covers, of_death, of_absence, of_clear}
 use Rattle.cell_model.proofs.Marks.{shown_is}
@@ -139,7 +139,7 @@ covered_by_death h n c s (Attr o d a (Marked v m)) i e f live =
     no_death h n c s i (subst (λ (z : List ℕ). IsLive h z c) e (subst (λ (z : Stamp). IsLive h o z) f live.0))
 
 -- what is kept is what was there, and not earlier than the clear
-kept_is : (c : Option Stamp) (m : Option ValueMark) (p : ValueMark) → kept c m ≡ Some p
+kept_is : (c : Option Stamp) (m : Option ValueMark) (p : ValueMark) → mark_after_clear c m ≡ Some p
     → (m ≡ Some p) × ((t : Stamp) → c ≡ Some t → is_earlier p.stamp t ≡ false)
 kept_is c None p e = absurd (cc)
 kept_is None (Some m) p e = (e, λ t f. absurd (cc))
@@ -169,15 +169,15 @@ not_later p s t a b c = let z = not_below stamp_total stamp_exact p t s b c in c
 
 -- a mark that is covered by another of its history does not show
 pub deleted : (h : List Mark) (c k : Mark) → In c h → Covers c k → IsShown h k → ⊥
-deleted h c k i (of_death n b s _ e f) shown = covered_by_death h n b s k i e f shown
-deleted h c k i (of_absence n b a v m p off on up) shown =
+deleted h c k i (of_death n b s _ e f) shown_of_name = covered_by_death h n b s k i e f shown_of_name
+deleted h c k i (of_absence n b a v m p off on up) shown_of_name =
     let H = attr_history h n b a in
-    let top = (kept_is (greatest_clear H) (greatest_mark H v) p shown.2).0 in
+    let top = (kept_is (greatest_clear H) (greatest_mark H v) p shown_of_name.2).0 in
     let here : mark_in v (Marked v m) ≡ Some m = ap (λ (t : Bool). cond t (Some m) None) (same_octets v) in
     let high = greatest mark_total mark_exact (mark_in v) H p top (Marked v m) (in_attr_history h n b a (Marked v m) i) m here in
     let low = present_below p m on off up in
     cc
-deleted h c k i (of_clear n b a v s p early) shown = go (greatest_clear H) refl
+deleted h c k i (of_clear n b a v s p early) shown_of_name = go (greatest_clear H) refl
   where
     H : List AttrMark
     H = attr_history h n b a
@@ -189,4 +189,4 @@ deleted h c k i (of_clear n b a v s p early) shown = go (greatest_clear H) refl
     go None e = join_has later_stamp clear_in (attr_history h n b a) (Cleared s) at s refl e
     go (Some t) e =
         let high = greatest stamp_total stamp_exact clear_in (attr_history h n b a) t e (Cleared s) at s refl in
-        not_later p.stamp s t early high ((kept_is (greatest_clear (attr_history h n b a)) (greatest_mark (attr_history h n b a) v) p shown.2).1 t e)
+        not_later p.stamp s t early high ((kept_is (greatest_clear (attr_history h n b a)) (greatest_mark (attr_history h n b a) v) p shown_of_name.2).1 t e)

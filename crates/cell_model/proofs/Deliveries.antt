@@ -8,10 +8,10 @@ use Rattle.cell_model.specs.Cells.{Message, Cell}
 use Rattle.cell_model.specs.Commands as commands
 use Rattle.cell_model.specs.Commands.{Command, Refusal, Answer, Complete, Deliver}
 use Rattle.cell_model.specs.Turns.{HouseStep, take}
-use Rattle.cell_model.specs.Steps.{Outcome, first_refusal, unless, refused, refusals_of, effect, outcome, at_house, message_at, deliver}
+use Rattle.cell_model.specs.Steps.{Outcome, first_refusal, unless, refusal_outcome, refusals_of, effect, outcome, at_house, message_at, deliver}
 use Rattle.cell_model.specs.Steps.{replay_from, answers_from}
 use Rattle.cell_model.specs.Agreement.{place_of}
-use Rattle.cell_model.specs.Mending.{delivering, HasWorked, Completes}
+use Rattle.cell_model.specs.Mending.{deliver_commands, HasWorked, Completes}
 use Rattle.cell_model.proofs.Runs.{replay-append}
 
 -- ---- lists of commands
@@ -111,14 +111,14 @@ finish_first g m d c ds t U o e w f =
     (λ h s. subst (λ (z : Cell). Finish z m d ds t U) (sym s) f)
 
 -- so many deliveries, and then so many
-pub delivering-append : (n k p : ℕ) → delivering p (n + k) ≡ delivering p n ++ delivering (p + n) k
+pub delivering-append : (n k p : ℕ) → deliver_commands p (n + k) ≡ deliver_commands p n ++ deliver_commands (p + n) k
 delivering-append zero k p =
-    ap (λ (l : ℕ). delivering p l) (omega arith) ∙ ap (λ (q : ℕ). delivering q k) (omega arith)
+    ap (λ (l : ℕ). deliver_commands p l) (omega arith) ∙ ap (λ (q : ℕ). deliver_commands q k) (omega arith)
 delivering-append (suc n) k p =
     let sum : suc n + k ≡ suc (n + k) = omega arith in
     let place : (p + 1) + n ≡ p + suc n = omega arith in
-    ap (λ (l : ℕ). delivering p l) sum ∙ ap (λ (l : List Command). Deliver (p + 1) ∷ l)
-    (delivering-append n k (p + 1) ∙ ap (λ (q : ℕ). delivering (p + 1) n ++ delivering q k) place)
+    ap (λ (l : ℕ). deliver_commands p l) sum ∙ ap (λ (l : List Command). Deliver (p + 1) ∷ l)
+    (delivering-append n k (p + 1) ∙ ap (λ (q : ℕ). deliver_commands (p + 1) n ++ deliver_commands q k) place)
 
 -- ---- refusals
 
@@ -164,7 +164,7 @@ pub delivered : (g : Cell) (p : ℕ) (m : Message) (ms : List Message) (s : Hous
     → take (g.house m.receiver) m ≡ s → outcome g (Deliver (p + 1)) ≡ at_house g m.receiver s
 delivered g p m ms s w up e =
     ap (deliver g) (next_message g p m ms w)
-    ∙ ap (λ (b : Bool). cond (not b) (refused g commands.Down) (at_house g m.receiver (take (g.house m.receiver) m))) up
+    ∙ ap (λ (b : Bool). cond (not b) (refusal_outcome g commands.Down) (at_house g m.receiver (take (g.house m.receiver) m))) up
     ∙ ap (at_house g m.receiver) e
 
 -- what waits after the first of them was taken and others were posted, in a cell with that bag and the same losses

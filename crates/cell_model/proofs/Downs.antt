@@ -2,8 +2,8 @@
 use Rattle.std.proofs.Common.{◌≡◌, ℕ, ◌+◌, true, false, List, [], ◌∷◌, refl, sym, ap, ◌∙◌, Option}
 use Rattle.cell_model.specs.Cells.{Idle, Replica, Slot, Absent, Gone, Held, House, Cell, empty_cell, put}
 use Rattle.cell_model.specs.Commands.{Command, Answer, Accepted}
-use Rattle.cell_model.specs.Turns.{holding, grown, first_replica, epoch_replica, crashed, crashed_house, started_house}
-use Rattle.cell_model.specs.Steps.{listing, outcome, replay_from, replay}
+use Rattle.cell_model.specs.Turns.{with_slot, with_marks, first_replica, epoch_replica, crash_slot, crashed_house, started_house}
+use Rattle.cell_model.specs.Steps.{member_list_of, outcome, replay_from, replay}
 use Rattle.cell_model.specs.Agreement.{place_of}
 use Rattle.cell_model.proofs.Views.{put_at}
 use Rattle.cell_model.proofs.Moves.{new_marks, Move, stays, houses, clocks, loses, crashes, starts, acts, founds, crowns, Steps, one, mkdirs, outcome_steps}
@@ -25,7 +25,7 @@ still_put f h now v here = put_at (λ x (y : House). IsStill y) f h now here (λ
 up_still : (now : House) → now.up ≡ true → IsStill now
 up_still now up down d r at = let z : true ≡ false = sym up ∙ down in absurd (cc)
 
-crashed_still : (s : Slot) (r : Replica) → crashed s ≡ Held r → r.phase ≡ Idle
+crashed_still : (s : Slot) (r : Replica) → crash_slot s ≡ Held r → r.phase ≡ Idle
 crashed_still Absent r e = absurd (cc)
 crashed_still (Gone k) r e = absurd (cc)
 crashed_still (Held q) r e = let z : record q { phase = Idle } ≡ r = cc in ap (λ (y : Replica). y.phase) (sym z)
@@ -41,22 +41,22 @@ move_still g g' p a l v (crashes h up) =
     still_put g.house h (crashed_house (g.house h)) v (λ down d r at. crashed_still ((g.house h).slots d) r at)
 move_still g g' p a l v (starts h made) = still_put g.house h (started_house (g.house h)) v (up_still (started_house (g.house h)) refl)
 move_still g g' p a l v (acts h d _ floor o posts b n act) =
-    still_put g.house h (holding (g.house h) d floor o) v (up_still (holding (g.house h) d floor o) (act_up g h d floor o posts b n act))
+    still_put g.house h (with_slot (g.house h) d floor o) v (up_still (with_slot (g.house h) d floor o) (act_up g h d floor o posts b n act))
 move_still g g' p a l v (founds d m rs ss ns root up none) =
-    still_put g.house m (holding (g.house m) d (g.house m).floor (Held (first_replica (listing [] 1 m rs ss)))) v
-    (up_still (holding (g.house m) d (g.house m).floor (Held (first_replica (listing [] 1 m rs ss)))) up)
+    still_put g.house m (with_slot (g.house m) d (g.house m).floor (Held (first_replica (member_list_of [] 1 m rs ss)))) v
+    (up_still (with_slot (g.house m) d (g.house m).floor (Held (first_replica (member_list_of [] 1 m rs ss)))) up)
 move_still g g' p a l v (crowns d m rs ss r up known at list since) =
-    let s : Slot = Held (epoch_replica (g.top d + 1) (listing (g.present d) (g.top d + 1) m rs ss) r) in
-    still_put g.house m (holding (g.house m) d (g.house m).floor s) v (up_still (holding (g.house m) d (g.house m).floor s) up)
+    let s : Slot = Held (epoch_replica (g.top d + 1) (member_list_of (g.present d) (g.top d + 1) m rs ss) r) in
+    still_put g.house m (with_slot (g.house m) d (g.house m).floor s) v (up_still (with_slot (g.house m) d (g.house m).floor s) up)
 
 steps_still : (g g' : Cell) (p : Option (ℕ × ℕ)) (a : Answer) (l : List Accepted) → Still g → Steps g p g' a l → Still g'
 steps_still g g' p a l v (one _ _ _ m) = move_still g g' p a l v m
 steps_still g g' p a l v (mkdirs h d m u rs ss r s ns at i fine up known) =
-    let now : House = holding (g.house h) d s.time (Held (grown r (new_marks r u s))) in
+    let now : House = with_slot (g.house h) d s.time (Held (with_marks r (new_marks r u s))) in
     let f : ℕ → House = put g.house h now in
     let up_still_then : (f m).up ≡ true = put_at (λ x (y : House). (g.house x).up ≡ true → y.up ≡ true) g.house h now (λ e. e) (λ x _ e. e) m up in
-    still_put f m (holding (f m) g.next_dir (f m).floor (Held (first_replica (listing [] 1 m rs ss)))) (still_put g.house h now v (up_still now i.up))
-    (up_still (holding (f m) g.next_dir (f m).floor (Held (first_replica (listing [] 1 m rs ss)))) up_still_then)
+    still_put f m (with_slot (f m) g.next_dir (f m).floor (Held (first_replica (member_list_of [] 1 m rs ss)))) (still_put g.house h now v (up_still now i.up))
+    (up_still (with_slot (f m) g.next_dir (f m).floor (Held (first_replica (member_list_of [] 1 m rs ss)))) up_still_then)
 
 run_still : (cs : List Command) (g : Cell) → Still g → Still (replay_from g cs)
 run_still [] g v = v

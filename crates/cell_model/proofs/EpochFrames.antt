@@ -5,7 +5,7 @@ use Rattle.cds_stamps.specs.Members.{Member, master_of, others_of, is_listed, si
 use Rattle.cell_model.specs.Cells.{Replica, Gone, Held, Join, Leave, Message, Cell, IsHeld, put, no_house}
 use Rattle.cell_model.specs.Sets.{In, has}
 use Rattle.cell_model.specs.Turns.{to_each, copy_of, first_replica, epoch_replica}
-use Rattle.cell_model.specs.Steps.{listing, leaving}
+use Rattle.cell_model.specs.Steps.{member_list_of, left_members}
 use Rattle.cell_model.proofs.Lists.{In-append_cases}
 use Rattle.cell_model.proofs.Terms.{Listed, listed_at, since_listed, In-others_of, master_new, master_listed, since_new, listed_before, leaving_out}
 use Rattle.cell_model.proofs.Facts.{Seat, View, view, Roll, Reached, Good, Sound, Past, crowned, founded, own, New, Frame}
@@ -26,7 +26,7 @@ pub record Whole (home : ℕ → ℕ) (g : Cell) : Type 0 where
 
 -- ---- one more epoch
 
-good_next : (roll : Roll) (top k m : ℕ) (rs ss : List ℕ) → k ≡ suc top → Good roll top → roll.list k ≡ listing (roll.list top) k m rs ss
+good_next : (roll : Roll) (top k m : ℕ) (rs ss : List ℕ) → k ≡ suc top → Good roll top → roll.list k ≡ member_list_of (roll.list top) k m rs ss
     → (1 ≤ top → (b : ℕ) × Listed (roll.list top) m b) → Good roll k
 good_next roll top k m rs ss next g new head = record {
   none = g.none;
@@ -73,12 +73,12 @@ heads_next roll v m floor k q next ep head e le = ⊎_elim
 
 -- a new directory
 module _ (roll : Roll) (g : Cell) (d m : ℕ) (rs ss : List ℕ) (w : Whole roll.home g) (s : Sound roll (view d g)) (none : g.top d ≡ 0)
-    (fit : listing [] 1 m rs ss ≡ roll.list 1) where
+    (fit : member_list_of [] 1 m rs ss ≡ roll.list 1) where
   abbrev v : View
   v = view d g
 
   abbrev ms : List Member
-  ms = listing [] 1 m rs ss
+  ms = member_list_of [] 1 m rs ss
 
   abbrev q : Replica
   q = first_replica ms
@@ -116,18 +116,18 @@ module _ (roll : Roll) (g : Cell) (d m : ℕ) (rs ss : List ℕ) (w : Whole roll
       (fit, (since_in ms x 0, subst (λ (z : List Member). Listed z x (since_in ms x 0)) fit l), λ k i. i)))
       (omega (arith, none))
       (good_next roll 0 1 m rs ss refl (subst (λ (z : ℕ). Good roll z) none s.good) (sym fit
-      ∙ ap (λ (z : List Member). listing z 1 m rs ss) empty) (λ z. absurd (omega arith)))
+      ∙ ap (λ (z : List Member). member_list_of z 1 m rs ss) empty) (λ z. absurd (omega arith)))
       fit
       (heads_next roll v m (g.house m).floor 1 q (ap suc (sym none)) refl (ap master_of (sym fit) ∙ master_new [] 1 m rs ss))
 
 -- a new epoch
 module _ (roll : Roll) (g : Cell) (d m k : ℕ) (rs ss : List ℕ) (r : Replica) (next : k ≡ suc (g.top d)) (s : Sound roll (view d g)) (at : IsHeld g m d r)
-    (l : is_listed m (g.present d) ≡ true) (since : since_in (g.present d) m 0 ≤ r.epoch) (fit : listing (g.present d) k m rs ss ≡ roll.list k) where
+    (l : is_listed m (g.present d) ≡ true) (since : since_in (g.present d) m 0 ≤ r.epoch) (fit : member_list_of (g.present d) k m rs ss ≡ roll.list k) where
   abbrev v2 : View
   v2 = view d g
 
   abbrev ms2 : List Member
-  ms2 = listing (g.present d) k m rs ss
+  ms2 = member_list_of (g.present d) k m rs ss
 
   abbrev q2 : Replica
   q2 = epoch_replica k ms2 r
@@ -154,8 +154,8 @@ module _ (roll : Roll) (g : Cell) (d m k : ℕ) (rs ss : List ℕ) (r : Replica)
       (λ x o. let lx = listed_at ms2 x (In-others_of x m ms2 o).1 in
       (fit, (since_in ms2 x 0, subst (λ (z : List Member). Listed z x (since_in ms2 x 0)) fit lx), λ j z. z)) p i
 
-  leavers : (p : Message) → In p (to_each (leaving (g.present d) ms2) d m k (g.house m).floor Leave) → New roll v2 after2 [] p
-  leavers p i = new_each roll v2 [] m (g.house m).floor (Held q2) (epoch_told g d m k ms2 r) k ms2 s q2 refl (leaving (g.present d) ms2) d k
+  leavers : (p : Message) → In p (to_each (left_members (g.present d) ms2) d m k (g.house m).floor Leave) → New roll v2 after2 [] p
+  leavers p i = new_each roll v2 [] m (g.house m).floor (Held q2) (epoch_told g d m k ms2 r) k ms2 s q2 refl (left_members (g.present d) ms2) d k
       (g.house m).floor Leave refl refl (λ j z. elim z [ ]) (inr (λ j z. elim z [ ])) (λ c e. cc)
       (λ x o b lb. let out = leaving_out x (g.present d) ms2 o in let lb' : Listed ms2 x b = subst (λ (z : List Member). Listed z x b) (sym fit) lb in
       let within : is_listed x ms2 ≡ true = lb'.0 in absurd (cc)) p i
@@ -170,7 +170,7 @@ module _ (roll : Roll) (g : Cell) (d m k : ℕ) (rs ss : List ℕ) (r : Replica)
       (λ j i. own r at i (omega (arith, low)) cont (λ k z. z)))
       (λ p i. ⊎_elim (joins p) (leavers p) (In-append_cases p _ _ i))
       (omega (arith, next))
-      (good_next roll (g.top d) k m rs ss next s.good (sym fit ∙ ap (λ (z : List Member). listing z k m rs ss) s.present)
+      (good_next roll (g.top d) k m rs ss next s.good (sym fit ∙ ap (λ (z : List Member). member_list_of z k m rs ss) s.present)
       (λ _. (since_in (g.present d) m 0, subst (λ (z : List Member). Listed z m (since_in (g.present d) m 0)) s.present (listed_at (g.present d) m l))))
       fit
       (heads_next roll v2 m (g.house m).floor k q2 next refl (ap master_of (sym fit) ∙ master_new (g.present d) k m rs ss))

@@ -5,12 +5,12 @@ use Rattle.cds_stamps.specs.declared.members.MemberKind.{MemberKind}
 use Rattle.cds_stamps.specs.declared.stamp.Stamp.{Stamp}
 use Rattle.cds_stamps.specs.Members.{Member}
 use Rattle.attr_sets.specs.declared.mark.ValueMark.{ValueMark}
-use Rattle.attr_sets.specs.Marks.{kept}
-use Rattle.attr_sets.specs.Cells.{AttrMark, greatest_clear, greatest_mark}
+use Rattle.attr_sets.specs.Marks.{mark_after_clear}
+use Rattle.attr_sets.specs.AttributeCells.{AttrMark, greatest_clear, greatest_mark}
 use Rattle.directory.specs.declared.entry.EntryCell.{EntryCell}
 use Rattle.directory.specs.Histories.{entry_of, attr_history}
 use Rattle.directory.specs.Purges.{entry_left}
-use Rattle.directory.specs.Shown.{Shown, shown}
+use Rattle.directory.specs.Shown.{Shown, shown_of_name}
 use Rattle.cell_model.specs.Cells.{Replica, Slot, Absent, Gone, Held, Cell}
 
 -- a stamp by time and node, and a member by house and since
@@ -33,11 +33,11 @@ replica_at g h d = if (g.house h).up then replica_in ((g.house h).slots d) else 
 
 -- the greatest mark of a value is present, and not earlier than a clear
 abbrev pub is_present : List AttrMark → List ℕ → Bool
-is_present h v = option_map_or (λ (m : ValueMark). m.present) (kept (greatest_clear h) (greatest_mark h v)) false
+is_present h v = option_map_or (λ (m : ValueMark). m.present) (mark_after_clear (greatest_clear h) (greatest_mark h v)) false
 
 -- where the entry n shows: the value v of its attribute a shows
 abbrev pub value_of : (n a v : List ℕ) → Replica → Option Bool
-value_of n a v r = option_map (λ (e : Shown). is_present (attr_history r.history n e.birth a) v) (shown r.history n)
+value_of n a v r = option_map (λ (e : Shown). is_present (attr_history r.history n e.birth a) v) (shown_of_name r.history n)
 
 -- and at a house
 abbrev pub value_at : Cell → (h d : ℕ) → (n a v : List ℕ) → Option Bool

@@ -3,7 +3,7 @@ use Rattle.std.proofs.Common.{◌≡◌, ℕ, true, false, List, [], ◌∷◌, 
 use Rattle.std.specs.Prelude.{Some, None, codes}
 use Rattle.cds_stamps.specs.declared.members.MemberKind.TheVariants.{Master, ReadOnly, Secondary}
 use Rattle.cds_stamps.specs.Members.{Member, master_of, others_of, is_accepting, since_in}
-use Rattle.attr_sets.specs.Cells.{Marked}
+use Rattle.attr_sets.specs.AttributeCells.{Marked}
 use Rattle.directory.specs.declared.entry.Kind.TheVariants.{Object}
 use Rattle.directory.specs.Histories.{Mark, Birth, Attr}
 use Rattle.directory.specs.declared.update.UpdateRefusal.TheVariants.{NotMaster}
@@ -11,7 +11,7 @@ use Rattle.directory.specs.Updates.{Create, MakeLink}
 use Rattle.cell_model.specs.Cells.{Gathered, Message}
 use Rattle.cell_model.specs.Commands.{Command, House, Root, Mkdir, Accept, Skulk, Deliver, Crash, BadMembers, Down, NoDirectory, Update, Done, Posted, Made, Stamped, Taken, Refused}
 use Rattle.cell_model.specs.Sets.{IsUpTo}
-use Rattle.cell_model.specs.Steps.{listing, leaving, is_bad_list, answers}
+use Rattle.cell_model.specs.Steps.{member_list_of, left_members, is_bad_list, answers}
 use Rattle.cell_model.specs.Agreement.{IsShown, Covers, of_absence}
 use Rattle.cell_model.specs.Rounds.{first_answer}
 use Rattle.cell_model.proofs.ExampleWords.{at, listed}
@@ -20,7 +20,7 @@ use Rattle.cell_model.proofs.ExampleWords.{at, listed}
 
 -- house 2 is master of 1 and 3, in the first epoch
 abbrev three : List Member
-three = listing [] 1 2 (3 ∷ 1 ∷ []) []
+three = member_list_of [] 1 2 (3 ∷ 1 ∷ []) []
 
 three-list : three ≡ listed 1 1 ReadOnly ∷ listed 2 1 Master ∷ listed 3 1 ReadOnly ∷ []
 three-list = refl
@@ -42,23 +42,23 @@ no_others = refl
 
 -- epoch 5 with master 3, house 2 and a new house 4: who was listed keeps its since, and house 1 leaves
 abbrev next : List Member
-next = listing three 5 3 (4 ∷ 2 ∷ []) []
+next = member_list_of three 5 3 (4 ∷ 2 ∷ []) []
 
 next-list : next ≡ listed 2 1 ReadOnly ∷ listed 3 1 Master ∷ listed 4 5 ReadOnly ∷ []
 next-list = refl
 
-next-leaving : leaving three next ≡ 1 ∷ []
+next-leaving : left_members three next ≡ 1 ∷ []
 next-leaving = refl
 
 -- a master, a read-only house and two secondary ones
 abbrev mixed : List Member
-mixed = listing [] 1 2 (3 ∷ 1 ∷ 4 ∷ []) (4 ∷ 3 ∷ [])
+mixed = member_list_of [] 1 2 (3 ∷ 1 ∷ 4 ∷ []) (4 ∷ 3 ∷ [])
 
 mixed-list : mixed ≡ listed 1 1 ReadOnly ∷ listed 2 1 Master ∷ listed 3 1 Secondary ∷ listed 4 1 Secondary ∷ []
 mixed-list = refl
 
 -- in epoch 6 two of them are another kind, and keep their since; the master is no secondary house of its own list
-turned : listing mixed 6 3 (2 ∷ 4 ∷ []) (2 ∷ 3 ∷ 9 ∷ []) ≡ listed 2 1 Secondary ∷ listed 3 1 Master ∷ listed 4 1 ReadOnly ∷ []
+turned : member_list_of mixed 6 3 (2 ∷ 4 ∷ []) (2 ∷ 3 ∷ 9 ∷ []) ≡ listed 2 1 Secondary ∷ listed 3 1 Master ∷ listed 4 1 ReadOnly ∷ []
 turned = refl
 
 -- a house that stands twice

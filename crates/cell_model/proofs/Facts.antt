@@ -8,7 +8,7 @@ use Rattle.cell_model.specs.Cells.{SpreadAck, Advance, Join, Leave, Message, Cel
 pub use Rattle.cell_model.specs.Bodies.{marks_in, round_of, up_to_in, copy_in}
 use Rattle.cell_model.specs.Commands.{Accepted}
 use Rattle.cell_model.specs.Sets.{In, IsPart}
-use Rattle.cell_model.specs.Turns.{running, copy_of}
+use Rattle.cell_model.specs.Turns.{running_skulk_stamp, copy_of}
 use Rattle.cell_model.proofs.Terms.{Listed, others}
 
 -- ---- one directory
@@ -76,8 +76,8 @@ pub record HeldOk (roll : Roll) (g : View) (x : ℕ) (r : Replica) : Type 0 wher
   pub members : r.members ≡ roll.list r.epoch
   pub listed : (s : ℕ) × Listed (roll.list r.epoch) x s
   pub floors : (k : Mark) → In k r.history → (stamp_in k).time ≤ (g.house x).floor
-  pub phase : (t : Stamp) → running r.phase ≡ Some t → (master_of r.members ≡ x) × (roll.home t.node ≡ x) × (t.time ≤ (g.house x).floor)
-  pub own : (t : Stamp) → running r.phase ≡ Some t → (m : Message) → IsPosted g m → round_of m.body ≡ Some t → m.epoch ≡ r.epoch
+  pub phase : (t : Stamp) → running_skulk_stamp r.phase ≡ Some t → (master_of r.members ≡ x) × (roll.home t.node ≡ x) × (t.time ≤ (g.house x).floor)
+  pub own : (t : Stamp) → running_skulk_stamp r.phase ≡ Some t → (m : Message) → IsPosted g m → round_of m.body ≡ Some t → m.epoch ≡ r.epoch
 
 -- what a posted message is, by its body
 abbrev pub Kind : Roll → Message → Body → Type 0

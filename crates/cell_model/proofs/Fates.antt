@@ -6,9 +6,9 @@ use Rattle.cell_model.specs.Cells.{Idle, Replica, Slot, Absent, Gone, Held, Hous
 use Rattle.cell_model.specs.Commands as command
 use Rattle.cell_model.specs.Commands.{Command, Answer, Taken, Accepted}
 use Rattle.cell_model.specs.Sets.{In, IsPart, has}
-use Rattle.cell_model.specs.Turns.{HouseStep, holding, grown, merged, copied, kept_at_join, floor_after, crashed, crashed_house, started_house}
+use Rattle.cell_model.specs.Turns.{HouseStep, with_slot, with_marks, merge_copy, replica_of_copy, kept_at_join, floor_after, crash_slot, crashed_house, started_house}
 use Rattle.cell_model.specs.Turns.{first_replica, epoch_replica, take}
-use Rattle.cell_model.specs.Steps.{refused, at_house, deliver, message_at, is_down, listing, outcome, replay}
+use Rattle.cell_model.specs.Steps.{refusal_outcome, at_house, deliver, message_at, is_down, member_list_of, outcome, replay}
 use Rattle.cell_model.specs.Agreement.{place_of}
 use Rattle.cell_model.specs.Provenance.{Delivers, TakesCopy, TakesLeave}
 use Rattle.cell_model.proofs.Lists.{In-append_left}
@@ -37,15 +37,15 @@ same_fates g c x d r at = keeps r at (λ j i. i)
 -- another slot of one house, after houses were changed in other ways
 then_slot : (g : Cell) (c : Command) (f : ℕ → House) (h e floor : ℕ) (o : Slot)
     → ((x d : ℕ) (r : Replica) → IsHeld g x d r → Fate g c x d r ((f x).slots d)) → ((r : Replica) → IsHeld g h e r → Fate g c h e r o)
-    → (x d : ℕ) (r : Replica) → IsHeld g x d r → Fate g c x d r ((put f h (holding (f h) e floor o) x).slots d)
+    → (x d : ℕ) (r : Replica) → IsHeld g x d r → Fate g c x d r ((put f h (with_slot (f h) e floor o) x).slots d)
 then_slot g c f h e floor o first here x d r at =
-    put_at (λ y (v : House). (k : ℕ) (q : Replica) → IsHeld g y k q → Fate g c y k q (v.slots k)) f h (holding (f h) e floor o)
+    put_at (λ y (v : House). (k : ℕ) (q : Replica) → IsHeld g y k q → Fate g c y k q (v.slots k)) f h (with_slot (f h) e floor o)
     (λ k q z. put_at (λ l (s : Slot). (p : Replica) → IsHeld g h l p → Fate g c h l p s) (f h).slots e o here (λ l _ p w. first h l p w) k q z)
     (λ y _ k q z. first y k q z) x d r at
 
 -- another slot of one house
 slot_fates : (g : Cell) (c : Command) (h e floor : ℕ) (o : Slot) → ((r : Replica) → IsHeld g h e r → Fate g c h e r o) → (x d : ℕ) (r : Replica)
-    → IsHeld g x d r → Fate g c x d r ((put g.house h (holding (g.house h) e floor o) x).slots d)
+    → IsHeld g x d r → Fate g c x d r ((put g.house h (with_slot (g.house h) e floor o) x).slots d)
 slot_fates g c h e floor o here = then_slot g c g.house h e floor o (same_fates g c) here
 
 -- a slot holds one replica
@@ -77,26 +77,26 @@ module _ (g : Cell) (n : ℕ) (m : Message) (at : message_at g n ≡ Some m) whe
   delivered = (n, refl, at)
 
   grown_row : (q q' : Replica) → IsHeld g m.receiver m.dir q → IsPart q.history q'.history → (x d : ℕ) (r : Replica) → IsHeld g x d r
-      → Fate g this x d r ((put g.house m.receiver (holding now m.dir (floor_after now m) (Held q')) x).slots d)
+      → Fate g this x d r ((put g.house m.receiver (with_slot now m.dir (floor_after now m) (Held q')) x).slots d)
   grown_row q q' held sub = slot_fates g this m.receiver m.dir (floor_after now m) (Held q') (grown_fate g this m.receiver m.dir q q' held sub)
 
   row_fates : (s : HouseStep) → rows.Row now m s → Fates g this (at_house g m.receiver s).cell
   row_fates s (rows.passes a q) = same_fates g this
   row_fates s (rows.unlisted r held epoch out) = same_fates g this
   row_fates s (rows.outside ms copy is out) = same_fates g this
-  row_fates s (rows.updates marks r k) = grown_row r (grown r marks) k.held (left_part r.history marks)
+  row_fates s (rows.updates marks r k) = grown_row r (with_marks r marks) k.held (left_part r.history marks)
   row_fates s (rows.gives t r k) = grown_row r r k.held (λ j i. i)
   row_fates s (rows.gathers t copy a r k run) = grown_row r _ k.held (left_part r.history copy.history)
   row_fates s (rows.turns t copy a r k run all) = grown_row r _ k.held (left_part r.history copy.history)
-  row_fates s (rows.gathers_again t copy a r k run) = grown_row r (merged r copy) k.held (left_part r.history copy.history)
-  row_fates s (rows.spreads t copy r k) = grown_row r (merged r copy) k.held (left_part r.history copy.history)
+  row_fates s (rows.gathers_again t copy a r k run) = grown_row r (merge_copy r copy) k.held (left_part r.history copy.history)
+  row_fates s (rows.spreads t copy r k) = grown_row r (merge_copy r copy) k.held (left_part r.history copy.history)
   row_fates s (rows.acks_early t a r k run) = grown_row r r k.held (λ j i. i)
   row_fates s (rows.acks t a r k run) = grown_row r _ k.held (λ j i. i)
   row_fates s (rows.completes t a r k run all) = grown_row r _ k.held (λ j i. i)
   row_fates s (rows.advances t r k) = grown_row r _ k.held (λ j i. i)
   row_fates s (rows.keeps ms copy r k held le since) = grown_row r (kept_at_join m ms copy r) held (left_part r.history copy.history)
   row_fates s (rows.copies ms copy k low) =
-      slot_fates g this m.receiver m.dir (floor_after now m) (Held (copied m ms copy)) (λ r held. copies (copied m ms copy) refl (record {
+      slot_fates g this m.receiver m.dir (floor_after now m) (Held (replica_of_copy m ms copy)) (λ r held. copies (replica_of_copy m ms copy) refl (record {
         message = m;
         members = ms;
         copy = copy;
@@ -123,7 +123,7 @@ deliver_fates : (g : Cell) (n : ℕ) (o : Option Message) → message_at g n ≡
 deliver_fates g n None at = same_fates g (command.Deliver n)
 deliver_fates g n (Some m) at = by_down (is_down g m.receiver)
   where
-    by_down : (b : Bool) → Fates g (command.Deliver n) (cond b (refused g command.Down) (at_house g m.receiver (take (g.house m.receiver) m))).cell
+    by_down : (b : Bool) → Fates g (command.Deliver n) (cond b (refusal_outcome g command.Down) (at_house g m.receiver (take (g.house m.receiver) m))).cell
     by_down true = same_fates g (command.Deliver n)
     by_down false = row_fates g n m at _ (rows.take_row (g.house m.receiver) m)
 
@@ -163,22 +163,22 @@ move_fates g g' c p a l w untaken (houses h node free) =
 move_fates g g' c p a l w untaken (clocks h time made) = house_fates g c h (record (g.house h) { clock = time }) (λ d r at. keeps r at (λ j i. i))
 move_fates g g' c p a l w untaken (loses i) = same_fates g c
 move_fates g g' c p a l w untaken (crashes h up) =
-    house_fates g c h (crashed_house (g.house h)) (λ d r at. keeps (record r { phase = Idle }) (ap crashed at) (λ j i. i))
+    house_fates g c h (crashed_house (g.house h)) (λ d r at. keeps (record r { phase = Idle }) (ap crash_slot at) (λ j i. i))
 move_fates g g' c p a l w untaken (starts h made) = house_fates g c h (started_house (g.house h)) (λ d r at. keeps r at (λ j i. i))
 move_fates g g' c p a l w untaken (acts h d _ floor o posts b n act) = slot_fates g c h d floor o (act_fate g c h d floor o posts b n untaken act)
 move_fates g g' c p a l w untaken (founds d m rs ss ns root up none) =
-    slot_fates g c m d (g.house m).floor (Held (first_replica (listing [] 1 m rs ss))) (λ r at. absurd (w.free d m r none at))
+    slot_fates g c m d (g.house m).floor (Held (first_replica (member_list_of [] 1 m rs ss))) (λ r at. absurd (w.free d m r none at))
 move_fates g g' c p a l w untaken (crowns d m rs ss r up known at list since) =
-    slot_fates g c m d (g.house m).floor (Held (epoch_replica (g.top d + 1) (listing (g.present d) (g.top d + 1) m rs ss) r))
-    (grown_fate g c m d r (epoch_replica (g.top d + 1) (listing (g.present d) (g.top d + 1) m rs ss) r) at (λ j i. i))
+    slot_fates g c m d (g.house m).floor (Held (epoch_replica (g.top d + 1) (member_list_of (g.present d) (g.top d + 1) m rs ss) r))
+    (grown_fate g c m d r (epoch_replica (g.top d + 1) (member_list_of (g.present d) (g.top d + 1) m rs ss) r) at (λ j i. i))
 
 steps_fates : (g g' : Cell) (c : Command) (p : Option (ℕ × ℕ)) (a : Answer) (l : List Accepted) → Ground g → g.top g.next_dir ≡ 0 → IsUntaken a
     → Steps g p g' a l → Fates g c g'
 steps_fates g g' c p a l w none untaken (one _ _ _ m) = move_fates g g' c p a l w untaken m
 steps_fates g g' c p a l w none untaken (mkdirs h d m u rs ss r s ns at i fine up known) =
-    let q : Replica = grown r (new_marks r u s) in
-    let f : ℕ → House = put g.house h (holding (g.house h) d s.time (Held q)) in
-    then_slot g c f m g.next_dir (f m).floor (Held (first_replica (listing [] 1 m rs ss)))
+    let q : Replica = with_marks r (new_marks r u s) in
+    let f : ℕ → House = put g.house h (with_slot (g.house h) d s.time (Held q)) in
+    then_slot g c f m g.next_dir (f m).floor (Held (first_replica (member_list_of [] 1 m rs ss)))
     (slot_fates g c h d s.time (Held q) (grown_fate g c h d r q i.held (left_part r.history (new_marks r u s))))
     (λ n t. absurd (w.free g.next_dir m n none t))
 

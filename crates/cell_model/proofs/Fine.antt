@@ -11,15 +11,15 @@ use Rattle.directory.specs.declared.update.UpdateRefusal.{UpdateRefusal}
 use Rattle.directory.specs.declared.update.UpdateRefusal.TheVariants.{NotMaster}
 use Rattle.directory.specs.Histories.{Mark, IsHistory, IsBefore, CanMerge, stamp_in, born_in, up_to}
 use Rattle.directory.specs.Updates.{Change, changed_name}
-use Rattle.directory.specs.Shown.{Shown, shown, refusal_of}
+use Rattle.directory.specs.Shown.{Shown, shown_of_name, refusal_of}
 use Rattle.directory.proofs.UpdateLaws.{marks_of-history, marks_of-together}
 use Rattle.cell_model.specs.Cells.{Phase, Idle, Gathering, Spreading, Replica, Slot, Absent, Gone, Held, House, Copy, Body, Update, Gathered, Spread, Join}
 use Rattle.cell_model.specs.Cells.{Message}
 use Rattle.cell_model.specs.Bodies.{marks_in, up_to_in, round_of}
 use Rattle.cell_model.specs.Sets.{In, IsUpTo}
-use Rattle.cell_model.specs.Turns.{HouseStep, Stays, Turns, refuses, unless_refused, holding, grown, merged, raised, running, stamp_at, first_replica}
-use Rattle.cell_model.specs.Turns.{found, accept_at, update_refusal, accept_in, accept, begin, skulk_at, skulk_in, skulk, epoch_replica, new_epoch_in}
-use Rattle.cell_model.specs.Turns.{new_epoch, floor_after, copied, kept_at_join, take}
+use Rattle.cell_model.specs.Turns.{HouseStep, Stays, Turns, refuses, unless_refused, with_slot, with_marks, merge_copy, later_up_to, running_skulk_stamp, stamp_at, first_replica}
+use Rattle.cell_model.specs.Turns.{found_directory, accept_at, update_refusal, accept_in, accept, begin, skulk_at, skulk_in, skulk, epoch_replica, new_epoch_in}
+use Rattle.cell_model.specs.Turns.{new_epoch, floor_after, replica_of_copy, kept_at_join, take}
 use Rattle.cell_model.specs.Merges.{of_update, of_gathered, of_spread, of_join}
 use Rattle.cell_model.specs.Floors.{IsBelow, ReplicaBelow}
 use Rattle.cell_model.specs.Taking.{CanTake}
@@ -61,7 +61,7 @@ below_later r a b le w = record {
 
 -- more marks
 pub grown_below : (r : Replica) (marks : List Mark) (floor : ℕ) → ReplicaBelow r floor → ((k : Mark) → In k marks → IsBelow k floor)
-    → ReplicaBelow (grown r marks) floor
+    → ReplicaBelow (with_marks r marks) floor
 grown_below r marks floor w new = record {
   marks = λ k i. ⊎_elim (λ old. w.marks k old) (λ more. new k more) (In-append_cases k r.history marks i);
   all_up_to = w.all_up_to;
@@ -69,7 +69,7 @@ grown_below r marks floor w new = record {
 }
 
 -- another phase
-pub phase_below : (r : Replica) (p : Phase) (floor : ℕ) → ReplicaBelow r floor → ((t : Stamp) → running p ≡ Some t → t.time ≤ floor)
+pub phase_below : (r : Replica) (p : Phase) (floor : ℕ) → ReplicaBelow r floor → ((t : Stamp) → running_skulk_stamp p ≡ Some t → t.time ≤ floor)
     → ReplicaBelow (record r { phase = p }) floor
 phase_below r p floor w run = record { marks = w.marks; all_up_to = w.all_up_to; phase = run }
 
@@ -79,7 +79,7 @@ idle_below r floor w = record { marks = w.marks; all_up_to = w.all_up_to; phase 
 
 -- the later AllUpTo
 pub raised_below : (r : Replica) (t : Stamp) (floor : ℕ) → ReplicaBelow r floor → t.time ≤ floor
-    → ReplicaBelow (record r { all_up_to = raised r.all_up_to t }) floor
+    → ReplicaBelow (record r { all_up_to = later_up_to r.all_up_to t }) floor
 raised_below r t floor w le = record {
   marks = w.marks;
   all_up_to = λ s e. ⊎_elim (λ (l : r.all_up_to ≡ Some s). w.all_up_to s l)
@@ -90,7 +90,7 @@ raised_below r t floor w le = record {
 
 -- a copy that is joined in
 pub merged_below : (r : Replica) (copy : Copy) (floor : ℕ) → ReplicaBelow r floor → ((k : Mark) → In k copy.history → IsBelow k floor)
-    → ((t : Stamp) → copy.all_up_to ≡ Some t → t.time ≤ floor) → ReplicaBelow (merged r copy) floor
+    → ((t : Stamp) → copy.all_up_to ≡ Some t → t.time ≤ floor) → ReplicaBelow (merge_copy r copy) floor
 merged_below r copy floor w marks up = record {
   marks = λ k i. ⊎_elim (λ old. w.marks k old) (λ more. marks k more) (In-append_cases k r.history copy.history i);
   all_up_to = λ t e. ⊎_elim (λ l. w.all_up_to t l) (λ l. up t l) (later_is r.all_up_to copy.all_up_to t e);
@@ -99,11 +99,11 @@ merged_below r copy floor w marks up = record {
 
 -- ---- the slot that a step leaves
 
-after_held : (now : House) (d floor : ℕ) (q : Replica) → Fine floor q → FineSlot floor ((holding now d floor (Held q)).slots d)
+after_held : (now : House) (d floor : ℕ) (q : Replica) → Fine floor q → FineSlot floor ((with_slot now d floor (Held q)).slots d)
 after_held now d floor q w r at =
     let z : Held q ≡ Held r = sym (put_same now.slots d (Held q)) ∙ at in let same : q ≡ r = cc in subst (Fine floor) same w
 
-after_gone : (now : House) (d floor e : ℕ) → FineSlot floor ((holding now d floor (Gone e)).slots d)
+after_gone : (now : House) (d floor e : ℕ) → FineSlot floor ((with_slot now d floor (Gone e)).slots d)
 after_gone now d floor e r at = let z : Gone e ≡ Held r = sym (put_same now.slots d (Gone e)) ∙ at in absurd (cc)
 
 -- ---- messages
@@ -131,11 +131,11 @@ module _ (now : House) (m : Message) (can : CanTake now m) (fine : FineSlot now.
   its_round b is t e = le_trans (can.below.round t (ap round_of is ∙ e)) its_le
 
   joined_in : (b : Body) (r : Replica) (copy : Copy) → m.body ≡ b → marks_in b ≡ copy.history → up_to_in b ≡ copy.all_up_to → now.slots m.dir ≡ Held r
-      → ReplicaBelow (merged r copy) floor
+      → ReplicaBelow (merge_copy r copy) floor
   joined_in b r copy is marks up held =
       merged_below r copy floor (old r held) (λ k i. its_marks b is k (subst (λ (l : List Mark). In k l) (sym marks) i)) (λ t e. its_up b is t (up ∙ e))
 
-  stamp_phase : (p : Phase) (t : Stamp) → running p ≡ Some t → t.time ≤ floor → (s : Stamp) → running p ≡ Some s → s.time ≤ floor
+  stamp_phase : (p : Phase) (t : Stamp) → running_skulk_stamp p ≡ Some t → t.time ≤ floor → (s : Stamp) → running_skulk_stamp p ≡ Some s → s.time ≤ floor
   stamp_phase p t is le s e = let z : Some t ≡ Some s = sym is ∙ e in let same : t ≡ s = cc in subst (λ (z : Stamp). z.time ≤ floor) same le
 
   pub row_fine : (s : HouseStep) → rows.Row now m s → FineAfter m.dir s
@@ -143,30 +143,30 @@ module _ (now : House) (m : Message) (can : CanTake now m) (fine : FineSlot now.
   row_fine s (rows.unlisted r held epoch out) = tt
   row_fine s (rows.outside ms copy is out) = tt
   row_fine s (rows.updates marks r k) =
-      after_held now m.dir floor (grown r marks) (record {
+      after_held now m.dir floor (with_marks r marks) (record {
         history = (can.merges r marks r.all_up_to k.held (of_update marks k.is k.epoch)).both;
         below = grown_below r marks floor (old r k.held) (its_marks (Update marks) k.is);
       })
   row_fine s (rows.gives t r k) = after_held now m.dir floor r (record { history = (fine r k.held).history; below = old r k.held })
   row_fine s (rows.gathers t copy a r k run) =
-      after_held now m.dir floor (record (merged r copy) { phase = Gathering t (m.sender ∷ a) }) (record {
+      after_held now m.dir floor (record (merge_copy r copy) { phase = Gathering t (m.sender ∷ a) }) (record {
         history = (can.merges r copy.history (maybe later_stamp r.all_up_to copy.all_up_to) k.held (of_gathered t copy k.is k.epoch)).both;
-        below = phase_below (merged r copy) (Gathering t (m.sender ∷ a)) floor (joined_in (Gathered t copy) r copy k.is refl refl k.held)
+        below = phase_below (merge_copy r copy) (Gathering t (m.sender ∷ a)) floor (joined_in (Gathered t copy) r copy k.is refl refl k.held)
             (stamp_phase (Gathering t (m.sender ∷ a)) t refl (its_round (Gathered t copy) k.is t refl));
       })
   row_fine s (rows.turns t copy a r k run all) =
-      after_held now m.dir floor (record (merged r copy) { phase = Spreading t [] }) (record {
+      after_held now m.dir floor (record (merge_copy r copy) { phase = Spreading t [] }) (record {
         history = (can.merges r copy.history (maybe later_stamp r.all_up_to copy.all_up_to) k.held (of_gathered t copy k.is k.epoch)).both;
-        below = phase_below (merged r copy) (Spreading t []) floor (joined_in (Gathered t copy) r copy k.is refl refl k.held)
+        below = phase_below (merge_copy r copy) (Spreading t []) floor (joined_in (Gathered t copy) r copy k.is refl refl k.held)
             (stamp_phase (Spreading t []) t refl (its_round (Gathered t copy) k.is t refl));
       })
   row_fine s (rows.gathers_again t copy a r k run) =
-      after_held now m.dir floor (merged r copy) (record {
+      after_held now m.dir floor (merge_copy r copy) (record {
         history = (can.merges r copy.history (maybe later_stamp r.all_up_to copy.all_up_to) k.held (of_gathered t copy k.is k.epoch)).both;
         below = joined_in (Gathered t copy) r copy k.is refl refl k.held;
       })
   row_fine s (rows.spreads t copy r k) =
-      after_held now m.dir floor (merged r copy) (record {
+      after_held now m.dir floor (merge_copy r copy) (record {
         history = (can.merges r copy.history (maybe later_stamp r.all_up_to copy.all_up_to) k.held (of_spread t copy k.is k.epoch)).both;
         below = joined_in (Spread t copy) r copy k.is refl refl k.held;
       })
@@ -178,17 +178,17 @@ module _ (now : House) (m : Message) (can : CanTake now m) (fine : FineSlot now.
             (stamp_phase (Spreading t (m.sender ∷ a)) t refl (its_round _ k.is t refl));
       })
   row_fine s (rows.completes t a r k run all) =
-      after_held now m.dir floor (record r { all_up_to = raised r.all_up_to t; phase = Idle }) (record {
+      after_held now m.dir floor (record r { all_up_to = later_up_to r.all_up_to t; phase = Idle }) (record {
         history = (fine r k.held).history;
-        below = idle_below (record r { all_up_to = raised r.all_up_to t }) floor (raised_below r t floor (old r k.held) (its_round _ k.is t refl));
+        below = idle_below (record r { all_up_to = later_up_to r.all_up_to t }) floor (raised_below r t floor (old r k.held) (its_round _ k.is t refl));
       })
   row_fine s (rows.advances t r k) =
-      after_held now m.dir floor (record r { all_up_to = raised r.all_up_to t }) (record {
+      after_held now m.dir floor (record r { all_up_to = later_up_to r.all_up_to t }) (record {
         history = (fine r k.held).history;
         below = raised_below r t floor (old r k.held) (its_up _ k.is t refl);
       })
   row_fine s (rows.copies ms copy k low) =
-      after_held now m.dir floor (copied m ms copy) (record {
+      after_held now m.dir floor (replica_of_copy m ms copy) (record {
         history = subst IsHistory (ap marks_in k.is) can.history;
         below = record { marks = its_marks (Join ms copy) k.is; all_up_to = its_up (Join ms copy) k.is; phase = λ t e. absurd (cc) };
       })
@@ -212,7 +212,7 @@ by_time a b lt = grind (arith, nat_tests)
 
 -- the marks of an update that a house accepts with a stamp above its floor
 module _ (r : Replica) (floor : ℕ) (u : Change) (s : Stamp) (fine : Fine floor r) (above : floor < s.time)
-    (accepted : refusal_of (shown r.history (changed_name u)) u ≡ None) where
+    (accepted : refusal_of (shown_of_name r.history (changed_name u)) u ≡ None) where
   before : IsBefore r.history s
   before m there = by_time (stamp_in m) s (let low = ((fine.below).marks m (contains_in r.history m there)).0 in omega arith)
 
@@ -234,15 +234,15 @@ module _ (r : Replica) (floor : ℕ) (u : Change) (s : Stamp) (fine : Fine floor
     both = marks_of-together r.history u s fine.history before accepted;
   }
 
-  born_before : (e : Shown) → shown r.history (changed_name u) ≡ Some e → IsUpTo e.birth s
+  born_before : (e : Shown) → shown_of_name r.history (changed_name u) ≡ Some e → IsUpTo e.birth s
   born_before e is =
       let low : e.birth.time ≤ floor = ((fine.below).marks _ (shown_birth r.history (changed_name u) e is)).1 in
       earlier_up_to e.birth s (omega arith)
 
   -- and no time of what comes of them is above the stamp's
-  pub accepted_fine : Fine s.time (grown r (new_marks r u s))
+  pub accepted_fine : Fine s.time (with_marks r (new_marks r u s))
   accepted_fine =
-      let made = marks_made (shown r.history (changed_name u)) u s accepted born_before in
+      let made = marks_made (shown_of_name r.history (changed_name u)) u s accepted born_before in
       record {
         history = accepted_merge.both;
         below = grown_below r (new_marks r u s) s.time (below_later r floor s.time (omega arith) fine.below)
@@ -254,7 +254,7 @@ accept_at_fine : (h : ℕ) (now : House) (d : ℕ) (u : Change) (r : Replica) (o
     → FineAfter d (accept_at h now d u r o)
 accept_at_fine h now d u r None is fits fine = tt
 accept_at_fine h now d u r (Some s) is fits fine =
-    after_held now d s.time (grown r (new_marks r u s))
+    after_held now d s.time (with_marks r (new_marks r u s))
     (accepted_fine r now.floor u s fine (stamp_next now.clock now.floor now.node s is).0 (not_refused h u r fits))
 
 unless_fine : (h : ℕ) (now : House) (d : ℕ) (u : Change) (r : Replica) (q : Option UpdateRefusal) → update_refusal h u r ≡ q → Fine now.floor r
@@ -276,9 +276,9 @@ accept_fine h now d u fine = accept_in_fine h now d u (now.slots d) fine
 begin_fine : (h : ℕ) (now : House) (d : ℕ) (r : Replica) (t : Stamp) (os : List ℕ) → now.floor < t.time → Fine now.floor r
     → FineAfter d (begin h now d r t os)
 begin_fine h now d r t [] above fine =
-    after_held now d t.time (record r { all_up_to = raised r.all_up_to t; phase = Idle }) (record {
+    after_held now d t.time (record r { all_up_to = later_up_to r.all_up_to t; phase = Idle }) (record {
       history = fine.history;
-      below = idle_below (record r { all_up_to = raised r.all_up_to t }) t.time
+      below = idle_below (record r { all_up_to = later_up_to r.all_up_to t }) t.time
           (raised_below r t t.time (below_later r now.floor t.time (omega arith) fine.below) (le_refl _));
     })
 begin_fine h now d r t (y ∷ ys) above fine =
@@ -323,7 +323,7 @@ pub epoch_fine : (m : ℕ) (now : House) (d k : ℕ) (ms : List Member) (left : 
 epoch_fine m now d k ms left fine = epoch_in_fine m now d k ms left (now.slots d) fine
 
 -- and of a directory that it makes
-pub found_fine : (m : ℕ) (now : House) (d : ℕ) (ms : List Member) → FineAfter d (Turns (found m now d ms))
+pub found_fine : (m : ℕ) (now : House) (d : ℕ) (ms : List Member) → FineAfter d (Turns (found_directory m now d ms))
 found_fine m now d ms =
     after_held now d now.floor (first_replica ms) (record {
       history = record { births = tt; ordered = tt; kinds = λ n c j k i i'. absurd (Contains-none _ i) };

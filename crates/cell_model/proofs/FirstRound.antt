@@ -8,7 +8,7 @@ use Rattle.cell_model.specs.Cells.{Phase, Idle, Gathering, Spreading, Replica, S
 use Rattle.cell_model.specs.Cells.{SpreadAck, Message}
 use Rattle.cell_model.specs.Commands.{Accepted}
 use Rattle.cell_model.specs.Sets.{In, IsPart, IsUpTo}
-use Rattle.cell_model.specs.Turns.{running}
+use Rattle.cell_model.specs.Turns.{running_skulk_stamp}
 use Rattle.cell_model.proofs.Lists.{time_up_to, earlier_up_to, up_to_itself}
 use Rattle.cell_model.proofs.Terms.{Listed, others, In-others, listed-others}
 use Rattle.cell_model.proofs.Facts.{View, IsPosted, Holds, Roll, marks_in, round_of, Reached, Sound, Past, grew, rose, crowned, copied, founded}
@@ -39,7 +39,7 @@ Found roll g k t a all j = In j all ⊎ ((y : ℕ) × Waits roll g k t a j y)
 pub record Covered (roll : Roll) (g : View) (k : ℕ) (t : Stamp) (a : List ℕ) (all : List Mark) : Type 0 where
   pub high : (x : ℕ) (q : Replica) → Holds g x q → k < q.epoch → t.time ≤ (g.house x).floor
   pub sent : (m : Message) → IsPosted g m → k < m.epoch → t.time ≤ m.floor
-  pub rounds : (x : ℕ) (q : Replica) (u : Stamp) → Holds g x q → k < q.epoch → running q.phase ≡ Some u → IsUpTo t u
+  pub rounds : (x : ℕ) (q : Replica) (u : Stamp) → Holds g x q → k < q.epoch → running_skulk_stamp q.phase ≡ Some u → IsUpTo t u
   pub within : (x : ℕ) (q : Replica) (j : Mark) → Holds g x q → k ≤ q.epoch → In j q.history → IsUpTo (stamp_in j) t → Found roll g k t a all j
   pub within_m : (m : Message) (j : Mark) → IsPosted g m → k ≤ m.epoch → In j (marks_in m.body) → IsUpTo (stamp_in j) t → Found roll g k t a all j
 
@@ -52,7 +52,7 @@ pub record Gathers (roll : Roll) (g : View) (h : ℕ) (r : Replica) (t : Stamp) 
   pub covered : AllGathered roll g r.epoch t a → Covered roll g r.epoch t a r.history
 
 module _ (roll : Roll) (g g' : View) (new : List Accepted) (s : Sound roll g) (s' : Sound roll g') (f : Frame roll g g' new) (h : ℕ) (r r' : Replica)
-    (t : Stamp) (a a' : List ℕ) (at_h : Holds g h r) (at_h' : Holds g' h r') (round : running r.phase ≡ Some t) (epoch : r.epoch ≡ r'.epoch)
+    (t : Stamp) (a a' : List ℕ) (at_h : Holds g h r) (at_h' : Holds g' h r') (round : running_skulk_stamp r.phase ≡ Some t) (epoch : r.epoch ≡ r'.epoch)
     (grows : IsPart r.history r'.history) (v : Gathers roll g h r t a) (more : (y : ℕ) → In y a' → GatheredBy g t a y) (heard' : (y : ℕ) → In y a'
     → (t.time ≤ (g.house y).floor) × Reached r.epoch (g.house y).slot) (gained : (j : Mark) (y : ℕ) → Waits roll g r.epoch t a j y
     → In j r'.history ⊎ (In y a' → ⊥)) where
@@ -248,7 +248,7 @@ module _ (roll : Roll) (g g' : View) (new : List Accepted) (s : Sound roll g) (s
   new_spread : (m : Message) (copy : Copy) (n : New roll g g' new m) → m.body ≡ Spread t copy → (r'.phase ≡ Spreading t []) × IsPart r'.history copy.history
   new_spread m copy n is =
       let e = kind_at roll g g' new m (Spread t copy) n is in
-      let by : m.sender ≡ h = sym ((s'.held m.sender n.q n.held).phase t (subst (λ (z : Phase). running z ≡ Some t) (sym e.0) refl)).1
+      let by : m.sender ≡ h = sym ((s'.held m.sender n.q n.held).phase t (subst (λ (z : Phase). running_skulk_stamp z ≡ Some t) (sym e.0) refl)).1
       ∙ ((s.held h r at_h).phase t round).1 in
       let same : n.q ≡ r' = cc in
       (cc, rw same at e.1)
@@ -274,7 +274,7 @@ module _ (roll : Roll) (g g' : View) (new : List Accepted) (s : Sound roll g) (s
       record { heard = both.0; no_spread = no_spread_kept still; no_ack = no_ack_kept; sent_by = answered_kept; covered = both.1 }
 
   -- all have answered
-  pub spreads_begin : running r'.phase ≡ Some t → ((y : ℕ) → In y (others r.members) → In y a') → Spreads roll g' h r' t []
+  pub spreads_begin : running_skulk_stamp r'.phase ≡ Some t → ((y : ℕ) → In y (others r.members) → In y a') → Spreads roll g' h r' t []
   spreads_begin now all =
       let P : ℕ → Type 0 = λ e. Bounded roll g' e t r'.history × (AllSpread roll g' e t [] → Covers g' e t [] r'.history)
       × ((y : ℕ) → In y (others (roll.list e)) → Answered g' t y) in
@@ -322,7 +322,7 @@ module _ (roll : Roll) (g g' : View) (new : List Accepted) (s : Sound roll g) (s
             let ok = s'.held x q hq in
             let here : x ≡ h = sym (ok.phase u run).0 ∙ ap master_of (ok.members ∙ ap roll.list e) ∙ is_head in
             let same_q : q ≡ r' = same_held _ q r' (subst (λ (z : ℕ). Holds g' z q) here hq) at_h' in
-            let runs : Some t ≡ Some u = sym now ∙ ap (λ (z : Replica). running z.phase) (sym same_q) ∙ run in
+            let runs : Some t ≡ Some u = sym now ∙ ap (λ (z : Replica). running_skulk_stamp z.phase) (sym same_q) ∙ run in
             let tu : t ≡ u = cc in
             subst (λ (z : Stamp). IsUpTo t z) tu (up_to_itself t))
             (cases_lt r.epoch q.epoch);
@@ -441,7 +441,7 @@ gathers_begin roll g g' new h r' t s s' f at_h' node low phase = record {
 }
   where
     ok : (master_of r'.members ≡ h) × (roll.home t.node ≡ h) × (t.time ≤ (g'.house h).floor)
-    ok = (s'.held h r' at_h').phase t (subst (λ (z : Phase). running z ≡ Some t) (sym phase) refl)
+    ok = (s'.held h r' at_h').phase t (subst (λ (z : Phase). running_skulk_stamp z ≡ Some t) (sym phase) refl)
 
     old : (m : Message) (b : Body) → IsPosted g m → m.body ≡ b → round_of b ≡ Some t → ⊥
     old m b at is e = let l = (s.messages m at).round t (round_at m b t is e) in omega (arith, low, subst (λ (z : ℕ). t.time ≤ (g.house z).floor) node l.1)
@@ -454,7 +454,7 @@ gathers_begin roll g g' new h r' t s s' f at_h' node low phase = record {
     no_spread m copy at is = ⊎_elim (λ was. old m (Spread t copy) was is refl)
         (λ (n : New roll g g' new m).
         let e = kind_at roll g g' new m (Spread t copy) n is in
-        let by : m.sender ≡ h = sym ((s'.held m.sender n.q n.held).phase t (subst (λ (z : Phase). running z ≡ Some t) (sym e.0) refl)).1 ∙ node in
+        let by : m.sender ≡ h = sym ((s'.held m.sender n.q n.held).phase t (subst (λ (z : Phase). running_skulk_stamp z ≡ Some t) (sym e.0) refl)).1 ∙ node in
         let same : n.q ≡ r' = cc in
         let turned : r'.phase ≡ Spreading t [] = subst (λ (z : Replica). z.phase ≡ Spreading t []) same e.0 in
         absurd (cc))

@@ -9,8 +9,8 @@ use Rattle.cell_model.specs.Cells.{Phase, Gathering, Replica, Copy, Body, Update
 use Rattle.cell_model.specs.Cells.{Cell, IsHeld}
 use Rattle.cell_model.specs.Commands.{Command, Accepted}
 use Rattle.cell_model.specs.Sets.{In}
-use Rattle.cell_model.specs.Turns.{running}
-use Rattle.cell_model.specs.Steps.{replay, accepted}
+use Rattle.cell_model.specs.Turns.{running_skulk_stamp}
+use Rattle.cell_model.specs.Steps.{replay, accepted_updates}
 use Rattle.cell_model.specs.Provenance.{HasPassed}
 use Rattle.cell_model.specs.Rounds.{TookGather, answer_in, or_first, first_answer, InGathering, at_master, at_member, in_answer, WhileGathering, GatheringHolds}
 use Rattle.cell_model.proofs.Lists.{eq_from, eq_to, stamp_from, up_to_trans, and_left, and_right}
@@ -98,14 +98,14 @@ module _ (commands : List Command) (h d : ℕ) (r : Replica) (t : Stamp) (a : Li
   abbrev v : View
   v = view d (replay commands)
 
-  here : Reaching roll v (accepted commands)
+  here : Reaching roll v (accepted_updates commands)
   here = reaching_last commands d
 
   ok : HeldOk roll v h r
   ok = (reaching_last commands d).sound.held h r at
 
   head : (master_of r.members ≡ h) × (roll.home t.node ≡ h) × (t.time ≤ (v.house h).floor)
-  head = ((reaching_last commands d).sound.held h r at).phase t (subst (λ (z : Phase). running z ≡ Some t) (sym run) refl)
+  head = ((reaching_last commands d).sound.held h r at).phase t (subst (λ (z : Phase). running_skulk_stamp z ≡ Some t) (sym run) refl)
 
   round : Gathers roll v h r t a
   round = subst (λ (z : Phase). Round roll v h r z) run ((reaching_last commands d).rounds h r at)
@@ -143,7 +143,7 @@ module _ (commands : List Command) (h d : ℕ) (r : Replica) (t : Stamp) (a : Li
       messages = λ m j i dir le ij up. found j (covered.within_m m j (In-of_dir d g.bag m i dir) le ij up);
       updates = λ u q j i dir hq le since up ij.
           let stamped = (here.known.well u i dir).stamped j ij in
-          found j (covered.within u.by q j hq le (own_updates roll v (accepted commands) here.sound here.known u q i dir hq since j ij)
+          found j (covered.within u.by q j hq le (own_updates roll v (accepted_updates commands) here.sound here.known u q i dir hq since j ij)
           (up_to_trans (stamp_in j) u.stamp t stamped up));
       later_houses = λ x q hq lt. covered.high x q hq lt;
       later_messages = λ m i dir lt. covered.sent m (In-of_dir d g.bag m i dir) lt;

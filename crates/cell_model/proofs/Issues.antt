@@ -6,8 +6,8 @@ use Rattle.cds_stamps.specs.Members.{others_of}
 use Rattle.cell_model.specs.Cells.{Replica, Slot, Held, House, Update, Message, Cell, empty_cell}
 use Rattle.cell_model.specs.Commands.{Command, Answer, Accepted}
 use Rattle.cell_model.specs.Sets.{In, has}
-use Rattle.cell_model.specs.Turns.{grown, to_each, holding}
-use Rattle.cell_model.specs.Steps.{moved, outcome, replay_from, replay, accepted_from, accepted}
+use Rattle.cell_model.specs.Turns.{with_marks, to_each, with_slot}
+use Rattle.cell_model.specs.Steps.{move_house, outcome, replay_from, replay, accepted_from, accepted_updates}
 use Rattle.cell_model.specs.Agreement.{place_of}
 use Rattle.cell_model.proofs.Lists.{append_nil, In-append_cases}
 use Rattle.cell_model.proofs.Marks.{stamp_next}
@@ -24,8 +24,8 @@ pub record Issued (g g' : Cell) (h : ℕ) (s : Stamp) : Type 0 where
   pub node : s.node ≡ (g.house h).node
 
 floor_after_act : (g : Cell) (h d : ℕ) (s : Stamp) (o : Slot) (posts : List Message)
-    → s.time ≤ ((moved g h (holding (g.house h) d s.time o) posts).house h).floor
-floor_after_act g h d s o posts = put_back (λ (v : House). s.time ≤ v.floor) g.house h (holding (g.house h) d s.time o) (le_refl _)
+    → s.time ≤ ((move_house g h (with_slot (g.house h) d s.time o) posts).house h).floor
+floor_after_act g h d s o posts = put_back (λ (v : House). s.time ≤ v.floor) g.house h (with_slot (g.house h) d s.time o) (le_refl _)
 
 pub issuing_issued : (g g' : Cell) (h d : ℕ) (r : Replica) (s : Stamp) → Plain g → Issuing g h d r s → s.time ≤ (g'.house h).floor → Issued g g' h s
 issuing_issued g g' h d r s p i within =
@@ -34,9 +34,9 @@ issuing_issued g g' h d r s p i within =
 
 -- each accepted update has a stamp that its house issued, and is the only one of the step
 act_accepted : (g : Cell) (h d floor : ℕ) (o : Slot) (posts : List Message) (a : Answer) (n : List Accepted) → Plain g → Act g h d floor o posts a n
-    → (b : Accepted) → In b n → Issued g (moved g h (holding (g.house h) d floor o) posts) b.by b.stamp × ((c : Accepted) → In c n → c ≡ b)
+    → (b : Accepted) → In b n → Issued g (move_house g h (with_slot (g.house h) d floor o) posts) b.by b.stamp × ((c : Accepted) → In c n → c ≡ b)
 act_accepted g h d floor o posts a n p (accepts _ _ u r s ns i fine) b (inl e) = (
-  subst (λ (z : Accepted). Issued g (moved g h (holding (g.house h) d floor o) posts) z.by z.stamp) (sym e)
+  subst (λ (z : Accepted). Issued g (move_house g h (with_slot (g.house h) d floor o) posts) z.by z.stamp) (sym e)
       (issuing_issued g _ h d r s p i (floor_after_act g h d s o posts)),
   λ c ic. only c ic,
 )
@@ -57,9 +57,9 @@ pub steps_accepted : (g g' : Cell) (pl : Option (ℕ × ℕ)) (a : Answer) (n : 
 steps_accepted g g' pl a n p (one _ _ _ m) b i = move_accepted g g' pl a n p m b i
 steps_accepted g g' pl a n p (mkdirs h d m u rs ss r s ns at is fine up known) b i =
     let w = act_accepted g h d s.time _ _ _ n p (accepts h d u r s ns is fine) b i in
-    let o : Slot = Held (grown r (new_marks r u s)) in
+    let o : Slot = Held (with_marks r (new_marks r u s)) in
     let posts : List Message = to_each (others_of h r.members) d h r.epoch s.time (Update (new_marks r u s)) in
-    let first = moved_onward g h (holding (g.house h) d s.time o) posts p (up_made g h p is.up) refl
+    let first = moved_onward g h (with_slot (g.house h) d s.time o) posts p (up_made g h p is.up) refl
     (act_rises g h d s.time _ _ _ n (accepts h d u r s ns is fine)) in
     let lt : g.next_dir < g.next_dir + 1 = omega arith in
     let le : g.next_dir ≤ g.next_dir + 1 = omega arith in
@@ -104,6 +104,6 @@ logged_run (c ∷ cs) g log p l =
     (logged_run cs o.cell (log ++ o.accepted) on.plain l')
 
 -- what the accepted updates of a run say of its cell
-pub logged_at : (cs : List Command) → Logged (replay cs) (accepted cs)
+pub logged_at : (cs : List Command) → Logged (replay cs) (accepted_updates cs)
 logged_at cs = logged_run cs empty_cell [] empty_plain
     (record { made = λ a i. elim i [ ]; below = λ a i. elim i [ ]; node = λ a i. elim i [ ]; once = λ a b i. elim i [ ] })

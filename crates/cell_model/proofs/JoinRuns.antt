@@ -6,9 +6,9 @@ use Rattle.cds_stamps.specs.Members.{Member, is_listed, since_in}
 use Rattle.cell_model.specs.Cells.{Replica, Slot, Absent, Gone, Held, House, Copy, Join, Message, Cell, IsHeld}
 use Rattle.cell_model.specs.Commands.{Deliver, Foreign}
 use Rattle.cell_model.specs.Sets.{In, has}
-use Rattle.cell_model.specs.Turns.{HouseStep, Stays, holding, floor_after, taken, to_each, stamp_at, copied, kept_at_join, joined, late_join, unless_late, take}
+use Rattle.cell_model.specs.Turns.{HouseStep, Stays, with_slot, floor_after, take_and_answer, to_each, stamp_at, replica_of_copy, kept_at_join, join_replica, late_join, unless_late, take}
 use Rattle.cell_model.specs.Provenance.{epoch_of}
-use Rattle.cell_model.specs.Mending.{delivering}
+use Rattle.cell_model.specs.Mending.{deliver_commands}
 use Rattle.cell_model.proofs.Lists.{append_nil}
 use Rattle.cell_model.proofs.Views.{put_at, put_same, put_other}
 use Rattle.cell_model.proofs.Deliveries.{Run, run_none, run_first, run_map, Waiting, delivered, waiting_next}
@@ -23,23 +23,23 @@ not_late k (Gone e) lt = let q : nat_le k e ≡ false = grind arith in ap (λ (b
 not_late k (Held r) lt = let q : nat_lt k r.epoch ≡ false = grind arith in ap (λ (b : Bool). cond b (Some r.epoch) None) q
 
 -- what a Join leaves is of its epoch, with its list
-joined_is : (z : Message) (ms : List Member) (copy : Copy) (s : Slot) → ((joined z ms copy s).epoch ≡ z.epoch) × ((joined z ms copy s).members ≡ ms)
+joined_is : (z : Message) (ms : List Member) (copy : Copy) (s : Slot) → ((join_replica z ms copy s).epoch ≡ z.epoch) × ((join_replica z ms copy s).members ≡ ms)
 joined_is z ms copy Absent = (refl, refl)
 joined_is z ms copy (Gone e) = (refl, refl)
 joined_is z ms copy (Held r) = by_since (nat_le (since_in ms z.receiver 0) r.epoch)
   where
-    by_since : (b : Bool) → ((cond b (kept_at_join z ms copy r) (copied z ms copy)).epoch ≡ z.epoch)
-        × ((cond b (kept_at_join z ms copy r) (copied z ms copy)).members ≡ ms)
+    by_since : (b : Bool) → ((cond b (kept_at_join z ms copy r) (replica_of_copy z ms copy)).epoch ≡ z.epoch)
+        × ((cond b (kept_at_join z ms copy r) (replica_of_copy z ms copy)).members ≡ ms)
     by_since true = (refl, refl)
     by_since false = (refl, refl)
 
 -- a house of an older epoch takes the Join
 join_taken : (now : House) (d k y m floor : ℕ) (ms : List Member) (copy : Copy) → epoch_of (now.slots d) < k → is_listed y ms ≡ true → is_listed m ms ≡ true
     → take now (letter d k y m floor (Join ms copy))
-    ≡ taken now (letter d k y m floor (Join ms copy)) (Held (joined (letter d k y m floor (Join ms copy)) ms copy (now.slots d))) []
+    ≡ take_and_answer now (letter d k y m floor (Join ms copy)) (Held (join_replica (letter d k y m floor (Join ms copy)) ms copy (now.slots d))) []
 join_taken now d k y m floor ms copy lt at by =
     let z : Message = letter d k y m floor (Join ms copy) in
-    let s : HouseStep = taken now z (Held (joined z ms copy (now.slots d))) [] in
+    let s : HouseStep = take_and_answer now z (Held (join_replica z ms copy (now.slots d))) [] in
     let both : (is_listed y ms && is_listed m ms) ≡ true = ap (λ (b : Bool). b && is_listed m ms) at ∙ by in
     ap (λ (o : Option ℕ). unless_late z o (cond (is_listed y ms && is_listed m ms) s (Stays Foreign))) (not_late k (now.slots d) lt)
     ∙ ap (λ (b : Bool). cond b s (Stays Foreign)) both
@@ -70,13 +70,13 @@ module _ (d m k : ℕ) (ms : List Member) (next : Option Stamp) (floor : ℕ) (c
   joining_next : (y : ℕ) (ys : List ℕ) (g : Cell) (p : ℕ) → Once (y ∷ ys) → AreOthers m ms (y ∷ ys) → Joining d m k ms next floor copy (y ∷ ys) p g
       → Joining d m k ms next floor copy ys (p + 1)
       (changed g y d (floor_after (g.house y) (letter d k y m floor (Join ms copy)))
-      (joined (letter d k y m floor (Join ms copy)) ms copy ((g.house y).slots d)) [])
+      (join_replica (letter d k y m floor (Join ms copy)) ms copy ((g.house y).slots d)) [])
   joining_next y ys g p once others j =
       let z : Message = letter d k y m floor (Join ms copy) in
       let f : ℕ = floor_after (g.house y) z in
-      let r : Replica = joined z ms copy ((g.house y).slots d) in
+      let r : Replica = join_replica z ms copy ((g.house y).slots d) in
       let is = joined_is z ms copy ((g.house y).slots d) in
-      let now : House = holding (g.house y) d f (Held r) in
+      let now : House = with_slot (g.house y) d f (Held r) in
       let h : Cell = changed g y d f r [] in
       let here = others y (inl refl) in
       record {
@@ -100,16 +100,16 @@ module _ (d m k : ℕ) (ms : List Member) (next : Option Stamp) (floor : ℕ) (c
 
   -- all of them take their Joins
   pub join_run : (ys : List ℕ) (g : Cell) (p : ℕ) → Once ys → AreOthers m ms ys → Joining d m k ms next floor copy ys p g
-      → Run g (delivering p (length ys)) (CanSkulk d m k ms next (p + length ys))
+      → Run g (deliver_commands p (length ys)) (CanSkulk d m k ms next (p + length ys))
   join_run [] g p once others j = run_none g (CanSkulk d m k ms next (p + 0)) (joined_none g p j)
   join_run (y ∷ ys) g p once others j =
       let here = others y (inl refl) in
       let z : Message = letter d k y m floor (Join ms copy) in
-      let h : Cell = changed g y d (floor_after (g.house y) z) (joined z ms copy ((g.house y).slots d)) [] in
+      let h : Cell = changed g y d (floor_after (g.house y) z) (join_replica z ms copy ((g.house y).slots d)) [] in
       let place : (p + 1) + length ys ≡ p + suc (length ys) = omega arith in
-      run_first g (Deliver (p + 1)) (delivering (p + 1) (length ys)) (CanSkulk d m k ms next (p + suc (length ys))) _
+      run_first g (Deliver (p + 1)) (deliver_commands (p + 1) (length ys)) (CanSkulk d m k ms next (p + suc (length ys))) _
       (delivered g p z (to_each ys d m k floor (Join ms copy)) _ j.waiting (j.up y here.1)
       (join_taken (g.house y) d k y m floor ms copy (j.below y (inl refl)) here.1 master_listed)) tt
-      (run_map h (delivering (p + 1) (length ys)) (CanSkulk d m k ms next ((p + 1) + length ys)) (CanSkulk d m k ms next (p + suc (length ys)))
+      (run_map h (deliver_commands (p + 1) (length ys)) (CanSkulk d m k ms next ((p + 1) + length ys)) (CanSkulk d m k ms next (p + suc (length ys)))
       (join_run ys h (p + 1) once.1 (λ x i. others x (inr i)) (joining_next y ys g p once others j))
       (λ c s. subst (λ (n : ℕ). CanSkulk d m k ms next n c) place s))

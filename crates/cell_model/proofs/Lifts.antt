@@ -9,9 +9,9 @@ use Rattle.cell_model.specs.Cells.{Idle, Gathering, Spreading, Replica, Slot, Ab
 use Rattle.cell_model.specs.Cells.{Advance, Join, Leave, Message, Cell, IsHeld, put, no_house}
 use Rattle.cell_model.specs.Commands.{Answer, Complete, Stamped, Accepted}
 use Rattle.cell_model.specs.Sets.{In, has}
-use Rattle.cell_model.specs.Turns.{grown, copy_of, merged, holding, to_each, raised, epoch_replica, first_replica}
-use Rattle.cell_model.specs.Turns.{crashed, copied, kept_at_join}
-use Rattle.cell_model.specs.Steps.{moved, listing, leaving, founded}
+use Rattle.cell_model.specs.Turns.{with_marks, copy_of, merge_copy, with_slot, to_each, later_up_to, epoch_replica, first_replica}
+use Rattle.cell_model.specs.Turns.{crash_slot, replica_of_copy, kept_at_join}
+use Rattle.cell_model.specs.Steps.{move_house, member_list_of, left_members, cell_with_directory}
 use Rattle.cell_model.proofs.Lists.{eq_from, In-append_cases, In-map}
 use Rattle.cell_model.proofs.Facts.{up_to_in}
 use Rattle.cell_model.proofs.Marks.{greater_choice}
@@ -95,7 +95,7 @@ module _ (g : Cell) (a : Answer) (p : Option (ℕ × ℕ)) (m : Message) (r : Re
 act_lifts : (g : Cell) (p : Option (ℕ × ℕ)) (h d floor : ℕ) (o : Slot) (posts : List Message) (a : Answer) (n : List Accepted) → p ≡ Some (h, d)
     → Act g h d floor o posts a n → Owing g a p h d o posts
 act_lifts g p h d floor o posts a n at (accepts _ _ u r s ns i fine) = record {
-  held = slot_is g a p h d (grown r (new_marks r u s)) (λ t e. of_house h r i.held e (le_refl _));
+  held = slot_is g a p h d (with_marks r (new_marks r u s)) (λ t e. of_house h r i.held e (le_refl _));
   sent = plain_posts g a p h d _ d h _ _ _ refl;
 }
 act_lifts g p h d floor o posts a n at (skulks _ _ r s ns i head) = record {
@@ -103,31 +103,31 @@ act_lifts g p h d floor o posts a n at (skulks _ _ r s ns i head) = record {
   sent = plain_posts g a p h d _ d h _ _ _ refl;
 }
 act_lifts g p h d floor o posts a n at (lone _ _ r s i head alone) = record {
-  held = slot_is g a p h d (record r { all_up_to = raised r.all_up_to s; phase = Idle }) (λ t e.
+  held = slot_is g a p h d (record r { all_up_to = later_up_to r.all_up_to s; phase = Idle }) (λ t e.
       ⊎_elim (λ l. of_house h r i.held l (le_refl _)) (λ (l : Some s ≡ Some t). let z : s ≡ t = cc in
       of_end (subst (λ (y : Stamp). Ended (Complete s []) p d h y) z ([], refl, at))) (later_is r.all_up_to (Some s) t e));
   sent = no_posts g a p h d;
 }
 act_lifts g p h d floor o posts a n at (updates m marks r ns k) =
-    record { held = slot_is g a p h d (grown r marks) (λ t e. its_own g a p m r k.held h t e); sent = no_posts g a p h d }
+    record { held = slot_is g a p h d (with_marks r marks) (λ t e. its_own g a p m r k.held h t e); sent = no_posts g a p h d }
 act_lifts g p h d floor o posts a n at (gives m s r ns k) = record {
   held = slot_is g a p h d r (λ t e. its_own g a p m r k.held h t e);
   sent = one_post g a p h d _ (λ t e. of_house m.receiver r k.held e (omega (arith, k.epoch)));
 }
 act_lifts g p h d floor o posts a n at (gathers m s copy l r ns k run) =
     record {
-      held = slot_is g a p h d (record (merged r copy) { phase = Gathering s (m.sender ∷ l) })
+      held = slot_is g a p h d (record (merge_copy r copy) { phase = Gathering s (m.sender ∷ l) })
           (λ t e. of_both g a p m r (Gathered s copy) copy k refl h t e);
       sent = no_posts g a p h d;
     }
 act_lifts g p h d floor o posts a n at (turns m s copy l r ns k run all) = record {
-  held = slot_is g a p h d (record (merged r copy) { phase = Spreading s [] }) (λ t e. of_both g a p m r (Gathered s copy) copy k refl h t e);
+  held = slot_is g a p h d (record (merge_copy r copy) { phase = Spreading s [] }) (λ t e. of_both g a p m r (Gathered s copy) copy k refl h t e);
   sent = its_posts g a p h d _ d _ _ _ (λ t e. of_both g a p m r (Gathered s copy) copy k refl h t e);
 }
 act_lifts g p h d floor o posts a n at (gathers_again m s copy l r ns k run) =
-    record { held = slot_is g a p h d (merged r copy) (λ t e. of_both g a p m r (Gathered s copy) copy k refl h t e); sent = no_posts g a p h d }
+    record { held = slot_is g a p h d (merge_copy r copy) (λ t e. of_both g a p m r (Gathered s copy) copy k refl h t e); sent = no_posts g a p h d }
 act_lifts g p h d floor o posts a n at (spreads m s copy r ns k) = record {
-  held = slot_is g a p h d (merged r copy) (λ t e. of_both g a p m r (Spread s copy) copy k refl h t e);
+  held = slot_is g a p h d (merge_copy r copy) (λ t e. of_both g a p m r (Spread s copy) copy k refl h t e);
   sent = one_post g a p h d _ (λ t e. absurd (cc));
 }
 act_lifts g p h d floor o posts a n at (acks_early m s l r ns k run) =
@@ -135,19 +135,19 @@ act_lifts g p h d floor o posts a n at (acks_early m s l r ns k run) =
 act_lifts g p h d floor o posts a n at (acks m s l r ns k run) =
     record { held = slot_is g a p h d (record r { phase = Spreading s (m.sender ∷ l) }) (λ t e. its_own g a p m r k.held h t e); sent = no_posts g a p h d }
 act_lifts g p h d floor o posts a n at (completes m s l r ns k run all) = record {
-  held = slot_is g a p h d (record r { all_up_to = raised r.all_up_to s; phase = Idle }) (λ t e.
+  held = slot_is g a p h d (record r { all_up_to = later_up_to r.all_up_to s; phase = Idle }) (λ t e.
       ⊎_elim (λ z. its_own g a p m r k.held h t z) (λ (z : Some s ≡ Some t). let y : s ≡ t = cc in
       of_end (subst (λ (y : Stamp). Ended (Complete s ns) p d h y) y (ns, refl, at))) (later_is r.all_up_to (Some s) t e));
   sent = its_posts g a p h d _ d _ _ (Advance s) (λ t (e : Some s ≡ Some t). let y : s ≡ t = cc in
       of_end (subst (λ (y : Stamp). Ended (Complete s ns) p d h y) y (ns, refl, at)));
 }
 act_lifts g p h d floor o posts a n at (advances m s r ns k) = record {
-  held = slot_is g a p h d (record r { all_up_to = raised r.all_up_to s })
+  held = slot_is g a p h d (record r { all_up_to = later_up_to r.all_up_to s })
       (λ t e. ⊎_elim (λ z. its_own g a p m r k.held h t z) (λ z. of_body g a p m r (Advance s) k h t z) (later_is r.all_up_to (Some s) t e));
   sent = no_posts g a p h d;
 }
 act_lifts g p h d floor o posts a n at (copies m ms copy ns en low) = record {
-  held = slot_is g a p h d (copied m ms copy) (λ t e. of_message m en.posted refl (ap up_to_in en.is ∙ e) (le_refl _));
+  held = slot_is g a p h d (replica_of_copy m ms copy) (λ t e. of_message m en.posted refl (ap up_to_in en.is ∙ e) (le_refl _));
   sent = no_posts g a p h d;
 }
 act_lifts g p h d floor o posts a n at (keeps m ms copy r ns en is le since) = record {
@@ -174,10 +174,10 @@ still_lifts g a p d g' back bag = record {
 
 changed_lifts : (g : Cell) (a : Answer) (p : Option (ℕ × ℕ)) (h d floor : ℕ) (o : Slot) (posts : List Message) (top : ℕ → ℕ) (present : ℕ
     → List Member) (nd : ℕ) → AllOf d posts → Owing g a p h d o posts → (e : ℕ)
-    → Lifts g (record (moved g h (holding (g.house h) d floor o) posts) { top = top; present = present; next_dir = nd }) a p e
+    → Lifts g (record (move_house g h (with_slot (g.house h) d floor o) posts) { top = top; present = present; next_dir = nd }) a p e
 changed_lifts g a p h d floor o posts top present nd all w e = record {
   held = put_at (λ x v. (r : Replica) (t : Stamp) → v.slots e ≡ Held r → r.all_up_to ≡ Some t
-      → Lift g a p e x r.epoch t) g.house h (holding (g.house h) d floor o)
+      → Lift g a p e x r.epoch t) g.house h (with_slot (g.house h) d floor o)
       (λ r t. by_slot (eqb e d) refl r t)
       (λ x _ r t at u. was_held g a p e x r t at u);
   posts = λ m t i dir u. ⊎_elim (λ was. inl was) (λ n. inr (subst (λ (z : ℕ). Lift g a p z m.sender m.epoch t) (sym (all m n) ∙ dir) (w.sent m t n u)))
@@ -188,7 +188,7 @@ changed_lifts g a p h d floor o posts top present nd all w e = record {
     by_slot true q r t at u = subst (λ (z : ℕ). Lift g a p z h r.epoch t) (sym (eq_from e d q)) (w.held r t at u)
     by_slot false q r t at u = was_held g a p e h r t at u
 
-crash_back : (o : Slot) (r : Replica) → crashed o ≡ Held r → (q : Replica) × (o ≡ Held q) × (q.all_up_to ≡ r.all_up_to) × (q.epoch ≡ r.epoch)
+crash_back : (o : Slot) (r : Replica) → crash_slot o ≡ Held r → (q : Replica) × (o ≡ Held q) × (q.all_up_to ≡ r.all_up_to) × (q.epoch ≡ r.epoch)
 crash_back Absent r e = absurd (cc)
 crash_back (Gone k) r e = absurd (cc)
 crash_back (Held q) r e =
@@ -216,9 +216,9 @@ crown_owing : (g : Cell) (a : Answer) (p : Option (ℕ × ℕ)) (d m k : ℕ) (m
 crown_owing g a p d m k ms r at le = record {
   held = slot_is g a p m d (epoch_replica k ms r) (λ t e. of_house m r at e le);
   sent = λ q t i e. ⊎_elim (λ z. its_posts g a p m d (others_of m ms) d k (g.house m).floor (Join ms (copy_of r)) (λ t' u. of_house m r at u le) q t z e)
-      (λ z. plain_posts g a p m d (leaving (g.present d) ms) d m k (g.house m).floor Leave refl q t z e)
+      (λ z. plain_posts g a p m d (left_members (g.present d) ms) d m k (g.house m).floor Leave refl q t z e)
       (In-append_cases q (to_each (others_of m ms) d m k (g.house m).floor (Join ms (copy_of r)))
-      (to_each (leaving (g.present d) ms) d m k (g.house m).floor Leave) i);
+      (to_each (left_members (g.present d) ms) d m k (g.house m).floor Leave) i);
 }
 
 move_lifts : (g g' : Cell) (p : Option (ℕ × ℕ)) (a : Answer) (n : List Accepted) (d : ℕ)
@@ -258,10 +258,10 @@ lifts_on g g1 g2 a b p d ends l back bag = record {
 
 -- a new directory lifts nothing
 founded_back : (g : Cell) (d m : ℕ) (ms : List Member) (nd e : ℕ) (x : ℕ) (r : Replica) (t : Stamp)
-    → IsHeld (record (founded g d m ms) { next_dir = nd }) x e r → r.all_up_to ≡ Some t → IsHeld g x e r
+    → IsHeld (record (cell_with_directory g d m ms) { next_dir = nd }) x e r → r.all_up_to ≡ Some t → IsHeld g x e r
 founded_back g d m ms nd e x r t at u =
     put_at (λ y v. (q : Replica) → v.slots e ≡ Held q → q.all_up_to ≡ Some t
-    → IsHeld g y e q) g.house m (holding (g.house m) d (g.house m).floor (Held (first_replica ms)))
+    → IsHeld g y e q) g.house m (with_slot (g.house m) d (g.house m).floor (Held (first_replica ms)))
     (λ q z w. by_slot (eqb e d) q z w) (λ y _ q z w. z) x r at u
   where
     by_slot : (b : Bool) (q : Replica) → cond b (Held (first_replica ms)) ((g.house m).slots e) ≡ Held q → q.all_up_to ≡ Some t → IsHeld g m e q
@@ -291,8 +291,8 @@ steps_lifts g g' p a n d low unmade (mkdirs h e m u rs ss r s ns at i fine up kn
     let act = accepts h e u r s ns i fine in
     let first = changed_lifts g (Stamped s ns) p h e s.time _ _ g.top g.present g.next_dir (act_posts g h e s.time _ _ _ n act)
     (act_lifts g p h e s.time _ _ _ n at act) d in
-    let g1 : Cell = moved g h (holding (g.house h) e s.time (Held (grown r (new_marks r u s))))
+    let g1 : Cell = move_house g h (with_slot (g.house h) e s.time (Held (with_marks r (new_marks r u s))))
     (to_each (others_of h r.members) e h r.epoch s.time (Update (new_marks r u s))) in
     lifts_on g g1 g' (Stamped s ns) a p d (λ x t z. let y = z.1 in absurd (cc)) first
-    (λ x q t z w. founded_back g1 g.next_dir m (listing [] 1 m rs ss) (g.next_dir + 1) d x q t z w)
-    (λ q t z dir w. founded_bag g1 g.next_dir m (listing [] 1 m rs ss) q t z w)
+    (λ x q t z w. founded_back g1 g.next_dir m (member_list_of [] 1 m rs ss) (g.next_dir + 1) d x q t z w)
+    (λ q t z dir w. founded_bag g1 g.next_dir m (member_list_of [] 1 m rs ss) q t z w)

@@ -4,7 +4,7 @@ use Rattle.std.proofs.Common.{Some, refl, sym, ap, ◌∙◌, subst, arith, ⊎_
 use Rattle.std.specs.Prelude.{slice_get}
 use Rattle.cds_stamps.specs.declared.stamp.Stamp.{Stamp}
 use Rattle.cds_stamps.specs.Stamps.{is_stamp, stamp_exact}
-use Rattle.cds_stamps.specs.Keyed.{tied}
+use Rattle.cds_stamps.specs.Keyed.{ties_are_equal}
 use Rattle.cell_model.specs.Sets.{In, IsUpTo, has}
 use Rattle.cell_model.specs.Turns.{all_answered}
 
@@ -86,7 +86,7 @@ eq_to a b e = grind arith
 
 -- stamps that the test finds equal are equal
 pub stamp_from : (s t : Stamp) → is_stamp s t ≡ true → s ≡ t
-stamp_from s t e = tied stamp_exact s t e
+stamp_from s t e = ties_are_equal stamp_exact s t e
 
 -- a stamp up to another has no later time
 pub time_up_to : (s t : Stamp) → IsUpTo s t → s.time ≤ t.time

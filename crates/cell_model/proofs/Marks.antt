@@ -8,12 +8,12 @@ use Rattle.cds_stamps.specs.declared.stamp.Stamp.{Stamp}
 use Rattle.cds_stamps.specs.Semilattice.{maybe, join_of, greater}
 use Rattle.cds_stamps.specs.Stamps.{next_stamp, last_time}
 use Rattle.cds_stamps.specs.Octets.{is_octets, octets_exact}
-use Rattle.cds_stamps.specs.Keyed.{tied}
-use Rattle.attr_sets.specs.Cells.{AttrMark, attr_stamp}
+use Rattle.cds_stamps.specs.Keyed.{ties_are_equal}
+use Rattle.attr_sets.specs.AttributeCells.{AttrMark, attr_stamp}
 use Rattle.directory.specs.declared.entry.Kind.{Kind}
 use Rattle.directory.specs.declared.entry.Kind.TheVariants.{Object, Link, Child}
 use Rattle.directory.specs.Histories.{Mark, Birth, Death, Attr, stamp_in, name_in, born_in, Born, birth_in, birth_of, birth_cmp, death_of}
-use Rattle.directory.specs.Shown.{Shown, leads, shown, shown_born, shown_if_live, refusal_of, marks_of, with_birth}
+use Rattle.directory.specs.Shown.{Shown, leads, shown_of_name, shown_born, shown_if_live, refusal_of, marks_of, with_birth}
 use Rattle.directory.specs.Updates.{Change, Create, MakeLink, MakeChild, Delete, Add, Remove, Put, Clear, Repoint, changed_name}
 use Rattle.cell_model.specs.Sets.{In, IsUpTo}
 use Rattle.cell_model.proofs.Lists.{up_to_itself}
@@ -45,7 +45,7 @@ birth_is : (n : List ℕ) (m : Mark) (b : Born) → birth_in n m ≡ Some b → 
 birth_is n (Birth o kind c) b e = go (is_octets n o) refl e
   where
     go : (t : Bool) → is_octets n o ≡ t → cond t (Some (record { at = c; kind = kind })) None ≡ Some b → Birth o kind c ≡ Birth n b.kind b.at
-    go true q e' = let s : n ≡ o = tied octets_exact n o q in let z : record { at = c; kind = kind } ≡ b = cc in ap (λ (l : List ℕ). Birth l kind c) (sym s)
+    go true q e' = let s : n ≡ o = ties_are_equal octets_exact n o q in let z : record { at = c; kind = kind } ≡ b = cc in ap (λ (l : List ℕ). Birth l kind c) (sym s)
         ∙ ap (λ (y : Born). Birth n y.kind y.at) z
     go false q e' = absurd (cc)
 birth_is n (Death o c s) b e = absurd (cc)
@@ -58,7 +58,7 @@ birth_stands h n b e =
     subst (λ (z : Mark). In z h) (birth_is n w.0 b w.2) w.1
 
 -- an entry that shows is that of the greatest birth
-pub shown_is : (h : List Mark) (n : List ℕ) (e : Shown) → shown h n ≡ Some e
+pub shown_is : (h : List Mark) (n : List ℕ) (e : Shown) → shown_of_name h n ≡ Some e
     → (b : Born) × (birth_of h n ≡ Some b) × (b.at ≡ e.birth) × (b.kind ≡ e.kind) × (death_of h n e.birth ≡ None)
 shown_is h n e q = go (birth_of h n) refl q
   where
@@ -80,7 +80,7 @@ shown_is h n e q = go (birth_of h n) refl q
     go (Some b) q' e' = let l = live b (death_of h n b.at) refl _ (refl, refl) e' in (b, q', l.0, l.1, l.2)
 
 -- the history has the birth of an entry that shows
-pub shown_birth : (h : List Mark) (n : List ℕ) (e : Shown) → shown h n ≡ Some e → In (Birth n e.kind e.birth) h
+pub shown_birth : (h : List Mark) (n : List ℕ) (e : Shown) → shown_of_name h n ≡ Some e → In (Birth n e.kind e.birth) h
 shown_birth h n e q =
     let w = shown_is h n e q in
     subst (λ (z : Mark). In z h) (ap (λ (c : Stamp). Birth n (w.0).kind c) w.2 ∙ ap (λ (k : Kind). Birth n k e.birth) w.3) (birth_stands h n w.0 w.1)
@@ -98,14 +98,14 @@ two_fit : (h : List Mark) (s : Stamp) (m n : Mark) → stamp_in m ≡ s → stam
 two_fit h s m n e f k (inl q) = inl (ap stamp_in q ∙ e)
 two_fit h s m n e f k (inr i) = one_fits h s n f k i
 
-birth_fits : (h : List Mark) (n : List ℕ) (s : Stamp) (o : Option Shown) (ms : Shown → List Mark) → shown h n ≡ o → ((e : Shown) → Fits h s (ms e))
+birth_fits : (h : List Mark) (n : List ℕ) (s : Stamp) (o : Option Shown) (ms : Shown → List Mark) → shown_of_name h n ≡ o → ((e : Shown) → Fits h s (ms e))
     → Fits h s (with_birth n o ms)
 birth_fits h n s None ms q f k i = elim i [ ]
 birth_fits h n s (Some e) ms q f k (inl b) = inr (subst (λ (z : Mark). In z h) (sym b) (shown_birth h n e q))
 birth_fits h n s (Some e) ms q f k (inr i) = f e k i
 
 -- the marks of an update fit to the history, with their stamp
-pub marks_fit : (h : List Mark) (u : Change) (s : Stamp) → Fits h s (marks_of (shown h (changed_name u)) u s)
+pub marks_fit : (h : List Mark) (u : Change) (s : Stamp) → Fits h s (marks_of (shown_of_name h (changed_name u)) u s)
 marks_fit h (Create n) s = one_fits h s _ refl
 marks_fit h (MakeLink n target) s = two_fit h s _ _ refl refl
 marks_fit h (MakeChild n pointer) s = two_fit h s _ _ refl refl

@@ -7,11 +7,11 @@ use Rattle.cds_stamps.specs.Members.{Member, master_of, others_of, is_listed, se
 use Rattle.cell_model.specs.Cells.{Replica, Slot, Absent, Gone, Held, House, Join, Message, Cell, IsHeld}
 use Rattle.cell_model.specs.Commands.{Command, Epoch, Skulk, Start, NewEpoch, NotJoined, Refused}
 use Rattle.cell_model.specs.Sets.{In, has}
-use Rattle.cell_model.specs.Turns.{HouseStep, Stays, turned, holding, copy_of, to_each, stamp_at, epoch_replica, epoch_posts, new_epoch, new_epoch_in}
-use Rattle.cell_model.specs.Steps.{Outcome, is_unknown, is_down, is_bad_list, at_house, insert_house, ascending, kind_among}
-use Rattle.cell_model.specs.Steps.{listing, leaving, noted, with_epoch, serials_of, outcome, replay_from, replay}
+use Rattle.cell_model.specs.Turns.{HouseStep, Stays, turn_without_updates, with_slot, copy_of, to_each, stamp_at, epoch_replica, epoch_posts, new_epoch, new_epoch_in}
+use Rattle.cell_model.specs.Steps.{Outcome, is_unknown, is_down, is_bad_list, at_house, insert_house, sorted_houses, kind_among}
+use Rattle.cell_model.specs.Steps.{member_list_of, left_members, note_epoch, with_epoch, serials_of, outcome, replay_from, replay}
 use Rattle.cell_model.specs.Provenance.{epoch_of}
-use Rattle.cell_model.specs.Mending.{starting, delivering, skulking, mending, HasWorked, IsNeverStuck, NeedsStamp}
+use Rattle.cell_model.specs.Mending.{start_commands, deliver_commands, skulk_commands, mend_commands, HasWorked, IsNeverStuck, NeedsStamp}
 use Rattle.cell_model.proofs.Lists.{append_nil, eq_to}
 use Rattle.cell_model.proofs.Terms.{Listed, listed_at, listed_or, In-others_of, master_new, since_kept}
 use Rattle.cell_model.proofs.Facts.{Reached, view, Roll, Sound}
@@ -51,12 +51,12 @@ module _ (old : List Member) (k m : ℕ) (ss : List ℕ) where
       by_order true e = count_step (eqb z m) (eqb x m) (others_among (insert_house x zs)) (others_among zs) x z e
       by_order false e = refl
 
-  count_ascending : (zs : List ℕ) → length (others_among (ascending zs)) ≡ length (others_among zs)
+  count_ascending : (zs : List ℕ) → length (others_among (sorted_houses zs)) ≡ length (others_among zs)
   count_ascending [] = refl
-  count_ascending (z ∷ zs) = count_insert z (ascending zs) ∙ by_house (eqb z m) (count_ascending zs)
+  count_ascending (z ∷ zs) = count_insert z (sorted_houses zs) ∙ by_house (eqb z m) (count_ascending zs)
     where
-      by_house : (b : Bool) → length (others_among (ascending zs)) ≡ length (others_among zs)
-          → length (cond b (others_among (ascending zs)) (z ∷ others_among (ascending zs))) ≡ length (cond b (others_among zs) (z ∷ others_among zs))
+      by_house : (b : Bool) → length (others_among (sorted_houses zs)) ≡ length (others_among zs)
+          → length (cond b (others_among (sorted_houses zs)) (z ∷ others_among (sorted_houses zs))) ≡ length (cond b (others_among zs) (z ∷ others_among zs))
       by_house true e = e
       by_house false e = ap (λ (n : ℕ). suc n) e
 
@@ -69,7 +69,7 @@ module _ (old : List Member) (k m : ℕ) (ss : List ℕ) where
       ∙ ap (λ (c : ℕ). suc c) (count_apart zs (λ i. n (inr i)))
 
   -- a new list has as many others as it was given
-  others_count : (rs : List ℕ) → (In m rs → ⊥) → length (others_of m (listing old k m rs ss)) ≡ length rs
+  others_count : (rs : List ℕ) → (In m rs → ⊥) → length (others_of m (member_list_of old k m rs ss)) ≡ length rs
   others_count rs n =
       count_ascending (m ∷ rs) ∙ ap (λ (b : Bool). length (cond b (others_among rs) (m ∷ others_among rs))) (eq_to m m refl) ∙ count_apart rs n
 
@@ -98,15 +98,15 @@ none_missing made [] f = refl
 none_missing made (h ∷ hs) f =
     ap (λ (b : Bool). not b || list_any (λ x. not (has x made)) hs) (f h (inl refl)) ∙ none_missing made hs (λ x i. f x (inr i))
 
-none_leaves : (old now : List Member) → ((x : ℕ) → In x (houses_of old) → is_listed x now ≡ true) → leaving old now ≡ []
+none_leaves : (old now : List Member) → ((x : ℕ) → In x (houses_of old) → is_listed x now ≡ true) → left_members old now ≡ []
 none_leaves [] now f = refl
 none_leaves (y ∷ ys) now f =
-    ap (λ (b : Bool). cond b (leaving ys now) (y.house ∷ leaving ys now)) (f y.house (inl refl)) ∙ none_leaves ys now (λ x i. f x (inr i))
+    ap (λ (b : Bool). cond b (left_members ys now) (y.house ∷ left_members ys now)) (f y.house (inl refl)) ∙ none_leaves ys now (λ x i. f x (inr i))
 
 module _ (ms : List Member) (k m : ℕ) (listed : is_listed m ms ≡ true) where
   -- the list of epoch k with the same master and the same houses
   abbrev renewed : List Member
-  renewed = listing ms k m (others_of m ms) (secondaries_of ms)
+  renewed = member_list_of ms k m (others_of m ms) (secondaries_of ms)
 
   renewed_has : (x : ℕ) → is_listed x ms ≡ true → is_listed x renewed ≡ true
   renewed_has x l =
@@ -167,26 +167,26 @@ module _ (d k : ℕ) (ms : List Member) (next : Option Stamp) (p : ℕ) (g : Cel
   listed = c.proper.headed c.known
 
   abbrev now : List Member
-  now = listing ms (k + 1) (master_of ms) (others_of (master_of ms) ms) (secondaries_of ms)
+  now = member_list_of ms (k + 1) (master_of ms) (others_of (master_of ms) ms) (secondaries_of ms)
 
   abbrev joins : List Message
   joins = to_each (others_of (master_of ms) now) d (master_of ms) (k + 1) (g.house (master_of ms)).floor (Join now (copy_of c.replica))
 
   abbrev crowned : Cell
-  crowned = noted (changed g (master_of ms) d (g.house (master_of ms)).floor (epoch_replica (k + 1) now c.replica) joins) d (k + 1) now
+  crowned = note_epoch (changed g (master_of ms) d (g.house (master_of ms)).floor (epoch_replica (k + 1) now c.replica) joins) d (k + 1) now
 
   epoch_works : outcome g (Epoch d (master_of ms) (others_of (master_of ms) ms) (secondaries_of ms))
       ≡ record { cell = crowned; answer = NewEpoch (k + 1) (serials_of g joins); accepted = [] }
   epoch_works =
       let rs : List ℕ = others_of m ms in
-      let house : House = holding (g.house m) d (g.house m).floor (Held (epoch_replica (k + 1) now c.replica)) in
+      let house : House = with_slot (g.house m) d (g.house m).floor (Held (epoch_replica (k + 1) now c.replica)) in
       let given : List Member → ℕ → Outcome = λ (l : List Member) (n : ℕ).
-      (let fresh : List Member = listing l (n + 1) m rs (secondaries_of ms) in
-      let o : Outcome = at_house g m (new_epoch m (g.house m) d (n + 1) fresh (leaving l fresh)) in
+      (let fresh : List Member = member_list_of l (n + 1) m rs (secondaries_of ms) in
+      let o : Outcome = at_house g m (new_epoch m (g.house m) d (n + 1) fresh (left_members l fresh)) in
       with_epoch o d fresh o.answer) in
       let done : HouseStep → Outcome = λ (s : HouseStep). with_epoch (at_house g m s) d now (at_house g m s).answer in
       let told : List ℕ → HouseStep = λ (left : List ℕ).
-      turned house (epoch_posts (g.house m).floor d m (k + 1) now left c.replica) (NewEpoch (k + 1)) in
+      turn_without_updates house (epoch_posts (g.house m).floor d m (k + 1) now left c.replica) (NewEpoch (k + 1)) in
       let unknown : is_unknown g d ≡ false = (let n : g.top d ≢ 0 = (λ e. c.known (sym c.top ∙ e)) in grind (arith, n)) in
       let member : not (is_listed m (g.present d)) ≡ false = ap (λ (l : List Member). not (is_listed m l)) c.present ∙ ap not listed in
       let down : is_down g m ≡ false = ap not (c.up m listed) in
@@ -194,21 +194,21 @@ module _ (d k : ℕ) (ms : List Member) (next : Option Stamp) (p : ℕ) (g : Cel
       (let a = since_kept ms (k + 1) m rs (secondaries_of ms) listed in
       let le : since_in now m 0 ≤ c.replica.epoch = omega (arith, a, c.since, c.epoch) in
       grind (arith, le)) in
-      let left : leaving ms now ≡ [] = none_leaves ms now (λ x i. renewed_has ms (k + 1) m listed x (house_listed x ms i)) in
+      let left : left_members ms now ≡ [] = none_leaves ms now (λ x i. renewed_has ms (k + 1) m listed x (house_listed x ms i)) in
       not_refused g (Epoch d m rs (secondaries_of ms))
       (unknown, (not_missing ms (k + 1) m listed g.made k c.proper, (not_bad ms (k + 1) m listed g.made k c.proper, (member, (down, tt)))))
       ∙ ap (λ (l : List Member). given l (g.top d)) c.present
       ∙ ap (λ (n : ℕ). given ms n) c.top
-      ∙ ap (λ (s : Slot). done (new_epoch_in m (g.house m) d (k + 1) now (leaving ms now) s)) c.held
-      ∙ ap (λ (b : Bool). done (cond b (told (leaving ms now)) (Stays (Refused (NotJoined c.replica.epoch (since_in now m 0)))))) since
+      ∙ ap (λ (s : Slot). done (new_epoch_in m (g.house m) d (k + 1) now (left_members ms now) s)) c.held
+      ∙ ap (λ (b : Bool). done (cond b (told (left_members ms now)) (Stays (Refused (NotJoined c.replica.epoch (since_in now m 0)))))) since
       ∙ ap (λ (l : List ℕ). done (told l)) left
-      ∙ ap (λ (l : List Message). done (turned house l (NewEpoch (k + 1)))) (append_nil joins)
+      ∙ ap (λ (l : List Message). done (turn_without_updates house l (NewEpoch (k + 1)))) (append_nil joins)
 
   joins_wait : Joining d (master_of ms) (k + 1) now next (g.house (master_of ms)).floor (copy_of c.replica) (others_of (master_of ms) now) p crowned
   joins_wait =
       let r : Replica = epoch_replica (k + 1) now c.replica in
       let floor : ℕ = (g.house m).floor in
-      let house : House = holding (g.house m) d floor (Held r) in
+      let house : House = with_slot (g.house m) d floor (Held r) in
       record {
         up = λ x l. put_at (λ z (w : House). (g.house z).up ≡ true → w.up ≡ true) g.house m house (λ e. e) (λ z _ e. e) x
             (c.up x (renewed_only ms (k + 1) m listed x l));
@@ -239,15 +239,15 @@ module _ (d k : ℕ) (ms : List Member) (next : Option Stamp) (p : ℕ) (g : Cel
       others_once (master_of ms) now (proper_new g.made ms (k + 1) (k + 1) (master_of ms) rs (secondaries_of ms) fine there).once
 
   -- a new epoch, and its Joins
-  ripe_joined : Run g (Epoch d (master_of ms) (others_of (master_of ms) ms) (secondaries_of ms) ∷ delivering p (length (others_of (master_of ms) ms)))
+  ripe_joined : Run g (Epoch d (master_of ms) (others_of (master_of ms) ms) (secondaries_of ms) ∷ deliver_commands p (length (others_of (master_of ms) ms)))
       (CanSkulk d (master_of ms) (k + 1) now next (p + length (others_of (master_of ms) ms)))
   ripe_joined =
       let n : ℕ = length (others_of m ms) in
       let others : AreOthers m now (others_of m now) = λ x i. In-others_of x m now i in
-      let joined : Run crowned (delivering p n) (CanSkulk d m (k + 1) now next (p + n)) =
-      subst (λ (l : ℕ). Run crowned (delivering p l) (CanSkulk d m (k + 1) now next (p + l))) (renewed_count ms (k + 1) m listed)
+      let joined : Run crowned (deliver_commands p n) (CanSkulk d m (k + 1) now next (p + n)) =
+      subst (λ (l : ℕ). Run crowned (deliver_commands p l) (CanSkulk d m (k + 1) now next (p + l))) (renewed_count ms (k + 1) m listed)
       (join_run d m (k + 1) now next (g.house m).floor (copy_of c.replica) renewed_head (others_of m now) crowned p renewed_once others joins_wait) in
-      run_first g (Epoch d m (others_of m ms) (secondaries_of ms)) (delivering p n) (CanSkulk d m (k + 1) now next (p + n)) _ epoch_works tt joined
+      run_first g (Epoch d m (others_of m ms) (secondaries_of ms)) (deliver_commands p n) (CanSkulk d m (k + 1) now next (p + n)) _ epoch_works tt joined
 
 -- ---- every cell that is reached
 
@@ -327,22 +327,22 @@ module _ (all : List Command) (d : ℕ) (some : (replay all).top d ≢ 0) where
       }
 
   abbrev renewal : List Member
-  renewal = listing list (g.top d + 1) (master_of list) (others_of (master_of list) list) (secondaries_of list)
+  renewal = member_list_of list (g.top d + 1) (master_of list) (others_of (master_of list) list) (secondaries_of list)
 
   -- the houses are started, and take a new epoch
   abbrev renewing : List Command
   renewing =
-      starting g list
-      ++ Epoch d (master_of list) (others_of (master_of list) list) (secondaries_of list) ∷ delivering (length g.bag) (length (others_of (master_of list) list))
+      start_commands g list
+      ++ Epoch d (master_of list) (others_of (master_of list) list) (secondaries_of list) ∷ deliver_commands (length g.bag) (length (others_of (master_of list) list))
 
   abbrev skulking_then : List Command
   skulking_then =
-      skulking (master_of list) d (length g.bag + length (others_of (master_of list) list)) (length (others_of (master_of list) list))
+      skulk_commands (master_of list) d (length g.bag + length (others_of (master_of list) list)) (length (others_of (master_of list) list))
 
-  in_parts : renewing ++ skulking_then ≡ mending g d
+  in_parts : renewing ++ skulking_then ≡ mend_commands g d
   in_parts =
-      append_assoc (starting g list)
-      (Epoch d (master_of list) (others_of (master_of list) list) (secondaries_of list) ∷ delivering (length g.bag) (length (others_of (master_of list) list))) skulking_then
+      append_assoc (start_commands g list)
+      (Epoch d (master_of list) (others_of (master_of list) list) (secondaries_of list) ∷ deliver_commands (length g.bag) (length (others_of (master_of list) list))) skulking_then
 
   renewing_runs : (next : Option Stamp) → stamp_at (g.house (master_of list)) ≡ next → Run g renewing
       (CanSkulk d (master_of list) (g.top d + 1) renewal next (length g.bag + length (others_of (master_of list) list)))
@@ -350,7 +350,7 @@ module _ (all : List Command) (d : ℕ) (some : (replay all).top d ≢ 0) where
       let p = (tidy_lem all).lists d in
       let m : ℕ = master_of list in
       let n : ℕ = length (others_of m list) in
-      run_append g (starting g list) (Epoch d m (others_of m list) (secondaries_of list) ∷ delivering (length g.bag) n) (Started g g list)
+      run_append g (start_commands g list) (Epoch d m (others_of m list) (secondaries_of list) ∷ deliver_commands (length g.bag) n) (Started g g list)
       (CanSkulk d m (g.top d + 1) renewal next (length g.bag + n))
       (start_run g list g p.once (λ x i. p.known x (house_listed x list i)) (alike_self g) (λ x i. refl))
       (λ h s. ripe_joined d (g.top d) list next (length g.bag) h (ripe next stamp h s))
@@ -369,7 +369,7 @@ module _ (all : List Command) (d : ℕ) (some : (replay all).top d ≢ 0) where
 
   -- then a skulk completes
   mending_finishes : (t : Stamp) → stamp_at (g.house (master_of list)) ≡ Some t
-      → Finish g (master_of list) d (mending g d) t (Skulked d (master_of list) (g.top d + 1) renewal)
+      → Finish g (master_of list) d (mend_commands g d) t (Skulked d (master_of list) (g.top d + 1) renewal)
   mending_finishes t stamp =
       let m : ℕ = master_of list in
       let n : ℕ = length (others_of m list) in
@@ -379,11 +379,11 @@ module _ (all : List Command) (d : ℕ) (some : (replay all).top d ≢ 0) where
       let count : length (others_of m renewal) ≡ n = renewed_count list k m head_listed in
       subst (λ (l : List Command). Finish g m d l t over) in_parts
       (finish_append g m d renewing skulking_then t (CanSkulk d m k renewal (Some t) place) over (renewing_runs (Some t) stamp)
-      (λ h s. subst (λ (l : ℕ). Finish h m d (skulking m d place l) t over) count
+      (λ h s. subst (λ (l : ℕ). Finish h m d (skulk_commands m d place l) t over) count
       (skulk_finishes d m k renewal t renewal_head (master_new list k m (others_of m list) (secondaries_of list)) renewal_once h place s)))
 
   -- without a stamp none does
-  mending_needs : stamp_at (g.house (master_of list)) ≡ None → Works g (mending g d) → ⊥
+  mending_needs : stamp_at (g.house (master_of list)) ≡ None → Works g (mend_commands g d) → ⊥
   mending_needs none w =
       let m : ℕ = master_of list in
       let k : ℕ = g.top d + 1 in
@@ -392,20 +392,20 @@ module _ (all : List Command) (d : ℕ) (some : (replay all).top d ≢ 0) where
       let refused = skulk_refused d m k renewal renewal_head (master_new list k m (others_of m list) (secondaries_of list)) (replay_from g renewing) _ r.state in
       subst HasWorked refused (later (outcome (replay_from g renewing) (Skulk m d)).answer (inl refl))
 
-starting_few : (g : Cell) (ys : List Member) → length (starting g ys) ≤ length ys
+starting_few : (g : Cell) (ys : List Member) → length (start_commands g ys) ≤ length ys
 starting_few g [] = le_refl _
 starting_few g (y ∷ ys) = by_state (is_down g y.house) (starting_few g ys)
   where
-    by_state : (b : Bool) → length (starting g ys) ≤ length ys → length (cond b (Start y.house ∷ starting g ys) (starting g ys)) ≤ suc (length ys)
+    by_state : (b : Bool) → length (start_commands g ys) ≤ length ys → length (cond b (Start y.house ∷ start_commands g ys) (start_commands g ys)) ≤ suc (length ys)
     by_state true le = omega (arith, le)
     by_state false le = omega (arith, le)
 
-delivering_count : (n p : ℕ) → length (delivering p n) ≡ n
+delivering_count : (n p : ℕ) → length (deliver_commands p n) ≡ n
 delivering_count zero p = refl
 delivering_count (suc n) p = ap (λ (c : ℕ). suc c) (delivering_count n (p + 1))
 
 -- for n houses there are at most 6 n - 3 commands
-mending_few : (g : Cell) (d : ℕ) → is_listed (master_of (g.present d)) (g.present d) ≡ true → length (mending g d) + 3 ≤ 6 * length (g.present d)
+mending_few : (g : Cell) (d : ℕ) → is_listed (master_of (g.present d)) (g.present d) ≡ true → length (mend_commands g d) + 3 ≤ 6 * length (g.present d)
 mending_few g d listed =
     let ms : List Member = g.present d in
     let m : ℕ = master_of ms in
@@ -413,8 +413,8 @@ mending_few g d listed =
     let p : ℕ = length g.bag in
     let starts = starting_few g ms in
     let fewer = others_fewer m ms listed in
-    let a = length-append (starting g ms) (Epoch d m (others_of m ms) (secondaries_of ms) ∷ (delivering p n ++ skulking m d (p + n) n)) in
-    let b = length-append (delivering p n) (skulking m d (p + n) n) in
+    let a = length-append (start_commands g ms) (Epoch d m (others_of m ms) (secondaries_of ms) ∷ (deliver_commands p n ++ skulk_commands m d (p + n) n)) in
+    let b = length-append (deliver_commands p n) (skulk_commands m d (p + n) n) in
     let first = delivering_count n p in
     let then = delivering_count (4 * n) (p + n) in
     omega (arith, starts, fewer, a, b, first, then)
@@ -429,7 +429,7 @@ mended_lem all d t low stamp =
     let some = some_epoch (g.top d) low in
     let listed = ((tidy_lem all).lists d).headed some in
     record {
-      settled = settles all (mending g d) d k t ms (listing ms k m (others_of m ms) (secondaries_of ms)) listed (master_new ms k m (others_of m ms) (secondaries_of ms))
+      settled = settles all (mend_commands g d) d k t ms (member_list_of ms k m (others_of m ms) (secondaries_of ms)) listed (master_new ms k m (others_of m ms) (secondaries_of ms))
           (λ x l. renewed_has ms k m listed x l)
           (mending_finishes all d some t stamp);
       few = mending_few g d listed;

@@ -10,7 +10,7 @@ use Rattle.cell_model.specs.Cells.{Idle, Gathering, Replica}
 use Rattle.cell_model.specs.Commands.{Command, House, Clock, Root, Accept, Epoch, Skulk, Deliver, Lose, Crash, Start, NoMessage, Update, Done, Stamped}
 use Rattle.cell_model.specs.Commands.{NewEpoch, Taken, Complete, Refused}
 use Rattle.cell_model.specs.Steps.{answers_from, replay}
-use Rattle.cell_model.specs.Mending.{mending, skulking_at}
+use Rattle.cell_model.specs.Mending.{mend_commands, skulking_at}
 use Rattle.cell_model.proofs.ExampleWords.{at, listed, replica_at, state_at}
 use Rattle.cell_model.proofs.Skulking.{crash_in_second, old_master, overtaken}
 
@@ -18,11 +18,11 @@ use Rattle.cell_model.proofs.Skulking.{crash_in_second, old_master, overtaken}
 abbrev crashed : List Command
 crashed = take 10 crash_in_second
 
-crashed-mending : mending (replay crashed) 1 ≡
+crashed-mending : mend_commands (replay crashed) 1 ≡
     Start 1 ∷ Epoch 1 1 (2 ∷ []) [] ∷ Deliver 6 ∷ Skulk 1 1 ∷ Deliver 7 ∷ Deliver 8 ∷ Deliver 9 ∷ Deliver 10 ∷ []
 crashed-mending = refl
 
-crashed-answers : answers_from (replay crashed) (mending (replay crashed) 1) ≡
+crashed-answers : answers_from (replay crashed) (mend_commands (replay crashed) 1) ≡
     Done ∷ NewEpoch 2 (6 ∷ []) ∷ Taken [] ∷ Stamped (at 2 10) (7 ∷ []) ∷ Taken (8 ∷ []) ∷ Taken (9 ∷ []) ∷ Taken (10 ∷ []) ∷
     Complete (at 2 10) (11 ∷ []) ∷ []
 crashed-answers = refl
@@ -41,12 +41,12 @@ all_lost =
     House 1 10 ∷ House 2 11 ∷ House 3 12 ∷ Root 2 (1 ∷ 3 ∷ []) [] ∷ Lose 1 ∷ Lose 2 ∷ Accept 2 1 (Create (codes "e")) ∷ Lose 3 ∷ Lose 4 ∷ Skulk 2 1 ∷
     Lose 5 ∷ Lose 6 ∷ []
 
-all_lost-mending : mending (replay all_lost) 1 ≡
+all_lost-mending : mend_commands (replay all_lost) 1 ≡
     Epoch 1 2 (1 ∷ 3 ∷ []) [] ∷ Deliver 7 ∷ Deliver 8 ∷ Skulk 2 1 ∷ Deliver 9 ∷ Deliver 10 ∷ Deliver 11 ∷ Deliver 12 ∷ Deliver 13 ∷ Deliver 14 ∷
     Deliver 15 ∷ Deliver 16 ∷ []
 all_lost-mending = refl
 
-all_lost-answers : answers_from (replay all_lost) (mending (replay all_lost) 1) ≡
+all_lost-answers : answers_from (replay all_lost) (mend_commands (replay all_lost) 1) ≡
     NewEpoch 2 (7 ∷ 8 ∷ []) ∷ Taken [] ∷ Taken [] ∷ Stamped (at 3 11) (9 ∷ 10 ∷ []) ∷ Taken (11 ∷ []) ∷ Taken (12 ∷ []) ∷ Taken [] ∷
     Taken (13 ∷ 14 ∷ []) ∷ Taken (15 ∷ []) ∷ Taken (16 ∷ []) ∷ Taken [] ∷ Complete (at 3 11) (17 ∷ 18 ∷ []) ∷ []
 all_lost-answers = refl
@@ -55,7 +55,7 @@ all_lost-answers = refl
 abbrev joins_lost : List Command
 joins_lost = House 1 10 ∷ House 2 11 ∷ House 3 12 ∷ Root 2 (1 ∷ 3 ∷ []) (3 ∷ []) ∷ Lose 1 ∷ Lose 2 ∷ []
 
-joins_lost-mending : mending (replay joins_lost) 1 ≡
+joins_lost-mending : mend_commands (replay joins_lost) 1 ≡
     Epoch 1 2 (1 ∷ 3 ∷ []) (3 ∷ []) ∷ Deliver 3 ∷ Deliver 4 ∷ Skulk 2 1 ∷ Deliver 5 ∷ Deliver 6 ∷ Deliver 7 ∷ Deliver 8 ∷ Deliver 9 ∷ Deliver 10 ∷
     Deliver 11 ∷ Deliver 12 ∷ []
 joins_lost-mending = refl
@@ -64,16 +64,16 @@ joins_lost-mending = refl
 abbrev came_back : List Command
 came_back = take 10 old_master
 
-came_back-mending : mending (replay came_back) 1 ≡
+came_back-mending : mend_commands (replay came_back) 1 ≡
     Epoch 1 2 (1 ∷ []) [] ∷ Deliver 5 ∷ Skulk 2 1 ∷ Deliver 6 ∷ Deliver 7 ∷ Deliver 8 ∷ Deliver 9 ∷ []
 came_back-mending = refl
 
-came_back-answers : answers_from (replay came_back) (mending (replay came_back) 1) ≡
+came_back-answers : answers_from (replay came_back) (mend_commands (replay came_back) 1) ≡
     NewEpoch 4 (5 ∷ []) ∷ Taken [] ∷ Stamped (at 2 11) (6 ∷ []) ∷ Taken (7 ∷ []) ∷ Taken (8 ∷ []) ∷ Taken (9 ∷ []) ∷
     Complete (at 2 11) (10 ∷ []) ∷ []
 came_back-answers = refl
 
-came_back-state : state_at (replay (came_back ++ mending (replay came_back) 1)) 1 1
+came_back-state : state_at (replay (came_back ++ mend_commands (replay came_back) 1)) 1 1
     ≡ Some (4, Some (at 1 11), listed 1 3 ReadOnly ∷ listed 2 1 Master ∷ [])
 came_back-state = refl
 
@@ -81,11 +81,11 @@ came_back-state = refl
 abbrev overtaken_round : List Command
 overtaken_round = House 1 10 ∷ House 2 11 ∷ Root 1 (2 ∷ []) [] ∷ Deliver 1 ∷ Skulk 1 1 ∷ Deliver 2 ∷ Epoch 1 2 (1 ∷ []) [] ∷ []
 
-overtaken_round-mending : mending (replay overtaken_round) 1 ≡
+overtaken_round-mending : mend_commands (replay overtaken_round) 1 ≡
     Epoch 1 2 (1 ∷ []) [] ∷ Deliver 5 ∷ Skulk 2 1 ∷ Deliver 6 ∷ Deliver 7 ∷ Deliver 8 ∷ Deliver 9 ∷ []
 overtaken_round-mending = refl
 
-overtaken_round-answers : answers_from (replay overtaken_round) (mending (replay overtaken_round) 1) ≡
+overtaken_round-answers : answers_from (replay overtaken_round) (mend_commands (replay overtaken_round) 1) ≡
     NewEpoch 3 (5 ∷ []) ∷ Taken [] ∷ Stamped (at 2 11) (6 ∷ []) ∷ Taken (7 ∷ []) ∷ Taken (8 ∷ []) ∷ Taken (9 ∷ []) ∷
     Complete (at 2 11) (10 ∷ []) ∷ []
 overtaken_round-answers = refl
@@ -93,18 +93,18 @@ overtaken_round-answers = refl
 overtaken_round-before : option_map (λ (r : Replica). r.phase) (replica_at (replay overtaken_round) 1 1) ≡ Some (Gathering (at 1 10) [])
 overtaken_round-before = refl
 
-overtaken_round-behind : option_map (λ (r : Replica). r.phase) (replica_at (replay (overtaken_round ++ mending (replay overtaken_round) 1)) 1 1) ≡ Some Idle
+overtaken_round-behind : option_map (λ (r : Replica). r.phase) (replica_at (replay (overtaken_round ++ mend_commands (replay overtaken_round) 1)) 1 1) ≡ Some Idle
 overtaken_round-behind = refl
 
 -- a house that a late Leave made Gone is listed again, but its Join is lost, and it is down
 abbrev gone_late : List Command
 gone_late = overtaken ++ Epoch 1 1 (2 ∷ []) [] ∷ Lose 3 ∷ Crash 2 ∷ []
 
-gone_late-mending : mending (replay gone_late) 1 ≡
+gone_late-mending : mend_commands (replay gone_late) 1 ≡
     Start 2 ∷ Epoch 1 1 (2 ∷ []) [] ∷ Deliver 4 ∷ Skulk 1 1 ∷ Deliver 5 ∷ Deliver 6 ∷ Deliver 7 ∷ Deliver 8 ∷ []
 gone_late-mending = refl
 
-gone_late-answers : answers_from (replay gone_late) (mending (replay gone_late) 1) ≡
+gone_late-answers : answers_from (replay gone_late) (mend_commands (replay gone_late) 1) ≡
     Done ∷ NewEpoch 4 (4 ∷ []) ∷ Taken [] ∷ Stamped (at 1 10) (5 ∷ []) ∷ Taken (6 ∷ []) ∷ Taken (7 ∷ []) ∷ Taken (8 ∷ []) ∷
     Complete (at 1 10) (9 ∷ []) ∷ []
 gone_late-answers = refl
@@ -113,7 +113,7 @@ gone_late-answers = refl
 abbrev alone_down : List Command
 alone_down = House 1 10 ∷ Root 1 [] [] ∷ Crash 1 ∷ []
 
-alone_down-answers : answers_from (replay alone_down) (mending (replay alone_down) 1) ≡ Done ∷ NewEpoch 2 [] ∷ Complete (at 1 10) [] ∷ []
+alone_down-answers : answers_from (replay alone_down) (mend_commands (replay alone_down) 1) ≡ Done ∷ NewEpoch 2 [] ∷ Complete (at 1 10) [] ∷ []
 alone_down-answers = refl
 
 -- a house whose floor is the last time answers all the same, where it is not the master
@@ -122,11 +122,11 @@ member_spent =
     House 1 10 ∷ House 2 11 ∷ Root 1 (2 ∷ []) [] ∷ Deliver 1 ∷ Clock 2 last_time ∷ Epoch 1 2 (1 ∷ []) [] ∷ Accept 2 1 (Create (codes "e")) ∷
     Epoch 1 1 (2 ∷ []) [] ∷ []
 
-member_spent-answers : answers_from (replay member_spent) (mending (replay member_spent) 1) ≡
+member_spent-answers : answers_from (replay member_spent) (mend_commands (replay member_spent) 1) ≡
     NewEpoch 4 (5 ∷ []) ∷ Taken [] ∷ Stamped (at 1 10) (6 ∷ []) ∷ Taken (7 ∷ []) ∷ Taken (8 ∷ []) ∷ Taken (9 ∷ []) ∷ Complete (at 1 10) (10 ∷ []) ∷ []
 member_spent-answers = refl
 
 -- where it is the master, it has no stamp for the skulk
-master_spent-answers : answers_from (replay (take 7 member_spent)) (mending (replay (take 7 member_spent)) 1) ≡
+master_spent-answers : answers_from (replay (take 7 member_spent)) (mend_commands (replay (take 7 member_spent)) 1) ≡
     NewEpoch 3 (4 ∷ []) ∷ Taken [] ∷ Refused (Update why.StampsSpent) ∷ Refused NoMessage ∷ Refused NoMessage ∷ Refused NoMessage ∷ Refused NoMessage ∷ []
 master_spent-answers = refl

@@ -16,7 +16,7 @@ use Rattle.cell_model.specs.Cells.{Replica, Body, Message}
 use Rattle.cell_model.specs.Bodies.{marks_in, up_to_in}
 use Rattle.cell_model.specs.Commands.{Command, Accepted}
 use Rattle.cell_model.specs.Sets.{In, IsPart, IsUpTo}
-use Rattle.cell_model.specs.Steps.{replay, accepted}
+use Rattle.cell_model.specs.Steps.{replay, accepted_updates}
 use Rattle.cell_model.specs.Merges.{Adds, of_update, of_gathered, of_spread, of_join, MergesHold}
 use Rattle.cell_model.specs.Skulks.{IsCompleted}
 use Rattle.cell_model.proofs.Lists.{append_nil, In-append_left, In-append_right, In-append_cases}
@@ -180,14 +180,14 @@ adds_term roll v m r marks t s i at (of_join ms copy is le since) =
 pub merges_lem : (commands : List Command) → MergesHold commands
 merges_lem commands m r marks t i at a = record {
   covered = λ k c. in_contains r.history k (cover t refl k (contains_in (up_to marks t) k c));
-  mine = closed_history m.dir (accepted commands) here.known.well once r.history mine (here.known.origin m.receiver r at);
-  theirs = closed_history m.dir (accepted commands) here.known.well once marks theirs its;
-  both = closed_history m.dir (accepted commands) here.known.well once (r.history ++ marks)
-      (closed_both m.dir (accepted commands) here.known.well once r.history marks mine theirs)
+  mine = closed_history m.dir (accepted_updates commands) here.known.well once r.history mine (here.known.origin m.receiver r at);
+  theirs = closed_history m.dir (accepted_updates commands) here.known.well once marks theirs its;
+  both = closed_history m.dir (accepted_updates commands) here.known.well once (r.history ++ marks)
+      (closed_both m.dir (accepted_updates commands) here.known.well once r.history marks mine theirs)
       (λ k ik. ⊎_elim (here.known.origin m.receiver r at k) (its k) (In-append_cases k r.history marks ik));
 }
   where
-    here : Reaching (roll_of m.dir commands) (view m.dir (replay commands)) (accepted commands)
+    here : Reaching (roll_of m.dir commands) (view m.dir (replay commands)) (accepted_updates commands)
     here = reaching_last commands m.dir
 
     posted : IsPosted (view m.dir (replay commands)) m
@@ -196,17 +196,17 @@ merges_lem commands m r marks t i at a = record {
     added : Added m r marks t
     added = adds_known m r marks t a
 
-    once : (a b : Accepted) → In a (accepted commands) → In b (accepted commands) → a.stamp ≡ b.stamp → a ≡ b
+    once : (a b : Accepted) → In a (accepted_updates commands) → In b (accepted_updates commands) → a.stamp ≡ b.stamp → a ≡ b
     once = (logged_at commands).once
 
-    mine : Closed m.dir (accepted commands) r.history
+    mine : Closed m.dir (accepted_updates commands) r.history
     mine = (reaching_last commands m.dir).known.only m.receiver r at
 
-    theirs : Closed m.dir (accepted commands) marks
-    theirs = subst (λ (z : List Mark). Closed m.dir (accepted commands) z) (sym (adds_known m r marks t a).same)
+    theirs : Closed m.dir (accepted_updates commands) marks
+    theirs = subst (λ (z : List Mark). Closed m.dir (accepted_updates commands) z) (sym (adds_known m r marks t a).same)
         ((reaching_last commands m.dir).known.only_m m (In-of_dir m.dir (replay commands).bag m i refl))
 
-    its : (k : Mark) → In k marks → Origin m.dir (accepted commands) k
+    its : (k : Mark) → In k marks → Origin m.dir (accepted_updates commands) k
     its k ik = (reaching_last commands m.dir).known.origin_m m (In-of_dir m.dir (replay commands).bag m i refl) k
         (subst (λ (z : List Mark). In k z) (adds_known m r marks t a).same ik)
 

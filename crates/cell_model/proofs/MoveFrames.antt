@@ -8,8 +8,8 @@ use Rattle.cds_stamps.specs.Members.{Member, others_of, is_listed, since_in}
 use Rattle.cell_model.specs.Cells.{Idle, Replica, Slot, Absent, Gone, Held, House, Message, Cell, IsHeld, put}
 use Rattle.cell_model.specs.Commands.{Answer, Accepted}
 use Rattle.cell_model.specs.Sets.{In, has}
-use Rattle.cell_model.specs.Turns.{holding, first_replica, epoch_replica, crashed}
-use Rattle.cell_model.specs.Steps.{moved, listing, leaving, founded as founded_at}
+use Rattle.cell_model.specs.Turns.{with_slot, first_replica, epoch_replica, crash_slot}
+use Rattle.cell_model.specs.Steps.{move_house, member_list_of, left_members, cell_with_directory as founded_at}
 use Rattle.cell_model.proofs.Lists.{append_nil, In-append_cases, eq_from, or_left, or_right, or_cases}
 use Rattle.cell_model.proofs.Terms.{flip_eq}
 use Rattle.cell_model.proofs.Facts.{Seat, View, of_dir, seat, view, Roll, Sound, same, grew, own, Frame}
@@ -105,20 +105,20 @@ act_frame roll g h d floor o posts a n dir w s (leaves m ns en low) = leaves_fra
 
 -- the view of the directory that a change is about
 pub view_in : (g : Cell) (h d floor : ℕ) (o : Slot) (posts : List Message) (top : ℕ → ℕ) (present : ℕ → List Member) → AllOf d posts
-    → view d (record (moved g h (holding (g.house h) d floor o) posts) { top = top; present = present })
+    → view d (record (move_house g h (with_slot (g.house h) d floor o) posts) { top = top; present = present })
     ≡ altered (view d g) h floor o posts (top d) (present d)
 view_in g h d floor o posts top present all =
-    view_moved g h (holding (g.house h) d floor o) posts top present d
+    view_moved g h (with_slot (g.house h) d floor o) posts top present d
     ∙ ap (λ (z : Slot). altered (view d g) h floor z (of_dir d posts) (top d) (present d)) (put_same (g.house h).slots d o)
     ∙ ap (λ (z : List Message). altered (view d g) h floor o z (top d) (present d)) (of_dir-all d posts all)
 
 -- and of another one
 pub view_out : (g : Cell) (h d floor : ℕ) (o : Slot) (posts : List Message) (top : ℕ → ℕ) (present : ℕ → List Member) (d' : ℕ) → d' ≢ d → AllOf d posts
-    → view d' (record (moved g h (holding (g.house h) d floor o) posts) { top = top; present = present })
+    → view d' (record (move_house g h (with_slot (g.house h) d floor o) posts) { top = top; present = present })
     ≡ altered (view d' g) h floor ((g.house h).slots d') [] (top d') (present d')
 view_out g h d floor o posts top present d' n all =
     let n' : d ≢ d' = λ e. n (sym e) in
-    view_moved g h (holding (g.house h) d floor o) posts top present d'
+    view_moved g h (with_slot (g.house h) d floor o) posts top present d'
     ∙ ap (λ (z : Slot). altered (view d' g) h floor z (of_dir d' posts) (top d') (present d')) (put_other (g.house h).slots d o d' n)
     ∙ ap (λ (z : List Message). altered (view d' g) h floor ((g.house h).slots d') z (top d') (present d')) (of_dir-none d' d posts n' all)
 
@@ -178,7 +178,7 @@ first_joins_dir g d m ms = to_each-dir _ d m _ _ _
 -- what a new epoch posts is about its directory
 pub epoch_posts_dir : (g : Cell) (d m k : ℕ) (ms : List Member) (r : Replica) → AllOf d (epoch_told g d m k ms r)
 epoch_posts_dir g d m k ms r p i =
-    ⊎_elim (to_each-dir (others_of m ms) d m k _ _ p) (to_each-dir (leaving (g.present d) ms) d m k _ _ p) (In-append_cases p _ _ i)
+    ⊎_elim (to_each-dir (others_of m ms) d m k _ _ p) (to_each-dir (left_members (g.present d) ms) d m k _ _ p) (In-append_cases p _ _ i)
 
 -- the list of an epoch of this directory, where the console's list and last epoch were just set
 fit_set : (roll : Roll) (top : ℕ → ℕ) (present : ℕ → List Member) (d k : ℕ) (ms : List Member) → put present d ms d ≡ roll.list (put top d k d)
@@ -193,8 +193,8 @@ fit_kept v h floor top present d k ms d' n = ap (λ (z : ℕ). altered v h floor
 
 -- a new directory, seen from any directory
 pub founding_frame : (roll : Roll) (g : Cell) (d m : ℕ) (rs ss : List ℕ) (nd : ℕ) → Whole roll.home g → g.top d ≡ 0 → (d' : ℕ) → Sound roll (view d' g)
-    → put g.present d (listing [] 1 m rs ss) d' ≡ roll.list (put g.top d 1 d')
-    → Frame roll (view d' g) (view d' (record (founded_at g d m (listing [] 1 m rs ss)) { next_dir = nd })) []
+    → put g.present d (member_list_of [] 1 m rs ss) d' ≡ roll.list (put g.top d 1 d')
+    → Frame roll (view d' g) (view d' (record (founded_at g d m (member_list_of [] 1 m rs ss)) { next_dir = nd })) []
 founding_frame roll g d m rs ss nd w none d' s fit =
     by_dir (λ z. Sound roll (view z g) → put g.present d ms z ≡ roll.list (put g.top d 1 z)
     → Frame roll (view z g) (view z (record (founded_at g d m ms) { next_dir = nd })) []) d d'
@@ -213,7 +213,7 @@ founding_frame roll g d m rs ss nd w none d' s fit =
     s fit
   where
     ms : List Member
-    ms = listing [] 1 m rs ss
+    ms = member_list_of [] 1 m rs ss
 
 -- a new directory changes nothing of another one
 put_itself : (f : ℕ → Seat) (m x : ℕ) → put f m (f m) x ≡ f x
@@ -229,8 +229,8 @@ founded_view g d m ms nd d' n =
 -- a new epoch, seen from any directory
 pub promotion_frame : (roll : Roll) (g : Cell) (d m k : ℕ) (rs ss : List ℕ) (r : Replica) → k ≡ suc (g.top d) → IsHeld g m d r
     → is_listed m (g.present d) ≡ true → since_in (g.present d) m 0 ≤ r.epoch → (d' : ℕ) → Sound roll (view d' g)
-    → put g.present d (listing (g.present d) k m rs ss) d' ≡ roll.list (put g.top d k d')
-    → Frame roll (view d' g) (view d' (promote g d m k (listing (g.present d) k m rs ss) r).cell) []
+    → put g.present d (member_list_of (g.present d) k m rs ss) d' ≡ roll.list (put g.top d k d')
+    → Frame roll (view d' g) (view d' (promote g d m k (member_list_of (g.present d) k m rs ss) r).cell) []
 promotion_frame roll g d m k rs ss r next at l since d' s fit =
     by_dir (λ z. Sound roll (view z g) → put g.present d ms z ≡ roll.list (put g.top d k z)
     → Frame roll (view z g) (view z (promote g d m k ms r).cell) []) d d'
@@ -249,14 +249,14 @@ promotion_frame roll g d m k rs ss r next at l since d' s fit =
     s fit
   where
     ms : List Member
-    ms = listing (g.present d) k m rs ss
+    ms = member_list_of (g.present d) k m rs ss
 
 -- an act, seen from any directory
 pub acting_frame : (roll : Roll) (g : Cell) (h d floor : ℕ) (o : Slot) (posts : List Message) (a : Answer) (n : List Accepted) → Whole roll.home g
     → Act g h d floor o posts a n → Sound roll (view roll.dir g)
-    → Frame roll (view roll.dir g) (view roll.dir (moved g h (holding (g.house h) d floor o) posts)) n
+    → Frame roll (view roll.dir g) (view roll.dir (move_house g h (with_slot (g.house h) d floor o) posts)) n
 acting_frame roll g h d floor o posts a n w act s =
-    by_dir (λ z. z ≡ roll.dir → Sound roll (view z g) → Frame roll (view z g) (view z (moved g h (holding (g.house h) d floor o) posts)) n) d roll.dir
+    by_dir (λ z. z ≡ roll.dir → Sound roll (view z g) → Frame roll (view z g) (view z (move_house g h (with_slot (g.house h) d floor o) posts)) n) d roll.dir
     (λ dir s'. subst (λ (z : View). Frame roll (view d g) z n) (sym (view_in g h d floor o posts g.top g.present all))
     (act_frame roll g h d floor o posts a n dir w s' act))
     (λ ne _ s'. subst (λ (z : View). Frame roll (view roll.dir g) z n) (sym (view_out g h d floor o posts g.top g.present roll.dir ne all))
@@ -266,7 +266,7 @@ acting_frame roll g h d floor o posts a n w act s =
     all : AllOf d posts
     all = act_posts g h d floor o posts a n act
 
-crash_cases : (o : Slot) → (crashed o ≡ o) ⊎ ((r : Replica) × (o ≡ Held r) × (crashed o ≡ Held (record r { phase = Idle })))
+crash_cases : (o : Slot) → (crash_slot o ≡ o) ⊎ ((r : Replica) × (o ≡ Held r) × (crash_slot o ≡ Held (record r { phase = Idle })))
 crash_cases Absent = inl refl
 crash_cases (Gone e) = inl refl
 crash_cases (Held r) = inr (r, refl, refl)
@@ -289,7 +289,7 @@ move_frame roll g g' p a n w s fit (clocks h time made) =
 move_frame roll g g' p a n w s fit (loses i) = still_frame roll (view roll.dir g) s []
 move_frame roll g g' p a n w s fit (crashes h up) =
     subst (λ (z : View). Frame roll (view roll.dir g) z [])
-    (sym (view_moved g h (record (g.house h) { up = false; slots = λ d. crashed ((g.house h).slots d) }) [] g.top g.present roll.dir))
+    (sym (view_moved g h (record (g.house h) { up = false; slots = λ d. crash_slot ((g.house h).slots d) }) [] g.top g.present roll.dir))
     (crash_frame roll (view roll.dir g) s h ((g.house h).slots roll.dir) _ refl (crash_cases ((g.house h).slots roll.dir)))
 move_frame roll g g' p a n w s fit (starts h made) =
     subst (λ (z : View). Frame roll (view roll.dir g) z []) (sym (view_moved g h (record (g.house h) { up = true }) [] g.top g.present roll.dir))

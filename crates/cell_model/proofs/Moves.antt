@@ -7,7 +7,7 @@ use Rattle.cds_stamps.specs.declared.stamp.Stamp.{Stamp}
 use Rattle.cds_stamps.specs.Members.{Member, master_of, others_of, is_listed, since_in}
 use Rattle.directory.specs.declared.update.UpdateRefusal.{UpdateRefusal}
 use Rattle.directory.specs.Histories.{Mark}
-use Rattle.directory.specs.Shown.{shown, marks_of}
+use Rattle.directory.specs.Shown.{shown_of_name, marks_of}
 use Rattle.directory.specs.Updates as changes
 use Rattle.directory.specs.Updates.{Change, changed_name}
 use Rattle.cell_model.specs.Cells.{Idle, Gathering, Spreading, Replica, Slot, Absent, Gone, Held, Copy, Body, Update, Gather, Gathered}
@@ -16,11 +16,11 @@ use Rattle.cell_model.specs.Commands as commands
 use Rattle.cell_model.specs.Commands.{Command, Refusal, NoHouse, NoDirectory, BadMembers, NotMember, Down, Answer, Done, Posted, Made, Stamped}
 use Rattle.cell_model.specs.Commands.{NotJoined, NewEpoch, Taken, Late, Early, Stale, Foreign, Complete, Refused, Accepted}
 use Rattle.cell_model.specs.Sets.{In, has}
-use Rattle.cell_model.specs.Turns.{HouseStep, Stays, unless_refused, turned, holding, grown, copy_of, merged, raised, to_each, stamp_at, accept_at}
+use Rattle.cell_model.specs.Turns.{HouseStep, Stays, unless_refused, turn_without_updates, with_slot, with_marks, copy_of, merge_copy, later_up_to, to_each, stamp_at, accept_at}
 use Rattle.cell_model.specs.Turns.{update_refusal, accept_in, begin, skulk_at, skulk_in, epoch_replica, epoch_posts, first_joins, new_epoch_in}
-use Rattle.cell_model.specs.Turns.{floor_after, reply, to_others, copied, kept_at_join, take}
-use Rattle.cell_model.specs.Steps.{Outcome, first_refusal, unless, is_missing, is_taken, is_down, is_unknown, moved, at_house, ascending, listing}
-use Rattle.cell_model.specs.Steps.{leaving, new_house, set_clock, noted, founded, with_directory, with_epoch, message_at, deliver, lose, crash, start}
+use Rattle.cell_model.specs.Turns.{floor_after, reply, to_others, replica_of_copy, kept_at_join, take}
+use Rattle.cell_model.specs.Steps.{Outcome, first_refusal, unless, is_missing, is_taken, is_down, is_unknown, move_house, at_house, sorted_houses, member_list_of}
+use Rattle.cell_model.specs.Steps.{left_members, new_house, set_clock, note_epoch, cell_with_directory, with_directory, with_epoch, message_at, deliver, lose, crash, start}
 use Rattle.cell_model.specs.Steps.{refusals_of, effect, outcome}
 use Rattle.cell_model.specs.Agreement.{place_of}
 use Rattle.cell_model.proofs.Rows as rows
@@ -30,7 +30,7 @@ use Rattle.cell_model.proofs.Lists.{In-from_get, or_left, or_right, not_true, eq
 
 -- the marks of an update
 abbrev pub new_marks : Replica → Change → Stamp → List Mark
-new_marks r u s = marks_of (shown r.history (changed_name u)) u s
+new_marks r u s = marks_of (shown_of_name r.history (changed_name u)) u s
 
 -- the house is up
 abbrev pub IsUp : Cell → ℕ → Type 0
@@ -77,39 +77,39 @@ others_at g m r body = to_others (g.house m.receiver) m r body
 -- what a house does in one directory: its new floor and slot, what it posts, the answer, and what it accepted
 pub data Act (g : Cell) : (h d floor : ℕ) → Slot → List Message → Answer → List Accepted → Type 0 where
   accepts : (h d : ℕ) (u : Change) (r : Replica) (s : Stamp) (ns : List ℕ) → Issuing g h d r s → update_refusal h u r ≡ None
-      → Act g h d s.time (Held (grown r (new_marks r u s))) (to_each (others_of h r.members) d h r.epoch s.time (Update (new_marks r u s))) (Stamped s ns)
+      → Act g h d s.time (Held (with_marks r (new_marks r u s))) (to_each (others_of h r.members) d h r.epoch s.time (Update (new_marks r u s))) (Stamped s ns)
       (accepting h d u r s ∷ [])
   skulks : (h d : ℕ) (r : Replica) (t : Stamp) (ns : List ℕ) → Issuing g h d r t → master_of r.members ≡ h
       → Act g h d t.time (Held (record r { phase = Gathering t [] })) (to_each (others_of h r.members) d h r.epoch t.time (Gather t)) (Stamped t ns) []
   lone : (h d : ℕ) (r : Replica) (t : Stamp) → Issuing g h d r t → master_of r.members ≡ h → others_of h r.members ≡ []
-      → Act g h d t.time (Held (record r { all_up_to = raised r.all_up_to t; phase = Idle })) [] (Complete t []) []
+      → Act g h d t.time (Held (record r { all_up_to = later_up_to r.all_up_to t; phase = Idle })) [] (Complete t []) []
   updates : (m : Message) (marks : List Mark) (r : Replica) (ns : List ℕ) → Taking g m (Update marks) r
-      → Act g m.receiver m.dir (floor_at g m) (Held (grown r marks)) [] (Taken ns) []
+      → Act g m.receiver m.dir (floor_at g m) (Held (with_marks r marks)) [] (Taken ns) []
   gives : (m : Message) (t : Stamp) (r : Replica) (ns : List ℕ) → Taking g m (Gather t) r
       → Act g m.receiver m.dir (floor_at g m) (Held r) (reply_at g m (Gathered t (copy_of r))) (Taken ns) []
   gathers : (m : Message) (t : Stamp) (copy : Copy) (a : List ℕ) (r : Replica) (ns : List ℕ) → Taking g m (Gathered t copy) r → r.phase ≡ Gathering t a
-      → Act g m.receiver m.dir (floor_at g m) (Held (record (merged r copy) { phase = Gathering t (m.sender ∷ a) })) [] (Taken ns) []
+      → Act g m.receiver m.dir (floor_at g m) (Held (record (merge_copy r copy) { phase = Gathering t (m.sender ∷ a) })) [] (Taken ns) []
   turns : (m : Message) (t : Stamp) (copy : Copy) (a : List ℕ) (r : Replica) (ns : List ℕ) → Taking g m (Gathered t copy) r → r.phase ≡ Gathering t a
       → ((x : ℕ) → In x (others_of m.receiver r.members) → In x (m.sender ∷ a))
-      → Act g m.receiver m.dir (floor_at g m) (Held (record (merged r copy) { phase = Spreading t [] }))
-      (others_at g m r (Spread t (copy_of (merged r copy)))) (Taken ns) []
+      → Act g m.receiver m.dir (floor_at g m) (Held (record (merge_copy r copy) { phase = Spreading t [] }))
+      (others_at g m r (Spread t (copy_of (merge_copy r copy)))) (Taken ns) []
   gathers_again : (m : Message) (t : Stamp) (copy : Copy) (a : List ℕ) (r : Replica) (ns : List ℕ) → Taking g m (Gathered t copy) r → r.phase ≡ Spreading t a
-      → Act g m.receiver m.dir (floor_at g m) (Held (merged r copy)) [] (Taken ns) []
+      → Act g m.receiver m.dir (floor_at g m) (Held (merge_copy r copy)) [] (Taken ns) []
   spreads : (m : Message) (t : Stamp) (copy : Copy) (r : Replica) (ns : List ℕ) → Taking g m (Spread t copy) r
-      → Act g m.receiver m.dir (floor_at g m) (Held (merged r copy)) (reply_at g m (SpreadAck t)) (Taken ns) []
+      → Act g m.receiver m.dir (floor_at g m) (Held (merge_copy r copy)) (reply_at g m (SpreadAck t)) (Taken ns) []
   acks_early : (m : Message) (t : Stamp) (a : List ℕ) (r : Replica) (ns : List ℕ) → Taking g m (SpreadAck t) r → r.phase ≡ Gathering t a
       → Act g m.receiver m.dir (floor_at g m) (Held r) [] (Taken ns) []
   acks : (m : Message) (t : Stamp) (a : List ℕ) (r : Replica) (ns : List ℕ) → Taking g m (SpreadAck t) r → r.phase ≡ Spreading t a
       → Act g m.receiver m.dir (floor_at g m) (Held (record r { phase = Spreading t (m.sender ∷ a) })) [] (Taken ns) []
   completes : (m : Message) (t : Stamp) (a : List ℕ) (r : Replica) (ns : List ℕ) → Taking g m (SpreadAck t) r → r.phase ≡ Spreading t a
       → ((x : ℕ) → In x (others_of m.receiver r.members) → In x (m.sender ∷ a))
-      → Act g m.receiver m.dir (floor_at g m) (Held (record r { all_up_to = raised r.all_up_to t; phase = Idle })) (others_at g m r (Advance t))
+      → Act g m.receiver m.dir (floor_at g m) (Held (record r { all_up_to = later_up_to r.all_up_to t; phase = Idle })) (others_at g m r (Advance t))
       (Complete t ns) []
   advances : (m : Message) (t : Stamp) (r : Replica) (ns : List ℕ) → Taking g m (Advance t) r
-      → Act g m.receiver m.dir (floor_at g m) (Held (record r { all_up_to = raised r.all_up_to t })) [] (Taken ns) []
+      → Act g m.receiver m.dir (floor_at g m) (Held (record r { all_up_to = later_up_to r.all_up_to t })) [] (Taken ns) []
   copies : (m : Message) (ms : List Member) (copy : Copy) (ns : List ℕ) → Entering g m (Join ms copy)
       → ((r : Replica) → IsHeld g m.receiver m.dir r → (r.epoch ≤ m.epoch) × (r.epoch < since_in ms m.receiver 0))
-      → Act g m.receiver m.dir (floor_at g m) (Held (copied m ms copy)) [] (Taken ns) []
+      → Act g m.receiver m.dir (floor_at g m) (Held (replica_of_copy m ms copy)) [] (Taken ns) []
   keeps : (m : Message) (ms : List Member) (copy : Copy) (r : Replica) (ns : List ℕ) → Entering g m (Join ms copy) → IsHeld g m.receiver m.dir r
       → r.epoch ≤ m.epoch → since_in ms m.receiver 0 ≤ r.epoch → Act g m.receiver m.dir (floor_at g m) (Held (kept_at_join m ms copy r)) [] (Taken ns) []
   leaves : (m : Message) (ns : List ℕ) → Entering g m Leave → ((r : Replica) → IsHeld g m.receiver m.dir r → r.epoch < m.epoch)
@@ -128,15 +128,15 @@ first_told g d m ms = first_joins (g.house m).floor d m ms
 
 -- what the new master posts, to those that the console lists no more too
 abbrev pub epoch_told : Cell → (d m k : ℕ) → List Member → Replica → List Message
-epoch_told g d m k ms r = epoch_posts (g.house m).floor d m k ms (leaving (g.present d) ms) r
+epoch_told g d m k ms r = epoch_posts (g.house m).floor d m k ms (left_members (g.present d) ms) r
 
 -- the new master takes the epoch, and the console knows it
 abbrev pub promote : Cell → (d m k : ℕ) → List Member → Replica → Outcome
 promote g d m k ms r =
     let o : Outcome = at_house g m
-    (turned (holding (g.house m) d (g.house m).floor (Held (epoch_replica k ms r)))
+    (turn_without_updates (with_slot (g.house m) d (g.house m).floor (Held (epoch_replica k ms r)))
     (epoch_told g d m k ms r) (NewEpoch k)) in
-    record o { cell = noted o.cell d k ms }
+    record o { cell = note_epoch o.cell d k ms }
 
 -- p is the house and the directory that the command acts at
 pub data Move (g : Cell) (p : Option (ℕ × ℕ)) : Cell → Answer → List Accepted → Type 0 where
@@ -147,21 +147,21 @@ pub data Move (g : Cell) (p : Option (ℕ × ℕ)) : Cell → Answer → List Ac
   crashes : (h : ℕ) → IsUp g h → Move g p (crash g h) Done []
   starts : (h : ℕ) → has h g.made ≡ true → Move g p (start g h) Done []
   acts : (h d : ℕ) → p ≡ Some (h, d) → (floor : ℕ) (s : Slot) (posts : List Message) (a : Answer) (n : List Accepted) → Act g h d floor s posts a n
-      → Move g p (moved g h (holding (g.house h) d floor s) posts) a n
-  founds : (d m : ℕ) (rs ss ns : List ℕ) → d ≡ 1 → IsUp g m → g.top d ≡ 0 → Move g p (founded g d m (listing [] 1 m rs ss)) (Posted ns) []
+      → Move g p (move_house g h (with_slot (g.house h) d floor s) posts) a n
+  founds : (d m : ℕ) (rs ss ns : List ℕ) → d ≡ 1 → IsUp g m → g.top d ≡ 0 → Move g p (cell_with_directory g d m (member_list_of [] 1 m rs ss)) (Posted ns) []
   crowns : (d m : ℕ) (rs ss : List ℕ) (r : Replica) → IsUp g m → g.top d ≢ 0 → IsHeld g m d r → is_listed m (g.present d) ≡ true
       → since_in (g.present d) m 0 ≤ r.epoch
-      → Move g p (promote g d m (g.top d + 1) (listing (g.present d) (g.top d + 1) m rs ss) r).cell
-      (promote g d m (g.top d + 1) (listing (g.present d) (g.top d + 1) m rs ss) r).answer []
+      → Move g p (promote g d m (g.top d + 1) (member_list_of (g.present d) (g.top d + 1) m rs ss) r).cell
+      (promote g d m (g.top d + 1) (member_list_of (g.present d) (g.top d + 1) m rs ss) r).answer []
 
 -- a command is a move; or the update of a parent, and then the directory of the child
 pub data Steps (g : Cell) (p : Option (ℕ × ℕ)) : Cell → Answer → List Accepted → Type 0 where
   one : (g' : Cell) (a : Answer) (n : List Accepted) → Move g p g' a n → Steps g p g' a n
   mkdirs : (h d m : ℕ) (u : Change) (rs ss : List ℕ) (r : Replica) (s : Stamp) (ns : List ℕ) → p ≡ Some (h, d) → Issuing g h d r s → update_refusal h u r ≡ None
       → IsUp g m → g.top d ≢ 0
-      → Steps g p (record (founded
-      (moved g h (holding (g.house h) d s.time (Held (grown r (new_marks r u s))))
-      (to_each (others_of h r.members) d h r.epoch s.time (Update (new_marks r u s)))) g.next_dir m (listing [] 1 m rs ss)) { next_dir = g.next_dir + 1 })
+      → Steps g p (record (cell_with_directory
+      (move_house g h (with_slot (g.house h) d s.time (Held (with_marks r (new_marks r u s))))
+      (to_each (others_of h r.members) d h r.epoch s.time (Update (new_marks r u s)))) g.next_dir m (member_list_of [] 1 m rs ss)) { next_dir = g.next_dir + 1 })
       (Made g.next_dir s ns) (accepting h d u r s ∷ [])
 
 abbrev pub Moves : Cell → Option (ℕ × ℕ) → Outcome → Type 0
@@ -274,7 +274,7 @@ begin_moves g h d r t [] i head o = acts h d refl t.time _ [] _ [] (lone h d r t
 begin_moves g h d r t (y ∷ ys) i head o =
     subst (λ (l : List ℕ).
     Turned g h d
-    (turned (holding (g.house h) d t.time (Held (record r { phase = Gathering t [] }))) (to_each l d h r.epoch t.time (Gather t)) (Stamped t)))
+    (turn_without_updates (with_slot (g.house h) d t.time (Held (record r { phase = Gathering t [] }))) (to_each l d h r.epoch t.time (Gather t)) (Stamped t)))
     o (acts h d refl t.time _ _ _ [] (skulks h d r t _ i head))
 
 skulk_at_moves : (g : Cell) (h d : ℕ) (r : Replica) (o : Option Stamp) → IsUp g h → IsHeld g h d r → master_of r.members ≡ h → stamp_at (g.house h) ≡ o
@@ -293,23 +293,23 @@ abbrev Noted : Cell → (d m : ℕ) → List Member → HouseStep → Type 0
 Noted g d m ms s = Moves g (Some (m, d)) (with_epoch (at_house g m s) d ms (at_house g m s).answer)
 
 epoch_moves : (g : Cell) (d m : ℕ) (rs ss : List ℕ) (s : Slot) → IsUp g m → g.top d ≢ 0 → is_listed m (g.present d) ≡ true → (g.house m).slots d ≡ s
-    → Noted g d m (listing (g.present d) (g.top d + 1) m rs ss)
-    (new_epoch_in m (g.house m) d (g.top d + 1) (listing (g.present d) (g.top d + 1) m rs ss)
-    (leaving (g.present d) (listing (g.present d) (g.top d + 1) m rs ss)) s)
+    → Noted g d m (member_list_of (g.present d) (g.top d + 1) m rs ss)
+    (new_epoch_in m (g.house m) d (g.top d + 1) (member_list_of (g.present d) (g.top d + 1) m rs ss)
+    (left_members (g.present d) (member_list_of (g.present d) (g.top d + 1) m rs ss)) s)
 epoch_moves g d m rs ss Absent up known l e = stays _ tt
 epoch_moves g d m rs ss (Gone k) up known l e = stays _ tt
 epoch_moves g d m rs ss (Held r) up known l e = by_since (nat_le (since_in ms m 0) r.epoch) refl
   where
     ms : List Member
-    ms = listing (g.present d) (g.top d + 1) m rs ss
+    ms = member_list_of (g.present d) (g.top d + 1) m rs ss
 
     left : List ℕ
-    left = leaving (g.present d) ms
+    left = left_members (g.present d) ms
 
     by_since : (b : Bool) → nat_le (since_in ms m 0) r.epoch ≡ b
         → Noted g d m ms
         (cond b
-        (turned (holding (g.house m) d (g.house m).floor (Held (epoch_replica (g.top d + 1) ms r)))
+        (turn_without_updates (with_slot (g.house m) d (g.house m).floor (Held (epoch_replica (g.top d + 1) ms r)))
         (epoch_posts (g.house m).floor d m (g.top d + 1) ms left r) (NewEpoch (g.top d + 1)))
         (Stays (Refused (NotJoined r.epoch (since_in ms m 0)))))
     by_since true q =
@@ -318,7 +318,7 @@ epoch_moves g d m rs ss (Held r) up known l e = by_since (nat_le (since_in ms m 
 
 -- the update of a parent, and then the directory of the child
 abbrev Mkdirs : Cell → (h d m : ℕ) → (rs ss : List ℕ) → HouseStep → Type 0
-Mkdirs g h d m rs ss s = StepsOf g (Some (h, d)) (with_directory (at_house g h s) g.next_dir m (listing [] 1 m rs ss) (at_house g h s).answer)
+Mkdirs g h d m rs ss s = StepsOf g (Some (h, d)) (with_directory (at_house g h s) g.next_dir m (member_list_of [] 1 m rs ss) (at_house g h s).answer)
 
 mkdir_stamp : (g : Cell) (h d m : ℕ) (u : Change) (rs ss : List ℕ) (r : Replica) (o : Option Stamp) → IsUp g h → IsUp g m → g.top d ≢ 0 → IsHeld g h d r
     → update_refusal h u r ≡ None → stamp_at (g.house h) ≡ o → Mkdirs g h d m rs ss (accept_at h (g.house h) d u r o)
@@ -367,9 +367,9 @@ effect_steps g (commands.Clock h time) p = one_of g _ _ (clocks h time (made_of 
 effect_steps g (commands.Root m rs ss) p = one_of g _ _ (founds 1 m rs ss _ refl (not_true _ p.1.1.1.0) (is_new g 1 p.0))
 effect_steps g (commands.Mkdir h d n m rs ss) p =
     let down = p.1.1.1.0 in
-    mkdir_steps g h d m (changes.MakeChild n (record { dir = g.next_dir; master = m; others = ascending rs })) rs ss _ (not_true _ (or_left _ (is_down g m) down))
+    mkdir_steps g h d m (changes.MakeChild n (record { dir = g.next_dir; master = m; others = sorted_houses rs })) rs ss _ (not_true _ (or_left _ (is_down g m) down))
     (not_true _ (or_right (is_down g h) _ down)) (is_known g d p.0) refl
-effect_steps g (commands.Repoint h d n m rs) p = one_of g _ _ (accept_moves g h d (changes.Repoint n m (ascending rs)) _ (not_true _ p.1.1.1.0) refl)
+effect_steps g (commands.Repoint h d n m rs) p = one_of g _ _ (accept_moves g h d (changes.Repoint n m (sorted_houses rs)) _ (not_true _ p.1.1.1.0) refl)
 effect_steps g (commands.Accept h d u) p = one_of g _ _ (accept_moves g h d u _ (not_true _ p.1.1.0) refl)
 effect_steps g (commands.Epoch d m rs ss) p = one_of g _ _ (epoch_moves g d m rs ss _ (not_true _ p.1.1.1.1.0) (is_known g d p.0) (not_true _ p.1.1.1.0) refl)
 effect_steps g (commands.Skulk h d) p = one_of g _ _ (skulk_moves g h d _ (not_true _ p.1.1.0) refl)

@@ -4,7 +4,7 @@ use Rattle.cds_stamps.specs.Members.{is_listed}
 use Rattle.cell_model.specs.Cells.{Phase, Body, Message}
 use Rattle.cell_model.specs.Commands.{Command}
 use Rattle.cell_model.specs.Sets.{In}
-use Rattle.cell_model.specs.Steps.{replay, accepted}
+use Rattle.cell_model.specs.Steps.{replay, accepted_updates}
 use Rattle.cell_model.specs.Nevers.{Nevers}
 use Rattle.cell_model.proofs.Lists.{append_nil}
 use Rattle.cell_model.proofs.Terms.{Listed}
@@ -15,7 +15,7 @@ use Rattle.cell_model.proofs.Passages.{Reaching}
 use Rattle.cell_model.proofs.Runs.{roll_of, reaching_at}
 
 -- the last cell of a run, in each directory
-pub reaching_last : (commands : List Command) (d : ℕ) → Reaching (roll_of d commands) (view d (replay commands)) (accepted commands)
+pub reaching_last : (commands : List Command) (d : ℕ) → Reaching (roll_of d commands) (view d (replay commands)) (accepted_updates commands)
 reaching_last commands d = reaching_at d commands commands [] (append_nil commands)
 
 -- each message in the bag of a run is one that a run may post

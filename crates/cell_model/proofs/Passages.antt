@@ -4,14 +4,14 @@ use Rattle.std.proofs.Common.{ap, ◌∙◌, subst, arith, ⊎_elim, le_refl}
 use Rattle.cds_stamps.specs.declared.stamp.Stamp.{Stamp}
 use Rattle.cds_stamps.specs.Members.{Member, master_of, others_of, is_accepting}
 use Rattle.directory.specs.Histories.{Mark, Birth, stamp_in}
-use Rattle.directory.specs.Shown.{shown, refusal_of}
+use Rattle.directory.specs.Shown.{shown_of_name, refusal_of}
 use Rattle.directory.specs.declared.update.UpdateRefusal.TheVariants.{NotMaster}
 use Rattle.directory.specs.Updates.{Change, changed_name}
 use Rattle.cell_model.specs.Cells.{Phase, Idle, Spreading, Replica, Slot, Held, House, Update, SpreadAck, Copy, Message, Cell, IsHeld, put}
 use Rattle.cell_model.specs.Commands.{Answer, Complete, Accepted}
 use Rattle.cell_model.specs.Sets.{In, IsPart, has}
-use Rattle.cell_model.specs.Turns.{grown, holding, to_each, running, update_refusal, first_replica, copy_of, raised}
-use Rattle.cell_model.specs.Steps.{moved, founded, listing}
+use Rattle.cell_model.specs.Turns.{with_marks, with_slot, to_each, running_skulk_stamp, update_refusal, first_replica, copy_of, later_up_to}
+use Rattle.cell_model.specs.Steps.{move_house, cell_with_directory, member_list_of}
 use Rattle.cell_model.proofs.Lists.{append_nil, eq_from, In-append_right, earlier_up_to}
 use Rattle.cell_model.proofs.Facts.{View, view, IsPosted, Holds, Roll, marks_in, copy_in, Sound, New, Frame}
 use Rattle.cell_model.proofs.Bounds.{held_low}
@@ -30,48 +30,48 @@ use Rattle.cell_model.proofs.Known.{Known, known_kept, Accepting, AllAccepting}
 -- ---- what a step accepts
 
 -- the slot of the house that acts
-pub slot_after : (g : Cell) (h d floor : ℕ) (o : Slot) → (put g.house h (holding (g.house h) d floor o) h).slots d ≡ o
-slot_after g h d floor o = put_back (λ (v : House). v.slots d ≡ o) g.house h (holding (g.house h) d floor o) (put_same (g.house h).slots d o)
+pub slot_after : (g : Cell) (h d floor : ℕ) (o : Slot) → (put g.house h (with_slot (g.house h) d floor o) h).slots d ≡ o
+slot_after g h d floor o = put_back (λ (v : House). v.slots d ≡ o) g.house h (with_slot (g.house h) d floor o) (put_same (g.house h).slots d o)
 
 -- what a house that accepts updates does not refuse
-pub not_refused : (h : ℕ) (u : Change) (r : Replica) → update_refusal h u r ≡ None → refusal_of (shown r.history (changed_name u)) u ≡ None
+pub not_refused : (h : ℕ) (u : Change) (r : Replica) → update_refusal h u r ≡ None → refusal_of (shown_of_name r.history (changed_name u)) u ≡ None
 not_refused h u r e = go (is_accepting h r.members) e
   where
-    go : (b : Bool) → cond b (refusal_of (shown r.history (changed_name u)) u) (Some NotMaster) ≡ None → refusal_of (shown r.history (changed_name u)) u ≡ None
+    go : (b : Bool) → cond b (refusal_of (shown_of_name r.history (changed_name u)) u) (Some NotMaster) ≡ None → refusal_of (shown_of_name r.history (changed_name u)) u ≡ None
     go true q = q
     go false q = absurd (cc)
 
 accept_accepting : (g : Cell) (h d : ℕ) (u : Change) (r : Replica) (s : Stamp) (posts : List Message) → Issuing g h d r s → update_refusal h u r ≡ None
     → ((k : Mark) → In k r.history → (stamp_in k).time ≤ (g.house h).floor)
-    → Accepting (view d g) (view d (moved g h (holding (g.house h) d s.time (Held (grown r (new_marks r u s)))) posts)) (accepting h d u r s)
+    → Accepting (view d g) (view d (move_house g h (with_slot (g.house h) d s.time (Held (with_marks r (new_marks r u s)))) posts)) (accepting h d u r s)
 accept_accepting g h d u r s posts i fine floors =
     let issued = stamp_next (g.house h).clock (g.house h).floor (g.house h).node s i.next in
     record {
       was = r;
-      now = grown r (new_marks r u s);
+      now = with_marks r (new_marks r u s);
       held = i.held;
-      holds = slot_after g h d s.time (Held (grown r (new_marks r u s)));
+      holds = slot_after g h d s.time (Held (with_marks r (new_marks r u s)));
       epoch = refl;
       epoch' = refl;
       since = refl;
       marks = λ k z. In-append_right k r.history (new_marks r u s) z;
-      well = marks_made (shown r.history (changed_name u)) u s (not_refused h u r fine)
+      well = marks_made (shown_of_name r.history (changed_name u)) u s (not_refused h u r fine)
           (λ e q. earlier_up_to e.birth s
           (omega (arith, floors (Birth (changed_name u) e.kind e.birth) (shown_birth r.history (changed_name u) e q), issued.0)));
       fresh = issued.0;
     }
 
 act_accepting : (roll : Roll) (g : Cell) (h d floor : ℕ) (o : Slot) (posts : List Message) (a : Answer) (n : List Accepted) → Sound roll (view roll.dir g)
-    → Act g h d floor o posts a n → AllAccepting roll.dir (view roll.dir g) (view roll.dir (moved g h (holding (g.house h) d floor o) posts)) n
+    → Act g h d floor o posts a n → AllAccepting roll.dir (view roll.dir g) (view roll.dir (move_house g h (with_slot (g.house h) d floor o) posts)) n
 act_accepting roll g h d floor o posts a n s (accepts _ _ u r t ns i fine) b (inl e) dir =
-    subst (λ (z : Accepted). Accepting (view roll.dir g) (view roll.dir (moved g h (holding (g.house h) d t.time (Held (grown r (new_marks r u t)))) posts)) z)
+    subst (λ (z : Accepted). Accepting (view roll.dir g) (view roll.dir (move_house g h (with_slot (g.house h) d t.time (Held (with_marks r (new_marks r u t)))) posts)) z)
     (sym e)
     (here roll.dir (sym (ap (λ (z : Accepted). z.dir) e) ∙ dir) s)
   where
     here : (d' : ℕ) → d ≡ d' → Sound roll (view d' g)
-        → Accepting (view d' g) (view d' (moved g h (holding (g.house h) d t.time (Held (grown r (new_marks r u t)))) posts)) (accepting h d u r t)
+        → Accepting (view d' g) (view d' (move_house g h (with_slot (g.house h) d t.time (Held (with_marks r (new_marks r u t)))) posts)) (accepting h d u r t)
     here d' same s' =
-        subst (λ (z : ℕ). Accepting (view z g) (view z (moved g h (holding (g.house h) d t.time (Held (grown r (new_marks r u t)))) posts)) (accepting h d u r t))
+        subst (λ (z : ℕ). Accepting (view z g) (view z (move_house g h (with_slot (g.house h) d t.time (Held (with_marks r (new_marks r u t)))) posts)) (accepting h d u r t))
         same
         (accept_accepting g h d u r t posts i fine (λ k z. (s'.held h r (subst (λ (y : ℕ). (g.house h).slots y ≡ Held r) same i.held)).floors k z))
 act_accepting roll g h d floor o posts a n s (accepts _ _ u r t ns i fine) b (inr z) dir = elim z [ ]
@@ -106,10 +106,10 @@ pub record Halves (roll : Roll) (v v' : View) (n : List Accepted) : Type 0 where
 
 -- a new directory takes no replica away
 founded_still : (roll : Roll) (g : Cell) (d m : ℕ) (ms : List Member) → Sound roll (view roll.dir g) → g.top d ≡ 0 → (x : ℕ) (r : Replica)
-    → IsHeld g x roll.dir r → (put g.house m (holding (g.house m) d (g.house m).floor (Held (first_replica ms))) x).slots roll.dir ≡ Held r
+    → IsHeld g x roll.dir r → (put g.house m (with_slot (g.house m) d (g.house m).floor (Held (first_replica ms))) x).slots roll.dir ≡ Held r
 founded_still roll g d m ms s none x r at =
     put_at (λ y v. (q : Replica) → IsHeld g y roll.dir q → v.slots roll.dir ≡ Held q) g.house m
-    (holding (g.house m) d (g.house m).floor (Held (first_replica ms)))
+    (with_slot (g.house m) d (g.house m).floor (Held (first_replica ms)))
     (λ q z. by_slot (eqb roll.dir d) refl q z) (λ y _ q z. z) x r at
   where
     by_slot : (b : Bool) → eqb roll.dir d ≡ b → (q : Replica) → IsHeld g m roll.dir q → cond b (Held (first_replica ms)) ((g.house m).slots roll.dir) ≡ Held q
@@ -125,24 +125,24 @@ pub data Passage (roll : Roll) (v v' : View) (n : List Accepted) : Type 0 where
 by_number : (roll : Roll) (g : Cell) (m : ℕ) (rs ss : List ℕ) (n : List Accepted) (g1 : Cell) (nd : ℕ) → Whole roll.home g1 → g.top g.next_dir ≡ 0
     → g1.top g.next_dir ≡ 0 → Sound roll (view roll.dir g) → Sound roll (view roll.dir g1) → Frame roll (view roll.dir g) (view roll.dir g1) n
     → AllAccepting roll.dir (view roll.dir g) (view roll.dir g1) n
-    → put g1.present g.next_dir (listing [] 1 m rs ss) roll.dir ≡ roll.list (put g1.top g.next_dir 1 roll.dir)
-    → Passage roll (view roll.dir g) (view roll.dir (record (founded g1 g.next_dir m (listing [] 1 m rs ss)) { next_dir = nd })) n
+    → put g1.present g.next_dir (member_list_of [] 1 m rs ss) roll.dir ≡ roll.list (put g1.top g.next_dir 1 roll.dir)
+    → Passage roll (view roll.dir g) (view roll.dir (record (cell_with_directory g1 g.next_dir m (member_list_of [] 1 m rs ss)) { next_dir = nd })) n
 by_number roll g m rs ss n g1 nd w1 none none1 s s1 fr acc fit = go (eqb roll.dir g.next_dir) refl
   where
     go : (b : Bool) → eqb roll.dir g.next_dir ≡ b
-        → Passage roll (view roll.dir g) (view roll.dir (record (founded g1 g.next_dir m (listing [] 1 m rs ss)) { next_dir = nd })) n
+        → Passage roll (view roll.dir g) (view roll.dir (record (cell_with_directory g1 g.next_dir m (member_list_of [] 1 m rs ss)) { next_dir = nd })) n
     go true e = halves (record {
       mid = view roll.dir g1;
       first = fr;
       accepting = acc;
       second = founding_frame roll g1 g.next_dir m rs ss nd w1 none1 roll.dir s1 fit;
       vacant = λ x r h. omega (arith, held_low roll (view roll.dir g) x r s h, (s.held x r h).top, ap g.top (eq_from roll.dir g.next_dir e), none);
-      still = founded_still roll g1 g.next_dir m (listing [] 1 m rs ss) s1 none1;
+      still = founded_still roll g1 g.next_dir m (member_list_of [] 1 m rs ss) s1 none1;
       floors = put_at (λ x v. (g1.house x).floor ≡ v.floor) g1.house m _ refl (λ x _. refl);
     })
     go false e =
         let apart : roll.dir ≢ g.next_dir = grind arith in
-        let is = founded_view g1 g.next_dir m (listing [] 1 m rs ss) nd roll.dir apart in
+        let is = founded_view g1 g.next_dir m (member_list_of [] 1 m rs ss) nd roll.dir apart in
         whole (subst (λ (z : View). Frame roll (view roll.dir g) z n) (sym is) fr)
         (subst (λ (z : View). AllAccepting roll.dir (view roll.dir g) z n) (sym is) acc)
 
@@ -151,12 +151,12 @@ pub passage : (roll : Roll) (g g' : Cell) (p : Option (ℕ × ℕ)) (a : Answer)
     → Steps g p g' a n → Passage roll (view roll.dir g) (view roll.dir g') n
 passage roll g g' p a n f f' s (one _ _ _ m) = whole (move_frame roll g g' p a n (whole_at roll g f) s f'.present m) (move_accepting roll g g' p a n s m)
 passage roll g g' p a n f f' s (mkdirs h d m u rs ss r t ns at i fine up known) =
-    let o : Slot = Held (grown r (new_marks r u t)) in
+    let o : Slot = Held (with_marks r (new_marks r u t)) in
     let posts : List Message = to_each (others_of h r.members) d h r.epoch t.time (Update (new_marks r u t)) in
-    let g1 : Cell = moved g h (holding (g.house h) d t.time o) posts in
+    let g1 : Cell = move_house g h (with_slot (g.house h) d t.time o) posts in
     let act = accepts h d u r t ns i fine in
     let made = up_made g h f.plain i.up in
-    let on = moved_onward g h (holding (g.house h) d t.time o) posts f.plain made refl (act_rises g h d t.time o posts _ n act) in
+    let on = moved_onward g h (with_slot (g.house h) d t.time o) posts f.plain made refl (act_rises g h d t.time o posts _ n act) in
     let fr : Frame roll (view roll.dir g) (view roll.dir g1) n = acting_frame roll g h d t.time o posts _ n (whole_at roll g f) act s in
     let s1 : Sound roll (view roll.dir g1) = sound_kept roll (view roll.dir g) (view roll.dir g1) n s fr in
     let w1 : Whole roll.home g1 = whole_of roll.home g1 on.plain (λ x mx. ap roll.home (on.kept x mx).1 ∙ f.homes x mx) in
@@ -208,7 +208,7 @@ pub record Completing (g g' : Cell) (p : Option (ℕ × ℕ)) (t : Stamp) (ns : 
   pub posts : List Message
   pub at : p ≡ Some (house, dir)
   pub act : Act g house dir floor slot posts (Complete t ns) n
-  pub is : g' ≡ moved g house (holding (g.house house) dir floor slot) posts
+  pub is : g' ≡ move_house g house (with_slot (g.house house) dir floor slot) posts
 
 completing_move : (g g' : Cell) (p : Option (ℕ × ℕ)) (t : Stamp) (ns : List ℕ) (n : List Accepted) → Move g p g' (Complete t ns) n → Completing g g' p t ns n
 completing_move g g' p t ns n (stays _ q) = elim q [ ]
@@ -231,18 +231,18 @@ module _ (roll : Roll) (g : Cell) (w : Whole roll.home g) (s : Sound roll (view 
   v = view roll.dir g
 
   lone_completed : (h d : ℕ) (r : Replica) (t : Stamp) → d ≡ roll.dir → Issuing g h d r t → master_of r.members ≡ h → others_of h r.members ≡ []
-      → (v' : View) → v' ≡ view roll.dir (moved g h (holding (g.house h) d t.time (Held (record r { all_up_to = raised r.all_up_to t; phase = Idle }))) [])
-      → Sound roll v' → Frame roll v v' [] → Completed roll v' h (Held (record r { all_up_to = raised r.all_up_to t; phase = Idle })) t
+      → (v' : View) → v' ≡ view roll.dir (move_house g h (with_slot (g.house h) d t.time (Held (record r { all_up_to = later_up_to r.all_up_to t; phase = Idle }))) [])
+      → Sound roll v' → Frame roll v v' [] → Completed roll v' h (Held (record r { all_up_to = later_up_to r.all_up_to t; phase = Idle })) t
   lone_completed h d r t dir i head alone v' is s' f =
-      let q : Replica = record r { all_up_to = raised r.all_up_to t; phase = Idle } in
+      let q : Replica = record r { all_up_to = later_up_to r.all_up_to t; phase = Idle } in
       let issued = stamp_next (g.house h).clock (g.house h).floor (g.house h).node t i.next in
       let home : roll.home t.node ≡ h = ap roll.home issued.1 ∙ w.at_home h (up_is_made h i.up) in
       let at : Holds v' h q =
       subst (λ (z : View). Holds z h q) (sym is)
-      (subst (λ (z : ℕ). ((moved g h (holding (g.house h) d t.time (Held q)) []).house h).slots z ≡ Held q) dir (slot_after g h d t.time (Held q))) in
+      (subst (λ (z : ℕ). ((move_house g h (with_slot (g.house h) d t.time (Held q)) []).house h).slots z ≡ Held q) dir (slot_after g h d t.time (Held q))) in
       let high : t.time ≤ (v'.house h).floor =
       subst (λ (z : View). t.time ≤ (z.house h).floor) (sym is)
-      (put_back (λ (x : House). t.time ≤ x.floor) g.house h (holding (g.house h) d t.time (Held q)) (le_refl _)) in
+      (put_back (λ (x : House). t.time ≤ x.floor) g.house h (with_slot (g.house h) d t.time (Held q)) (le_refl _)) in
       record {
         replica = q;
         is = refl;
@@ -257,16 +257,16 @@ module _ (roll : Roll) (g : Cell) (w : Whole roll.home g) (s : Sound roll (view 
   last_completed : (m : Message) (t : Stamp) (a : List ℕ) (r : Replica) → m.dir ≡ roll.dir → Taking g m (SpreadAck t) r → r.phase ≡ Spreading t a
       → ((x : ℕ) → In x (others_of m.receiver r.members) → In x (m.sender ∷ a)) → (posts : List Message) (v' : View)
       → v' ≡ view roll.dir
-      (moved g m.receiver (holding (g.house m.receiver) m.dir (floor_at g m) (Held (record r { all_up_to = raised r.all_up_to t; phase = Idle }))) posts)
-      → Sound roll v' → Frame roll v v' [] → Completed roll v' m.receiver (Held (record r { all_up_to = raised r.all_up_to t; phase = Idle })) t
+      (move_house g m.receiver (with_slot (g.house m.receiver) m.dir (floor_at g m) (Held (record r { all_up_to = later_up_to r.all_up_to t; phase = Idle }))) posts)
+      → Sound roll v' → Frame roll v v' [] → Completed roll v' m.receiver (Held (record r { all_up_to = later_up_to r.all_up_to t; phase = Idle })) t
   last_completed m t a r dir k run all posts v' is s' f =
-      let q : Replica = record r { all_up_to = raised r.all_up_to t; phase = Idle } in
+      let q : Replica = record r { all_up_to = later_up_to r.all_up_to t; phase = Idle } in
       let at : Holds v m.receiver r = subst (λ (z : ℕ). (g.house m.receiver).slots z ≡ Held r) dir k.held in
       let at' : Holds v' m.receiver q =
       subst (λ (z : View). Holds z m.receiver q) (sym is)
-      (subst (λ (z : ℕ). ((moved g m.receiver (holding (g.house m.receiver) m.dir (floor_at g m) (Held q)) posts).house m.receiver).slots z ≡ Held q) dir
+      (subst (λ (z : ℕ). ((move_house g m.receiver (with_slot (g.house m.receiver) m.dir (floor_at g m) (Held q)) posts).house m.receiver).slots z ≡ Held q) dir
       (slot_after g m.receiver m.dir (floor_at g m) (Held q))) in
-      let runs : running r.phase ≡ Some t = subst (λ (z : Phase). running z ≡ Some t) (sym run) refl in
+      let runs : running_skulk_stamp r.phase ≡ Some t = subst (λ (z : Phase). running_skulk_stamp z ≡ Some t) (sym run) refl in
       let ok = (s.held m.receiver r at).phase t runs in
       let round = subst (λ (z : Phase). Round roll v m.receiver r z) run (rounds m.receiver r at) in
       let posted = In-of_dir roll.dir g.bag m k.posted dir in
@@ -281,13 +281,13 @@ module _ (roll : Roll) (g : Cell) (w : Whole roll.home g) (s : Sound roll (view 
 -- an act that completes a skulk leaves what a completed skulk does
 pub act_completed : (roll : Roll) (g : Cell) (h d floor : ℕ) (o : Slot) (posts : List Message) (t : Stamp) (ns : List ℕ) (n : List Accepted)
     → Whole roll.home g → Sound roll (view roll.dir g) → Rounds roll (view roll.dir g) → d ≡ roll.dir → Act g h d floor o posts (Complete t ns) n
-    → Completed roll (view roll.dir (moved g h (holding (g.house h) d floor o) posts)) h o t
+    → Completed roll (view roll.dir (move_house g h (with_slot (g.house h) d floor o) posts)) h o t
 act_completed roll g h d floor o posts t ns n w s rounds dir (lone _ _ r _ i head alone) =
-    let f : Frame roll (view roll.dir g) (view roll.dir (moved g h (holding (g.house h) d floor o) posts)) [] =
+    let f : Frame roll (view roll.dir g) (view roll.dir (move_house g h (with_slot (g.house h) d floor o) posts)) [] =
     acting_frame roll g h d floor o posts _ [] w (lone h d r t i head alone) s in
     lone_completed roll g w s rounds h d r t dir i head alone _ refl (sound_kept roll _ _ [] s f) f
 act_completed roll g h d floor o posts t ns n w s rounds dir (completes m _ a r _ k run all) =
-    let f : Frame roll (view roll.dir g) (view roll.dir (moved g h (holding (g.house h) d floor o) posts)) [] =
+    let f : Frame roll (view roll.dir g) (view roll.dir (move_house g h (with_slot (g.house h) d floor o) posts)) [] =
     acting_frame roll g h d floor o posts _ [] w (completes m t a r ns k run all) s in
     last_completed roll g w s rounds m t a r dir k run all _ _ refl (sound_kept roll _ _ [] s f) f
 

@@ -9,9 +9,9 @@ use Rattle.cell_model.specs.Cells.{Message, Cell, empty_cell}
 use Rattle.cell_model.specs.Commands as commands
 use Rattle.cell_model.specs.Commands.{Command, Refusal, Answer, Stamped, NewEpoch}
 use Rattle.cell_model.specs.Sets.{In, has}
-use Rattle.cell_model.specs.Turns.{HouseStep, Turns, found, accept, skulk, new_epoch, take}
-use Rattle.cell_model.specs.Steps.{Outcome, first_refusal, unless, is_down, stands_twice, is_bad_list, at_house, insert_house, ascending}
-use Rattle.cell_model.specs.Steps.{kind_among, listing, leaving, noted, founded, with_directory, with_epoch, message_at, deliver, lose, refusals_of, effect}
+use Rattle.cell_model.specs.Turns.{HouseStep, Turns, found_directory, accept, skulk, new_epoch, take}
+use Rattle.cell_model.specs.Steps.{Outcome, first_refusal, unless, is_down, stands_twice, is_bad_list, at_house, insert_house, sorted_houses}
+use Rattle.cell_model.specs.Steps.{kind_among, member_list_of, left_members, note_epoch, cell_with_directory, with_directory, with_epoch, message_at, deliver, lose, refusals_of, effect}
 use Rattle.cell_model.specs.Steps.{outcome, replay_from, replay}
 use Rattle.cell_model.proofs.Lists.{In-append_left, In-from_has, has-from_In, or_left, or_right, or_cases, or_true, not_true, eq_from, eq_to}
 use Rattle.cell_model.proofs.Terms.{In-others_of, master_new, master_listed}
@@ -57,16 +57,16 @@ insert_in y x (z ∷ zs) i = by_order (nat_lt z x) (insert_in y x zs) i
     by_order false rest j = j
 
 -- a house in ascending order was there before
-pub in_ascending : (y : ℕ) (zs : List ℕ) → In y (ascending zs) → In y zs
+pub in_ascending : (y : ℕ) (zs : List ℕ) → In y (sorted_houses zs) → In y zs
 in_ascending y [] i = i
 in_ascending y (z ∷ zs) i =
-    ⊎_elim (λ (e : y ≡ z). inl e) (λ (o : In y (ascending zs)). inr (in_ascending y zs o)) (in_insert y z (ascending zs) i)
+    ⊎_elim (λ (e : y ≡ z). inl e) (λ (o : In y (sorted_houses zs)). inr (in_ascending y zs o)) (in_insert y z (sorted_houses zs) i)
 
 -- and each that was there is there
-pub ascending_in : (y : ℕ) (zs : List ℕ) → In y zs → In y (ascending zs)
+pub ascending_in : (y : ℕ) (zs : List ℕ) → In y zs → In y (sorted_houses zs)
 ascending_in y [] i = i
-ascending_in y (z ∷ zs) (inl e) = insert_in y z (ascending zs) (inl e)
-ascending_in y (z ∷ zs) (inr i) = insert_in y z (ascending zs) (inr (ascending_in y zs i))
+ascending_in y (z ∷ zs) (inl e) = insert_in y z (sorted_houses zs) (inl e)
+ascending_in y (z ∷ zs) (inr i) = insert_in y z (sorted_houses zs) (inr (ascending_in y zs i))
 
 once_insert : (x : ℕ) (zs : List ℕ) → (In x zs → ⊥) → Once zs → Once (insert_house x zs)
 once_insert x [] n o = (n, tt)
@@ -76,9 +76,9 @@ once_insert x (z ∷ zs) n o = by_order (nat_lt z x) (once_insert x zs (λ i. n 
     by_order true rest = (λ i. ⊎_elim (λ (e : z ≡ x). n (inl (sym e))) (λ (j : In z zs). o.0 j) (in_insert z x zs i), rest)
     by_order false rest = (n, o)
 
-once_ascending : (zs : List ℕ) → Once zs → Once (ascending zs)
+once_ascending : (zs : List ℕ) → Once zs → Once (sorted_houses zs)
 once_ascending [] o = o
-once_ascending (z ∷ zs) o = once_insert z (ascending zs) (λ i. o.0 (in_ascending z zs i)) (once_ascending zs o.1)
+once_ascending (z ∷ zs) o = once_insert z (sorted_houses zs) (λ i. o.0 (in_ascending z zs i)) (once_ascending zs o.1)
 
 length_insert : (x : ℕ) (zs : List ℕ) → length (insert_house x zs) ≡ suc (length zs)
 length_insert x [] = refl
@@ -88,9 +88,9 @@ length_insert x (z ∷ zs) = by_order (nat_lt z x) (length_insert x zs)
     by_order true rest = ap (λ (n : ℕ). suc n) rest
     by_order false rest = refl
 
-length_ascending : (zs : List ℕ) → length (ascending zs) ≡ length zs
+length_ascending : (zs : List ℕ) → length (sorted_houses zs) ≡ length zs
 length_ascending [] = refl
-length_ascending (z ∷ zs) = length_insert z (ascending zs) ∙ ap (λ (n : ℕ). suc n) (length_ascending zs)
+length_ascending (z ∷ zs) = length_insert z (sorted_houses zs) ∙ ap (λ (n : ℕ). suc n) (length_ascending zs)
 
 -- ---- lists without repeats
 
@@ -137,8 +137,8 @@ houses_listing old k m ss [] = refl
 houses_listing old k m ss (h ∷ hs) = ap (λ (l : List ℕ). h ∷ l) (houses_listing old k m ss hs)
 
 -- the houses of a new list
-pub houses_new : (old : List Member) (k m : ℕ) (rs ss : List ℕ) → houses_of (listing old k m rs ss) ≡ ascending (m ∷ rs)
-houses_new old k m rs ss = houses_listing old k m ss (ascending (m ∷ rs))
+pub houses_new : (old : List Member) (k m : ℕ) (rs ss : List ℕ) → houses_of (member_list_of old k m rs ss) ≡ sorted_houses (m ∷ rs)
+houses_new old k m rs ss = houses_listing old k m ss (sorted_houses (m ∷ rs))
 
 length_houses : (ms : List Member) → length (houses_of ms) ≡ length ms
 length_houses [] = refl
@@ -152,20 +152,20 @@ all_made made (h ∷ hs) e x (inr i) = all_made made hs (or_right (not (has h ma
 
 -- a list that a command names is proper
 pub proper_new : (made : List ℕ) (old : List Member) (top k m : ℕ) (rs ss : List ℕ) → is_bad_list (m ∷ rs) ≡ false
-    → list_any (λ h. not (has h made)) (m ∷ rs) ≡ false → IsProper made top (listing old k m rs ss)
+    → list_any (λ h. not (has h made)) (m ∷ rs) ≡ false → IsProper made top (member_list_of old k m rs ss)
 proper_new made old top k m rs ss fine there =
     let same = houses_new old k m rs ss in
     let many : nat_lt most_members (length (m ∷ rs)) ≡ false = or_right (stands_twice (m ∷ rs)) (nat_lt most_members (length (m ∷ rs))) fine in
-    let count : length (listing old k m rs ss) ≡ length (m ∷ rs) =
-    sym (length_houses (listing old k m rs ss)) ∙ ap (λ (l : List ℕ). length l) same ∙ length_ascending (m ∷ rs) in
+    let count : length (member_list_of old k m rs ss) ≡ length (m ∷ rs) =
+    sym (length_houses (member_list_of old k m rs ss)) ∙ ap (λ (l : List ℕ). length l) same ∙ length_ascending (m ∷ rs) in
     let within : length (m ∷ rs) ≤ most_members = within_test (length (m ∷ rs)) many in
     record {
       once = subst Once (sym same)
           (once_ascending (m ∷ rs) (once_from (m ∷ rs) (or_left (stands_twice (m ∷ rs)) (nat_lt most_members (length (m ∷ rs))) fine)));
       few = subst (λ (n : ℕ). n ≤ most_members) (sym count) within;
       known = λ x l. all_made made (m ∷ rs) there x
-          (in_ascending x (m ∷ rs) (subst (λ (l : List ℕ). In x l) same (listed_house x (listing old k m rs ss) l)));
-      headed = λ some. subst (λ (x : ℕ). is_listed x (listing old k m rs ss) ≡ true) (sym (master_new old k m rs ss)) (master_listed old k m rs ss);
+          (in_ascending x (m ∷ rs) (subst (λ (l : List ℕ). In x l) same (listed_house x (member_list_of old k m rs ss) l)));
+      headed = λ some. subst (λ (x : ℕ). is_listed x (member_list_of old k m rs ss) ≡ true) (sym (master_new old k m rs ss)) (master_listed old k m rs ss);
     }
   where
     within_test : (n : ℕ) → nat_lt most_members n ≡ false → n ≤ most_members
@@ -194,15 +194,15 @@ tidy_at : (g : Cell) (h : ℕ) (s : HouseStep) → Tidy g → Tidy (at_house g h
 tidy_at g h s v = let r = at_house-rest g h s in tidy_grows g (at_house g h s).cell (posts_of s) v r.made r.top r.present r.lost (at_house-bag g h s)
 
 -- the console notes an epoch and its list
-tidy_noted : (g : Cell) (d k : ℕ) (ms : List Member) → Tidy g → IsProper g.made k ms → Tidy (noted g d k ms)
+tidy_noted : (g : Cell) (d k : ℕ) (ms : List Member) → Tidy g → IsProper g.made k ms → Tidy (note_epoch g d k ms)
 tidy_noted g d k ms v p = record { lists = λ e. by_dir e (eqb e d); lost = v.lost }
   where
     by_dir : (e : ℕ) (b : Bool) → IsProper g.made (cond b k (g.top e)) (cond b ms (g.present e))
     by_dir e true = p
     by_dir e false = v.lists e
 
-tidy_founded : (g : Cell) (d m : ℕ) (ms : List Member) → Tidy g → IsProper g.made 1 ms → Tidy (founded g d m ms)
-tidy_founded g d m ms v p = tidy_noted (at_house g m (Turns (found m (g.house m) d ms))).cell d 1 ms (tidy_at g m (Turns (found m (g.house m) d ms)) v) p
+tidy_founded : (g : Cell) (d m : ℕ) (ms : List Member) → Tidy g → IsProper g.made 1 ms → Tidy (cell_with_directory g d m ms)
+tidy_founded g d m ms v p = tidy_noted (at_house g m (Turns (found_directory m (g.house m) d ms))).cell d 1 ms (tidy_at g m (Turns (found_directory m (g.house m) d ms)) v) p
 
 tidy_directory : (o : Outcome) (d m : ℕ) (ms : List Member) (a : Answer) → Tidy o.cell → IsProper o.cell.made 1 ms → Tidy (with_directory o d m ms a).cell
 tidy_directory o d m ms (Stamped s ns) v p = let w = tidy_founded o.cell d m ms v p in record { lists = w.lists; lost = w.lost }
@@ -248,19 +248,19 @@ tidy_effect g (commands.House h node) f v = record {
   lost = v.lost;
 }
 tidy_effect g (commands.Clock h time) f v = record { lists = v.lists; lost = v.lost }
-tidy_effect g (commands.Root m rs ss) f v = tidy_founded g 1 m (listing [] 1 m rs ss) v (proper_new g.made [] 1 1 m rs ss f.1.1.0 f.1.0)
+tidy_effect g (commands.Root m rs ss) f v = tidy_founded g 1 m (member_list_of [] 1 m rs ss) v (proper_new g.made [] 1 1 m rs ss f.1.1.0 f.1.0)
 tidy_effect g (commands.Mkdir h d n m rs ss) f v =
-    let u : changes.Change = changes.MakeChild n (record { dir = g.next_dir; master = m; others = ascending rs }) in
+    let u : changes.Change = changes.MakeChild n (record { dir = g.next_dir; master = m; others = sorted_houses rs }) in
     let o = at_house g h (accept h (g.house h) d u) in
     let r = at_house-rest g h (accept h (g.house h) d u) in
     let missing : list_any (λ x. not (has x g.made)) (m ∷ rs) ≡ false = or_right (not (has h g.made)) (list_any (λ x. not (has x g.made)) (m ∷ rs)) f.1.0 in
-    tidy_directory o g.next_dir m (listing [] 1 m rs ss) o.answer (tidy_at g h (accept h (g.house h) d u) v)
-    (subst (λ (l : List ℕ). IsProper l 1 (listing [] 1 m rs ss)) (sym r.made) (proper_new g.made [] 1 1 m rs ss f.1.1.0 missing))
-tidy_effect g (commands.Repoint h d n m rs) f v = tidy_at g h (accept h (g.house h) d (changes.Repoint n m (ascending rs))) v
+    tidy_directory o g.next_dir m (member_list_of [] 1 m rs ss) o.answer (tidy_at g h (accept h (g.house h) d u) v)
+    (subst (λ (l : List ℕ). IsProper l 1 (member_list_of [] 1 m rs ss)) (sym r.made) (proper_new g.made [] 1 1 m rs ss f.1.1.0 missing))
+tidy_effect g (commands.Repoint h d n m rs) f v = tidy_at g h (accept h (g.house h) d (changes.Repoint n m (sorted_houses rs))) v
 tidy_effect g (commands.Accept h d u) f v = tidy_at g h (accept h (g.house h) d u) v
 tidy_effect g (commands.Epoch d m rs ss) f v =
-    let ms : List Member = listing (g.present d) (g.top d + 1) m rs ss in
-    let s : HouseStep = new_epoch m (g.house m) d (g.top d + 1) ms (leaving (g.present d) ms) in
+    let ms : List Member = member_list_of (g.present d) (g.top d + 1) m rs ss in
+    let s : HouseStep = new_epoch m (g.house m) d (g.top d + 1) ms (left_members (g.present d) ms) in
     let r = at_house-rest g m s in
     tidy_epoch (at_house g m s) d ms (at_house g m s).answer (tidy_at g m s v)
     (λ k. subst (λ (l : List ℕ). IsProper l k ms) (sym r.made) (proper_new g.made (g.present d) k (g.top d + 1) m rs ss f.1.1.0 f.1.0))

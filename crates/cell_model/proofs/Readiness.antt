@@ -8,9 +8,9 @@ use Rattle.cds_stamps.specs.Stamps.{is_stamp, stamp_total}
 use Rattle.cell_model.specs.Cells.{Idle, Gathering, Spreading, Replica, Held, House, Copy, Body, Gather, Gathered, Spread, SpreadAck}
 use Rattle.cell_model.specs.Cells.{Advance, Message, Cell, IsHeld}
 use Rattle.cell_model.specs.Commands.{Late, Early, Foreign, Complete}
-use Rattle.cell_model.specs.Turns.{HouseStep, Stays, holding, copy_of, merged, raised, takes, taken, reply, to_others, all_answered, stale}
-use Rattle.cell_model.specs.Turns.{gathered, take_gathered, spread, take_ack, take_own, take_other, take}
-use Rattle.cell_model.specs.Steps.{moved}
+use Rattle.cell_model.specs.Turns.{HouseStep, Stays, with_slot, copy_of, merge_copy, later_up_to, takes, take_and_answer, reply, to_others, all_answered, stale}
+use Rattle.cell_model.specs.Turns.{take_gathered_answer, take_gathered, spread, take_ack, take_own, take_other, take}
+use Rattle.cell_model.specs.Steps.{move_house}
 use Rattle.cell_model.proofs.Views.{put_at, put_same, put_other, put_back}
 
 -- each house of the list is up, and holds the directory at epoch k with this list
@@ -20,7 +20,7 @@ pub record Ready (d k : ℕ) (ms : List Member) (g : Cell) : Type 0 where
 
 -- a house with another floor and another replica of the directory, and messages posted
 abbrev pub changed : Cell → (h d floor : ℕ) → Replica → List Message → Cell
-changed g h d floor r posts = moved g h (holding (g.house h) d floor (Held r)) posts
+changed g h d floor r posts = move_house g h (with_slot (g.house h) d floor (Held r)) posts
 
 -- a message about the directory, of epoch k
 abbrev pub letter : (d k receiver sender floor : ℕ) → Body → Message
@@ -29,19 +29,19 @@ letter d k x y floor body = record { receiver = x; dir = d; sender = y; epoch = 
 -- the house holds that replica
 pub held_here : (g : Cell) (h d floor : ℕ) (r : Replica) (posts : List Message) → IsHeld (changed g h d floor r posts) h d r
 held_here g h d floor r posts =
-    put_back (λ (y : House). y.slots d ≡ Held r) g.house h (holding (g.house h) d floor (Held r)) (put_same (g.house h).slots d (Held r))
+    put_back (λ (y : House). y.slots d ≡ Held r) g.house h (with_slot (g.house h) d floor (Held r)) (put_same (g.house h).slots d (Held r))
 
 -- another house holds what it held
 pub held_there : (g : Cell) (h d floor : ℕ) (r : Replica) (posts : List Message) (x : ℕ) (q : Replica) → x ≢ h → IsHeld g x d q
     → IsHeld (changed g h d floor r posts) x d q
 held_there g h d floor r posts x q apart at =
-    subst (λ (y : House). y.slots d ≡ Held q) (sym (put_other g.house h (holding (g.house h) d floor (Held r)) x apart)) at
+    subst (λ (y : House). y.slots d ≡ Held q) (sym (put_other g.house h (with_slot (g.house h) d floor (Held r)) x apart)) at
 
 -- the houses stay ready where the new replica has that epoch and that list
 pub ready_changed : (d k : ℕ) (ms : List Member) (g : Cell) (h floor : ℕ) (r : Replica) (posts : List Message) → Ready d k ms g → r.epoch ≡ k → r.members ≡ ms
     → Ready d k ms (changed g h d floor r posts)
 ready_changed d k ms g h floor r posts s epoch members =
-    let now : House = holding (g.house h) d floor (Held r) in
+    let now : House = with_slot (g.house h) d floor (Held r) in
     record {
       up = put_at (λ x (y : House). is_listed x ms ≡ true → y.up ≡ true) g.house h now (λ l. s.up h l) (λ x _ l. s.up x l);
       holds = put_at (λ x (y : House). is_listed x ms ≡ true → (q : Replica) × (y.slots d ≡ Held q) × (q.epoch ≡ k) × (q.members ≡ ms)) g.house h now
@@ -73,13 +73,13 @@ module _ (d k : ℕ) (ms : List Member) where
   -- to a Gather a house of the list answers with all that it has
   pub gather_taken : (m : ℕ) (t : Stamp) (now : House) (y floor : ℕ) (r : Replica) → is_listed m ms ≡ true → now.slots d ≡ Held r → r.epoch ≡ k
       → r.members ≡ ms → take now (letter d k y m floor (Gather t))
-      ≡ taken now (letter d k y m floor (Gather t)) (Held r) (reply now (letter d k y m floor (Gather t)) (Gathered t (copy_of r)))
+      ≡ take_and_answer now (letter d k y m floor (Gather t)) (Held r) (reply now (letter d k y m floor (Gather t)) (Gathered t (copy_of r)))
   gather_taken m t now y floor r listed at e l = own_taken now (letter d k y m floor (Gather t)) (Gather t) r at (sym e) (ap (is_listed m) l ∙ listed)
 
   -- to a Spread it answers that it has it
   pub spread_taken : (m : ℕ) (t : Stamp) (copy : Copy) (now : House) (y floor : ℕ) (r : Replica) → is_listed m ms ≡ true → now.slots d ≡ Held r
       → r.epoch ≡ k → r.members ≡ ms → take now (letter d k y m floor (Spread t copy))
-      ≡ taken now (letter d k y m floor (Spread t copy)) (Held (merged r copy)) (reply now (letter d k y m floor (Spread t copy)) (SpreadAck t))
+      ≡ take_and_answer now (letter d k y m floor (Spread t copy)) (Held (merge_copy r copy)) (reply now (letter d k y m floor (Spread t copy)) (SpreadAck t))
   spread_taken m t copy now y floor r listed at e l =
       own_taken now (letter d k y m floor (Spread t copy)) (Spread t copy) r at (sym e) (ap (is_listed m) l ∙ listed)
 
@@ -88,16 +88,16 @@ module _ (d k : ℕ) (ms : List Member) where
       → now.slots d ≡ Held q → q.epoch ≡ k → q.members ≡ ms → q.phase ≡ Gathering t a → all_answered (others_of m ms) (y ∷ a) ≡ b
       → take now (letter d k m y floor (Gathered t copy))
       ≡ cond b
-      (taken now (letter d k m y floor (Gathered t copy)) (Held (record (merged q copy) { phase = Spreading t [] }))
-      (to_others now (letter d k m y floor (Gathered t copy)) q (Spread t (copy_of (merged q copy)))))
-      (taken now (letter d k m y floor (Gathered t copy)) (Held (record (merged q copy) { phase = Gathering t (y ∷ a) })) [])
+      (take_and_answer now (letter d k m y floor (Gathered t copy)) (Held (record (merge_copy q copy) { phase = Spreading t [] }))
+      (to_others now (letter d k m y floor (Gathered t copy)) q (Spread t (copy_of (merge_copy q copy)))))
+      (take_and_answer now (letter d k m y floor (Gathered t copy)) (Held (record (merge_copy q copy) { phase = Gathering t (y ∷ a) })) [])
   answer_taken m t copy a now y floor q b listed at e l run all =
       let z : Message = letter d k m y floor (Gathered t copy) in
-      let last : HouseStep = taken now z (Held (record (merged q copy) { phase = Spreading t [] })) (to_others now z q (Spread t (copy_of (merged q copy)))) in
-      let more : HouseStep = taken now z (Held (record (merged q copy) { phase = Gathering t (y ∷ a) })) [] in
+      let last : HouseStep = take_and_answer now z (Held (record (merge_copy q copy) { phase = Spreading t [] })) (to_others now z q (Spread t (copy_of (merge_copy q copy)))) in
+      let more : HouseStep = take_and_answer now z (Held (record (merge_copy q copy) { phase = Gathering t (y ∷ a) })) [] in
       own_taken now z (Gathered t copy) q at (sym e) (ap (is_listed y) l ∙ listed)
       ∙ ap (take_gathered now z t copy q) run
-      ∙ ap (λ (c : Bool). cond c (gathered now z q t (merged q copy) (y ∷ a)) (stale t (Gathering t a))) (same_stamp t)
+      ∙ ap (λ (c : Bool). cond c (take_gathered_answer now z q t (merge_copy q copy) (y ∷ a)) (stale t (Gathering t a))) (same_stamp t)
       ∙ ap (λ (c : Bool). cond c last more) (ap (λ (l : List Member). all_answered (others_of m l) (y ∷ a)) l ∙ all)
 
   -- and one of the second round
@@ -105,13 +105,13 @@ module _ (d k : ℕ) (ms : List Member) where
       → now.slots d ≡ Held q → q.epoch ≡ k → q.members ≡ ms → q.phase ≡ Spreading t a → all_answered (others_of m ms) (y ∷ a) ≡ b
       → take now (letter d k m y floor (SpreadAck t))
       ≡ cond b
-      (takes now (letter d k m y floor (SpreadAck t)) (Held (record q { all_up_to = raised q.all_up_to t; phase = Idle }))
+      (takes now (letter d k m y floor (SpreadAck t)) (Held (record q { all_up_to = later_up_to q.all_up_to t; phase = Idle }))
       (to_others now (letter d k m y floor (SpreadAck t)) q (Advance t)) (Complete t))
-      (taken now (letter d k m y floor (SpreadAck t)) (Held (record q { phase = Spreading t (y ∷ a) })) [])
+      (take_and_answer now (letter d k m y floor (SpreadAck t)) (Held (record q { phase = Spreading t (y ∷ a) })) [])
   ack_taken m t a now y floor q b listed at e l run all =
       let z : Message = letter d k m y floor (SpreadAck t) in
-      let last : HouseStep = takes now z (Held (record q { all_up_to = raised q.all_up_to t; phase = Idle })) (to_others now z q (Advance t)) (Complete t) in
-      let more : HouseStep = taken now z (Held (record q { phase = Spreading t (y ∷ a) })) [] in
+      let last : HouseStep = takes now z (Held (record q { all_up_to = later_up_to q.all_up_to t; phase = Idle })) (to_others now z q (Advance t)) (Complete t) in
+      let more : HouseStep = take_and_answer now z (Held (record q { phase = Spreading t (y ∷ a) })) [] in
       own_taken now z (SpreadAck t) q at (sym e) (ap (is_listed y) l ∙ listed)
       ∙ ap (take_ack now z t q) run
       ∙ ap (λ (c : Bool). cond c (spread now z q t (y ∷ a)) (stale t (Spreading t a))) (same_stamp t)

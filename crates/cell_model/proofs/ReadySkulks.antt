@@ -10,10 +10,10 @@ use Rattle.cell_model.specs.Cells.{Message, Cell, IsHeld}
 use Rattle.cell_model.specs.Commands as command
 use Rattle.cell_model.specs.Commands.{Command, Skulk, Deliver, Refused}
 use Rattle.cell_model.specs.Sets.{In, has}
-use Rattle.cell_model.specs.Turns.{copy_of, merged, raised, floor_after, to_each, stamp_at, begin, skulk_at, skulk_in, refuses}
+use Rattle.cell_model.specs.Turns.{copy_of, merge_copy, later_up_to, floor_after, to_each, stamp_at, begin, skulk_at, skulk_in, refuses}
 use Rattle.cell_model.specs.Steps.{Outcome, is_missing, is_unknown, is_down, at_house, outcome, serials_of}
 use Rattle.cell_model.specs.Agreement.{place_of}
-use Rattle.cell_model.specs.Mending.{delivering, skulking}
+use Rattle.cell_model.specs.Mending.{deliver_commands, skulk_commands}
 use Rattle.cell_model.proofs.Lists.{append_nil, eq_to}
 use Rattle.cell_model.proofs.Terms.{In-others_of}
 use Rattle.cell_model.proofs.Deliveries.{Run, run_none, run_first, run_map, Finish, finish_one, finish_first, finish_append, delivering-append}
@@ -68,7 +68,7 @@ module _ (d m k : ℕ) (ms : List Member) (t : Stamp) (master_listed : is_listed
 
   spread_answers : (copy : Copy) → AllTakeAsk d m k ms (Spread t copy) (IsAck t)
   spread_answers copy now y floor r at e l = record {
-    replica = merged r copy;
+    replica = merge_copy r copy;
     answer = SpreadAck t;
     is = spread_taken d k ms m t copy now y floor r master_listed at e l;
     epoch = e;
@@ -84,7 +84,7 @@ module _ (d m k : ℕ) (ms : List Member) (t : Stamp) (master_listed : is_listed
   -- the master takes the answers of the first round, and begins the second with the last
   gathering_run : (ys : List ℕ) (zs : List Message) (y : ℕ) (g : Cell) (p : ℕ) (q : Replica) (a : List ℕ) → AreOthers m ms (y ∷ ys)
       → AreAnswers d m k (IsGathered t) (y ∷ ys) zs → Left (others_of m ms) a (y ∷ ys) → Ready d k ms g → IsHeld g m d q → q.epoch ≡ k → q.members ≡ ms
-      → q.phase ≡ Gathering t a → Waiting g p zs → Run g (delivering p (suc (length ys))) (Spreads d m k ms t (p + suc (length ys)))
+      → q.phase ≡ Gathering t a → Waiting g p zs → Run g (deliver_commands p (suc (length ys))) (Spreads d m k ms t (p + suc (length ys)))
   gathering_run ys [] y g p q a others ans left s at e l run w = elim ans [ ]
   gathering_run [] (z ∷ z' ∷ zs) y g p q a others ans left s at e l run w = elim ans.1 [ ]
   gathering_run (y' ∷ ys) (z ∷ []) y g p q a others ans left s at e l run w = elim ans.1 [ ]
@@ -96,8 +96,8 @@ module _ (d m k : ℕ) (ms : List Member) (t : Stamp) (master_listed : is_listed
       let w' : Waiting g p (answer ∷ []) = subst (λ (x : Message). Waiting g p (x ∷ [])) is w in
       let out = answer_taken d k ms m t copy a (g.house m) y f q true (others y (inl refl)).1 at e l run (last_answers (others_of m ms) a y left) in
       let f' : ℕ = floor_after (g.house m) answer in
-      let r : Replica = record (merged q copy) { phase = Spreading t [] } in
-      let b : Body = Spread t (copy_of (merged q copy)) in
+      let r : Replica = record (merge_copy q copy) { phase = Spreading t [] } in
+      let b : Body = Spread t (copy_of (merge_copy q copy)) in
       let posts : List Message = to_each (others_of m q.members) d m q.epoch f' b in
       let h : Cell = changed g m d f' r posts in
       run_first g (Deliver (p + 1)) [] (Spreads d m k ms t (p + 1)) _ (delivered g p answer [] _ w' (s.up m master_listed) out) tt
@@ -109,7 +109,7 @@ module _ (d m k : ℕ) (ms : List Member) (t : Stamp) (master_listed : is_listed
         members = l;
         phase = refl;
         floor = f';
-        copy = copy_of (merged q copy);
+        copy = copy_of (merge_copy q copy);
         waiting = subst (λ (ls : List Message). Waiting h (p + 1) ls) (same_posts q f' b e l) (waiting_next g h p answer [] posts w' refl refl);
       }))
   gathering_run (y' ∷ ys) (z ∷ z' ∷ zs) y g p q a others ans left s at e l run w =
@@ -120,21 +120,21 @@ module _ (d m k : ℕ) (ms : List Member) (t : Stamp) (master_listed : is_listed
       let w' : Waiting g p (answer ∷ z' ∷ zs) = subst (λ (x : Message). Waiting g p (x ∷ z' ∷ zs)) is w in
       let out = answer_taken d k ms m t copy a (g.house m) y f q false (others y (inl refl)).1 at e l run (more_answer (others_of m ms) a y y' ys left) in
       let f' : ℕ = floor_after (g.house m) answer in
-      let r : Replica = record (merged q copy) { phase = Gathering t (y ∷ a) } in
+      let r : Replica = record (merge_copy q copy) { phase = Gathering t (y ∷ a) } in
       let h : Cell = changed g m d f' r [] in
       let place : (p + 1) + suc (length ys) ≡ p + suc (suc (length ys)) = omega arith in
       let rest : Waiting h (p + 1) (z' ∷ zs) =
       subst (λ (ls : List Message). Waiting h (p + 1) ls) (append_nil (z' ∷ zs)) (waiting_next g h p answer (z' ∷ zs) [] w' refl refl) in
       let more = gathering_run ys (z' ∷ zs) y' h (p + 1) r (y ∷ a) (λ x i. others x (inr i)) ans.1 (left_next (others_of m ms) a y (y' ∷ ys) left)
       (ready_changed d k ms g m f' r [] s e l) (held_here g m d f' r []) e l refl rest in
-      run_first g (Deliver (p + 1)) (delivering (p + 1) (suc (length ys))) (Spreads d m k ms t (p + suc (suc (length ys)))) _
+      run_first g (Deliver (p + 1)) (deliver_commands (p + 1) (suc (length ys))) (Spreads d m k ms t (p + suc (suc (length ys)))) _
       (delivered g p answer (z' ∷ zs) _ w' (s.up m master_listed) out) tt
-      (run_map h (delivering (p + 1) (suc (length ys))) _ _ more (λ c x. subst (λ (n : ℕ). Spreads d m k ms t n c) place x))
+      (run_map h (deliver_commands (p + 1) (suc (length ys))) _ _ more (λ c x. subst (λ (n : ℕ). Spreads d m k ms t n c) place x))
 
   -- the master takes the answers of the second round, and completes with the last
   spreading_run : (ys : List ℕ) (zs : List Message) (y : ℕ) (g : Cell) (p : ℕ) (q : Replica) (a : List ℕ) → AreOthers m ms (y ∷ ys)
       → AreAnswers d m k (IsAck t) (y ∷ ys) zs → Left (others_of m ms) a (y ∷ ys) → Ready d k ms g → IsHeld g m d q → q.epoch ≡ k → q.members ≡ ms
-      → q.phase ≡ Spreading t a → Waiting g p zs → Finish g m d (delivering p (suc (length ys))) t (Skulked d m k ms)
+      → q.phase ≡ Spreading t a → Waiting g p zs → Finish g m d (deliver_commands p (suc (length ys))) t (Skulked d m k ms)
   spreading_run ys [] y g p q a others ans left s at e l run w = elim ans [ ]
   spreading_run [] (z ∷ z' ∷ zs) y g p q a others ans left s at e l run w = elim ans.1 [ ]
   spreading_run (y' ∷ ys) (z ∷ []) y g p q a others ans left s at e l run w = elim ans.1 [ ]
@@ -145,7 +145,7 @@ module _ (d m k : ℕ) (ms : List Member) (t : Stamp) (master_listed : is_listed
       let w' : Waiting g p (answer ∷ []) = subst (λ (x : Message). Waiting g p (x ∷ [])) is w in
       let out = ack_taken d k ms m t a (g.house m) y f q true (others y (inl refl)).1 at e l run (last_answers (others_of m ms) a y left) in
       let f' : ℕ = floor_after (g.house m) answer in
-      let r : Replica = record q { all_up_to = raised q.all_up_to t; phase = Idle } in
+      let r : Replica = record q { all_up_to = later_up_to q.all_up_to t; phase = Idle } in
       let posts : List Message = to_each (others_of m q.members) d m q.epoch f' (Advance t) in
       let at_answer : place_of g (Deliver (p + 1)) ≡ Some (m, d) =
       ap (option_map (λ (x : Message). (x.receiver, x.dir))) (next_message g p answer [] w') in
@@ -164,17 +164,17 @@ module _ (d m k : ℕ) (ms : List Member) (t : Stamp) (master_listed : is_listed
       subst (λ (ls : List Message). Waiting h (p + 1) ls) (append_nil (z' ∷ zs)) (waiting_next g h p answer (z' ∷ zs) [] w' refl refl) in
       let more = spreading_run ys (z' ∷ zs) y' h (p + 1) r (y ∷ a) (λ x i. others x (inr i)) ans.1 (left_next (others_of m ms) a y (y' ∷ ys) left)
       (ready_changed d k ms g m f' r [] s e l) (held_here g m d f' r []) e l refl rest in
-      finish_first g m d (Deliver (p + 1)) (delivering (p + 1) (suc (length ys))) t (Skulked d m k ms) _
+      finish_first g m d (Deliver (p + 1)) (deliver_commands (p + 1) (suc (length ys))) t (Skulked d m k ms) _
       (delivered g p answer (z' ∷ zs) _ w' (s.up m master_listed) out) tt more
 
 -- four rounds of deliveries, one after the other
-four_rounds : (n p : ℕ) → delivering p (4 * n)
-    ≡ delivering p n ++ (delivering (p + n) n ++ (delivering ((p + n) + n) n ++ delivering (((p + n) + n) + n) n))
+four_rounds : (n p : ℕ) → deliver_commands p (4 * n)
+    ≡ deliver_commands p n ++ (deliver_commands (p + n) n ++ (deliver_commands ((p + n) + n) n ++ deliver_commands (((p + n) + n) + n) n))
 four_rounds n p =
     let sum : 4 * n ≡ n + (n + (n + n)) = omega arith in
-    ap (λ (c : ℕ). delivering p c) sum ∙ delivering-append n (n + (n + n)) p
-    ∙ ap (λ (l : List Command). delivering p n ++ l)
-    (delivering-append n (n + n) (p + n) ∙ ap (λ (l : List Command). delivering (p + n) n ++ l) (delivering-append n n ((p + n) + n)))
+    ap (λ (c : ℕ). deliver_commands p c) sum ∙ delivering-append n (n + (n + n)) p
+    ∙ ap (λ (l : List Command). deliver_commands p n ++ l)
+    (delivering-append n (n + n) (p + n) ∙ ap (λ (l : List Command). deliver_commands (p + n) n ++ l) (delivering-append n n ((p + n) + n)))
 
 -- what a skulk rests on: the houses are ready, nothing that is posted next is lost, and the master has this stamp next, if one is left
 pub record CanSkulk (d m k : ℕ) (ms : List Member) (next : Option Stamp) (p : ℕ) (g : Cell) : Type 0 where
@@ -212,13 +212,13 @@ module _ (d m k : ℕ) (ms : List Member) (t : Stamp) (master_listed : is_listed
       ∙ ap (λ (ls : List Member). at_house g m (begin m (g.house m) d q t (others_of m ls))) l
 
   finish_with : (os : List ℕ) → others_of m ms ≡ os → (g : Cell) (p : ℕ) → CanSkulk d m k ms (Some t) p g
-      → Finish g m d (skulking m d p (length os)) t (Skulked d m k ms)
+      → Finish g m d (skulk_commands m d p (length os)) t (Skulked d m k ms)
   finish_with [] o g p c =
       let at = c.ready.holds m master_listed in
       let q : Replica = at.0 in
-      let r : Replica = record q { all_up_to = raised q.all_up_to t; phase = Idle } in
+      let r : Replica = record q { all_up_to = later_up_to q.all_up_to t; phase = Idle } in
       let none : 0 ≡ 4 * 0 = omega arith in
-      subst (λ (n : ℕ). Finish g m d (Skulk m d ∷ delivering p n) t (Skulked d m k ms)) none
+      subst (λ (n : ℕ). Finish g m d (Skulk m d ∷ deliver_commands p n) t (Skulked d m k ms)) none
       (finish_one g m d (Skulk m d) t [] (Skulked d m k ms) _
       (skulk_begins g p q c at.1 at.3 ∙ ap (λ (l : List ℕ). at_house g m (begin m (g.house m) d q t l)) o) refl refl
       (skulked d m k ms t master_listed g t.time r [] c.ready at.2 at.3 refl))
@@ -238,13 +238,13 @@ module _ (d m k : ℕ) (ms : List Member) (t : Stamp) (master_listed : is_listed
       let first = asked_run d m k ms (Gather t) (IsGathered t) (gather_answers d m k ms t master_listed) r os h p t.time [] others
       (ready_changed d k ms g m t.time r posts c.ready at.2 at.3) (held_here g m d t.time r posts) asks in
       let done : Finish h m d
-      (delivering p n ++ (delivering (p + n) n ++ (delivering ((p + n) + n) n ++ delivering (((p + n) + n) + n) n))) t (Skulked d m k ms) =
-      finish_append h m d (delivering p n) (delivering (p + n) n ++ (delivering ((p + n) + n) n ++ delivering (((p + n) + n) + n) n)) t
+      (deliver_commands p n ++ (deliver_commands (p + n) n ++ (deliver_commands ((p + n) + n) n ++ deliver_commands (((p + n) + n) + n) n))) t (Skulked d m k ms) =
+      finish_append h m d (deliver_commands p n) (deliver_commands (p + n) n ++ (deliver_commands ((p + n) + n) n ++ deliver_commands (((p + n) + n) + n) n)) t
       (Asked d m k ms (IsGathered t) r os (p + n) []) (Skulked d m k ms) first
-      (λ g1 a. finish_append g1 m d (delivering (p + n) n) (delivering ((p + n) + n) n ++ delivering (((p + n) + n) + n) n) t
+      (λ g1 a. finish_append g1 m d (deliver_commands (p + n) n) (deliver_commands ((p + n) + n) n ++ deliver_commands (((p + n) + n) + n) n) t
       (Spreads d m k ms t ((p + n) + n)) (Skulked d m k ms)
       (gathering_run d m k ms t master_listed ys a.replies y g1 (p + n) r [] others a.each left a.ready a.master at.2 at.3 refl a.waiting)
-      (λ g2 s. finish_append g2 m d (delivering ((p + n) + n) n) (delivering (((p + n) + n) + n) n) t
+      (λ g2 s. finish_append g2 m d (deliver_commands ((p + n) + n) n) (deliver_commands (((p + n) + n) + n) n) t
       (Asked d m k ms (IsAck t) s.replica os (((p + n) + n) + n) []) (Skulked d m k ms)
       (asked_run d m k ms (Spread t s.copy) (IsAck t) (spread_answers d m k ms t master_listed s.copy) s.replica os g2 ((p + n) + n) s.floor [] others
       s.ready s.held
@@ -252,10 +252,10 @@ module _ (d m k : ℕ) (ms : List Member) (t : Stamp) (master_listed : is_listed
       (ap (λ (l : List ℕ). to_each l d m k s.floor (Spread t s.copy)) o ∙ sym (append_nil _)) s.waiting))
       (λ g3 b. spreading_run d m k ms t master_listed ys b.replies y g3 (((p + n) + n) + n) s.replica [] others b.each left b.ready b.master
       s.epoch s.members s.phase b.waiting))) in
-      finish_first g m d (Skulk m d) (delivering p (4 * n)) t (Skulked d m k ms) _
+      finish_first g m d (Skulk m d) (deliver_commands p (4 * n)) t (Skulked d m k ms) _
       (skulk_begins g p q c at.1 at.3 ∙ ap (λ (l : List ℕ). at_house g m (begin m (g.house m) d q t l)) o) tt
       (subst (λ (l : List Command). Finish h m d l t (Skulked d m k ms)) (sym (four_rounds n p)) done)
 
   -- a skulk and its messages complete it, and the houses stay at their epoch
-  pub skulk_finishes : (g : Cell) (p : ℕ) → CanSkulk d m k ms (Some t) p g → Finish g m d (skulking m d p (length (others_of m ms))) t (Skulked d m k ms)
+  pub skulk_finishes : (g : Cell) (p : ℕ) → CanSkulk d m k ms (Some t) p g → Finish g m d (skulk_commands m d p (length (others_of m ms))) t (Skulked d m k ms)
   skulk_finishes g p c = finish_with (others_of m ms) refl g p c

@@ -5,7 +5,7 @@ use Rattle.directory.specs.Histories.{Mark}
 use Rattle.cell_model.specs.Cells.{Phase, Idle, Gathering, Spreading, Replica, Copy, Gathered, Spread, SpreadAck, Message}
 use Rattle.cell_model.specs.Commands.{Accepted}
 use Rattle.cell_model.specs.Sets.{In, IsPart}
-use Rattle.cell_model.specs.Turns.{running}
+use Rattle.cell_model.specs.Turns.{running_skulk_stamp}
 use Rattle.cell_model.proofs.Lists.{eq_from}
 use Rattle.cell_model.proofs.Terms.{others}
 use Rattle.cell_model.proofs.Facts.{View, IsPosted, Holds, Roll, Reached, Sound, Turn, same, idle, begins, answered, turned, acked, Past, grew, rose}
@@ -35,7 +35,7 @@ module _ (roll : Roll) (g g' : View) (new : List Accepted) (s : Sound roll g) (s
   said t node m copy at is = ⊎_elim (λ was. inl was)
       (λ (n : New roll g g' new m).
       let k = kind_at roll g g' new m (Spread t copy) n is in
-      let by : m.sender ≡ h = sym ((s'.held m.sender n.q n.held).phase t (subst (λ (z : Phase). running z ≡ Some t) (sym k.0) refl)).1 ∙ node in
+      let by : m.sender ≡ h = sym ((s'.held m.sender n.q n.held).phase t (subst (λ (z : Phase). running_skulk_stamp z ≡ Some t) (sym k.0) refl)).1 ∙ node in
       let same_r = same_held _ n.q r' (subst (λ (z : ℕ). Holds g' z n.q) by n.held) at_h' in
       inr (subst (λ (z : Replica). IsPart z.history copy.history) same_r k.1))
       (f.posts m at)
@@ -44,18 +44,18 @@ module _ (roll : Roll) (g g' : View) (new : List Accepted) (s : Sound roll g) (s
   round_same : (p : Phase) → r.phase ≡ p → r'.phase ≡ p → Round roll g h r p → Round roll g' h r' p
   round_same Idle e e' v = tt
   round_same (Gathering t a) e e' v =
-      gathers_kept roll g g' new s s' f h r r' t a a at_h at_h' (subst (λ (z : Phase). running z ≡ Some t) (sym e) refl) epoch grows v
+      gathers_kept roll g g' new s s' f h r r' t a a at_h at_h' (subst (λ (z : Phase). running_skulk_stamp z ≡ Some t) (sym e) refl) epoch grows v
       (λ y i. inl i) v.heard (λ j y w. inr w.silent) (λ turn. cc)
   round_same (Spreading t a) e e' v =
-      spreads_kept roll g g' new s s' f h r r' t a a at_h at_h' (subst (λ (z : Phase). running z ≡ Some t) (sym e) refl) epoch grows v
+      spreads_kept roll g g' new s s' f h r r' t a a at_h at_h' (subst (λ (z : Phase). running_skulk_stamp z ≡ Some t) (sym e) refl) epoch grows v
       (λ y i. inl i) v.heard
-      (said t ((s.held h r at_h).phase t (subst (λ (z : Phase). running z ≡ Some t) (sym e) refl)).1)
+      (said t ((s.held h r at_h).phase t (subst (λ (z : Phase). running_skulk_stamp z ≡ Some t) (sym e) refl)).1)
 
   -- an answer that is taken
   module _ (t : Stamp) (a : List ℕ) (m : Message) (copy : Copy) (e : r.phase ≡ Gathering t a) (at : IsPosted g m) (is : m.body ≡ Gathered t copy)
       (sub : IsPart copy.history r'.history) (v : Gathers roll g h r t a) where
-    runs : running r.phase ≡ Some t
-    runs = subst (λ (z : Phase). running z ≡ Some t) (sym e) refl
+    runs : running_skulk_stamp r.phase ≡ Some t
+    runs = subst (λ (z : Phase). running_skulk_stamp z ≡ Some t) (sym e) refl
 
     more : (y : ℕ) → In y (m.sender ∷ a) → GatheredBy g t a y
     more y i = ⊎_elim (λ q. inr (m, copy, at, sym q, is)) (λ o. inl o) i
@@ -82,7 +82,7 @@ module _ (roll : Roll) (g g' : View) (new : List Accepted) (s : Sound roll g) (s
     round_turned : r'.phase ≡ Spreading t [] → ((y : ℕ) → In y (others r.members) → In y (m.sender ∷ a)) → Spreads roll g' h r' t []
     round_turned e' all =
         spreads_begin roll g g' new s s' f h r r' t a (m.sender ∷ a) at_h at_h' runs epoch grows v more heard' gained
-        (subst (λ (z : Phase). running z ≡ Some t) (sym e') refl) all
+        (subst (λ (z : Phase). running_skulk_stamp z ≡ Some t) (sym e') refl) all
 
   -- an answer of the second round keeps what holds in that round
   pub round_acked : (t : Stamp) (a : List ℕ) (m : Message) → r.phase ≡ Spreading t a → IsPosted g m → m.body ≡ SpreadAck t → Spreads roll g h r t a
@@ -96,8 +96,8 @@ module _ (roll : Roll) (g g' : View) (new : List Accepted) (s : Sound roll g) (s
       (v.heard y) i)
       (said t ((s.held h r at_h).phase t runs).1)
     where
-      runs : running r.phase ≡ Some t
-      runs = subst (λ (z : Phase). running z ≡ Some t) (sym e) refl
+      runs : running_skulk_stamp r.phase ≡ Some t
+      runs = subst (λ (z : Phase). running_skulk_stamp z ≡ Some t) (sym e) refl
 
   round_turn : Turn roll g h (g'.house h).floor r r' → Round roll g h r r.phase → Round roll g' h r' r'.phase
   round_turn (same e) v = round_as roll g' h r' r'.phase r.phase e (round_same r.phase refl e v)

@@ -8,8 +8,8 @@ use Rattle.cell_model.specs.Sets.{In}
 use Rattle.cell_model.specs.Cells.{Phase, Idle, Gathering, Spreading, Replica, Slot, Absent, Gone, Held, House, Copy, Body, Update, Gather, Gathered}
 use Rattle.cell_model.specs.Cells.{Spread, SpreadAck, Advance, Join, Leave, Message}
 use Rattle.cell_model.specs.Commands.{Answer, Late, Early, Stale, NoReplica, Foreign, Complete}
-use Rattle.cell_model.specs.Turns.{HouseStep, Stays, grown, copy_of, merged, raised, takes, taken, reply, to_others, all_answered, take_gathered}
-use Rattle.cell_model.specs.Turns.{take_ack, take_own, take_other, copied, kept_at_join, unless_late, take_join, take_leave, take_in, take}
+use Rattle.cell_model.specs.Turns.{HouseStep, Stays, with_marks, copy_of, merge_copy, later_up_to, takes, take_and_answer, reply, to_others, all_answered, take_gathered}
+use Rattle.cell_model.specs.Turns.{take_ack, take_own, take_other, replica_of_copy, kept_at_join, unless_late, take_join, take_leave, take_in, take}
 use Rattle.cell_model.proofs.Lists.{stamp_from, answered_all}
 
 -- a message of the epoch that the house holds, from a member
@@ -42,29 +42,29 @@ pub data Row (now : House) (m : Message) : HouseStep → Type 0 where
   unlisted : (r : Replica) → now.slots m.dir ≡ Held r → m.epoch ≡ r.epoch → is_listed m.sender r.members ≡ false → Row now m (Stays Foreign)
   outside : (ms : List Member) (copy : Copy) → m.body ≡ Join ms copy → (is_listed m.receiver ms && is_listed m.sender ms) ≡ false
       → Row now m (Stays Foreign)
-  updates : (marks : List Mark) (r : Replica) → Own now m (Update marks) r → Row now m (taken now m (Held (grown r marks)) [])
-  gives : (t : Stamp) (r : Replica) → Own now m (Gather t) r → Row now m (taken now m (Held r) (reply now m (Gathered t (copy_of r))))
+  updates : (marks : List Mark) (r : Replica) → Own now m (Update marks) r → Row now m (take_and_answer now m (Held (with_marks r marks)) [])
+  gives : (t : Stamp) (r : Replica) → Own now m (Gather t) r → Row now m (take_and_answer now m (Held r) (reply now m (Gathered t (copy_of r))))
   gathers : (t : Stamp) (copy : Copy) (a : List ℕ) (r : Replica) → Own now m (Gathered t copy) r → r.phase ≡ Gathering t a
-      → Row now m (taken now m (Held (record (merged r copy) { phase = Gathering t (m.sender ∷ a) })) [])
+      → Row now m (take_and_answer now m (Held (record (merge_copy r copy) { phase = Gathering t (m.sender ∷ a) })) [])
   turns : (t : Stamp) (copy : Copy) (a : List ℕ) (r : Replica) → Own now m (Gathered t copy) r → r.phase ≡ Gathering t a → AllIn m r a
       → Row now m
-      (taken now m (Held (record (merged r copy) { phase = Spreading t [] })) (to_others now m r (Spread t (copy_of (merged r copy)))))
+      (take_and_answer now m (Held (record (merge_copy r copy) { phase = Spreading t [] })) (to_others now m r (Spread t (copy_of (merge_copy r copy)))))
   gathers_again : (t : Stamp) (copy : Copy) (a : List ℕ) (r : Replica) → Own now m (Gathered t copy) r → r.phase ≡ Spreading t a
-      → Row now m (taken now m (Held (merged r copy)) [])
+      → Row now m (take_and_answer now m (Held (merge_copy r copy)) [])
   spreads : (t : Stamp) (copy : Copy) (r : Replica) → Own now m (Spread t copy) r
-      → Row now m (taken now m (Held (merged r copy)) (reply now m (SpreadAck t)))
-  acks_early : (t : Stamp) (a : List ℕ) (r : Replica) → Own now m (SpreadAck t) r → r.phase ≡ Gathering t a → Row now m (taken now m (Held r) [])
+      → Row now m (take_and_answer now m (Held (merge_copy r copy)) (reply now m (SpreadAck t)))
+  acks_early : (t : Stamp) (a : List ℕ) (r : Replica) → Own now m (SpreadAck t) r → r.phase ≡ Gathering t a → Row now m (take_and_answer now m (Held r) [])
   acks : (t : Stamp) (a : List ℕ) (r : Replica) → Own now m (SpreadAck t) r → r.phase ≡ Spreading t a
-      → Row now m (taken now m (Held (record r { phase = Spreading t (m.sender ∷ a) })) [])
+      → Row now m (take_and_answer now m (Held (record r { phase = Spreading t (m.sender ∷ a) })) [])
   completes : (t : Stamp) (a : List ℕ) (r : Replica) → Own now m (SpreadAck t) r → r.phase ≡ Spreading t a → AllIn m r a
-      → Row now m (takes now m (Held (record r { all_up_to = raised r.all_up_to t; phase = Idle })) (to_others now m r (Advance t)) (Complete t))
-  advances : (t : Stamp) (r : Replica) → Own now m (Advance t) r → Row now m (taken now m (Held (record r { all_up_to = raised r.all_up_to t })) [])
+      → Row now m (takes now m (Held (record r { all_up_to = later_up_to r.all_up_to t; phase = Idle })) (to_others now m r (Advance t)) (Complete t))
+  advances : (t : Stamp) (r : Replica) → Own now m (Advance t) r → Row now m (take_and_answer now m (Held (record r { all_up_to = later_up_to r.all_up_to t })) [])
   copies : (ms : List Member) (copy : Copy) → Timely now m (Join ms copy)
       → ((r : Replica) → now.slots m.dir ≡ Held r → (r.epoch ≤ m.epoch) × (r.epoch < since_in ms m.receiver 0))
-      → Row now m (taken now m (Held (copied m ms copy)) [])
+      → Row now m (take_and_answer now m (Held (replica_of_copy m ms copy)) [])
   keeps : (ms : List Member) (copy : Copy) (r : Replica) → Timely now m (Join ms copy) → now.slots m.dir ≡ Held r → r.epoch ≤ m.epoch
-      → since_in ms m.receiver 0 ≤ r.epoch → Row now m (taken now m (Held (kept_at_join m ms copy r)) [])
-  leaves : Timely now m Leave → ((r : Replica) → now.slots m.dir ≡ Held r → r.epoch < m.epoch) → Row now m (taken now m (Gone m.epoch) [])
+      → since_in ms m.receiver 0 ≤ r.epoch → Row now m (take_and_answer now m (Held (kept_at_join m ms copy r)) [])
+  leaves : Timely now m Leave → ((r : Replica) → now.slots m.dir ≡ Held r → r.epoch < m.epoch) → Row now m (take_and_answer now m (Gone m.epoch) [])
 
 if_row : (now : House) (m : Message) (b : Bool) (x y : HouseStep) → (b ≡ true → Row now m x) → (b ≡ false → Row now m y) → Row now m (cond b x y)
 if_row now m true x y k l = k refl
@@ -183,7 +183,7 @@ join_row now m ms copy (Held r) is e =
     timely = record { is = is; gone = λ d e'. absurd (cc) }
 
     by_since : (b : Bool) → nat_le (since_in ms m.receiver 0) r.epoch ≡ b → r.epoch ≤ m.epoch
-        → Row now m (taken now m (Held (cond b (kept_at_join m ms copy r) (copied m ms copy))) [])
+        → Row now m (take_and_answer now m (Held (cond b (kept_at_join m ms copy r) (replica_of_copy m ms copy))) [])
     by_since true q le = keeps ms copy r timely e le (le_from _ _ q)
     by_since false q le =
         copies ms copy timely (λ r' e'. let same : r ≡ r' = cc in

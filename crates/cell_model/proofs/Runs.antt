@@ -3,7 +3,7 @@ use Rattle.std.proofs.Common.{◌≡◌, ℕ, ◌≤◌, Bool, true, false, eqb,
 use Rattle.cds_stamps.specs.Members.{Member}
 use Rattle.cell_model.specs.Cells.{Cell, empty_cell}
 use Rattle.cell_model.specs.Commands.{Command, Accepted}
-use Rattle.cell_model.specs.Steps.{outcome, replay_from, replay, accepted_from, accepted}
+use Rattle.cell_model.specs.Steps.{outcome, replay_from, replay, accepted_from, accepted_updates}
 use Rattle.cell_model.specs.Agreement.{place_of}
 use Rattle.cell_model.proofs.Lists.{append_nil}
 use Rattle.cell_model.proofs.Terms.{Listed}
@@ -105,7 +105,7 @@ empty_reaching roll none = record {
 
 -- a step of the run
 pub step_passage : (d : ℕ) (all early late : List Command) (c : Command) → early ++ c ∷ late ≡ all
-    → Reaching (roll_of d all) (view d (replay early)) (accepted early)
+    → Reaching (roll_of d all) (view d (replay early)) (accepted_updates early)
     → Passage (roll_of d all) (view d (replay early)) (view d (outcome (replay early) c).cell) (outcome (replay early) c).accepted
 step_passage d all early late c e r =
     let g = replay early in
@@ -115,22 +115,22 @@ step_passage d all early late c e r =
     passage (roll_of d all) g o.cell (place_of g c) o.answer o.accepted (fit_at d all early (c ∷ late) e) f' r.sound (outcome_steps g c)
 
 pub run_reaching : (d : ℕ) (all early mid late : List Command) → early ++ (mid ++ late) ≡ all
-    → Reaching (roll_of d all) (view d (replay early)) (accepted early) → Reaching (roll_of d all) (view d (replay (early ++ mid))) (accepted (early ++ mid))
-run_reaching d all early [] late e r = subst (λ (l : List Command). Reaching (roll_of d all) (view d (replay l)) (accepted l)) (sym (append_nil early)) r
+    → Reaching (roll_of d all) (view d (replay early)) (accepted_updates early) → Reaching (roll_of d all) (view d (replay (early ++ mid))) (accepted_updates (early ++ mid))
+run_reaching d all early [] late e r = subst (λ (l : List Command). Reaching (roll_of d all) (view d (replay l)) (accepted_updates l)) (sym (append_nil early)) r
 run_reaching d all early (c ∷ mid) late e r =
     let g = replay early in
     let o = outcome g c in
     let p = step_passage d all early (mid ++ late) c e r in
-    let r' = reaching_kept (roll_of d all) (view d g) (view d o.cell) o.accepted (accepted early) p r in
+    let r' = reaching_kept (roll_of d all) (view d g) (view d o.cell) o.accepted (accepted_updates early) p r in
     let cell : replay (early ++ c ∷ []) ≡ o.cell = replay-append early (c ∷ []) empty_cell in
-    let log : accepted (early ++ c ∷ []) ≡ accepted early ++ o.accepted = accepted-append early (c ∷ []) empty_cell
-    ∙ ap (λ (l : List Accepted). accepted early ++ l) (append_nil o.accepted) in
-    let here : Reaching (roll_of d all) (view d (replay (early ++ c ∷ []))) (accepted (early ++ c ∷ [])) =
-    subst (λ (z : Cell). Reaching (roll_of d all) (view d z) (accepted (early ++ c ∷ []))) (sym cell)
+    let log : accepted_updates (early ++ c ∷ []) ≡ accepted_updates early ++ o.accepted = accepted-append early (c ∷ []) empty_cell
+    ∙ ap (λ (l : List Accepted). accepted_updates early ++ l) (append_nil o.accepted) in
+    let here : Reaching (roll_of d all) (view d (replay (early ++ c ∷ []))) (accepted_updates (early ++ c ∷ [])) =
+    subst (λ (z : Cell). Reaching (roll_of d all) (view d z) (accepted_updates (early ++ c ∷ []))) (sym cell)
     (subst (λ (l : List Accepted). Reaching (roll_of d all) (view d o.cell) l) (sym log) r') in
-    subst (λ (l : List Command). Reaching (roll_of d all) (view d (replay l)) (accepted l)) (append_assoc early (c ∷ []) mid)
+    subst (λ (l : List Command). Reaching (roll_of d all) (view d (replay l)) (accepted_updates l)) (append_assoc early (c ∷ []) mid)
     (run_reaching d all (early ++ c ∷ []) mid late (append_assoc early (c ∷ []) (mid ++ late) ∙ e) here)
 
 -- every cell of a run, in each directory
-pub reaching_at : (d : ℕ) (all early late : List Command) → early ++ late ≡ all → Reaching (roll_of d all) (view d (replay early)) (accepted early)
+pub reaching_at : (d : ℕ) (all early late : List Command) → early ++ late ≡ all → Reaching (roll_of d all) (view d (replay early)) (accepted_updates early)
 reaching_at d all early late e = run_reaching d all [] early late e (empty_reaching (roll_of d all) (sym (lists_fit d [] all empty_cell empty_plain)))

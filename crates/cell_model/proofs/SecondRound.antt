@@ -7,7 +7,7 @@ use Rattle.directory.specs.Histories.{Mark, stamp_in}
 use Rattle.cell_model.specs.Cells.{Replica, Copy, Gathered, Spread, SpreadAck, Join, Message}
 use Rattle.cell_model.specs.Commands.{Accepted}
 use Rattle.cell_model.specs.Sets.{In, IsPart, IsUpTo}
-use Rattle.cell_model.specs.Turns.{running}
+use Rattle.cell_model.specs.Turns.{running_skulk_stamp}
 use Rattle.cell_model.proofs.Terms.{Listed, others, In-others}
 use Rattle.cell_model.proofs.Facts.{View, IsPosted, Holds, Roll, Reached, Sound, Past, grew, rose, crowned, copied, founded, New, Frame}
 use Rattle.cell_model.proofs.Bounds.{reached_held, held_reached, same_held, kind_at, round_at, was_member, Bounded, not_below, copied_above, bounded_kept}
@@ -73,7 +73,7 @@ module _ (roll : Roll) (g g' : View) (new : List Accepted) (s : Sound roll g) (s
       kept : (x : ℕ) (q' : Replica) (j : Mark) → Holds g' x q' → k ≤ q'.epoch → In j all → IsUpTo (stamp_in j) t → In j q'.history
       kept x q' j h' le i up = kept_past k t all x q' j d h' le i up (f.past x q' h')
 
-  module _ (h : ℕ) (r r' : Replica) (t : Stamp) (a a' : List ℕ) (at_h : Holds g h r) (at_h' : Holds g' h r') (round : running r.phase ≡ Some t)
+  module _ (h : ℕ) (r r' : Replica) (t : Stamp) (a a' : List ℕ) (at_h : Holds g h r) (at_h' : Holds g' h r') (round : running_skulk_stamp r.phase ≡ Some t)
       (epoch : r.epoch ≡ r'.epoch) (grows : IsPart r.history r'.history) (v : Spreads roll g h r t a) (more : (y : ℕ) → In y a'
       → SpreadBy g t a y) (heard' : (y : ℕ) → In y a' → Reached r.epoch (g.house y).slot) where
     -- a new acknowledgement of t comes from a member at epoch k

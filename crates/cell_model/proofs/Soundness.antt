@@ -7,7 +7,7 @@ use Rattle.directory.specs.Histories.{Mark, stamp_in}
 use Rattle.cell_model.specs.Cells.{Phase, Replica, Gone, Copy, Body, Update, Gather, Gathered, Spread, SpreadAck, Advance, Join, Leave, Message}
 use Rattle.cell_model.specs.Commands.{Accepted}
 use Rattle.cell_model.specs.Sets.{In, IsPart}
-use Rattle.cell_model.specs.Turns.{running}
+use Rattle.cell_model.specs.Turns.{running_skulk_stamp}
 use Rattle.cell_model.proofs.Terms.{Listed}
 use Rattle.cell_model.proofs.Facts.{View, IsPosted, Holds, Roll, marks_in, round_of, HeldOk, Kind, Lawful, Sound, Took, Past, grew, rose, crowned}
 use Rattle.cell_model.proofs.Facts.{copied, founded, Came, own, sent, fresh, Answers, NewKind, New, Frame}
@@ -26,11 +26,11 @@ earlier g m t b a e = record { it = a.to; posted = a.posted; round = round_at a.
 
 -- a message of a round answers an earlier one of that round, or its sender runs the round
 pub new_round : (roll : Roll) (g : View) (m : Message) (q : Replica) (b : Body) (t : Stamp) → NewKind roll g m q b → round_of b ≡ Some t
-    → Earlier g m t ⊎ (running q.phase ≡ Some t)
+    → Earlier g m t ⊎ (running_skulk_stamp q.phase ≡ Some t)
 new_round roll g m q (Update marks) t k e = absurd (cc)
-new_round roll g m q (Gather u) t k e = inr (subst (λ (z : Phase). running z ≡ Some t) (sym k) e)
+new_round roll g m q (Gather u) t k e = inr (subst (λ (z : Phase). running_skulk_stamp z ≡ Some t) (sym k) e)
 new_round roll g m q (Gathered u copy) t k e = inl (earlier g m t (Gather u) k.0 e)
-new_round roll g m q (Spread u copy) t k e = inr (subst (λ (z : Phase). running z ≡ Some t) (sym k.0) e)
+new_round roll g m q (Spread u copy) t k e = inr (subst (λ (z : Phase). running_skulk_stamp z ≡ Some t) (sym k.0) e)
 new_round roll g m q (SpreadAck u) t k e = inl (earlier g m t (Spread u k.0) k.1 e)
 new_round roll g m q (Advance u) t k e = inl (record { it = k.0; posted = k.1; round = round_at k.0 (SpreadAck u) t k.2 e; epoch = k.3; floor = k.4 })
 new_round roll g m q (Join ms copy) t k e = absurd (cc)
@@ -67,7 +67,7 @@ module _ (roll : Roll) (g g' : View) (new : List Accepted) (s : Sound roll g) (f
   past_members x floor r' (crowned _ _ _ _ _ _ e m l _) = (omega (arith, e), m ∙ f.present ∙ ap roll.list (sym e), l)
   past_members x floor r' (founded _ e m _ l _) = (omega (arith, e), m ∙ f.present ∙ ap roll.list (sym e), l)
 
-  phase' : (x : ℕ) (r' : Replica) (t : Stamp) → Holds g' x r' → running r'.phase ≡ Some t
+  phase' : (x : ℕ) (r' : Replica) (t : Stamp) → Holds g' x r' → running_skulk_stamp r'.phase ≡ Some t
       → (master_of r'.members ≡ x) × (roll.home t.node ≡ x) × (t.time ≤ (g'.house x).floor)
   phase' x r' t h q =
       let p = past_round roll g g' x (g'.house x).floor r' t (f.past x r' h) q in
@@ -82,7 +82,7 @@ module _ (roll : Roll) (g g' : View) (new : List Accepted) (s : Sound roll g) (f
   floors_came x r' k (sent m at _ i le _) = le_trans ((s.messages m at).bound k i) le
   floors_came x r' k (fresh r _ h _ _ le _ _ _ _ _ _) = le
 
-  old_round : (x : ℕ) (r' : Replica) (t : Stamp) (m : Message) → Holds g' x r' → running r'.phase ≡ Some t → IsPosted g m → round_of m.body ≡ Some t
+  old_round : (x : ℕ) (r' : Replica) (t : Stamp) (m : Message) → Holds g' x r' → running_skulk_stamp r'.phase ≡ Some t → IsPosted g m → round_of m.body ≡ Some t
       → m.epoch ≡ r'.epoch
   old_round x r' t m h q at e =
       let p = past_round roll g g' x (g'.house x).floor r' t (f.past x r' h) q in

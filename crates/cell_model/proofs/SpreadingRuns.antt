@@ -8,8 +8,8 @@ use Rattle.cell_model.specs.Cells.{Phase, Idle, Spreading, Replica, Slot, Held, 
 use Rattle.cell_model.specs.Commands as commands
 use Rattle.cell_model.specs.Commands.{Command, Answer, Complete, Accepted}
 use Rattle.cell_model.specs.Sets.{In, has}
-use Rattle.cell_model.specs.Turns.{skulk, stamp_at, holding, raised, running}
-use Rattle.cell_model.specs.Steps.{first_refusal, refusals_of, moved, at_house, outcome, replay_from, replay, accepted}
+use Rattle.cell_model.specs.Turns.{skulk, stamp_at, with_slot, later_up_to, running_skulk_stamp}
+use Rattle.cell_model.specs.Steps.{first_refusal, refusals_of, move_house, at_house, outcome, replay_from, replay, accepted_updates}
 use Rattle.cell_model.specs.Agreement.{place_of}
 use Rattle.cell_model.specs.Provenance.{HasPassed}
 use Rattle.cell_model.specs.Rounds.{TookSpread, StartsSecond, with_last, alone, HasHeld, FromSecond, SecondHolds, HasUpTo, WhileSpreading}
@@ -67,15 +67,15 @@ record Alone (g : Cell) (h d : ℕ) (o : Slot) (t : Stamp) : Type 0 where
   issuing : Issuing g h d was t
   head : master_of was.members ≡ h
   none : others_of h was.members ≡ []
-  is : o ≡ Held (record was { all_up_to = raised was.all_up_to t; phase = Idle })
+  is : o ≡ Held (record was { all_up_to = later_up_to was.all_up_to t; phase = Idle })
 
 act_alone : (g : Cell) (h d floor : ℕ) (o : Slot) (posts : List Message) (t : Stamp) (ns : List ℕ) (n : List Accepted)
-    → ((r : Replica) → IsHeld g h d r → running r.phase ≡ Some t → t.time ≤ (g.house h).floor) → stamp_at (g.house h) ≡ Some t
+    → ((r : Replica) → IsHeld g h d r → running_skulk_stamp r.phase ≡ Some t → t.time ≤ (g.house h).floor) → stamp_at (g.house h) ≡ Some t
     → Act g h d floor o posts (Complete t ns) n → Alone g h d o t
 act_alone g h d floor o posts t ns n low new (lone _ _ r _ i head none) = record { was = r; issuing = i; head = head; none = none; is = refl }
 act_alone g h d floor o posts t ns n low new (completes m _ a r _ k run all) =
     let z = stamp_next (g.house m.receiver).clock (g.house m.receiver).floor (g.house m.receiver).node t new in
-    let w = low r k.held (subst (λ (y : Phase). running y ≡ Some t) (sym run) refl) in
+    let w = low r k.held (subst (λ (y : Phase). running_skulk_stamp y ≡ Some t) (sym run) refl) in
     absurd (omega (arith, z.0))
 
 -- the frame of a step at a house that holds the directory
@@ -104,7 +104,7 @@ module _ (all early late : List Command) (h d : ℕ) (r : Replica) (t : Stamp) (
   cell : replay (early ++ c ∷ []) ≡ o'
   cell = replay-append early (c ∷ []) empty_cell
 
-  r0 : Reaching roll (view d g) (accepted early)
+  r0 : Reaching roll (view d g) (accepted_updates early)
   r0 = reaching_at d all early (c ∷ late) is
 
   alone_at : Completing g o' (Some (h, d)) t ns (outcome g c).accepted → Start all early c h d r t
@@ -114,11 +114,11 @@ module _ (all early late : List Command) (h d : ℕ) (r : Replica) (t : Stamp) (
       new = skulk_issues g h d ((g.house h).slots d) t ns
           (unless_complete g (first_refusal (refusals_of g c)) (at_house g h (skulk h (g.house h) d)) t ns complete)
 
-      low : (q : Replica) → IsHeld g h d q → running q.phase ≡ Some t → t.time ≤ (g.house h).floor
+      low : (q : Replica) → IsHeld g h d q → running_skulk_stamp q.phase ≡ Some t → t.time ≤ (g.house h).floor
       low q at run = ((r0.sound.held h q at).phase t run).2
 
       here : (floor : ℕ) (o : Slot) (posts : List Message) → Act g h d floor o posts (Complete t ns) (outcome g c).accepted
-          → o' ≡ moved g h (holding (g.house h) d floor o) posts → Start all early c h d r t
+          → o' ≡ move_house g h (with_slot (g.house h) d floor o) posts → Start all early c h d r t
       here floor o posts act same_cell =
           let a = act_alone g h d floor o posts t ns (outcome g c).accepted low new act in
           let w = whole_at roll g (fit_at d all early (c ∷ late) is) in
@@ -128,8 +128,8 @@ module _ (all early late : List Command) (h d : ℕ) (r : Replica) (t : Stamp) (
           let s' : Sound roll (view d o') = sound_kept roll (view d g) (view d o') (outcome g c).accepted r0.sound f in
           let at : IsHeld o' h d done.replica = subst (λ (y : Cell). IsHeld y h d done.replica) (sym same_cell) done.holds in
           let mine : done.replica ≡ r = same_held _ done.replica r at (subst (λ (y : Cell). IsHeld y h d r) cell held) in
-          let shape : Held done.replica ≡ Held (record a.was { all_up_to = raised a.was.all_up_to t; phase = Idle }) = sym done.is ∙ a.is in
-          let q : done.replica ≡ record a.was { all_up_to = raised a.was.all_up_to t; phase = Idle } = cc in
+          let shape : Held done.replica ≡ Held (record a.was { all_up_to = later_up_to a.was.all_up_to t; phase = Idle }) = sym done.is ∙ a.is in
+          let q : done.replica ≡ record a.was { all_up_to = later_up_to a.was.all_up_to t; phase = Idle } = cc in
           let members : done.replica.members ≡ a.was.members = ap (λ (z : Replica). z.members) q in
           let issued = stamp_next (g.house h).clock (g.house h).floor (g.house h).node t a.issuing.next in
           let home : roll.home t.node ≡ h = ap roll.home issued.1 ∙ w.at_home h (up_made g h (fit_at d all early (c ∷ late) is).plain a.issuing.up) in
@@ -149,13 +149,13 @@ module _ (all early late : List Command) (h d : ℕ) (r : Replica) (t : Stamp) (
           nobody y i = i
 
       by_place : (x k floor : ℕ) (o : Slot) (posts : List Message) → (h ≡ x) × (d ≡ k) → Act g x k floor o posts (Complete t ns) (outcome g c).accepted
-          → o' ≡ moved g x (holding (g.house x) k floor o) posts → Start all early c h d r t
+          → o' ≡ move_house g x (with_slot (g.house x) k floor o) posts → Start all early c h d r t
       by_place x k floor o posts e act same_cell =
           here floor o posts
           (subst (λ (y : ℕ). Act g y d floor o posts (Complete t ns) (outcome g c).accepted) (sym e.0)
           (subst (λ (y : ℕ). Act g x y floor o posts (Complete t ns) (outcome g c).accepted) (sym e.1) act))
-          (subst (λ (y : ℕ). o' ≡ moved g y (holding (g.house y) d floor o) posts) (sym e.0)
-          (subst (λ (y : ℕ). o' ≡ moved g x (holding (g.house x) y floor o) posts) (sym e.1) same_cell))
+          (subst (λ (y : ℕ). o' ≡ move_house g y (with_slot (g.house y) d floor o) posts) (sym e.0)
+          (subst (λ (y : ℕ). o' ≡ move_house g x (with_slot (g.house x) y floor o) posts) (sym e.1) same_cell))
 
   start_alone : Start all early c h d r t
   start_alone = alone_at
@@ -171,7 +171,7 @@ start_last all early late c h d r t is at phase =
     let v : View = view d (replay (early ++ c ∷ [])) in
     let spreads : Spreads (roll_of d all) v h r t [] = subst (λ (z : Phase). Round (roll_of d all) v h r z) phase (here.rounds h r at) in
     let ok = here.sound.held h r at in
-    let head = (ok.phase t (subst (λ (z : Phase). running z ≡ Some t) (sym phase) refl)).0 in
+    let head = (ok.phase t (subst (λ (z : Phase). running_skulk_stamp z ≡ Some t) (sym phase) refl)).0 in
     record {
       started = started_turned (roll_of d all) v h r t here.sound at phase spreads;
       answers = λ y o. spreads.answers y
@@ -257,7 +257,7 @@ module _ (all early late : List Command) (c : Command) (h d : ℕ) (r : Replica)
       (started_run d all (early ++ c ∷ []) late [] h r.epoch t r.history (ap (λ (l : List Command). (early ++ c ∷ []) ++ l) (append_nil late)
       ∙ begun_is) at_start.started)
 
-  last : Reaching roll1 (view d (replay all)) (accepted all)
+  last : Reaching roll1 (view d (replay all)) (accepted_updates all)
   last = reaching_last all d
 
   members_are : r.members ≡ roll1.list r.epoch
@@ -318,7 +318,7 @@ module _ (all early late : List Command) (c : Command) (h d : ℕ) (r : Replica)
       messages = λ m j i dir le ij up. now.bounded.within_m m j (In-of_dir d (replay all).bag m i dir) le ij up;
       updates = λ u q j i dir hq le since up ij.
           let stamped = (last.known.well u i dir).stamped j ij in
-          now.bounded.within u.by q j hq le (own_updates roll1 (view d (replay all)) (accepted all) last.sound last.known u q i dir hq since j ij)
+          now.bounded.within u.by q j hq le (own_updates roll1 (view d (replay all)) (accepted_updates all) last.sound last.known u q i dir hq since j ij)
           (up_to_trans (stamp_in j) u.stamp t stamped up);
       later_houses = λ x q hq lt. now.bounded.floors x q hq (omega arith);
       later_messages = λ m i dir lt. now.bounded.sent m (In-of_dir d (replay all).bag m i dir) lt;
@@ -376,8 +376,8 @@ act_keeps roll g h k X x d floor o posts t ns n homes plain b (lone _ _ r _ i he
     let here : x ≡ h = sym (homes x (up_made g x plain i.up)) ∙ ap roll.home (sym issued.1) ∙ b.home in
     absurd (omega (arith, issued.0, subst (λ (y : ℕ). t.time ≤ (g.house y).floor) (sym here) b.low))
 act_keeps roll g h k X x d floor o posts t ns n homes plain b (completes m _ a r _ taking run all) =
-    let w = b.runs m.receiver r taking.held (subst (λ (y : Phase). running y ≡ Some t) (sym run) refl) in
-    (record r { all_up_to = raised r.all_up_to t; phase = Idle }, refl, w.0, w.1)
+    let w = b.runs m.receiver r taking.held (subst (λ (y : Phase). running_skulk_stamp y ≡ Some t) (sym run) refl) in
+    (record r { all_up_to = later_up_to r.all_up_to t; phase = Idle }, refl, w.0, w.1)
 
 module _ (all early late : List Command) (e : Command) (h k x d : ℕ) (r : Replica) (t : Stamp) (ns : List ℕ) (is : early ++ e ∷ late ≡ all)
     (b : Started (roll_of d all) (view d (replay early)) h r.epoch t r.history) (complete : (outcome (replay early) e).answer ≡ Complete t ns)
@@ -389,7 +389,7 @@ module _ (all early late : List Command) (e : Command) (h k x d : ℕ) (r : Repl
   roll2 = roll_of d all
 
   after_act : (floor : ℕ) (o : Slot) (posts : List Message) → Act g2 x d floor o posts (Complete t ns) (outcome g2 e).accepted
-      → (outcome g2 e).cell ≡ moved g2 x (holding (g2.house x) d floor o) posts → AfterSpreading (replay all) d r t
+      → (outcome g2 e).cell ≡ move_house g2 x (with_slot (g2.house x) d floor o) posts → AfterSpreading (replay all) d r t
   after_act floor o posts act same_cell =
       let here = reaching_at d all early (e ∷ late) is in
       let fit = fit_at d all early (e ∷ late) is in
@@ -397,7 +397,7 @@ module _ (all early late : List Command) (e : Command) (h k x d : ℕ) (r : Repl
       let done = act_completed roll2 g2 x d floor o posts t ns (outcome g2 e).accepted (whole_at roll2 g2 fit) here.sound here.rounds refl act in
       let shape : Held done.replica ≡ Held keeps.0 = sym done.is ∙ keeps.1 in
       let q : done.replica ≡ keeps.0 = cc in
-      let cell : replay (early ++ e ∷ []) ≡ moved g2 x (holding (g2.house x) d floor o) posts = replay-append early (e ∷ []) empty_cell ∙ same_cell in
+      let cell : replay (early ++ e ∷ []) ≡ move_house g2 x (with_slot (g2.house x) d floor o) posts = replay-append early (e ∷ []) empty_cell ∙ same_cell in
       let split : (early ++ e ∷ []) ++ late ≡ all = append_assoc early (e ∷ []) late ∙ is in
       let first : Done roll2 (view d (replay (early ++ e ∷ []))) done.replica.epoch t done.replica.history =
       subst (λ (y : Cell). Done roll2 (view d y) done.replica.epoch t done.replica.history) (sym cell) done.done in
@@ -412,13 +412,13 @@ module _ (all early late : List Command) (e : Command) (h k x d : ℕ) (r : Repl
   after_place z = by_place z.house z.dir z.floor z.slot z.posts (same_place x d z.house z.dir (sym at ∙ z.at)) z.act z.is
     where
       by_place : (y k' floor : ℕ) (o : Slot) (posts : List Message) → (x ≡ y) × (d ≡ k') → Act g2 y k' floor o posts (Complete t ns) (outcome g2 e).accepted
-          → (outcome g2 e).cell ≡ moved g2 y (holding (g2.house y) k' floor o) posts → AfterSpreading (replay all) d r t
+          → (outcome g2 e).cell ≡ move_house g2 y (with_slot (g2.house y) k' floor o) posts → AfterSpreading (replay all) d r t
       by_place y k' floor o posts s act same_cell =
           after_act floor o posts
           (subst (λ (z : ℕ). Act g2 z d floor o posts (Complete t ns) (outcome g2 e).accepted) (sym s.0)
           (subst (λ (z : ℕ). Act g2 y z floor o posts (Complete t ns) (outcome g2 e).accepted) (sym s.1) act))
-          (subst (λ (z : ℕ). (outcome g2 e).cell ≡ moved g2 z (holding (g2.house z) d floor o) posts) (sym s.0)
-          (subst (λ (z : ℕ). (outcome g2 e).cell ≡ moved g2 y (holding (g2.house y) z floor o) posts) (sym s.1) same_cell))
+          (subst (λ (z : ℕ). (outcome g2 e).cell ≡ move_house g2 z (with_slot (g2.house z) d floor o) posts) (sym s.0)
+          (subst (λ (z : ℕ). (outcome g2 e).cell ≡ move_house g2 y (with_slot (g2.house y) z floor o) posts) (sym s.1) same_cell))
 
   after_complete : AfterSpreading (replay all) d r t
   after_complete = after_place

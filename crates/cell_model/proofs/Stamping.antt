@@ -12,8 +12,8 @@ use Rattle.cell_model.specs.Cells.{Phase, Idle, Replica, Slot, Absent, Gone, Hel
 use Rattle.cell_model.specs.Commands as commands
 use Rattle.cell_model.specs.Commands.{Command, Refusal, Answer, Made, Stamped, Complete, Refused, Accepted}
 use Rattle.cell_model.specs.Sets.{IsUpTo}
-use Rattle.cell_model.specs.Turns.{first_replica, grown, to_each, holding, raised, running, stamp_at, refuses, begin, skulk_at, skulk_in, skulk}
-use Rattle.cell_model.specs.Steps.{Outcome, founded, listing, unless, refusals_of, first_refusal, moved, at_house, outcome, replay_from, replay}
+use Rattle.cell_model.specs.Turns.{first_replica, with_marks, to_each, with_slot, later_up_to, running_skulk_stamp, stamp_at, refuses, begin, skulk_at, skulk_in, skulk}
+use Rattle.cell_model.specs.Steps.{Outcome, cell_with_directory, member_list_of, unless, refusals_of, first_refusal, move_house, at_house, outcome, replay_from, replay}
 use Rattle.cell_model.specs.Agreement.{place_of}
 use Rattle.cell_model.specs.Skulks.{RaisesUpTo}
 use Rattle.cell_model.specs.Floors.{FloorsHold, IsAboveHouse, stamp_issued, Issues, IssuesAbove, IssuesOnce}
@@ -40,11 +40,11 @@ pub record IssuedAt (g g' : Cell) (p : Option (ℕ × ℕ)) (s : Stamp) : Type 0
   pub issuing : Issuing g house dir replica s
   pub floor : (g'.house house).floor ≡ s.time
 
-act_floor : (g : Cell) (h d : ℕ) (s : Stamp) (o : Slot) (posts : List Message) → ((moved g h (holding (g.house h) d s.time o) posts).house h).floor ≡ s.time
-act_floor g h d s o posts = put_back (λ (v : House). v.floor ≡ s.time) g.house h (holding (g.house h) d s.time o) refl
+act_floor : (g : Cell) (h d : ℕ) (s : Stamp) (o : Slot) (posts : List Message) → ((move_house g h (with_slot (g.house h) d s.time o) posts).house h).floor ≡ s.time
+act_floor g h d s o posts = put_back (λ (v : House). v.floor ≡ s.time) g.house h (with_slot (g.house h) d s.time o) refl
 
 act_stamped : (g : Cell) (p : Option (ℕ × ℕ)) (h d floor : ℕ) (o : Slot) (posts : List Message) (s : Stamp) (ns : List ℕ) (n : List Accepted)
-    → p ≡ Some (h, d) → Act g h d floor o posts (Stamped s ns) n → IssuedAt g (moved g h (holding (g.house h) d floor o) posts) p s
+    → p ≡ Some (h, d) → Act g h d floor o posts (Stamped s ns) n → IssuedAt g (move_house g h (with_slot (g.house h) d floor o) posts) p s
 act_stamped g p h d floor o posts s ns n at (accepts _ _ u r _ _ i fine) =
     record { house = h; dir = d; replica = r; at = at; issuing = i; floor = act_floor g h d s o posts }
 act_stamped g p h d floor o posts s ns n at (skulks _ _ r _ _ i head) =
@@ -66,14 +66,14 @@ move_made g g' p d s ns n (stays _ q) = q
 move_made g g' p d s ns n (acts h e at floor o posts _ _ act) = act_made g h e floor o posts d s ns n act
 
 -- a new directory changes no floor
-founded_floor : (g : Cell) (d m : ℕ) (ms : List Member) (nd x : ℕ) → ((record (founded g d m ms) { next_dir = nd }).house x).floor ≡ (g.house x).floor
+founded_floor : (g : Cell) (d m : ℕ) (ms : List Member) (nd x : ℕ) → ((record (cell_with_directory g d m ms) { next_dir = nd }).house x).floor ≡ (g.house x).floor
 founded_floor g d m ms nd =
-    put_at (λ x (v : House). v.floor ≡ (g.house x).floor) g.house m (holding (g.house m) d (g.house m).floor (Held (first_replica ms))) refl (λ x _. refl)
+    put_at (λ x (v : House). v.floor ≡ (g.house x).floor) g.house m (with_slot (g.house m) d (g.house m).floor (Held (first_replica ms))) refl (λ x _. refl)
 
 steps_made : (g g' : Cell) (p : Option (ℕ × ℕ)) (d : ℕ) (s : Stamp) (ns : List ℕ) (n : List Accepted) → Steps g p g' (Made d s ns) n → IssuedAt g g' p s
 steps_made g g' p d s ns n (one _ _ _ m) = absurd (move_made g g' p d s ns n m)
 steps_made g g' p d s ns n (mkdirs h e m u rs ss r _ _ at i fine up known) =
-    let o : Slot = Held (grown r (new_marks r u s)) in
+    let o : Slot = Held (with_marks r (new_marks r u s)) in
     let posts : List Message = to_each (others_of h r.members) e h r.epoch s.time (Update (new_marks r u s)) in
     record {
       house = h;
@@ -81,7 +81,7 @@ steps_made g g' p d s ns n (mkdirs h e m u rs ss r _ _ at i fine up known) =
       replica = r;
       at = at;
       issuing = i;
-      floor = founded_floor (moved g h (holding (g.house h) e s.time o) posts) g.next_dir m (listing [] 1 m rs ss) (g.next_dir + 1) h ∙ act_floor g h e s o posts;
+      floor = founded_floor (move_house g h (with_slot (g.house h) e s.time o) posts) g.next_dir m (member_list_of [] 1 m rs ss) (g.next_dir + 1) h ∙ act_floor g h e s o posts;
     }
 
 -- ---- a skulk that completes at once
@@ -115,14 +115,14 @@ skulk_issues g h d (Held r) t ns e = by_test (eqb (master_of r.members) h) e
 
 -- a skulk that completes by its command was begun by it
 act_complete : (g : Cell) (d' : ℕ) (p : Option (ℕ × ℕ)) (h d floor : ℕ) (o : Slot) (posts : List Message) (t : Stamp) (ns : List ℕ) (n : List Accepted)
-    → p ≡ Some (h, d) → ((x k : ℕ) (r : Replica) → p ≡ Some (x, k) → IsHeld g x k r → running r.phase ≡ Some t → t.time ≤ (g.house x).floor)
+    → p ≡ Some (h, d) → ((x k : ℕ) (r : Replica) → p ≡ Some (x, k) → IsHeld g x k r → running_skulk_stamp r.phase ≡ Some t → t.time ≤ (g.house x).floor)
     → ((x k : ℕ) → p ≡ Some (x, k) → stamp_at (g.house x) ≡ Some t) → Act g h d floor o posts (Complete t ns) n
-    → IssuedAt g (moved g h (holding (g.house h) d floor o) posts) p t
+    → IssuedAt g (move_house g h (with_slot (g.house h) d floor o) posts) p t
 act_complete g d' p h d floor o posts t ns n at low new (lone _ _ r _ i head alone) =
     record { house = h; dir = d; replica = r; at = at; issuing = i; floor = act_floor g h d t o posts }
 act_complete g d' p h d floor o posts t ns n at low new (completes m _ a r _ k run all) =
     let z = stamp_next (g.house m.receiver).clock (g.house m.receiver).floor (g.house m.receiver).node t (new m.receiver m.dir at) in
-    let w = low m.receiver m.dir r at k.held (subst (λ (y : Phase). running y ≡ Some t) (sym run) refl) in
+    let w = low m.receiver m.dir r at k.held (subst (λ (y : Phase). running_skulk_stamp y ≡ Some t) (sym run) refl) in
     absurd (omega (arith, z.0))
 
 -- ---- every stamp that is issued
@@ -139,7 +139,7 @@ skulk_completes early h d t ns e =
     λ x k at. subst (λ (y : ℕ). stamp_at (g.house y) ≡ Some t) (same_place h d x k at).0
     (skulk_issues g h d ((g.house h).slots d) t ns
     (unless_complete g (first_refusal (refusals_of g (commands.Skulk h d))) (at_house g h (skulk h (g.house h) d)) t ns e)) in
-    let low : (x k : ℕ) (r : Replica) → place h d ≡ place x k → IsHeld g x k r → running r.phase ≡ Some t
+    let low : (x k : ℕ) (r : Replica) → place h d ≡ place x k → IsHeld g x k r → running_skulk_stamp r.phase ≡ Some t
     → t.time ≤ (g.house x).floor = λ x k r at held run. (((reaching_last early k).sound.held x r held).phase t run).2 in
     subst (λ (y : Cell). IssuedAt g y (Some (h, d)) t) (sym z.is)
     (act_complete g d (Some (h, d)) z.house z.dir z.floor z.slot z.posts t ns o.accepted z.at low new z.act)
@@ -237,10 +237,10 @@ later_of u t up = go (stamp_cmp u t) refl
 -- the AllUpTo that a master has is not later than the skulk that it completes
 raised_to : (commands : List Command) (h d : ℕ) (r : Replica) (t : Stamp) → IsHeld (replay commands) h d r
     → ((u : Stamp) (k : ℕ) (marks : List Mark) → r.all_up_to ≡ Some u → k ≤ r.epoch → Done (roll_of d commands) (view d (replay commands)) k u marks
-    → IsUpTo u t) → raised r.all_up_to t ≡ Some t
+    → IsUpTo u t) → later_up_to r.all_up_to t ≡ Some t
 raised_to commands h d r t at below = go r.all_up_to refl
   where
-    go : (o : Option Stamp) → r.all_up_to ≡ o → raised o t ≡ Some t
+    go : (o : Option Stamp) → r.all_up_to ≡ o → later_up_to o t ≡ Some t
     go None e = refl
     go (Some u) e =
         let w = (advances_lem commands).houses h d r u at e in
@@ -252,13 +252,13 @@ act_raises : (commands : List Command) (p : Option (ℕ × ℕ)) (h d floor : �
     → Act (replay commands) h d floor o posts (Complete t ns) n → (r : Replica) × (o ≡ Held r) × (r.all_up_to ≡ Some t)
 act_raises commands p h d floor o posts t ns n (lone _ _ r _ i head alone) =
     let z = stamp_next ((replay commands).house h).clock ((replay commands).house h).floor ((replay commands).house h).node t i.next in (
-      record r { all_up_to = raised r.all_up_to t; phase = Idle },
+      record r { all_up_to = later_up_to r.all_up_to t; phase = Idle },
       refl,
       raised_to commands h d r t i.held (λ u k marks e le done. earlier_up_to u t (omega (arith, done.bounded.floors h r i.held le, z.0))),
     )
 act_raises commands p h d floor o posts t ns n (completes m _ a r _ k run all) =
-    let runs : running r.phase ≡ Some t = subst (λ (y : Phase). running y ≡ Some t) (sym run) refl in (
-      record r { all_up_to = raised r.all_up_to t; phase = Idle },
+    let runs : running_skulk_stamp r.phase ≡ Some t = subst (λ (y : Phase). running_skulk_stamp y ≡ Some t) (sym run) refl in (
+      record r { all_up_to = later_up_to r.all_up_to t; phase = Idle },
       refl,
       raised_to commands m.receiver m.dir r t k.held (λ u j marks e le done. done.bounded.rounds m.receiver r t k.held le runs),
     )
@@ -272,6 +272,6 @@ raises_lem commands c t ns e =
     subst (λ (z : Answer). Steps g (place_of g c) o.cell z o.accepted) e (outcome_steps g c) in
     let z = completing g o.cell (place_of g c) t ns o.accepted steps in
     let w = act_raises commands (place_of g c) z.house z.dir z.floor z.slot z.posts t ns o.accepted z.act in
-    let held : IsHeld (moved g z.house (holding (g.house z.house) z.dir z.floor z.slot) z.posts) z.house z.dir w.0 = slot_after g z.house z.dir z.floor z.slot
+    let held : IsHeld (move_house g z.house (with_slot (g.house z.house) z.dir z.floor z.slot) z.posts) z.house z.dir w.0 = slot_after g z.house z.dir z.floor z.slot
     ∙ w.1 in
     (z.house, z.dir, w.0, z.at, subst (λ (y : Cell). IsHeld y z.house z.dir w.0) (sym z.is) held, w.2)

@@ -4,7 +4,7 @@ use Rattle.cds_stamps.specs.Members.{is_listed}
 use Rattle.cell_model.specs.Cells.{Message, Cell, empty_cell}
 use Rattle.cell_model.specs.Commands.{Command, Accepted}
 use Rattle.cell_model.specs.Sets.{In}
-use Rattle.cell_model.specs.Steps.{outcome, replay, accepted}
+use Rattle.cell_model.specs.Steps.{outcome, replay, accepted_updates}
 use Rattle.cell_model.specs.Reached.{IsReached, ReachedHolds}
 use Rattle.cell_model.specs.Holdings.{HistoriesHold, MembersHold}
 use Rattle.cell_model.specs.Taking.{CanTake}
@@ -31,7 +31,7 @@ reached_lem = record {
 }
 
 module _ (commands : List Command) where
-  once : (a b : Accepted) → In a (accepted commands) → In b (accepted commands) → a.stamp ≡ b.stamp → a ≡ b
+  once : (a b : Accepted) → In a (accepted_updates commands) → In b (accepted_updates commands) → a.stamp ≡ b.stamp → a ≡ b
   once = (logged_at commands).once
 
   -- histories and marks of messages are histories
@@ -39,11 +39,11 @@ module _ (commands : List Command) where
   histories_lem = record {
     houses = λ x d r at.
         let known = (reaching_last commands d).known in
-        closed_history d (accepted commands) known.well (logged_at commands).once r.history (known.only x r at) (known.origin x r at);
+        closed_history d (accepted_updates commands) known.well (logged_at commands).once r.history (known.only x r at) (known.origin x r at);
     messages = λ m i.
         let known = (reaching_last commands m.dir).known in
         let posted = In-of_dir m.dir (replay commands).bag m i refl in
-        closed_history m.dir (accepted commands) known.well (logged_at commands).once _ (known.only_m m posted) (known.origin_m m posted);
+        closed_history m.dir (accepted_updates commands) known.well (logged_at commands).once _ (known.only_m m posted) (known.origin_m m posted);
   }
 
   -- who holds a directory is a member, and masters alone run skulks

@@ -7,7 +7,7 @@ use Rattle.cell_model.specs.Commands.{Start, Done}
 use Rattle.cell_model.specs.Sets.{In, has}
 use Rattle.cell_model.specs.Turns.{stamp_at, started_house}
 use Rattle.cell_model.specs.Steps.{is_missing, is_down, stays, outcome, start}
-use Rattle.cell_model.specs.Mending.{starting}
+use Rattle.cell_model.specs.Mending.{start_commands}
 use Rattle.cell_model.proofs.Lists.{append_nil}
 use Rattle.cell_model.proofs.Views.{put_at, put_same, put_other}
 use Rattle.cell_model.proofs.Deliveries.{Run, run_none, run_first, run_map, not_refused}
@@ -82,21 +82,21 @@ as_in_start g h y ys once same x i =
 
 -- `start` for each of the houses that is down in g, from a cell like g in which they are up or down as in g
 pub start_run : (g : Cell) (ys : List Member) (h : Cell) → Once (houses_of ys) → ((x : ℕ) → In x (houses_of ys) → has x g.made ≡ true) → Alike g h
-    → AsIn g ys h → Run h (starting g ys) (Started g h ys)
+    → AsIn g ys h → Run h (start_commands g ys) (Started g h ys)
 start_run g [] h once made a same = run_none h (Started g h []) (record { alike = a; up = λ x i. elim i [ ]; stay = λ x e. e })
 start_run g (y ∷ ys) h once made a same =
     by_state (g.house y.house).up refl
     (λ k b s. start_run g ys k once.1 (λ x i. made x (inr i)) b s)
   where
-    by_state : (b : Bool) → (g.house y.house).up ≡ b → ((k : Cell) → Alike g k → AsIn g ys k → Run k (starting g ys) (Started g k ys))
-        → Run h (cond (not b) (Start y.house ∷ starting g ys) (starting g ys)) (Started g h (y ∷ ys))
+    by_state : (b : Bool) → (g.house y.house).up ≡ b → ((k : Cell) → Alike g k → AsIn g ys k → Run k (start_commands g ys) (Started g k ys))
+        → Run h (cond (not b) (Start y.house ∷ start_commands g ys) (start_commands g ys)) (Started g h (y ∷ ys))
     by_state true e rest =
-        run_map h (starting g ys) (Started g h ys) (Started g h (y ∷ ys)) (rest h a (λ x i. same x (inr i)))
+        run_map h (start_commands g ys) (Started g h ys) (Started g h (y ∷ ys)) (rest h a (λ x i. same x (inr i)))
         (λ c s. started_first g h y ys c (same y.house (inl refl) ∙ e) s)
     by_state false e rest =
         let h' : Cell = start h y.house in
         let there : has y.house h.made ≡ true = ap (has y.house) a.made ∙ made y.house (inl refl) in
-        run_first h (Start y.house) (starting g ys) (Started g h (y ∷ ys)) (stays h' Done)
+        run_first h (Start y.house) (start_commands g ys) (Started g h (y ∷ ys)) (stays h' Done)
         (start_works h y.house there (same y.house (inl refl) ∙ e)) tt
-        (run_map h' (starting g ys) (Started g h' ys) (Started g h (y ∷ ys))
+        (run_map h' (start_commands g ys) (Started g h' ys) (Started g h (y ∷ ys))
         (rest h' (alike_start g h y.house a) (as_in_start g h y ys once.0 same)) (λ c s. started_then g h y ys c s))

@@ -7,7 +7,7 @@ use Rattle.directory.specs.Histories.{Mark, stamp_in}
 use Rattle.cell_model.specs.Cells.{Phase, Idle, Spreading, Replica, Copy, Spread, SpreadAck, Join, Message}
 use Rattle.cell_model.specs.Commands.{Accepted}
 use Rattle.cell_model.specs.Sets.{In, IsPart, IsUpTo}
-use Rattle.cell_model.specs.Turns.{running}
+use Rattle.cell_model.specs.Turns.{running_skulk_stamp}
 use Rattle.cell_model.proofs.Terms.{Listed, others, In-others}
 use Rattle.cell_model.proofs.Facts.{View, IsPosted, Holds, Roll, round_of, Reached, HeldOk, Sound, Past, grew, rose, crowned, copied, founded, New, Frame}
 use Rattle.cell_model.proofs.Bounds.{Begun, past_round, not_idle, reached_held, held_reached, same_held, kind_at, round_at, was_member, Bounded, bounded_kept}
@@ -39,7 +39,7 @@ pub record Started (roll : Roll) (g : View) (h k : ℕ) (t : Stamp) (x : List Ma
   pub listed : (b : ℕ) × Listed (roll.list k) h b
   pub home : roll.home t.node ≡ h
   pub low : t.time ≤ (g.house h).floor
-  pub runs : (y : ℕ) (q : Replica) → Holds g y q → running q.phase ≡ Some t → (q.epoch ≡ k) × UpTo t x q.history
+  pub runs : (y : ℕ) (q : Replica) → Holds g y q → running_skulk_stamp q.phase ≡ Some t → (q.epoch ≡ k) × UpTo t x q.history
   pub epochs : (m : Message) → IsPosted g m → round_of m.body ≡ Some t → m.epoch ≡ k
   pub told : (m : Message) (copy : Copy) → IsPosted g m → m.body ≡ Spread t copy → UpTo t x copy.history
   pub master : (q : Replica) → Holds g h q → q.epoch ≡ k → UpTo t x q.history
@@ -50,7 +50,7 @@ module _ (roll : Roll) (g g' : View) (new : List Accepted) (s : Sound roll g) (s
   part : (a b : List Mark) → IsPart a b → UpTo t x a → UpTo t x b
   part a b sub u j i up = sub j (u j i up)
 
-  runs_past : (y floor : ℕ) (q' : Replica) → Holds g' y q' → (g.house y).floor ≤ floor → running q'.phase ≡ Some t → Past roll g g' y floor q'
+  runs_past : (y floor : ℕ) (q' : Replica) → Holds g' y q' → (g.house y).floor ≤ floor → running_skulk_stamp q'.phase ≡ Some t → Past roll g g' y floor q'
       → (r : Replica) × Holds g y r × (r.epoch ≡ q'.epoch) × IsPart r.history q'.history
   runs_past y floor q' h' le run (grew r hr e _ sub _) = (r, hr, e, sub)
   runs_past y floor q' h' le run (rose _ _ _ _ _ _ _ _ _ took) = absurd (not_idle _ t took.idle run)
@@ -58,13 +58,13 @@ module _ (roll : Roll) (g g' : View) (new : List Accepted) (s : Sound roll g) (s
   runs_past y floor q' h' le run (copied _ _ _ _ _ _ took) = absurd (not_idle _ t took.idle run)
   runs_past y floor q' h' le run (founded _ _ _ _ _ i) = absurd (not_idle _ t i run)
 
-  runs' : (y : ℕ) (q' : Replica) → Holds g' y q' → running q'.phase ≡ Some t → (q'.epoch ≡ k) × UpTo t x q'.history
+  runs' : (y : ℕ) (q' : Replica) → Holds g' y q' → running_skulk_stamp q'.phase ≡ Some t → (q'.epoch ≡ k) × UpTo t x q'.history
   runs' y q' h' run =
       let p = past_round roll g g' y (g'.house y).floor q' t (f.past y q' h') run in
       let w = runs_past y (g'.house y).floor q' h' (f.rises y) run (f.past y q' h') in
       ⊎_elim
       (λ was. let same : p.0 ≡ w.0 = same_held _ p.0 w.0 p.1 w.1 in
-      let o = v.runs y w.0 w.1 (ap (λ (z : Replica). running z.phase) (sym same) ∙ was) in
+      let o = v.runs y w.0 w.1 (ap (λ (z : Replica). running_skulk_stamp z.phase) (sym same) ∙ was) in
       (sym w.2 ∙ o.0, part w.0.history q'.history w.3 o.1))
       (λ (b : Begun roll g y (g'.house y).floor p.0 t).
       let here : y ≡ h = sym b.1 ∙ v.home in
@@ -83,7 +83,7 @@ module _ (roll : Roll) (g g' : View) (new : List Accepted) (s : Sound roll g) (s
   told' m copy at is = ⊎_elim (λ was. v.told m copy was is)
       (λ (n : New roll g g' new m).
       let e = kind_at roll g g' new m (Spread t copy) n is in
-      let run : running n.q.phase ≡ Some t = subst (λ (z : Phase). running z ≡ Some t) (sym e.0) refl in
+      let run : running_skulk_stamp n.q.phase ≡ Some t = subst (λ (z : Phase). running_skulk_stamp z ≡ Some t) (sym e.0) refl in
       part n.q.history copy.history e.1 (runs' m.sender n.q n.held run).1)
       (f.posts m at)
 
@@ -218,11 +218,11 @@ started_turned roll g h r t s at phase v = record {
     ok : HeldOk roll g h r
     ok = s.held h r at
 
-    runs : running r.phase ≡ Some t
-    runs = subst (λ (z : Phase). running z ≡ Some t) (sym phase) refl
+    runs : running_skulk_stamp r.phase ≡ Some t
+    runs = subst (λ (z : Phase). running_skulk_stamp z ≡ Some t) (sym phase) refl
 
     run : (master_of r.members ≡ h) × (roll.home t.node ≡ h) × (t.time ≤ (g.house h).floor)
-    run = (s.held h r at).phase t (subst (λ (z : Phase). running z ≡ Some t) (sym phase) refl)
+    run = (s.held h r at).phase t (subst (λ (z : Phase). running_skulk_stamp z ≡ Some t) (sym phase) refl)
 
 -- a skulk that completes in the step that begins it
 pub started_alone : (roll : Roll) (g g' : View) (new : List Accepted) (h : ℕ) (r : Replica) (t : Stamp) → Sound roll g → Sound roll g'
@@ -245,7 +245,7 @@ started_alone roll g g' new h r t s s' f at still head home fresh high done = re
   };
 }
   where
-    no_run : (y : ℕ) (q : Replica) → Holds g' y q → running q.phase ≡ Some t → ⊥
+    no_run : (y : ℕ) (q : Replica) → Holds g' y q → running_skulk_stamp q.phase ≡ Some t → ⊥
     no_run y q hq e =
         let here : y ≡ h = sym ((s'.held y q hq).phase t e).1 ∙ home in
         let same : q ≡ r = same_held _ q r (subst (λ (z : ℕ). Holds g' z q) here hq) at in

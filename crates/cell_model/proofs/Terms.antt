@@ -4,7 +4,7 @@ use Rattle.std.proofs.Common.{⊎_elim, nat_lt}
 use Rattle.cds_stamps.specs.declared.members.MemberKind.TheVariants.{Master, ReadOnly, Secondary}
 use Rattle.cds_stamps.specs.Members.{Member, is_master, master_of, others_of, is_listed, since_in}
 use Rattle.cell_model.specs.Sets.{In, has}
-use Rattle.cell_model.specs.Steps.{insert_house, ascending, kind_among, listing, leaving}
+use Rattle.cell_model.specs.Steps.{insert_house, sorted_houses, kind_among, member_list_of, left_members}
 use Rattle.cell_model.proofs.Lists.{eq_from, eq_to, or_cases, or_true, has-from_In}
 
 -- the house is listed, since this epoch
@@ -91,9 +91,9 @@ has_insert : (x y : ℕ) (zs : List ℕ) → has x (insert_house y zs) ≡ (eqb 
 has_insert x y [] = refl
 has_insert x y (z ∷ zs) = has_insert_step x y z zs (nat_lt z y) (has_insert x y zs)
 
-has_ascending : (x : ℕ) (zs : List ℕ) → has x (ascending zs) ≡ has x zs
+has_ascending : (x : ℕ) (zs : List ℕ) → has x (sorted_houses zs) ≡ has x zs
 has_ascending x [] = refl
-has_ascending x (z ∷ zs) = has_insert x z (ascending zs) ∙ ap (λ (b : Bool). eqb x z || b) (has_ascending x zs)
+has_ascending x (z ∷ zs) = has_insert x z (sorted_houses zs) ∙ ap (λ (b : Bool). eqb x z || b) (has_ascending x zs)
 
 -- a member as a new list has it
 abbrev member_at : List Member → (k m : ℕ) → (ss : List ℕ) → (x : ℕ) → Member
@@ -133,30 +133,30 @@ master_map : (old : List Member) (k m : ℕ) (ss : List ℕ) (hs : List ℕ) →
 master_map old k m ss [] e = absurd (cc)
 master_map old k m ss (h ∷ hs) e = master_step old k m ss h hs (eqb h m) refl (master_map old k m ss hs) e
 
-listed_new : (old : List Member) (k m x : ℕ) (rs ss : List ℕ) → is_listed x (listing old k m rs ss) ≡ has x (m ∷ rs)
-listed_new old k m x rs ss = listed_map old k m ss x (ascending (m ∷ rs)) ∙ has_ascending x (m ∷ rs)
+listed_new : (old : List Member) (k m x : ℕ) (rs ss : List ℕ) → is_listed x (member_list_of old k m rs ss) ≡ has x (m ∷ rs)
+listed_new old k m x rs ss = listed_map old k m ss x (sorted_houses (m ∷ rs)) ∙ has_ascending x (m ∷ rs)
 
 self : (m : ℕ) (rs : List ℕ) → has m (m ∷ rs) ≡ true
 self m rs = has-from_In m (m ∷ rs) (inl refl)
 
 -- the master of a new list is the one named, and is listed
-pub master_new : (old : List Member) (k m : ℕ) (rs ss : List ℕ) → master_of (listing old k m rs ss) ≡ m
-master_new old k m rs ss = master_map old k m ss (ascending (m ∷ rs)) (has_ascending m (m ∷ rs) ∙ self m rs)
+pub master_new : (old : List Member) (k m : ℕ) (rs ss : List ℕ) → master_of (member_list_of old k m rs ss) ≡ m
+master_new old k m rs ss = master_map old k m ss (sorted_houses (m ∷ rs)) (has_ascending m (m ∷ rs) ∙ self m rs)
 
 -- the master of a new list is on it
-pub master_listed : (old : List Member) (k m : ℕ) (rs ss : List ℕ) → is_listed m (listing old k m rs ss) ≡ true
+pub master_listed : (old : List Member) (k m : ℕ) (rs ss : List ℕ) → is_listed m (member_list_of old k m rs ss) ≡ true
 master_listed old k m rs ss = listed_new old k m m rs ss ∙ self m rs
 
 -- the since that a new list has is that of the old list, or the new epoch
-pub since_new : (old : List Member) (k m x : ℕ) (rs ss : List ℕ) → is_listed x (listing old k m rs ss) ≡ true → since_in (listing old k m rs ss) x 0 ≡ since_in old x k
-since_new old k m x rs ss e = since_map old k m ss x (ascending (m ∷ rs)) (sym (listed_map old k m ss x (ascending (m ∷ rs))) ∙ e)
+pub since_new : (old : List Member) (k m x : ℕ) (rs ss : List ℕ) → is_listed x (member_list_of old k m rs ss) ≡ true → since_in (member_list_of old k m rs ss) x 0 ≡ since_in old x k
+since_new old k m x rs ss e = since_map old k m ss x (sorted_houses (m ∷ rs)) (sym (listed_map old k m ss x (sorted_houses (m ∷ rs))) ∙ e)
 
 -- the new master's since is the one that it had
-pub since_kept : (old : List Member) (k m : ℕ) (rs ss : List ℕ) → is_listed m old ≡ true → since_in (listing old k m rs ss) m 0 ≡ since_in old m 0
+pub since_kept : (old : List Member) (k m : ℕ) (rs ss : List ℕ) → is_listed m old ≡ true → since_in (member_list_of old k m rs ss) m 0 ≡ since_in old m 0
 since_kept old k m rs ss l = since_new old k m m rs ss (master_listed old k m rs ss) ∙ since_listed m k old l
 
 -- a house on a new list was on the old one with that since, or its since is the new epoch
-pub listed_before : (old : List Member) (k m x s : ℕ) (rs ss : List ℕ) → Listed (listing old k m rs ss) x s → Listed old x s ⊎ (s ≡ k)
+pub listed_before : (old : List Member) (k m x s : ℕ) (rs ss : List ℕ) → Listed (member_list_of old k m rs ss) x s → Listed old x s ⊎ (s ≡ k)
 listed_before old k m x s rs ss l = go (is_listed x old) refl
   where
     from : since_in old x k ≡ s
@@ -166,13 +166,13 @@ listed_before old k m x s rs ss l = go (is_listed x old) refl
     go true e = inl (e, sym (since_listed x k old e) ∙ from)
     go false e = inr (sym from ∙ since_unlisted x k old e)
 
-leaving_step : (x : ℕ) (y : Member) (ys now : List Member) (t : Bool) → is_listed y.house now ≡ t → (In x (leaving ys now) → is_listed x now ≡ false)
-    → In x (cond t (leaving ys now) (y.house ∷ leaving ys now)) → is_listed x now ≡ false
+leaving_step : (x : ℕ) (y : Member) (ys now : List Member) (t : Bool) → is_listed y.house now ≡ t → (In x (left_members ys now) → is_listed x now ≡ false)
+    → In x (cond t (left_members ys now) (y.house ∷ left_members ys now)) → is_listed x now ≡ false
 leaving_step x y ys now true q rest i = rest i
 leaving_step x y ys now false q rest (inl e) = ap (λ (z : ℕ). is_listed z now) e ∙ q
 leaving_step x y ys now false q rest (inr i) = rest i
 
 -- a house that leaves is not listed
-pub leaving_out : (x : ℕ) (old now : List Member) → In x (leaving old now) → is_listed x now ≡ false
+pub leaving_out : (x : ℕ) (old now : List Member) → In x (left_members old now) → is_listed x now ≡ false
 leaving_out x [] now i = elim i [ ]
 leaving_out x (y ∷ ys) now i = leaving_step x y ys now (is_listed y.house now) refl (leaving_out x ys now) i

@@ -4,7 +4,7 @@ use Rattle.cds_stamps.specs.Members.{Member}
 use Rattle.cell_model.specs.Cells.{Slot, House, Body, Message, Cell, put}
 use Rattle.cell_model.specs.Sets.{In}
 use Rattle.cell_model.specs.Turns.{to_each}
-use Rattle.cell_model.specs.Steps.{moved}
+use Rattle.cell_model.specs.Steps.{move_house}
 use Rattle.cell_model.proofs.Lists.{eq_from, eq_to, In-map}
 use Rattle.cell_model.proofs.Facts.{Seat, View, of_dir, seat, view}
 
@@ -115,5 +115,5 @@ seat_put g h now d x = go (eqb x h)
 
 -- a change of one house, seen from a directory
 pub view_moved : (g : Cell) (h : ℕ) (now : House) (posts : List Message) (top : ℕ → ℕ) (present : ℕ → List Member) (d : ℕ)
-    → view d (record (moved g h now posts) { top = top; present = present }) ≡ altered (view d g) h now.floor (now.slots d) (of_dir d posts) (top d) (present d)
+    → view d (record (move_house g h now posts) { top = top; present = present }) ≡ altered (view d g) h now.floor (now.slots d) (of_dir d posts) (top d) (present d)
 view_moved g h now posts top present d = same_view _ _ (seat_put g h now d) (of_dir-append d g.bag posts) refl refl

@@ -7,8 +7,8 @@ use Rattle.cds_stamps.specs.Members.{Member}
 use Rattle.cell_model.specs.Cells.{Slot, Absent, House, Message, Cell, put, no_house, empty_cell}
 use Rattle.cell_model.specs.Commands.{Answer, Accepted, Command}
 use Rattle.cell_model.specs.Sets.{has}
-use Rattle.cell_model.specs.Turns.{holding}
-use Rattle.cell_model.specs.Steps.{moved, founded, outcome, replay_from}
+use Rattle.cell_model.specs.Turns.{with_slot}
+use Rattle.cell_model.specs.Steps.{move_house, cell_with_directory, outcome, replay_from}
 use Rattle.cell_model.specs.Agreement.{place_of}
 use Rattle.std.specs.Prelude.{Option}
 use Rattle.cell_model.proofs.Lists.{eq_from, eq_to, or_cases, or_left, or_right, or_true}
@@ -91,7 +91,7 @@ changed g h now bag lost top present nd p made same le two unknown bare ends = r
 
 -- a change of one house keeps it
 pub moved_onward : (g : Cell) (h : ℕ) (now : House) (posts : List Message) → Plain g → has h g.made ≡ true → now.node ≡ (g.house h).node
-    → (g.house h).floor ≤ now.floor → Onward g (moved g h now posts)
+    → (g.house h).floor ≤ now.floor → Onward g (move_house g h now posts)
 moved_onward g h now posts p made same le =
     changed g h now (g.bag ++ posts) g.lost g.top g.present g.next_dir p made same le p.two p.unknown p.bare (λ d. inl (refl, refl))
 
@@ -117,7 +117,7 @@ set_unknown top d k nd lt unknown e le = let n : e ≢ d = grind arith in put_ot
 
 -- a new directory keeps it
 pub founded_onward : (g : Cell) (d m : ℕ) (ms : List Member) (nd : ℕ) → Plain g → has m g.made ≡ true → g.top d ≡ 0 → d < nd → g.next_dir ≤ nd
-    → Onward g (record (founded g d m ms) { next_dir = nd })
+    → Onward g (record (cell_with_directory g d m ms) { next_dir = nd })
 founded_onward g d m ms nd p made none lt le =
     changed g m _ _ g.lost (put g.top d 1) (put g.present d ms) nd p made refl (le_refl _) (le_trans p.two le)
     (set_unknown g.top d 1 nd lt (λ e z. p.unknown e (le_trans le z)))
@@ -225,7 +225,7 @@ move_onward g g' pl a n p (loses i) =
 move_onward g g' pl a n p (crashes h up) = moved_onward g h _ [] p (up_made g h p up) refl (le_refl _)
 move_onward g g' pl a n p (starts h made) = moved_onward g h _ [] p made refl (le_refl _)
 move_onward g g' pl a n p (acts h d _ floor o posts b l act) =
-    moved_onward g h (holding (g.house h) d floor o) posts p (up_made g h p (act_up g h d floor o posts b l act)) refl (act_rises g h d floor o posts b l act)
+    moved_onward g h (with_slot (g.house h) d floor o) posts p (up_made g h p (act_up g h d floor o posts b l act)) refl (act_rises g h d floor o posts b l act)
 move_onward g g' pl a n p (founds d m rs ss ns root up none) = founded_onward g d m _ g.next_dir p (up_made g m p up) none (omega (arith, root, p.two)) (le_refl _)
 move_onward g g' pl a n p (crowns d m rs ss r up known at l since) =
     let lt : d < g.next_dir = ⊎_elim (λ z. z) (λ (ge : g.next_dir ≤ d). absurd (known (p.unknown d ge))) (cases_lt d g.next_dir) in

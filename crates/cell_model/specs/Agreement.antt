@@ -5,14 +5,14 @@ use Rattle.cds_stamps.specs.declared.stamp.Stamp.{Stamp}
 use Rattle.cds_stamps.specs.Members.{since_in}
 use Rattle.cds_stamps.specs.Stamps.{is_earlier}
 use Rattle.attr_sets.specs.declared.mark.ValueMark.{ValueMark}
-use Rattle.attr_sets.specs.Marks.{kept}
-use Rattle.attr_sets.specs.Cells.{Cleared, Marked, greatest_clear, greatest_mark}
+use Rattle.attr_sets.specs.Marks.{mark_after_clear}
+use Rattle.attr_sets.specs.AttributeCells.{Cleared, Marked, greatest_clear, greatest_mark}
 use Rattle.directory.specs.Histories.{Mark, Birth, Death, Attr, stamp_in, name_in, born_in, attr_history}
-use Rattle.directory.specs.Shown.{Shown, shown}
+use Rattle.directory.specs.Shown.{Shown, shown_of_name}
 use Rattle.cell_model.specs.Cells.{Replica, Message, Cell, IsHeld}
 use Rattle.cell_model.specs.Commands.{Command, Mkdir, Repoint, Accept, Epoch, Skulk, Deliver, Complete, Accepted}
 use Rattle.cell_model.specs.Sets.{In, IsPart, IsUpTo}
-use Rattle.cell_model.specs.Steps.{message_at, outcome, replay, accepted}
+use Rattle.cell_model.specs.Steps.{message_at, outcome, replay, accepted_updates}
 
 -- the house and the directory that a command acts at (own)
 abbrev pub place_of : Cell → Command → Option (ℕ × ℕ)
@@ -32,7 +32,7 @@ pub record IsAgreed (d : ℕ) (log : List Accepted) (history : List Mark) (a : A
 
 -- the entry n that was born at c shows (own)
 abbrev pub IsLive : List Mark → List ℕ → Stamp → Type 0
-IsLive h n c = (e : Shown) × (shown h n ≡ Some e) × (e.birth ≡ c)
+IsLive h n c = (e : Shown) × (shown_of_name h n ≡ Some e) × (e.birth ≡ c)
 
 -- a birth shows where its entry does; a mark of a value where its entry does, and it is the greatest of its value,
 -- present, and not earlier than a clear; a death and a clear show nowhere (own)
@@ -42,7 +42,7 @@ IsShown h (Death n c s) = ⊥
 IsShown h (Attr n c a (Cleared s)) = ⊥
 IsShown h (Attr n c a (Marked v m)) =
     IsLive h n c × (m.present ≡ true)
-    × (kept (greatest_clear (attr_history h n c a)) (greatest_mark (attr_history h n c a) v) ≡ Some m)
+    × (mark_after_clear (greatest_clear (attr_history h n c a)) (greatest_mark (attr_history h n c a) v) ≡ Some m)
 
 -- a deletion covers a mark: a death all marks of its entry; an absent value those of the same value that are present
 -- and not later; a clear those of its attribute's values that are earlier (own)
@@ -68,4 +68,4 @@ abbrev pub Converges : List Command → Type 0
 Converges all =
     (early late : List Command) (c : Command) (t : Stamp) (ns : List ℕ) → early ++ c ∷ late ≡ all → (outcome (replay early) c).answer ≡ Complete t ns →
     (h d : ℕ) × (r : Replica) × (place_of (replay early) c ≡ Some (h, d)) × IsHeld (replay (early ++ c ∷ [])) h d r
-    × ((x : ℕ) (q : Replica) → IsHeld (replay all) x d q → r.epoch ≤ q.epoch → Agrees d t (accepted (early ++ c ∷ [])) (accepted all) r.history x q)
+    × ((x : ℕ) (q : Replica) → IsHeld (replay all) x d q → r.epoch ≤ q.epoch → Agrees d t (accepted_updates (early ++ c ∷ [])) (accepted_updates all) r.history x q)

@@ -6,7 +6,7 @@ use Rattle.cell_model.specs.Cells.{Replica, Message, Cell, IsHeld}
 use Rattle.cell_model.specs.Bodies.{marks_in, round_of, up_to_in}
 use Rattle.cell_model.specs.Commands.{Command, Skulk, Answer, Made, Stamped, Complete}
 use Rattle.cell_model.specs.Sets.{In}
-use Rattle.cell_model.specs.Turns.{running}
+use Rattle.cell_model.specs.Turns.{running_skulk_stamp}
 use Rattle.cell_model.specs.Steps.{outcome, replay}
 use Rattle.cell_model.specs.Agreement.{place_of}
 
@@ -18,7 +18,7 @@ IsBelow k floor = ((stamp_in k).time ≤ floor) × ((born_in k).time ≤ floor)
 pub record ReplicaBelow (r : Replica) (floor : ℕ) : Type 0 where
   pub marks : (k : Mark) → In k r.history → IsBelow k floor
   pub all_up_to : (t : Stamp) → r.all_up_to ≡ Some t → t.time ≤ floor
-  pub phase : (t : Stamp) → running r.phase ≡ Some t → t.time ≤ floor
+  pub phase : (t : Stamp) → running_skulk_stamp r.phase ≡ Some t → t.time ≤ floor
 
 -- no time of a message's body is above its floor (own)
 pub record TimesBelow (m : Message) : Type 0 where
@@ -57,7 +57,7 @@ pub record IsAboveHouse (g : Cell) (h : ℕ) (s : Stamp) : Type 0 where
   pub floor : (g.house h).floor < s.time
   pub marks : (d : ℕ) (r : Replica) (k : Mark) → IsHeld g h d r → In k r.history → ((stamp_in k).time < s.time) × ((born_in k).time < s.time)
   pub all_up_to : (d : ℕ) (r : Replica) (t : Stamp) → IsHeld g h d r → r.all_up_to ≡ Some t → t.time < s.time
-  pub phase : (d : ℕ) (r : Replica) (t : Stamp) → IsHeld g h d r → running r.phase ≡ Some t → t.time < s.time
+  pub phase : (d : ℕ) (r : Replica) (t : Stamp) → IsHeld g h d r → running_skulk_stamp r.phase ≡ Some t → t.time < s.time
 
 -- a stamp that is issued is above all times of its house, whose floor becomes its time, and of the house's node (own)
 abbrev pub IssuesAbove : List Command → Command → Type 0

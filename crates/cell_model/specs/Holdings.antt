@@ -6,7 +6,7 @@ use Rattle.directory.specs.Histories.{IsHistory}
 use Rattle.cell_model.specs.Sets.{In, has}
 use Rattle.cell_model.specs.Cells.{Idle, Replica, Absent, Message, Cell, IsHeld, no_house}
 use Rattle.cell_model.specs.Bodies.{marks_in}
-use Rattle.cell_model.specs.Turns.{running}
+use Rattle.cell_model.specs.Turns.{running_skulk_stamp}
 
 -- every house's history, and every posted message's marks, are a history (own)
 pub record HistoriesHold (g : Cell) : Type 0 where
@@ -17,7 +17,7 @@ pub record HistoriesHold (g : Cell) : Type 0 where
 -- down (own)
 pub record MembersHold (g : Cell) : Type 0 where
   pub listed : (x d : ℕ) (r : Replica) → IsHeld g x d r → is_listed x r.members ≡ true
-  pub master : (x d : ℕ) (r : Replica) (t : Stamp) → IsHeld g x d r → running r.phase ≡ Some t → master_of r.members ≡ x
+  pub master : (x d : ℕ) (r : Replica) (t : Stamp) → IsHeld g x d r → running_skulk_stamp r.phase ≡ Some t → master_of r.members ≡ x
   pub idle : (x d : ℕ) (r : Replica) → IsHeld g x d r → (g.house x).up ≡ false → r.phase ≡ Idle
 
 -- no `root` or `mkdir` gave the directory's number: it has no epoch and no list, no house ever had it, and no message is about it (own)

@@ -6,40 +6,40 @@ use Rattle.cell_model.specs.Cells.{Idle, Replica, Cell, IsHeld}
 use Rattle.cell_model.specs.Commands.{Command, Epoch, Skulk, Deliver, Start, Answer, Done, Stamped, NewEpoch, Taken, Complete}
 use Rattle.cell_model.specs.Sets.{In}
 use Rattle.cell_model.specs.Turns.{stamp_at}
-use Rattle.cell_model.specs.Steps.{is_down, outcome, replay_from, replay, answers_from, accepted}
+use Rattle.cell_model.specs.Steps.{is_down, outcome, replay_from, replay, answers_from, accepted_updates}
 use Rattle.cell_model.specs.Agreement.{place_of, Agrees}
 
 -- ---- the commands
 
 -- `start` for each of these houses that is down (own)
-abbrev pub starting : Cell → List Member → List Command
-starting g [] = []
-starting g (y ∷ ys) = if is_down g y.house then Start y.house ∷ starting g ys else starting g ys
+abbrev pub start_commands : Cell → List Member → List Command
+start_commands g [] = []
+start_commands g (y ∷ ys) = if is_down g y.house then Start y.house ∷ start_commands g ys else start_commands g ys
 
 -- `deliver` for so many messages, one after the other, behind the first ones (own)
-abbrev pub delivering : (first count : ℕ) → List Command
-delivering first zero = []
-delivering first (suc n) = Deliver (first + 1) ∷ delivering (first + 1) n
+abbrev pub deliver_commands : (first count : ℕ) → List Command
+deliver_commands first zero = []
+deliver_commands first (suc n) = Deliver (first + 1) ∷ deliver_commands (first + 1) n
 
 -- a skulk of the directory at its master m, and each message that its steps post, as it is posted, behind the first ones: a Gather for each
 -- of so many other houses, their answers, a Spread for each of them, and their answers (own)
-abbrev pub skulking : (m d first others : ℕ) → List Command
-skulking m d first others = Skulk m d ∷ delivering first (4 * others)
+abbrev pub skulk_commands : (m d first others : ℕ) → List Command
+skulk_commands m d first others = Skulk m d ∷ deliver_commands first (4 * others)
 
 -- a skulk of the directory, in a cell in which the houses of the console's present list have that list already (own)
 abbrev pub skulking_at : Cell → ℕ → List Command
 skulking_at g d =
     let m : ℕ = master_of (g.present d) in
-    skulking m d (length g.bag) (length (others_of m (g.present d)))
+    skulk_commands m d (length g.bag) (length (others_of m (g.present d)))
 
 -- what mends a directory: the houses of the console's present list are started, get an epoch with the same master and the same houses
 -- of the same kinds, take its Joins, and then the master's skulk completes (own)
-abbrev pub mending : Cell → ℕ → List Command
-mending g d =
+abbrev pub mend_commands : Cell → ℕ → List Command
+mend_commands g d =
     let m : ℕ = master_of (g.present d) in
     let rs : List ℕ = others_of m (g.present d) in
-    starting g (g.present d) ++ Epoch d m rs (secondaries_of (g.present d))
-    ∷ (delivering (length g.bag) (length rs) ++ skulking m d (length g.bag + length rs) (length rs))
+    start_commands g (g.present d) ++ Epoch d m rs (secondaries_of (g.present d))
+    ∷ (deliver_commands (length g.bag) (length rs) ++ skulk_commands m d (length g.bag + length rs) (length rs))
 
 -- ---- what they leave
 
@@ -75,7 +75,7 @@ pub record IsAgreedBy (commands : List Command) (d : ℕ) (t : Stamp) (ms : List
   pub replica : Replica
   pub held : IsHeld (replay commands) (master_of ms) d replica
   pub agree : (x : ℕ) (q : Replica) → is_listed x ms ≡ true → IsHeld (replay commands) x d q
-      → Agrees d t (accepted commands) (accepted commands) replica.history x q
+      → Agrees d t (accepted_updates commands) (accepted_updates commands) replica.history x q
 
 -- each house of the console's present list is up, and holds the directory at the console's last epoch (own)
 pub record IsReady (g : Cell) (d : ℕ) : Type 0 where
@@ -99,8 +99,8 @@ SkulkCompletes commands d =
 -- what mends a directory does, wherever the master of the console's present list has a stamp left: it is the skulk's, and the epoch
 -- is the next one. For n houses there are at most 6 n - 3 commands (own)
 pub record IsMended (commands : List Command) (d : ℕ) (t : Stamp) : Type 0 where
-  pub settled : IsSettled commands (mending (replay commands) d) d ((replay commands).top d + 1) t ((replay commands).present d)
-  pub few : length (mending (replay commands) d) + 3 ≤ 6 * length ((replay commands).present d)
+  pub settled : IsSettled commands (mend_commands (replay commands) d) d ((replay commands).top d + 1) t ((replay commands).present d)
+  pub few : length (mend_commands (replay commands) d) + 3 ≤ 6 * length ((replay commands).present d)
 
 -- so no state is stuck (own)
 abbrev pub IsNeverStuck : List Command → ℕ → Type 0
@@ -113,4 +113,4 @@ abbrev pub NeedsStamp : List Command → ℕ → Type 0
 NeedsStamp commands d =
     let g : Cell = replay commands in
     let m : ℕ = master_of (g.present d) in
-    (t : Stamp) → 1 ≤ g.top d → stamp_at (g.house m) ≡ None → Completes g m d (mending g d) t → ⊥
+    (t : Stamp) → 1 ≤ g.top d → stamp_at (g.house m) ≡ None → Completes g m d (mend_commands g d) t → ⊥

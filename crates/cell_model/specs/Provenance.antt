@@ -5,7 +5,7 @@ use Rattle.cell_model.specs.Cells.{Replica, Slot, Absent, Gone, Held, Copy, Join
 use Rattle.cell_model.specs.Bodies.{marks_in, copy_in}
 use Rattle.cell_model.specs.Commands.{Command, Deliver}
 use Rattle.cell_model.specs.Sets.{In, IsPart}
-use Rattle.cell_model.specs.Turns.{copy_of, copied}
+use Rattle.cell_model.specs.Turns.{copy_of, replica_of_copy}
 use Rattle.cell_model.specs.Steps.{message_at}
 
 -- the epoch of a slot: that of its replica, or that in which the house left; 0 where there was nothing (own)
@@ -42,7 +42,7 @@ pub record TakesCopy (g : Cell) (c : Command) (x d : ℕ) (r r' : Replica) : Typ
   pub dir : message.dir ≡ d
   pub body : message.body ≡ Join members copy
   pub term : r.epoch < since_in members x 0
-  pub is : r' ≡ copied message members copy
+  pub is : r' ≡ replica_of_copy message members copy
 
 -- the command delivers a Leave to a house, which has this then (own)
 pub record TakesLeave (g : Cell) (c : Command) (x d : ℕ) (now : Slot) : Type 0 where

@@ -8,7 +8,7 @@ use Rattle.cell_model.specs.Cells.{Gathering, Spreading, Replica, Copy, Body, Ga
 use Rattle.cell_model.specs.Bodies.{marks_in}
 use Rattle.cell_model.specs.Commands.{Command, Skulk, Complete, Accepted}
 use Rattle.cell_model.specs.Sets.{In, IsUpTo}
-use Rattle.cell_model.specs.Steps.{outcome, replay, accepted}
+use Rattle.cell_model.specs.Steps.{outcome, replay, accepted_updates}
 use Rattle.cell_model.specs.Agreement.{place_of}
 use Rattle.cell_model.specs.Provenance.{HasPassed}
 
@@ -58,7 +58,7 @@ pub data InGathering (g : Cell) (h d : ℕ) (r : Replica) (t : Stamp) (j : Mark)
 pub record Sentences (commands : List Command) (d k : ℕ) (t : Stamp) (W : Mark → Type 0) : Type 0 where
   pub houses : (x : ℕ) (q : Replica) (j : Mark) → IsHeld (replay commands) x d q → k ≤ q.epoch → In j q.history → IsUpTo (stamp_in j) t → W j
   pub messages : (m : Message) (j : Mark) → In m (replay commands).bag → m.dir ≡ d → k ≤ m.epoch → In j (marks_in m.body) → IsUpTo (stamp_in j) t → W j
-  pub updates : (a : Accepted) (q : Replica) (j : Mark) → In a (accepted commands) → a.dir ≡ d → IsHeld (replay commands) a.by d q → k ≤ q.epoch
+  pub updates : (a : Accepted) (q : Replica) (j : Mark) → In a (accepted_updates commands) → a.dir ≡ d → IsHeld (replay commands) a.by d q → k ≤ q.epoch
       → a.since ≡ since_in q.members a.by 0 → IsUpTo a.stamp t → In j a.marks → W j
   pub later_houses : (x : ℕ) (q : Replica) → IsHeld (replay commands) x d q → k < q.epoch → t.time ≤ ((replay commands).house x).floor
   pub later_messages : (m : Message) → In m (replay commands).bag → m.dir ≡ d → k < m.epoch → t.time ≤ m.floor

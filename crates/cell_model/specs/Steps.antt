@@ -8,7 +8,7 @@ use Rattle.cds_stamps.specs.Members.{Member, is_listed, since_in, most_members}
 use Rattle.cds_stamps.specs.Numbers.{root_dir}
 use Rattle.directory.specs.Updates as updates
 use Rattle.cell_model.specs.Sets.{has}
-use Rattle.cell_model.specs.Turns.{HouseStep, Stays, Turns, first_joins, found, accept, skulk, new_epoch, take, crashed_house, started_house}
+use Rattle.cell_model.specs.Turns.{HouseStep, Stays, Turns, first_joins, found_directory, accept, skulk, new_epoch, take, crashed_house, started_house}
 use Rattle.cell_model.specs.Cells.{Absent, House, Message, Cell, empty_cell, put}
 use Rattle.cell_model.specs.Commands as commands
 use Rattle.cell_model.specs.Commands.{Command, Refusal, HouseExists, NoHouse, NoDirectory, DirectoryExists, BadMembers, NotMember, Down, Up}
@@ -27,8 +27,8 @@ abbrev pub stays : Cell → Answer → Outcome
 stays g answer = record { cell = g; answer = answer; accepted = [] }
 
 -- a refused command changes nothing (own)
-abbrev pub refused : Cell → Refusal → Outcome
-refused g r = stays g (Refused r)
+abbrev pub refusal_outcome : Cell → Refusal → Outcome
+refusal_outcome g r = stays g (Refused r)
 
 -- the first refusal whose test holds (own)
 abbrev pub first_refusal : List (Bool × Refusal) → Option Refusal
@@ -38,7 +38,7 @@ first_refusal (t ∷ ts) = if t.0 then Some t.1 else first_refusal ts
 -- refused, or else this (own)
 abbrev pub unless : Cell → Option Refusal → Outcome → Outcome
 unless g None o = o
-unless g (Some r) o = refused g r
+unless g (Some r) o = refusal_outcome g r
 
 -- one of these houses was not made (own)
 abbrev pub is_missing : Cell → List ℕ → Bool
@@ -68,8 +68,8 @@ is_bad_list hs = stands_twice hs || nat_lt most_members (length hs)
 -- ---- a house's step in the cell
 
 -- a house changes, and messages are posted (own)
-abbrev pub moved : Cell → ℕ → House → List Message → Cell
-moved g h now posts = record g { house = put g.house h now; bag = g.bag ++ posts }
+abbrev pub move_house : Cell → ℕ → House → List Message → Cell
+move_house g h now posts = record g { house = put g.house h now; bag = g.bag ++ posts }
 
 -- the serials of messages that are posted after n others (own)
 abbrev pub serials : ℕ → List Message → List ℕ
@@ -83,7 +83,7 @@ serials_of g posts = serials (length g.bag) posts
 -- what a house's step does to the cell: no other house changes, and what it posts comes behind all that was posted (own)
 abbrev pub at_house : Cell → ℕ → HouseStep → Outcome
 at_house g h (Stays answer) = stays g answer
-at_house g h (Turns t) = record { cell = moved g h t.house t.posts; answer = t.answer (serials_of g t.posts); accepted = t.accepted }
+at_house g h (Turns t) = record { cell = move_house g h t.house t.posts; answer = t.answer (serials_of g t.posts); accepted = t.accepted }
 
 -- ---- member lists
 
@@ -93,9 +93,9 @@ insert_house x [] = x ∷ []
 insert_house x (y ∷ ys) = if nat_lt y x then y ∷ insert_house x ys else x ∷ y ∷ ys
 
 -- houses in ascending order (own)
-abbrev pub ascending : List ℕ → List ℕ
-ascending [] = []
-ascending (x ∷ xs) = insert_house x (ascending xs)
+abbrev pub sorted_houses : List ℕ → List ℕ
+sorted_houses [] = []
+sorted_houses (x ∷ xs) = insert_house x (sorted_houses xs)
 
 -- what a listed house is, by the master and the secondary houses of its list (own, after C705, replica sets)
 abbrev pub kind_among : (m : ℕ) → (ss : List ℕ) → (x : ℕ) → MemberKind
@@ -103,13 +103,13 @@ kind_among m ss x = if x == m then Master else (if has x ss then Secondary else 
 
 -- the member list of epoch k with this master and these other houses, of which ss are secondary: a house that the old list has
 -- keeps its `since` (own, after C705, new epochs)
-abbrev pub listing : (old : List Member) → (k m : ℕ) → (rs ss : List ℕ) → List Member
-listing old k m rs ss = map (λ x. record { house = x; since = since_in old x k; kind = kind_among m ss x }) (ascending (m ∷ rs))
+abbrev pub member_list_of : (old : List Member) → (k m : ℕ) → (rs ss : List ℕ) → List Member
+member_list_of old k m rs ss = map (λ x. record { house = x; since = since_in old x k; kind = kind_among m ss x }) (sorted_houses (m ∷ rs))
 
 -- those of the old list that the new one has no more (own)
-abbrev pub leaving : List Member → List Member → List ℕ
-leaving [] now = []
-leaving (y ∷ ys) now = if is_listed y.house now then leaving ys now else y.house ∷ leaving ys now
+abbrev pub left_members : List Member → List Member → List ℕ
+left_members [] now = []
+left_members (y ∷ ys) now = if is_listed y.house now then left_members ys now else y.house ∷ left_members ys now
 
 -- ---- houses, directories and epochs
 
@@ -123,22 +123,22 @@ abbrev pub set_clock : Cell → ℕ → ℕ → Cell
 set_clock g h time = record g { house = put g.house h (record (g.house h) { clock = time }) }
 
 -- the console knows the last epoch of a directory, and its list (own)
-abbrev pub noted : Cell → (d k : ℕ) → List Member → Cell
-noted g d k ms = record g { top = put g.top d k; present = put g.present d ms }
+abbrev pub note_epoch : Cell → (d k : ℕ) → List Member → Cell
+note_epoch g d k ms = record g { top = put g.top d k; present = put g.present d ms }
 
 -- the cell with a new directory: its master holds it, and the console knows it (own)
-abbrev pub founded : Cell → (d m : ℕ) → List Member → Cell
-founded g d m ms = noted (at_house g m (Turns (found m (g.house m) d ms))).cell d 1 ms
+abbrev pub cell_with_directory : Cell → (d m : ℕ) → List Member → Cell
+cell_with_directory g d m ms = note_epoch (at_house g m (Turns (found_directory m (g.house m) d ms))).cell d 1 ms
 
 -- the root of the cell (own, after C705, the root directory)
 abbrev pub root : Cell → ℕ → List Member → Outcome
-root g m ms = record { cell = founded g root_dir m ms; answer = Posted (serials_of g (first_joins (g.house m).floor root_dir m ms)); accepted = [] }
+root g m ms = record { cell = cell_with_directory g root_dir m ms; answer = Posted (serials_of g (first_joins (g.house m).floor root_dir m ms)); accepted = [] }
 
 -- an update that was accepted and makes the child, and then the child's directory (own, after C705, creating a directory)
 abbrev pub with_directory : Outcome → (d m : ℕ) → List Member → Answer → Outcome
 with_directory o d m ms (Stamped s ns) =
     record {
-      cell = record (founded o.cell d m ms) { next_dir = d + 1 };
+      cell = record (cell_with_directory o.cell d m ms) { next_dir = d + 1 };
       answer = Made d s (ns ++ serials_of o.cell (first_joins (o.cell.house m).floor d m ms));
       accepted = o.accepted;
     }
@@ -147,19 +147,19 @@ with_directory o d m ms _ = o
 -- a child in the directory d, and its directory, with the next number (own)
 abbrev pub mkdir : Cell → (h d : ℕ) → List ℕ → ℕ → (rs ss : List ℕ) → Outcome
 mkdir g h d n m rs ss =
-    let o : Outcome = at_house g h (accept h (g.house h) d (updates.MakeChild n (record { dir = g.next_dir; master = m; others = ascending rs }))) in
-    with_directory o g.next_dir m (listing [] 1 m rs ss) o.answer
+    let o : Outcome = at_house g h (accept h (g.house h) d (updates.MakeChild n (record { dir = g.next_dir; master = m; others = sorted_houses rs }))) in
+    with_directory o g.next_dir m (member_list_of [] 1 m rs ss) o.answer
 
 -- a new epoch that its master took is known to the console (own)
 abbrev pub with_epoch : Outcome → ℕ → List Member → Answer → Outcome
-with_epoch o d ms (NewEpoch k ns) = record o { cell = noted o.cell d k ms }
+with_epoch o d ms (NewEpoch k ns) = record o { cell = note_epoch o.cell d k ms }
 with_epoch o d ms _ = o
 
 -- the next epoch of a directory, with this master and these other houses, of which ss are secondary (own, after C705, new epochs)
 abbrev pub next_epoch : Cell → (d m : ℕ) → (rs ss : List ℕ) → Outcome
 next_epoch g d m rs ss =
-    let ms : List Member = listing (g.present d) (g.top d + 1) m rs ss in
-    let o : Outcome = at_house g m (new_epoch m (g.house m) d (g.top d + 1) ms (leaving (g.present d) ms)) in
+    let ms : List Member = member_list_of (g.present d) (g.top d + 1) m rs ss in
+    let o : Outcome = at_house g m (new_epoch m (g.house m) d (g.top d + 1) ms (left_members (g.present d) ms)) in
     with_epoch o d ms o.answer
 
 -- ---- messages
@@ -170,23 +170,23 @@ message_at g n = if (n == 0) || has n g.lost then None else slice_get g.bag (n -
 
 -- the message is delivered, where its receiver is up; it stays in the bag (own)
 abbrev pub deliver : Cell → Option Message → Outcome
-deliver g None = refused g NoMessage
-deliver g (Some m) = if is_down g m.receiver then refused g Down else at_house g m.receiver (take (g.house m.receiver) m)
+deliver g None = refusal_outcome g NoMessage
+deliver g (Some m) = if is_down g m.receiver then refusal_outcome g Down else at_house g m.receiver (take (g.house m.receiver) m)
 
 -- the message is lost for good (own)
 abbrev pub lose : Cell → ℕ → Option Message → Outcome
-lose g n None = refused g NoMessage
+lose g n None = refusal_outcome g NoMessage
 lose g n (Some m) = stays (record g { lost = n ∷ g.lost }) Done
 
 -- ---- crashes
 
 -- the house is down (own)
 abbrev pub crash : Cell → ℕ → Cell
-crash g h = moved g h (crashed_house (g.house h)) []
+crash g h = move_house g h (crashed_house (g.house h)) []
 
 -- the house is up (own)
 abbrev pub start : Cell → ℕ → Cell
-start g h = moved g h (started_house (g.house h)) []
+start g h = move_house g h (started_house (g.house h)) []
 
 -- ---- commands
 
@@ -215,9 +215,9 @@ refusals_of g (commands.Start h) = (is_missing g (h ∷ []), NoHouse) ∷ (not (
 abbrev pub effect : Cell → Command → Outcome
 effect g (commands.House h node) = stays (new_house g h node) Done
 effect g (commands.Clock h time) = stays (set_clock g h time) Done
-effect g (commands.Root m rs ss) = root g m (listing [] 1 m rs ss)
+effect g (commands.Root m rs ss) = root g m (member_list_of [] 1 m rs ss)
 effect g (commands.Mkdir h d n m rs ss) = mkdir g h d n m rs ss
-effect g (commands.Repoint h d n m rs) = at_house g h (accept h (g.house h) d (updates.Repoint n m (ascending rs)))
+effect g (commands.Repoint h d n m rs) = at_house g h (accept h (g.house h) d (updates.Repoint n m (sorted_houses rs)))
 effect g (commands.Accept h d u) = at_house g h (accept h (g.house h) d u)
 effect g (commands.Epoch d m rs ss) = next_epoch g d m rs ss
 effect g (commands.Skulk h d) = at_house g h (skulk h (g.house h) d)
@@ -256,5 +256,5 @@ accepted_from g [] = []
 accepted_from g (c ∷ cs) = (outcome g c).accepted ++ accepted_from (outcome g c).cell cs
 
 -- the updates that a list of commands accepted (own)
-abbrev pub accepted : List Command → List Accepted
-accepted = accepted_from empty_cell
+abbrev pub accepted_updates : List Command → List Accepted
+accepted_updates = accepted_from empty_cell

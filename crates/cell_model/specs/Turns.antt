@@ -9,7 +9,7 @@ use Rattle.cds_stamps.specs.Stamps.{is_stamp, later_stamp, next_stamp}
 use Rattle.directory.specs.declared.update.UpdateRefusal.{UpdateRefusal}
 use Rattle.directory.specs.declared.update.UpdateRefusal.TheVariants as why
 use Rattle.directory.specs.Histories.{Mark}
-use Rattle.directory.specs.Shown.{shown, refusal_of, marks_of}
+use Rattle.directory.specs.Shown.{shown_of_name, refusal_of, marks_of}
 use Rattle.directory.specs.Updates.{Change, changed_name}
 use Rattle.cell_model.specs.Sets.{has}
 use Rattle.cell_model.specs.Cells.{Phase, Idle, Gathering, Spreading, Replica, Slot, Absent, Gone, Held, House, Body, Update, Gather, Gathered}
@@ -39,30 +39,30 @@ unless_refused None s = s
 unless_refused (Some r) s = refuses r
 
 -- a turn in which no update is accepted (own)
-abbrev pub turned : House → List Message → (List ℕ → Answer) → HouseStep
-turned house posts answer = Turns (record { house = house; posts = posts; answer = answer; accepted = [] })
+abbrev pub turn_without_updates : House → List Message → (List ℕ → Answer) → HouseStep
+turn_without_updates house posts answer = Turns (record { house = house; posts = posts; answer = answer; accepted = [] })
 
 -- ---- changes of a house, and messages
 
 -- a house with another floor, and another slot for a directory (own)
-abbrev pub holding : House → ℕ → ℕ → Slot → House
-holding now d floor s = record now { floor = floor; slots = put now.slots d s }
+abbrev pub with_slot : House → ℕ → ℕ → Slot → House
+with_slot now d floor s = record now { floor = floor; slots = put now.slots d s }
 
 -- a replica with more marks (own)
-abbrev pub grown : Replica → List Mark → Replica
-grown r marks = record r { history = r.history ++ marks }
+abbrev pub with_marks : Replica → List Mark → Replica
+with_marks r marks = record r { history = r.history ++ marks }
 
 -- the copy of a replica, to send (own)
 abbrev pub copy_of : Replica → Copy
 copy_of r = record { history = r.history; all_up_to = r.all_up_to }
 
 -- the marks of both, and the later AllUpTo (own, after C705, merging of replicas)
-abbrev pub merged : Replica → Copy → Replica
-merged r copy = record r { history = r.history ++ copy.history; all_up_to = maybe later_stamp r.all_up_to copy.all_up_to }
+abbrev pub merge_copy : Replica → Copy → Replica
+merge_copy r copy = record r { history = r.history ++ copy.history; all_up_to = maybe later_stamp r.all_up_to copy.all_up_to }
 
 -- the later of an AllUpTo and a stamp (own)
-abbrev pub raised : Option Stamp → Stamp → Option Stamp
-raised all_up_to t = maybe later_stamp all_up_to (Some t)
+abbrev pub later_up_to : Option Stamp → Stamp → Option Stamp
+later_up_to all_up_to t = maybe later_stamp all_up_to (Some t)
 
 -- one message to each receiver, in their order (own)
 abbrev pub to_each : List ℕ → (dir sender epoch floor : ℕ) → Body → List Message
@@ -74,10 +74,10 @@ abbrev pub stamp_at : House → Option Stamp
 stamp_at now = next_stamp now.clock now.floor now.node
 
 -- the stamp of the skulk that runs (own)
-abbrev pub running : Phase → Option Stamp
-running Idle = None
-running (Gathering t answered) = Some t
-running (Spreading t answered) = Some t
+abbrev pub running_skulk_stamp : Phase → Option Stamp
+running_skulk_stamp Idle = None
+running_skulk_stamp (Gathering t answered) = Some t
+running_skulk_stamp (Spreading t answered) = Some t
 
 -- ---- new directories and updates
 
@@ -90,17 +90,17 @@ abbrev pub first_joins : (floor d m : ℕ) → List Member → List Message
 first_joins floor d m ms = to_each (others_of m ms) d m 1 floor (Join ms (copy_of (first_replica ms)))
 
 -- the house makes a directory, of which it is the master (own, after C705, creating a directory)
-abbrev pub found : (m : ℕ) → House → (d : ℕ) → List Member → Turn
-found m now d ms =
-    record { house = holding now d now.floor (Held (first_replica ms)); posts = first_joins now.floor d m ms; answer = Posted; accepted = [] }
+abbrev pub found_directory : (m : ℕ) → House → (d : ℕ) → List Member → Turn
+found_directory m now d ms =
+    record { house = with_slot now d now.floor (Held (first_replica ms)); posts = first_joins now.floor d m ms; answer = Posted; accepted = [] }
 
 -- a house that accepts updates issues a stamp, adds the marks, and posts them to each other member (own, after C705, updates)
 abbrev pub accept_at : (h : ℕ) → House → (d : ℕ) → Change → Replica → Option Stamp → HouseStep
 accept_at h now d u r None = refuses why.StampsSpent
 accept_at h now d u r (Some s) =
-    let marks : List Mark = marks_of (shown r.history (changed_name u)) u s in
+    let marks : List Mark = marks_of (shown_of_name r.history (changed_name u)) u s in
     Turns (record {
-      house = holding now d s.time (Held (grown r marks));
+      house = with_slot now d s.time (Held (with_marks r marks));
       posts = to_each (others_of h r.members) d h r.epoch s.time (Update marks);
       answer = Stamped s;
       accepted = record { by = h; dir = d; epoch = r.epoch; since = since_in r.members h 0; stamp = s; marks = marks } ∷ [];
@@ -108,7 +108,7 @@ accept_at h now d u r (Some s) =
 
 -- why a house that holds the directory refuses an update, but for the stamps (own)
 abbrev pub update_refusal : ℕ → Change → Replica → Option UpdateRefusal
-update_refusal h u r = if is_accepting h r.members then refusal_of (shown r.history (changed_name u)) u else Some why.NotMaster
+update_refusal h u r = if is_accepting h r.members then refusal_of (shown_of_name r.history (changed_name u)) u else Some why.NotMaster
 
 -- an update, by what the house has of the directory (own)
 abbrev pub accept_in : (h : ℕ) → House → (d : ℕ) → Change → Slot → HouseStep
@@ -124,9 +124,9 @@ accept h now d u = accept_in h now d u (now.slots d)
 
 -- a master begins a skulk; one that is alone ends it too (own, after C705, skulks)
 abbrev pub begin : (h : ℕ) → House → (d : ℕ) → Replica → Stamp → List ℕ → HouseStep
-begin h now d r t [] = turned (holding now d t.time (Held (record r { all_up_to = raised r.all_up_to t; phase = Idle }))) [] (Complete t)
+begin h now d r t [] = turn_without_updates (with_slot now d t.time (Held (record r { all_up_to = later_up_to r.all_up_to t; phase = Idle }))) [] (Complete t)
 begin h now d r t (y ∷ ys) =
-    turned (holding now d t.time (Held (record r { phase = Gathering t [] }))) (to_each (y ∷ ys) d h r.epoch t.time (Gather t)) (Stamped t)
+    turn_without_updates (with_slot now d t.time (Held (record r { phase = Gathering t [] }))) (to_each (y ∷ ys) d h r.epoch t.time (Gather t)) (Stamped t)
 
 -- a skulk with the stamp that is issued, if any (own)
 abbrev pub skulk_at : (h : ℕ) → House → (d : ℕ) → Replica → Option Stamp → HouseStep
@@ -158,7 +158,7 @@ new_epoch_in m now d k ms left Absent = refuses why.NoReplica
 new_epoch_in m now d k ms left (Gone e) = refuses why.NoReplica
 new_epoch_in m now d k ms left (Held r) =
     if nat_le (since_in ms m 0) r.epoch
-    then turned (holding now d now.floor (Held (epoch_replica k ms r))) (epoch_posts now.floor d m k ms left r) (NewEpoch k)
+    then turn_without_updates (with_slot now d now.floor (Held (epoch_replica k ms r))) (epoch_posts now.floor d m k ms left r) (NewEpoch k)
     else Stays (Refused (NotJoined r.epoch (since_in ms m 0)))
 
 -- the epoch k of a directory with these members, told to those that are left out, at its new master (own, after C705, new epochs)
@@ -173,11 +173,11 @@ floor_after now m = max now.floor m.floor
 
 -- the receiver takes a message: its floor rises to the message's, it holds this, posts these, and answers so (own)
 abbrev pub takes : House → Message → Slot → List Message → (List ℕ → Answer) → HouseStep
-takes now m s posts answer = turned (holding now m.dir (floor_after now m) s) posts answer
+takes now m s posts answer = turn_without_updates (with_slot now m.dir (floor_after now m) s) posts answer
 
 -- the message is taken, and answered so (own)
-abbrev pub taken : House → Message → Slot → List Message → HouseStep
-taken now m s posts = takes now m s posts Taken
+abbrev pub take_and_answer : House → Message → Slot → List Message → HouseStep
+take_and_answer now m s posts = takes now m s posts Taken
 
 -- what the receiver answers to the sender (own)
 abbrev pub reply : House → Message → Body → List Message
@@ -194,45 +194,45 @@ all_answered hs answered = list_all (λ x. has x answered) hs
 
 -- an answer to a skulk that does not run (own)
 abbrev pub stale : Stamp → Phase → HouseStep
-stale t phase = Stays (Stale t (running phase))
+stale t phase = Stays (Stale t (running_skulk_stamp phase))
 
 -- an answer of the first round; the last one missing begins the second (own, after C705, skulks)
-abbrev pub gathered : House → Message → Replica → Stamp → Replica → List ℕ → HouseStep
-gathered now m r t r' answered =
+abbrev pub take_gathered_answer : House → Message → Replica → Stamp → Replica → List ℕ → HouseStep
+take_gathered_answer now m r t r' answered =
     if all_answered (others_of m.receiver r.members) answered
-    then taken now m (Held (record r' { phase = Spreading t [] })) (to_others now m r (Spread t (copy_of r')))
-    else taken now m (Held (record r' { phase = Gathering t answered })) []
+    then take_and_answer now m (Held (record r' { phase = Spreading t [] })) (to_others now m r (Spread t (copy_of r')))
+    else take_and_answer now m (Held (record r' { phase = Gathering t answered })) []
 
 -- an answer of the first round, by the phase; in the second round it is joined in (own, after C705, skulks)
 abbrev pub take_gathered : House → Message → Stamp → Copy → Replica → Phase → HouseStep
 take_gathered now m t copy r Idle = stale t Idle
 take_gathered now m t copy r (Gathering u answered) =
-    if is_stamp t u then gathered now m r u (merged r copy) (m.sender ∷ answered) else stale t (Gathering u answered)
+    if is_stamp t u then take_gathered_answer now m r u (merge_copy r copy) (m.sender ∷ answered) else stale t (Gathering u answered)
 take_gathered now m t copy r (Spreading u answered) =
-    if is_stamp t u then taken now m (Held (merged r copy)) [] else stale t (Spreading u answered)
+    if is_stamp t u then take_and_answer now m (Held (merge_copy r copy)) [] else stale t (Spreading u answered)
 
 -- an answer of the second round; the last one missing completes the skulk (own, after C705, skulks)
 abbrev pub spread : House → Message → Replica → Stamp → List ℕ → HouseStep
 spread now m r t answered =
     if all_answered (others_of m.receiver r.members) answered
-    then takes now m (Held (record r { all_up_to = raised r.all_up_to t; phase = Idle })) (to_others now m r (Advance t)) (Complete t)
-    else taken now m (Held (record r { phase = Spreading t answered })) []
+    then takes now m (Held (record r { all_up_to = later_up_to r.all_up_to t; phase = Idle })) (to_others now m r (Advance t)) (Complete t)
+    else take_and_answer now m (Held (record r { phase = Spreading t answered })) []
 
 -- while a skulk gathers, no member has its second round's message to answer: that row is for completeness (own)
 abbrev pub take_ack : House → Message → Stamp → Replica → Phase → HouseStep
 take_ack now m t r Idle = stale t Idle
-take_ack now m t r (Gathering u answered) = if is_stamp t u then taken now m (Held r) [] else stale t (Gathering u answered)
+take_ack now m t r (Gathering u answered) = if is_stamp t u then take_and_answer now m (Held r) [] else stale t (Gathering u answered)
 take_ack now m t r (Spreading u answered) =
     if is_stamp t u then spread now m r u (m.sender ∷ answered) else stale t (Spreading u answered)
 
 -- a message of the epoch that the receiver holds, from a member (own, after C705, updates and skulks)
 abbrev pub take_own : House → Message → Replica → Body → HouseStep
-take_own now m r (Update marks) = taken now m (Held (grown r marks)) []
-take_own now m r (Gather t) = taken now m (Held r) (reply now m (Gathered t (copy_of r)))
+take_own now m r (Update marks) = take_and_answer now m (Held (with_marks r marks)) []
+take_own now m r (Gather t) = take_and_answer now m (Held r) (reply now m (Gathered t (copy_of r)))
 take_own now m r (Gathered t copy) = take_gathered now m t copy r r.phase
-take_own now m r (Spread t copy) = taken now m (Held (merged r copy)) (reply now m (SpreadAck t))
+take_own now m r (Spread t copy) = take_and_answer now m (Held (merge_copy r copy)) (reply now m (SpreadAck t))
 take_own now m r (SpreadAck t) = take_ack now m t r r.phase
-take_own now m r (Advance t) = taken now m (Held (record r { all_up_to = raised r.all_up_to t })) []
+take_own now m r (Advance t) = take_and_answer now m (Held (record r { all_up_to = later_up_to r.all_up_to t })) []
 take_own now m r (Join members copy) = Stays Foreign
 take_own now m r Leave = Stays Foreign
 
@@ -247,19 +247,19 @@ take_other now m body (Held r) =
     else (if is_listed m.sender r.members then take_own now m r body else Stays Foreign))
 
 -- the replica that is a copy (own)
-abbrev pub copied : Message → List Member → Copy → Replica
-copied m members copy = record { epoch = m.epoch; members = members; history = copy.history; all_up_to = copy.all_up_to; phase = Idle }
+abbrev pub replica_of_copy : Message → List Member → Copy → Replica
+replica_of_copy m members copy = record { epoch = m.epoch; members = members; history = copy.history; all_up_to = copy.all_up_to; phase = Idle }
 
 -- the replica that a house keeps at a Join: the copy is joined in (own)
 abbrev pub kept_at_join : Message → List Member → Copy → Replica → Replica
-kept_at_join m members copy r = record (merged r copy) { epoch = m.epoch; members = members; phase = Idle }
+kept_at_join m members copy r = record (merge_copy r copy) { epoch = m.epoch; members = members; phase = Idle }
 
 -- a house keeps its replica where it held the directory in its present term, and else takes the copy (own, after C705, new epochs)
-abbrev pub joined : Message → List Member → Copy → Slot → Replica
-joined m members copy Absent = copied m members copy
-joined m members copy (Gone e) = copied m members copy
-joined m members copy (Held r) =
-    if nat_le (since_in members m.receiver 0) r.epoch then kept_at_join m members copy r else copied m members copy
+abbrev pub join_replica : Message → List Member → Copy → Slot → Replica
+join_replica m members copy Absent = replica_of_copy m members copy
+join_replica m members copy (Gone e) = replica_of_copy m members copy
+join_replica m members copy (Held r) =
+    if nat_le (since_in members m.receiver 0) r.epoch then kept_at_join m members copy r else replica_of_copy m members copy
 
 -- the epoch of a Join is passed: which epoch the house has (own)
 abbrev pub late_join : ℕ → Slot → Option ℕ
@@ -282,11 +282,11 @@ unless_late m (Some e) s = Stays (Late m.epoch e)
 abbrev pub take_join : House → Message → List Member → Copy → Slot → HouseStep
 take_join now m members copy s =
     unless_late m (late_join m.epoch s)
-    (if is_listed m.receiver members && is_listed m.sender members then taken now m (Held (joined m members copy s)) [] else Stays Foreign)
+    (if is_listed m.receiver members && is_listed m.sender members then take_and_answer now m (Held (join_replica m members copy s)) [] else Stays Foreign)
 
 -- a Leave, by what the receiver has (own, after C705, new epochs)
 abbrev pub take_leave : House → Message → Slot → HouseStep
-take_leave now m s = unless_late m (late_leave m.epoch s) (taken now m (Gone m.epoch) [])
+take_leave now m s = unless_late m (late_leave m.epoch s) (take_and_answer now m (Gone m.epoch) [])
 
 -- any message, by what the receiver has of its directory (own)
 abbrev pub take_in : House → Message → Body → Slot → HouseStep
@@ -306,14 +306,14 @@ take now m = take_in now m m.body (now.slots m.dir)
 -- ---- crashes
 
 -- a crash ends the running skulk (own)
-abbrev pub crashed : Slot → Slot
-crashed Absent = Absent
-crashed (Gone e) = Gone e
-crashed (Held r) = Held (record r { phase = Idle })
+abbrev pub crash_slot : Slot → Slot
+crash_slot Absent = Absent
+crash_slot (Gone e) = Gone e
+crash_slot (Held r) = Held (record r { phase = Idle })
 
 -- the house is down, and runs no skulk (own)
 abbrev pub crashed_house : House → House
-crashed_house now = record now { up = false; slots = λ d. crashed (now.slots d) }
+crashed_house now = record now { up = false; slots = λ d. crash_slot (now.slots d) }
 
 -- the house is up again (own)
 abbrev pub started_house : House → House

@@ -6,12 +6,12 @@ use Rattle.cell_names.specs.declared.pointer.ChildFault.TheVariants.{BadChild}
 use Rattle.std.specs.List.{range_with_len}
 use Rattle.cell_names.specs.declared.full_name.SpliceFault.TheVariants.{NameTooLong as SplicedTooLong}
 use Rattle.cell_names.specs.declared.houses.HousesFault.TheVariants.{BadHouses}
-use Rattle.cell_names.specs.FullNames.{spelling, components_of, name_fault, splice_fault, is_full_name}
+use Rattle.cell_names.specs.FullNames.{full_name_octets, components_of, name_fault, splice_fault, is_full_name}
 use Rattle.cell_names.specs.Houses.{count_in_order, list_fault}
 use Rattle.cell_names.specs.ChildPointers.{pointer_octets, pointer_fault, pointer_of}
 
 -- a name of two components, and the root
-spelled : spelling (codes "sub" ∷ codes "e" ∷ []) ≡ codes "/.:/sub/e"
+spelled : full_name_octets (codes "sub" ∷ codes "e" ∷ []) ≡ codes "/.:/sub/e"
 spelled = refl
 
 parted : components_of (codes "/.:/sub/e") ≡ codes "sub" ∷ codes "e" ∷ []

@@ -11,7 +11,7 @@ use Rattle.std.proofs.lemmas.List.Splits.{slice_split_none, slice_split_at}
 use Rattle.std.proofs.lemmas.Slice.Eq.{bytes_eq-Decides, slice_eq-Decides, starts_is}
 use Rattle.cds_stamps.specs.Names.{component_fault, is_name_octet, IsSimpleName}
 use Rattle.cds_stamps.proofs.NameLaws.{no_fault, component_lawful, component_none}
-use Rattle.cell_names.specs.FullNames.{cell_root, slash, spelling, is_local, components_of, components_fault}
+use Rattle.cell_names.specs.FullNames.{cell_root, slash, full_name_octets, is_local, components_of, components_fault}
 use Rattle.cell_names.specs.FullNames.{longest_name, name_fault, splice_fault, is_name, IsComponentList, IsFullName}
 
 -- the components, each behind its slash
@@ -65,30 +65,30 @@ slice_split-tail_of c (d ∷ cs) name each =
     slice_split_at (λ b. b == slash) c slash (d ++ tail_of cs) (no_slash c name) refl ∙ ap (λ cs. c ∷ cs) (slice_split-tail_of d cs each.0 each.1)
 
 -- the components of what is spelled
-pub components_of-spelling : (cs : List (List ℕ)) → IsComponentList cs → components_of (spelling cs) ≡ cs
+pub components_of-spelling : (cs : List (List ℕ)) → IsComponentList cs → components_of (full_name_octets cs) ≡ cs
 components_of-spelling cs lawful = by_first cs (recursion_from_All IsSimpleName cs lawful.simple)
   where
-    by_first : (cs : List (List ℕ)) → AllByRecursion IsSimpleName cs → components_of (spelling cs) ≡ cs
+    by_first : (cs : List (List ℕ)) → AllByRecursion IsSimpleName cs → components_of (full_name_octets cs) ≡ cs
     by_first [] each = refl
     by_first (c ∷ cs) each = slice_split-tail_of c cs each.0 each.1
 
 -- what is spelled has no fault
-pub name_fault-spelling : (cs : List (List ℕ)) → IsComponentList cs → name_fault (spelling cs) ≡ None
+pub name_fault-spelling : (cs : List (List ℕ)) → IsComponentList cs → name_fault (full_name_octets cs) ≡ None
 name_fault-spelling [] lawful = refl
 name_fault-spelling (c ∷ cs) lawful =
     let short = lawful.short in
-    let fits : nat_lt longest_name (length (spelling (c ∷ cs))) ≡ false = grind arith in
+    let fits : nat_lt longest_name (length (full_name_octets (c ∷ cs))) ≡ false = grind arith in
     rw (fits, components_of-spelling (c ∷ cs) lawful) (components_none 5 (c ∷ cs) (recursion_from_All IsSimpleName (c ∷ cs) lawful.simple))
 
 -- local octets spell what stands behind their slashes
-spelled_from : (octets rest : List ℕ) → octets ≡ cell_root ++ slash ∷ rest → spelling (components_of octets) ≡ octets
+spelled_from : (octets rest : List ℕ) → octets ≡ cell_root ++ slash ∷ rest → full_name_octets (components_of octets) ≡ octets
 spelled_from octets rest e = rw e (ap (λ t. cell_root ++ t) (tail_of-slice_split rest))
 
-spelling-components_of : (octets : List ℕ) → is_local octets ≡ true → spelling (components_of octets) ≡ octets
+spelling-components_of : (octets : List ℕ) → is_local octets ≡ true → full_name_octets (components_of octets) ≡ octets
 spelling-components_of octets local = by_root (pointwise nat_eq octets cell_root) refl local
   where
     by_root : (t : Bool) → pointwise nat_eq octets cell_root ≡ t → (t || starts_with nat_eq octets (cell_root ++ slash ∷ [])) ≡ true
-        → spelling (components_of octets) ≡ octets
+        → full_name_octets (components_of octets) ≡ octets
     by_root true root local = let same : octets ≡ cell_root = (bytes_eq-Decides octets cell_root).0 root in rw same refl
     by_root false root local = spelled_from octets _ ((starts_is Decides-eqb octets (cell_root ++ slash ∷ []) _ refl).0 local)
 
@@ -97,12 +97,12 @@ holds true e = refl
 holds false e = cc
 
 -- octets without a fault spell their components
-pub spelling-components : (octets : List ℕ) → name_fault octets ≡ None → IsComponentList (components_of octets) × (octets ≡ spelling (components_of octets))
+pub spelling-components : (octets : List ℕ) → name_fault octets ≡ None → IsComponentList (components_of octets) × (octets ≡ full_name_octets (components_of octets))
 spelling-components [] e = cc
 spelling-components (b ∷ bs) e =
     let local = no_fault (not (is_local (b ∷ bs))) _ _ e in
     let short = no_fault (nat_lt longest_name (length (b ∷ bs))) _ _ local.1 in
-    let spelled : spelling (components_of (b ∷ bs)) ≡ b ∷ bs = spelling-components_of (b ∷ bs) (holds _ local.0) in
+    let spelled : full_name_octets (components_of (b ∷ bs)) ≡ b ∷ bs = spelling-components_of (b ∷ bs) (holds _ local.0) in
     let fits : length (b ∷ bs) ≤ longest_name = grind (arith, short.0) in (
       record {
         simple = All-from_recursion IsSimpleName _ (components_lawful 5 _ short.1);
@@ -121,10 +121,10 @@ name_fault-none octets = (
 -- simple names have no fault together exactly where they spell a full name
 pub splice_fault-none : (cs : List (List ℕ)) → All IsSimpleName cs → (splice_fault cs ≡ None) ↔ IsComponentList cs
 splice_fault-none cs simple = (
-  λ e. let test = no_fault (nat_lt longest_name (length (spelling cs))) _ _ e in record { simple = simple; short = grind (arith, test.0) },
+  λ e. let test = no_fault (nat_lt longest_name (length (full_name_octets cs))) _ _ e in record { simple = simple; short = grind (arith, test.0) },
   λ lawful.
       let short = lawful.short in
-      let fits : nat_lt longest_name (length (spelling cs)) ≡ false = grind arith in
+      let fits : nat_lt longest_name (length (full_name_octets cs)) ≡ false = grind arith in
       rw fits refl,
 )
 

@@ -14,7 +14,7 @@ use Rattle.std.proofs.lemmas.Slice.Eq.{strip_prefix_is}
 use Rattle.std.specs.Cmp.Lexicographic.{pointwise}
 use Rattle.std.proofs.lemmas.Grind.{flat_map-append}
 use Rattle.cds_stamps.specs.Names.{simple_name_fault, IsSimpleName}
-use Rattle.cell_names.specs.FullNames.{cell_root, slash, spelling, behind_slashes, components_of, name_fault, IsComponentList}
+use Rattle.cell_names.specs.FullNames.{cell_root, slash, full_name_octets, behind_slashes, components_of, name_fault, IsComponentList}
 use Rattle.cell_names.proofs.FullNameLaws.{spelling-components, no_slash}
 use Rattle.cell_names.proofs.Spellings.{component_simple}
 
@@ -49,7 +49,7 @@ split_last (c ∷ cs) last each none =
     (split_behind c (behind_slashes cs ++ slash ∷ last) (cs ++ last ∷ []) (recursion_from_All _ c (no_slash c each.0)) further)
 
 -- a component more is spelled behind a slash
-spelling_more : (cs : List (List ℕ)) (last : List ℕ) → spelling (cs ++ last ∷ []) ≡ spelling cs ++ slash ∷ last
+spelling_more : (cs : List (List ℕ)) (last : List ℕ) → full_name_octets (cs ++ last ∷ []) ≡ full_name_octets cs ++ slash ∷ last
 spelling_more cs last =
     ap (λ o. cell_root ++ o) (flat_map-append (λ (c : List ℕ). slash ∷ c) cs (last ∷ []) ∙ ap (λ o. behind_slashes cs ++ slash ∷ o) (nothing_more last))
   where
@@ -59,8 +59,8 @@ spelling_more cs last =
 
 module _ (octets : List ℕ) (sound : name_fault octets ≡ None) (front : List (List ℕ)) where
   -- a name of these components and one more is spelled by them, a slash and that one
-  pub spelled_so : (last : List ℕ) → components_of octets ≡ front ++ last ∷ [] → octets ≡ spelling front ++ slash ∷ last
-  spelled_so last e = (spelling-components octets sound).1 ∙ ap spelling e ∙ spelling_more front last
+  pub spelled_so : (last : List ℕ) → components_of octets ≡ front ++ last ∷ [] → octets ≡ full_name_octets front ++ slash ∷ last
+  spelled_so last e = (spelling-components octets sound).1 ∙ ap full_name_octets e ∙ spelling_more front last
 
   -- and the one more is a simple name
   last_simple : (last : List ℕ) → components_of octets ≡ front ++ last ∷ [] → IsSimpleName last
@@ -70,31 +70,31 @@ module _ (octets : List ℕ) (sound : name_fault octets ≡ None) (front : List 
       (lawful.simple (length front) last (omega (arith, length-append front (last ∷ []))))
 
   -- so it is where octets without a slash stand behind them
-  pub last_found : (last : List ℕ) → IsComponentList front → octets ≡ spelling front ++ slash ∷ last → list_any (λ b. b == slash) last ≡ false
+  pub last_found : (last : List ℕ) → IsComponentList front → octets ≡ full_name_octets front ++ slash ∷ last → list_any (λ b. b == slash) last ≡ false
       → components_of octets ≡ front ++ last ∷ []
   last_found last lawful e none =
       ap components_of e ∙ ap (drop 1) (split_last front last (recursion_from_All IsSimpleName front lawful.simple) (no_slash_by last none))
 
   -- and not where a slash is among them
-  pub none_behind_slash : (last : List ℕ) → octets ≡ spelling front ++ slash ∷ last → list_any (λ b. b == slash) last ≡ true
+  pub none_behind_slash : (last : List ℕ) → octets ≡ full_name_octets front ++ slash ∷ last → list_any (λ b. b == slash) last ≡ true
       → (other : List ℕ) → components_of octets ≢ front ++ other ∷ []
   none_behind_slash last e some other is =
-      let same : spelling front ++ slash ∷ last ≡ spelling front ++ slash ∷ other = sym e ∙ spelled_so other is in
-      let cut : slash ∷ last ≡ slash ∷ other = append_cancel_left (spelling front) (slash ∷ last) (slash ∷ other) same in
+      let same : full_name_octets front ++ slash ∷ last ≡ full_name_octets front ++ slash ∷ other = sym e ∙ spelled_so other is in
+      let cut : slash ∷ last ≡ slash ∷ other = append_cancel_left (full_name_octets front) (slash ∷ last) (slash ∷ other) same in
       let one : last ≡ other = cc in
       let none : list_any (λ b. b == slash) other ≡ false = list_any_none (λ b. b == slash) other (no_slash other (last_simple other is)) in
       let both : list_any (λ b. b == slash) other ≡ true = subst (λ (o : List ℕ). list_any (λ b. b == slash) o ≡ true) one some in
       cc
 
   -- nor where the octets do not begin with them
-  pub none_behind : ((rest : List ℕ) → octets ≢ spelling front ++ rest) → (other : List ℕ) → components_of octets ≢ front ++ other ∷ []
+  pub none_behind : ((rest : List ℕ) → octets ≢ full_name_octets front ++ rest) → (other : List ℕ) → components_of octets ≢ front ++ other ∷ []
   none_behind none other is = none (slash ∷ other) (spelled_so other is)
 
   -- nor where no slash is next
-  pub none_without_slash : (behind : List ℕ) → octets ≡ spelling front ++ behind → ((last : List ℕ) → behind ≢ slash ∷ last)
+  pub none_without_slash : (behind : List ℕ) → octets ≡ full_name_octets front ++ behind → ((last : List ℕ) → behind ≢ slash ∷ last)
       → (other : List ℕ) → components_of octets ≢ front ++ other ∷ []
   none_without_slash behind e none other is =
-      none other (append_cancel_left (spelling front) behind (slash ∷ other) (sym e ∙ spelled_so other is))
+      none other (append_cancel_left (full_name_octets front) behind (slash ∷ other) (sym e ∙ spelled_so other is))
 
   -- the last component has no fault
   pub last_sound : (last : List ℕ) → components_of octets ≡ front ++ last ∷ [] → simple_name_fault last ≡ None
@@ -104,9 +104,9 @@ module _ (octets : List ℕ) (sound : name_fault octets ≡ None) (front : List 
       (rw e (sym (get_or-append_seam front last [] last)))
 
 -- what stands behind these components and a slash
-pub spelled_with_last : (octets behind : List ℕ) (lent front : List (List ℕ)) (last : Bor (List ℕ)) → octets ≡ spelling lent ++ behind → lent ≡ front
+pub spelled_with_last : (octets behind : List ℕ) (lent front : List (List ℕ)) (last : Bor (List ℕ)) → octets ≡ full_name_octets lent ++ behind → lent ≡ front
     → (pointwise eqb (take 1 behind) (slash ∷ []) ≡ true) × (last.now ≡ drop 1 behind) × (length last.now + 1 ≡ length behind)
-    → octets ≡ spelling front ++ slash ∷ last.now
+    → octets ≡ full_name_octets front ++ slash ∷ last.now
 spelled_with_last octets behind lent front last begins same cut =
-    begins ∙ ap (λ (name : List (List ℕ)). spelling name ++ behind) same
-    ∙ ap (λ o. spelling front ++ o) (strip_prefix_is Decides-eqb behind (slash ∷ []) (Some last) cut)
+    begins ∙ ap (λ (name : List (List ℕ)). full_name_octets name ++ behind) same
+    ∙ ap (λ o. full_name_octets front ++ o) (strip_prefix_is Decides-eqb behind (slash ∷ []) (Some last) cut)

@@ -12,7 +12,7 @@ use Rattle.cds_stamps.specs.declared.names.NameFault.TheVariants.{Empty, BadOcte
 use Rattle.cds_stamps.specs.Names.{is_name_octet, IsSimpleName}
 use Rattle.cds_stamps.specs.Fronts.{IsFront, IsFirstBad, EndsEarly}
 use Rattle.cds_stamps.proofs.FirstFaults.{after, IsWalk, IsBad, IsEnd, Cut, cut, no_both, first_bad}
-use Rattle.cell_names.specs.FullNames.{cell_root, slash, behind_slashes, spelling, is_local}
+use Rattle.cell_names.specs.FullNames.{cell_root, slash, behind_slashes, full_name_octets, is_local}
 use Rattle.cell_names.specs.FullNames.{components_of, components_fault, first_component, longest_name, name_fault, IsNameOfAnyLength}
 use Rattle.cell_names.proofs.NameWalks.{walk_fault, walk_fault-components}
 use Rattle.cell_names.proofs.FullNameLaws.{components_lawful, components_none, tail_of-slice_split, slice_split-tail_of}
@@ -95,7 +95,7 @@ walked_name bs e = record {
 name_walked : (bs : List ℕ) → IsNameOfAnyLength (cell_root ++ slash ∷ bs) → walk_fault first_component 0 bs ≡ None
 name_walked bs name = by_first name.components (recursion_from_All IsSimpleName name.components name.simple) name.spelled
   where
-    by_first : (cs : List (List ℕ)) → AllByRecursion IsSimpleName cs → cell_root ++ slash ∷ bs ≡ spelling cs → walk_fault first_component 0 bs ≡ None
+    by_first : (cs : List (List ℕ)) → AllByRecursion IsSimpleName cs → cell_root ++ slash ∷ bs ≡ full_name_octets cs → walk_fault first_component 0 bs ≡ None
     by_first [] each e = absurd (cc (e))
     by_first (c ∷ cs) each e =
         let behind : bs ≡ c ++ behind_slashes cs = cc (e) in

@@ -8,9 +8,9 @@ use Rattle.std.specs.Cmp.Lexicographic.{nat_list_cmp_total}
 use Rattle.std.specs.Ordering.{is_eq}
 use Rattle.std.proofs.lemmas.List.{append_cancel_left, take-append-drop, at_drop_more}
 use Rattle.std.proofs.lemmas.Grind.{flat_map-append}
-use Rattle.cds_stamps.specs.Keyed.{tied}
+use Rattle.cds_stamps.specs.Keyed.{ties_are_equal}
 use Rattle.cds_stamps.specs.Octets.{octets_exact, is_octets}
-use Rattle.cell_names.specs.FullNames.{cell_root, slash, behind_slashes, spelling}
+use Rattle.cell_names.specs.FullNames.{cell_root, slash, behind_slashes, full_name_octets}
 
 -- the octets behind a slash, behind which a component was sought
 pub behind_slash : (octets behind component : List ℕ) (r : Option (Bor (List ℕ))) → octets ≡ slash ∷ behind
@@ -46,7 +46,7 @@ not_followed octets rest cs i c less at is none tail e =
 -- the octets behind the root, behind which components were sought
 pub behind_root : (octets behind : List ℕ) (cs : List (List ℕ)) (r : Option (Bor (List ℕ))) → octets ≡ cell_root ++ behind
     → MatchOption r ((rest : List ℕ) → behind ≢ behind_slashes cs ++ rest) (λ rest. behind ≡ behind_slashes cs ++ rest.now)
-    → MatchOption r ((rest : List ℕ) → octets ≢ spelling cs ++ rest) (λ rest. octets ≡ spelling cs ++ rest.now)
+    → MatchOption r ((rest : List ℕ) → octets ≢ full_name_octets cs ++ rest) (λ rest. octets ≡ full_name_octets cs ++ rest.now)
 behind_root octets behind cs None is none = λ rest e.
     let same : cell_root ++ behind ≡ cell_root ++ (behind_slashes cs ++ rest) = sym is ∙ e in
     none rest (append_cancel_left cell_root behind (behind_slashes cs ++ rest) same)
@@ -62,7 +62,7 @@ tests_octets true these octets holds = let is : octets ≡ these = holds.0 refl 
 tests_octets false these octets holds = by_case (is_octets these octets) refl
   where
     by_case : (b : Bool) → is_octets these octets ≡ b → false ≡ b
-    by_case true e = holds.1 (sym (tied octets_exact these octets e))
+    by_case true e = holds.1 (sym (ties_are_equal octets_exact these octets e))
     by_case false e = refl
 
 -- octets that begin so are these exactly where nothing is behind them

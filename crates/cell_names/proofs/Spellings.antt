@@ -6,7 +6,7 @@ use Rattle.std.proofs.lemmas.List.Elements.{All-append, All-nil, All-cons}
 use Rattle.std.proofs.lemmas.Grind.{flat_map-append}
 use Rattle.cds_stamps.specs.Names.{simple_name_fault, IsSimpleName}
 use Rattle.cds_stamps.proofs.NameLaws.{simple_name_laws}
-use Rattle.cell_names.specs.FullNames.{slash, behind_slashes, spelling, components_of, name_fault, longest_name, IsComponentList}
+use Rattle.cell_names.specs.FullNames.{slash, behind_slashes, full_name_octets, components_of, name_fault, longest_name, IsComponentList}
 use Rattle.cell_names.proofs.FullNameLaws.{spelling-components}
 
 -- a component and its slash, in front of the others
@@ -39,7 +39,7 @@ component_simple octets e n c h at =
     subst (λ (c : List ℕ). simple_name_fault c ≡ None) (sym at) ((simple_name_laws _).1 ((spelling-components octets e).0.simple n c h))
 
 -- simple names behind the components of a full name, where there is room
-pub spliced : (cs ds : List (List ℕ)) → IsComponentList cs → All IsSimpleName ds → length (spelling cs) + length (behind_slashes ds) ≤ longest_name
+pub spliced : (cs ds : List (List ℕ)) → IsComponentList cs → All IsSimpleName ds → length (full_name_octets cs) + length (behind_slashes ds) ≤ longest_name
     → IsComponentList (cs ++ ds)
 spliced cs ds lawful simple room = record {
   simple = All-append IsSimpleName cs ds lawful.simple simple;

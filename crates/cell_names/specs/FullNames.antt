@@ -23,8 +23,8 @@ abbrev pub behind_slashes : List (List ℕ) → List ℕ
 behind_slashes = flat_map (λ c. slash ∷ c)
 
 -- the octets of the full name of these components: the root, and each component behind a slash (C705, CDS names)
-abbrev pub spelling : List (List ℕ) → List ℕ
-spelling components = cell_root ++ behind_slashes components
+abbrev pub full_name_octets : List (List ℕ) → List ℕ
+full_name_octets components = cell_root ++ behind_slashes components
 
 -- the most octets of a full name (own)
 abbrev pub longest_name : ℕ
@@ -51,19 +51,19 @@ components_fault place ((b ∷ bs) ∷ cs) = option_or (component_fault place 1 
 -- simple names that spell a full name: not too many octets (own, after C705, CDS names)
 pub record IsComponentList (components : List (List ℕ)) : Type 0 where
   pub simple : All IsSimpleName components
-  pub short : length (spelling components) ≤ longest_name
+  pub short : length (full_name_octets components) ≤ longest_name
 
 -- the octets are `/.:` and simple names, each behind a slash, however many octets they are in all (own)
 pub record IsNameOfAnyLength (octets : List ℕ) : Type 0 where
   pub components : List (List ℕ)
   pub simple : All IsSimpleName components
-  pub spelled : octets ≡ spelling components
+  pub spelled : octets ≡ full_name_octets components
 
 -- the octets are the full name of some components (own, after C705, CDS names)
 pub record IsFullName (octets : List ℕ) : Type 0 where
   pub components : List (List ℕ)
   pub lawful : IsComponentList components
-  pub spelled : octets ≡ spelling components
+  pub spelled : octets ≡ full_name_octets components
 
 -- the fault of octets that are no full name of this cell (own)
 abbrev pub name_fault : List ℕ → Option NameFault
@@ -78,7 +78,7 @@ is_full_name octets = is_none (name_fault octets)
 
 -- the fault of simple names that spell no full name (own)
 abbrev pub splice_fault : List (List ℕ) → Option SpliceFault
-splice_fault components = if nat_lt longest_name (length (spelling components)) then Some SplicedTooLong else None
+splice_fault components = if nat_lt longest_name (length (full_name_octets components)) then Some SplicedTooLong else None
 
 -- the two are the same components (own, after C705: octet by octet)
 abbrev pub is_name : List (List ℕ) → List (List ℕ) → Bool

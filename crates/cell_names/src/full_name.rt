@@ -10,7 +10,7 @@ ghost use Rattle.cds_stamps.specs.Names.{simple_name_fault, IsSimpleName};
 ghost use Rattle.cds_stamps.specs.Octets.{is_octets};
 ghost use Rattle.cds_stamps.specs.Outcomes.{Answers, ok_unless};
 ghost use Rattle.cds_stamps.specs.declared.alloc_or.AllocOr.TheVariants.{Fault};
-ghost use Rattle.cell_names.specs.FullNames.{slash, behind_slashes, spelling, components_of, components_fault, name_fault, splice_fault};
+ghost use Rattle.cell_names.specs.FullNames.{slash, behind_slashes, full_name_octets, components_of, components_fault, name_fault, splice_fault};
 ghost use Rattle.cell_names.specs.FullNames.{first_component, longest_name, is_name, IsComponentList};
 
 use crate::spelled::spell;
@@ -155,7 +155,7 @@ impl FullName {
 
     /// The octets that spell the name.
     pub fn print(&self, alloc: Global) -> Result<Vec<u8>, AllocError>
-        ensures spelled { IfOk result (λ v. v.items ≡ spelling self.now) }
+        ensures spelled { IfOk result (λ v. v.items ≡ full_name_octets self.now) }
         ensures lawful { IfOk result (λ v. name_fault v.items ≡ None) }
         ensures read { IfOk result (λ v. components_of v.items ≡ self.now) }
     {
@@ -166,7 +166,7 @@ impl FullName {
 
     /// Puts the octets that spell the name behind others. After want of memory some of them may be there.
     pub fn append_spelling(&self, octets: &mut Vec<u8>) -> Result<(), AllocError>
-        ensures ok { OnOk result (octets.new.items ≡ octets.old.items ++ spelling self.now) }
+        ensures ok { OnOk result (octets.new.items ≡ octets.old.items ++ full_name_octets self.now) }
         ensures err { OnErr result (take (length octets.old.items) octets.new.items ≡ octets.old.items) }
     {
         octets.extend_from_slice(ROOT)?;
@@ -180,7 +180,7 @@ impl FullName {
 
     /// How many octets spell the name.
     pub fn spelled_len(&self) -> usize
-        ensures value { result ≡ length (spelling self.now) }
+        ensures value { result ≡ length (full_name_octets self.now) }
         ensures within { result ≤ longest_name }
         ensures lawful { IsComponentList self.now }
     {
@@ -189,7 +189,7 @@ impl FullName {
 
     /// Whether octets spell the name. Takes no memory.
     pub fn is_spelled(&self, octets: &[u8]) -> bool
-        ensures value { result ≡ is_octets (spelling self.now) octets.now }
+        ensures value { result ≡ is_octets (full_name_octets self.now) octets.now }
         ensures lawful { IsComponentList self.now }
     {
         spell(octets, self.components())
@@ -197,7 +197,7 @@ impl FullName {
 
     // How many octets more a full name may have.
     fn room(&self) -> usize
-        ensures value { result + length (spelling self.now) ≡ longest_name }
+        ensures value { result + length (full_name_octets self.now) ≡ longest_name }
         ensures lawful { IsComponentList self.now }
     {
         room_behind(LONGEST_NAME - ROOT.len(), &self.components).unwrap()

@@ -7,7 +7,7 @@ ghost use Rattle.cds_stamps.specs.declared.names.NameFault.TheVariants.{Empty, B
 ghost use Rattle.cell_names.specs.declared.houses.HousesFault.TheVariants.{BadHouses};
 ghost use Rattle.cell_names.specs.declared.full_name.TheConstants.{LONGEST_NAME, ROOT};
 ghost use Rattle.cell_names.specs.declared.houses.TheConstants.{MOST_HOUSES};
-ghost use Rattle.cell_names.specs.FullNames.{cell_root, longest_name, name_fault, spelling, components_of, splice_fault};
+ghost use Rattle.cell_names.specs.FullNames.{cell_root, longest_name, name_fault, full_name_octets, components_of, splice_fault};
 ghost use Rattle.cell_names.specs.FullNames.{is_name, IsNameOfAnyLength, IsComponentList, IsFullName};
 ghost use Rattle.cell_names.specs.Houses.{Houses, most_houses, IsHouses, list_fault, is_houses};
 ghost use Rattle.cell_names.specs.ChildPointers.{Pointer, IsPointer, IsChildPointer, pointer_octets, pointer_fault, pointer_of};
@@ -30,9 +30,9 @@ pub fn faults_of_full_names_are_at_the_first_place()
 
 /// Octets without a fault spell their components, and what components spell has these components.
 pub fn full_names_read_back()
-    ensures spelled { (octets : List ℕ) → name_fault octets ≡ None → octets ≡ spelling (components_of octets) }
+    ensures spelled { (octets : List ℕ) → name_fault octets ≡ None → octets ≡ full_name_octets (components_of octets) }
     ensures lawful { (octets : List ℕ) → name_fault octets ≡ None → IsComponentList (components_of octets) }
-    ensures read { (components : List (List ℕ)) → IsComponentList components → components_of (spelling components) ≡ components }
+    ensures read { (components : List (List ℕ)) → IsComponentList components → components_of (full_name_octets components) ≡ components }
 {}
 
 /// No fault is found exactly where simple names are the components of a full name.

@@ -1,14 +1,14 @@
 // Octets that spell components, compared without memory.
 ghost use Rattle.std.specs.Prelude.{◌≡◌, ◌≢◌, ◌++◌, ◌∷◌, ℕ, List, MatchOption};
 ghost use Rattle.cds_stamps.specs.Octets.{is_octets};
-ghost use Rattle.cell_names.specs.FullNames.{slash, spelling, behind_slashes};
+ghost use Rattle.cell_names.specs.FullNames.{slash, full_name_octets, behind_slashes};
 
 use crate::full_name::ROOT;
 use cds_stamps::SimpleName;
 
 /// Whether octets are the root of the cell and these components.
 pub(crate) fn spell(octets: &[u8], components: &[SimpleName]) -> bool
-    ensures { result ≡ is_octets (spelling components.now) octets.now }
+    ensures { result ≡ is_octets (full_name_octets components.now) octets.now }
 {
     match behind_name(octets, components) {
         Some(rest) => rest.is_empty(),
@@ -19,8 +19,8 @@ pub(crate) fn spell(octets: &[u8], components: &[SimpleName]) -> bool
 /// What stands behind the root of the cell and these components, if octets begin so.
 pub(crate) fn behind_name<'a>(octets: &'a [u8], components: &[SimpleName]) -> Option<&'a [u8]>
     ensures { MatchOption result
-        ((rest : List ℕ) → octets.now ≢ spelling components.now ++ rest)
-        (λ rest. octets.now ≡ spelling components.now ++ rest.now) }
+        ((rest : List ℕ) → octets.now ≢ full_name_octets components.now ++ rest)
+        (λ rest. octets.now ≡ full_name_octets components.now ++ rest.now) }
 {
     behind_components(octets.strip_prefix(ROOT)?, components)
 }

@@ -1,7 +1,7 @@
 -- The laws of what is demanded, for each form.
 use Rattle.std.proofs.Common.{◌≡◌, List, ℕ, [], ◌++◌, refl, sym, ap, ◌∙◌}
 use Rattle.hex.specs.Hex.{IsBytes}
-use Rattle.cell_replay.specs.Demand.{Demand, Faulty, demanded, ends_with}
+use Rattle.cell_replay.specs.Demand.{Demand, Faulty, line_demand, ends_with}
 use Rattle.cell_replay.specs.WholeDemand.{whole_demand}
 use Rattle.cell_replay.specs.Forms.{FormState, ByLines, ByTowers, ByWhole, WithoutInput, Demands}
 use Rattle.cell_replay.specs.Runs.{IsFront}
@@ -12,7 +12,7 @@ use Rattle.cell_replay.proofs.WholeTurns.{whole_body_stays, whole_fault_stays}
 
 -- octets demand something of each form
 pub some_demand : (state : FormState) (octets : List ℕ) → IsBytes octets → (d : Demand) × Demands state octets d
-some_demand (ByLines state) octets bytes = (demanded state octets, refl)
+some_demand (ByLines state) octets bytes = (line_demand state octets, refl)
 some_demand ByTowers octets bytes = total 1 octets bytes
 some_demand (ByWhole task) octets bytes = (whole_demand task octets, refl)
 some_demand (WithoutInput text) octets bytes = (ends_with text, refl)

@@ -4,8 +4,8 @@ use Rattle.std.specs.Prelude.{Option, Some, None, Result, Ok, Err}
 use Rattle.cell_script.specs.declared.command.ScriptLine.{ScriptLine}
 use Rattle.cell_script.specs.declared.fault.ParseFault.{ParseFault}
 use Rattle.script_answers.specs.Texts.{parse_fault_text}
-use Rattle.waiting_replies.specs.Responses.{GoesOn, Stops}
-use Rattle.cell_replay.specs.LineStates.{Checking, Response, checked}
+use Rattle.reply_buffer.specs.Responses.{GoesOn, Stops}
+use Rattle.cell_replay.specs.LineStates.{Checking, Response, line_check}
 use Rattle.cell_replay.specs.PrivateStanding.{has_command}
 
 -- a line is counted, and a command where it says one
@@ -14,7 +14,7 @@ checked_line number commands (Ok has_command) = GoesOn [] (Checking number (if h
 checked_line number commands (Err fault) = Stops (parse_fault_text number fault)
 
 pub checked_whether : (number commands : ℕ) (said : Result (Option ScriptLine) ParseFault)
-    → checked number commands said ≡ checked_line number commands (has_command said)
+    → line_check number commands said ≡ checked_line number commands (has_command said)
 checked_whether number commands (Ok None) = refl
 checked_whether number commands (Ok (Some line)) = refl
 checked_whether number commands (Err fault) = refl

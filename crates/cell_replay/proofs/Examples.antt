@@ -7,19 +7,19 @@ use Rattle.cds_base.specs.LineFaults.{fault_at}
 use Rattle.cds_base.specs.declared.scan.LineFault.TheVariants as fault
 use Rattle.cell_model.specs.Cells.{empty_cell}
 use Rattle.cell_script.specs.Words.{words_of, number_of}
-use Rattle.cell_script.specs.Commands as lines
-use Rattle.cell_script.specs.Forms as forms
-use Rattle.waiting_replies.specs.Texts.{line_fault_text}
-use Rattle.tower_codec.specs.BindingReading.{cut}
+use Rattle.cell_script.specs.CommandRows as lines
+use Rattle.cell_script.specs.WordForms as forms
+use Rattle.reply_buffer.specs.FaultTexts.{line_fault_text}
+use Rattle.tower_codec.specs.BindingReading.{cut_at_mark}
 use Rattle.tower_codec.specs.declared.fault.TowerFault.TheVariants.{EmptyLeft, ShortCount}
 use Rattle.cell_replay.specs.declared.towers.StreamFault.TheVariants as stream
-use Rattle.waiting_replies.specs.TowerTexts.{tower_text, floor_said, tower_said, SaysTower, NoTower}
+use Rattle.reply_buffer.specs.TowerTexts.{tower_text, floor_said, tower_said, SaysTower, NoTower}
 use Rattle.cell_replay.specs.TowerDemand.{AtFault, PartOf, TowersDemand}
 use Rattle.cell_replay.specs.LineStates.{Replaying, Checking, Spelling}
-use Rattle.cell_replay.specs.Demand.{Faulty, CutShort, ends_with, faulty_with, demand, demanded}
+use Rattle.cell_replay.specs.Demand.{Faulty, CutShort, ends_with, faulty_with, demand, line_demand}
 use Rattle.cell_replay.specs.WholeDemand.{Auditing, too_long_text}
 use Rattle.cell_replay.specs.AuditTexts.{verdict_text, pair_fault_text}
-use Rattle.cell_replay.specs.Forms.{auditing, clerking_with, form_of, loading, replaying}
+use Rattle.cell_replay.specs.Forms.{audit_form, clerking_with, form_of, load_form, run_form}
 use Rattle.directory.specs.declared.entry.Kind.TheVariants.{Object}
 use Rattle.record_fields.specs.declared.fault.RecordFault.TheVariants.{Trailing}
 use Rattle.image_audit.specs.declared.fact.Fact.TheVariants.{Birth, Value}
@@ -33,13 +33,13 @@ a_line_fault = refl
 
 -- ---- whole inputs
 
-form_is : form_of (codes "run" ∷ []) ≡ Some replaying
+form_is : form_of (codes "run" ∷ []) ≡ Some run_form
 form_is = refl
 
 no_form : form_of (codes "run" ∷ codes "run" ∷ []) ≡ None
 no_form = refl
 
-load_is : form_of (codes "load" ∷ codes "20000" ∷ []) ≡ Some (loading 20000)
+load_is : form_of (codes "load" ∷ codes "20000" ∷ []) ≡ Some (load_form 20000)
 unfolding number_of
 load_is = refl
 
@@ -67,7 +67,7 @@ too_much_room : form_of (codes "clerk" ∷ codes "1001" ∷ []) ≡ None
 unfolding number_of
 too_much_room = refl
 
-audit_is : form_of (codes "audit" ∷ codes "4294967295" ∷ []) ≡ Some (auditing 4294967295)
+audit_is : form_of (codes "audit" ∷ codes "4294967295" ∷ []) ≡ Some (audit_form 4294967295)
 unfolding number_of
 audit_is = refl
 
@@ -110,34 +110,34 @@ too_long = refl
 -- ---- scripts
 
 -- nothing is due for a comment, and no house is there yet; then the line is at fault, and nothing is due behind it
-three_lines : demanded (Replaying empty_cell) (codes "#" ++ (10 ∷ (codes "root 1" ++ (10 ∷ (codes "rot 1" ++ (10 ∷ (codes "root 1" ++ 10 ∷ [])))))))
+three_lines : line_demand (Replaying empty_cell) (codes "#" ++ (10 ∷ (codes "root 1" ++ (10 ∷ (codes "rot 1" ++ (10 ∷ (codes "root 1" ++ 10 ∷ [])))))))
     ≡ record { body = codes "2 refused NoHouse" ++ (10 ∷ (codes "3 fault UnknownCommand 1" ++ 10 ∷ [])); end = []; verdict = Faulty }
-unfolding digits fault_at demand number_of lines.said_by forms.counted forms.taken
+unfolding digits fault_at demand number_of lines.said_by forms.check_count forms.take_words
 three_lines = refl
 
 -- the input ends within its second line: its fault is due where nothing follows
-open_end : demanded (Replaying empty_cell) (codes "root 1" ++ (10 ∷ codes "root 1"))
+open_end : line_demand (Replaying empty_cell) (codes "root 1" ++ (10 ∷ codes "root 1"))
     ≡ record { body = codes "1 refused NoHouse" ++ 10 ∷ []; end = codes "2 fault NoLineEnd 7" ++ 10 ∷ []; verdict = CutShort }
-unfolding digits fault_at demand number_of lines.said_by forms.counted forms.taken
+unfolding digits fault_at demand number_of lines.said_by forms.check_count forms.take_words
 open_end = refl
 
 -- two lines, of which one has a command
-two_checked : demanded (Checking 0 0) (codes "#" ++ (10 ∷ (codes "root 1" ++ 10 ∷ []))) ≡ ends_with (codes "ok 2 1" ++ 10 ∷ [])
-unfolding digits fault_at demand number_of lines.said_by forms.counted forms.taken
+two_checked : line_demand (Checking 0 0) (codes "#" ++ (10 ∷ (codes "root 1" ++ 10 ∷ []))) ≡ ends_with (codes "ok 2 1" ++ 10 ∷ [])
+unfolding digits fault_at demand number_of lines.said_by forms.check_count forms.take_words
 two_checked = refl
 
 -- ---- towers
 
 mixed_case : floor_said (codes "0B:fF") ≡ Some (record { left = 11 ∷ []; right = 255 ∷ [] })
-unfolding floor_said cut decode_pairs
+unfolding floor_said cut_at_mark decode_pairs
 mixed_case = refl
 
 empty_left : floor_said (codes ":0b") ≡ None
-unfolding floor_said cut decode_pairs
+unfolding floor_said cut_at_mark decode_pairs
 empty_left = refl
 
 two_dashes : tower_said (words_of (codes "- -")) ≡ NoTower
-unfolding floor_said cut decode_pairs
+unfolding floor_said cut_at_mark decode_pairs
 two_dashes = refl
 
 -- two floors, there and back
@@ -147,12 +147,12 @@ printed = refl
 
 spelled_back : tower_said (words_of (codes "0b: 0708:01")) ≡ SaysTower
     (record { left = 11 ∷ []; right = [] } ∷ record { left = 7 ∷ 8 ∷ []; right = 1 ∷ [] } ∷ [])
-unfolding floor_said cut decode_pairs
+unfolding floor_said cut_at_mark decode_pairs
 spelled_back = refl
 
 -- a line that says no tower has no text; what stands before it is spelled
-one_spelled : demanded Spelling (codes "-" ++ (10 ∷ (codes "0b" ++ (10 ∷ (codes "-" ++ 10 ∷ []))))) ≡ faulty_with (0 ∷ 0 ∷ [])
-unfolding digits fault_at demand floor_said cut decode_pairs
+one_spelled : line_demand Spelling (codes "-" ++ (10 ∷ (codes "0b" ++ (10 ∷ (codes "-" ++ 10 ∷ []))))) ≡ faulty_with (0 ∷ 0 ∷ [])
+unfolding digits fault_at demand floor_said cut_at_mark decode_pairs
 one_spelled = refl
 
 -- a tower without floors, and the first octet of a second one

@@ -5,25 +5,25 @@ use Rattle.std.specs.declared.alloc.AllocError.{AllocError}
 use Rattle.std.specs.declared.vec.Vec.{Vec}
 use Rattle.cds_stamps.specs.declared.numbers.DirId.{DirId}
 use Rattle.cell_model.specs.Cells as model
-use Rattle.cell_script.specs.Commands as command
-use Rattle.cds_cell.specs.Standing.{Stands}
-use Rattle.line_replies.specs.Dialogues.{replied}
-use Rattle.mend_lines.specs.Lines.{mend_text}
-use Rattle.mend_lines.specs.Quiet.{running_quietly}
-use Rattle.mend_lines.specs.declared.mender.Mender.{Mender}
+use Rattle.cell_script.specs.CommandRows as command
+use Rattle.cds_cell.specs.ModelCells.{Stands}
+use Rattle.script_replay.specs.Dialogues.{reply_of}
+use Rattle.mend_replay.specs.MendLines.{mend_text}
+use Rattle.mend_replay.specs.Quiet.{running_quietly}
+use Rattle.mend_replay.specs.declared.mender.Mender.{Mender}
 use Rattle.cell_replay.specs.Demand.{end_text}
 use Rattle.house_journal.specs.MemoryDisks.{MemState}
 use Rattle.cell_script.specs.Words.{words_of}
 use Rattle.script_forms.specs.JournalLines.{said_in}
 use Rattle.cds_cell.specs.declared.cell.Cell.{Cell}
-use Rattle.waiting_replies.specs.declared.replies.LineEnd.{LineEnd}
-use Rattle.waiting_replies.specs.declared.replies.LineEnd.TheVariants as line
-use Rattle.waiting_replies.specs.LineEnds.{Ends}
-use Rattle.waiting_replies.specs.Responses.{ResponseOf, GoesOn, Stops, Fills, in_state}
-use Rattle.journal_replies.specs.Journals.{JournaledCell, journal_response}
-use Rattle.journal_replies.specs.Keeping.{LeavesDisks, StandsJournals}
-use Rattle.journal_replies.specs.declared.journals.Journals.{Journals}
-use Rattle.clerk_replies.specs.declared.replayer.ClerkReplayer.{ClerkReplayer}
+use Rattle.reply_buffer.specs.declared.replies.LineEnd.{LineEnd}
+use Rattle.reply_buffer.specs.declared.replies.LineEnd.TheVariants as line
+use Rattle.reply_buffer.specs.LineEnds.{Ends}
+use Rattle.reply_buffer.specs.Responses.{ResponseOf, GoesOn, Stops, Fills, in_state}
+use Rattle.journal_replay.specs.CellJournals.{JournaledCell, journal_response}
+use Rattle.journal_replay.specs.Keeping.{LeavesDisks, StandsJournals}
+use Rattle.journal_replay.specs.declared.journals.Journals.{Journals}
+use Rattle.clerk_replay.specs.declared.replayer.ClerkReplayer.{ClerkReplayer}
 use Rattle.cell_replay.specs.JournalRuns.{AreOnDisks, ArePut}
 use Rattle.cell_replay.specs.LineStates.{LineState, Journaling, Mending, Spelling, response}
 use Rattle.cell_replay.specs.PrivateStanding.{ClerksAt, CountsTo, IsShort, KeepsTo, MendsAt, StandsAsked, StandsAt}
@@ -83,10 +83,10 @@ journal_ends j j' e number octets waited waits state at ends = absurd at
 -- so a line ends of the form of `cdsmend`
 pub mend_ends : (m m' : Mender) (e : LineEnd) (number : ℕ) (octets waited waits : List ℕ) (state : LineState) → MendsAt m state → m'.dir ≡ m.dir
     → ((g : model.Cell) → Stands m.replayer.cell g
-    → Ends e (replied running_quietly number g (command.said_in (words_of octets))) waited waits (Stands m'.replayer.cell))
+    → Ends e (reply_of running_quietly number g (command.said_in (words_of octets))) waited waits (Stands m'.replayer.cell))
     → Ends e (response number state octets) waited waits (MendsAt m')
 mend_ends m m' e number octets waited waits (Mending d g) at same ends =
-    state_ends e (replied running_quietly number g (command.said_in (words_of octets))) (Mending d) waited waits (Stands m'.replayer.cell) (MendsAt m')
+    state_ends e (reply_of running_quietly number g (command.said_in (words_of octets))) (Mending d) waited waits (Stands m'.replayer.cell) (MendsAt m')
     (λ next stands. (ap (λ (dir : DirId). dir.0) same ∙ at.0, stands)) (ends g at.1)
 mend_ends m m' e number octets waited waits state at same ends = absurd at
 

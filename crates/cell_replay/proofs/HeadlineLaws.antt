@@ -12,14 +12,14 @@ use Rattle.cell_model.specs.Cells.{Cell, Replica, Slot, IsHeld, empty_cell}
 use Rattle.cell_model.specs.Cells as slot
 use Rattle.cell_model.specs.Commands as model
 use Rattle.cell_model.specs.Sets.{has}
-use Rattle.cell_model.specs.Steps.{accepted, is_down, is_unknown, message_at, outcome, replay, replay_from}
+use Rattle.cell_model.specs.Steps.{accepted_updates, is_down, is_unknown, message_at, outcome, replay, replay_from}
 use Rattle.cell_model.proofs.Agreeing.{converges_lem}
 use Rattle.cell_model.proofs.Runs.{replay-append}
 use Rattle.cell_model.proofs.Stamping.{raises_lem}
 use Rattle.resolver.specs.declared.refusal.Refusal.{Refusal}
 use Rattle.resolver.specs.declared.seen.Found.{Found}
 use Rattle.resolver.specs.Readers.{Reader}
-use Rattle.resolver.specs.WalkEnds.{walked}
+use Rattle.resolver.specs.WalkEnds.{walk_end}
 use Rattle.script_answers.specs.declared.answer.Answer.{Answer}
 use Rattle.script_answers.specs.declared.answer.Answer.TheVariants as answer
 use Rattle.script_answers.specs.declared.answer.ScriptRefusal.{ScriptRefusal}
@@ -31,7 +31,7 @@ use Rattle.cell_script.specs.declared.command.ScriptLine.{ScriptLine}
 use Rattle.cell_script.specs.declared.command.ScriptLine.TheVariants as line
 use Rattle.directory.specs.declared.update.UpdateRefusal.{UpdateRefusal}
 use Rattle.tower_codec.specs.declared.binding.StringBinding.{StringBinding}
-use Rattle.ns_import.specs.Imports.{IsImport, imported}
+use Rattle.ns_import.specs.Imports.{IsImport, import_list}
 use Rattle.ns_import.proofs.Importing.{import_is}
 use Rattle.ns_import.proofs.Landing.{shown_lead}
 use Rattle.cds_cell.proofs.ModelObjects.{reading_shows_only}
@@ -39,19 +39,19 @@ use Rattle.ns_import.specs.declared.fault.ImportFault.{ImportFault}
 use Rattle.ns_import.specs.declared.fault.ImportFault.TheVariants as fault
 use Rattle.ns_commands.specs.Asks.{Asks, add_element, add_member, delete_element, delete_member, export, refusal_of_walk, unexport}
 use Rattle.ns_commands.specs.Imported.{bindings_told}
-use Rattle.cds_cell.specs.Accepting.{Accepting, accepting}
-use Rattle.cds_cell.specs.Readings.{objects_of, reading}
+use Rattle.cds_cell.specs.Accepting.{Accepting, accept_in_turn}
+use Rattle.cds_cell.specs.Readings.{objects_of, cell_reader}
 use Rattle.cds_cell.specs.Recorded.{image_at, octets_of}
 use Rattle.cds_cell.specs.Scripted.{answer_of, step_of}
-use Rattle.record_fields.specs.Decoding.{decoding}
-use Rattle.cds_records.specs.Octets.{image_octets}
+use Rattle.record_fields.specs.Decoding.{decode_by}
+use Rattle.cds_records.specs.RecordOctets.{image_octets}
 use Rattle.cds_records.specs.Records.{message}
 use Rattle.record_fields.specs.declared.fault.RecordFault.{RecordFault}
 use Rattle.cds_messages.specs.declared.message.Message as recorded
-use Rattle.cell_replay.specs.Headline.{Converges, Finds, Importing, Settled, cell_behind, commands_from, commands_of, import_line, line_place}
-use Rattle.line_replies.specs.Replies.{Numbered, Said, asked_of, does, dump_told, first_target, message_told}
-use Rattle.line_replies.specs.Replies.{octets_told, question_said, refusal_behind, reply_to, says}
-use Rattle.line_replies.specs.Replies.{refusal_of_octets, slot_told, steps_of, target_of, target_read, trusted, updates_told, values_read, wanted_by}
+use Rattle.cell_replay.specs.Headline.{RunConverges, Finds, Importing, Settled, cell_after_script, commands_from, commands_of, import_line, line_place}
+use Rattle.script_replay.specs.Replies.{Numbered, Said, asked_of, does, dump_told, first_target, message_told}
+use Rattle.script_replay.specs.Replies.{octets_told, question_said, refusal_behind, reply_to, says}
+use Rattle.script_replay.specs.Replies.{refusal_of_octets, slot_told, steps_of, target_of, target_read, trusted_reader, updates_told, values_read, wanted_by}
 
 -- ---- what questions never answer
 
@@ -127,27 +127,27 @@ says_none a none t ns is = none t ns (cc (is))
 does_none : (g : Cell) (asks : Asks) → SaysNone (does g asks)
 does_none g (Err r) t ns is = refused_none r t ns (cc (is))
 does_none g (Ok c) t ns is =
-    let w : Accepting = accepting g c.house c.dir c.list in
+    let w : Accepting = accept_in_turn g c.house c.dir c.list in
     updates_none w w.refused t ns (cc (is))
 
 question_none : (g : Cell) (q : Question) → SaysNone (question_said g q)
 question_none g (question.Read h high name attr) =
-    let reader = reading g (Some h.0) high in
-    says_none (asked_of g h.0 (values_read reader attr (walked reader true name)))
-    (asked_none g h.0 (values_read reader attr (walked reader true name)) (values_none reader attr (walked reader true name)))
+    let reader = cell_reader g (Some h.0) high in
+    says_none (asked_of g h.0 (values_read reader attr (walk_end reader true name)))
+    (asked_none g h.0 (values_read reader attr (walk_end reader true name)) (values_none reader attr (walk_end reader true name)))
 question_none g (question.Readlink h high name) =
-    let reader = reading g (Some h.0) high in
-    says_none (asked_of g h.0 (target_read reader (walked reader false name)))
-    (asked_none g h.0 (target_read reader (walked reader false name)) (read_none reader (walked reader false name)))
-question_none g (question.Export name interface bindings objects) = does_none g (export (trusted g) name interface bindings objects)
-question_none g (question.Unexport name interface objects) = does_none g (unexport (trusted g) name interface objects)
-question_none g (question.Groupadd name member) = does_none g (add_member (trusted g) name member)
-question_none g (question.Groupdel name member) = does_none g (delete_member (trusted g) name member)
+    let reader = cell_reader g (Some h.0) high in
+    says_none (asked_of g h.0 (target_read reader (walk_end reader false name)))
+    (asked_none g h.0 (target_read reader (walk_end reader false name)) (read_none reader (walk_end reader false name)))
+question_none g (question.Export name interface bindings objects) = does_none g (export (trusted_reader g) name interface bindings objects)
+question_none g (question.Unexport name interface objects) = does_none g (unexport (trusted_reader g) name interface objects)
+question_none g (question.Groupadd name member) = does_none g (add_member (trusted_reader g) name member)
+question_none g (question.Groupdel name member) = does_none g (delete_member (trusted_reader g) name member)
 question_none g (question.Profadd name interface member priority note) =
-    does_none g (add_element (trusted g) name interface member priority note)
-question_none g (question.Profdel name interface member) = does_none g (delete_element (trusted g) name interface member)
+    does_none g (add_element (trusted_reader g) name interface member priority note)
+question_none g (question.Profdel name interface member) = does_none g (delete_element (trusted_reader g) name interface member)
 question_none g (question.Import h high name interface object tcp udp) =
-    let found = imported (reading g (Some h.0) high) (objects_of g) (wanted_by interface object tcp udp) name in
+    let found = import_list (cell_reader g (Some h.0) high) (objects_of g) (wanted_by interface object tcp udp) name in
     says_none (asked_of g h.0 (bindings_told found)) (asked_none g h.0 (bindings_told found) (bindings_none found))
 question_none g (question.Dump h d) = says_none (dump_told g h.0 d.0) (dump_none g h.0 d.0)
 question_none g (question.OctetsMsg n) =
@@ -155,7 +155,7 @@ question_none g (question.OctetsMsg n) =
 question_none g (question.OctetsHouse h) =
     let octets : Answer = answer.Octets (image_octets (image_at g h.0)) in
     says_none (asked_of g h.0 octets) (asked_none g h.0 octets (λ t ns is. cc (is)))
-question_none g (question.Decode octets) = says_none (message_told (decoding message octets)) (decoded_none (decoding message octets))
+question_none g (question.Decode octets) = says_none (message_told (decode_by message octets)) (decoded_none (decode_by message octets))
 
 -- ---- commands
 
@@ -196,7 +196,7 @@ commands-append g (x ∷ xs) ys =
     ∙ sym (append_assoc made rest (commands_from steps_of (replay_from g (made ++ rest)) ys))
 
 module _ (early mid : List Numbered) (l : Numbered) (c : Command) (t : Stamp) (ns : List ℕ) (is : l.says ≡ line.Cell c)
-    (answers : (outcome (cell_behind early) (step_of c)).answer ≡ model.Complete t ns) where
+    (answers : (outcome (cell_after_script early) (step_of c)).answer ≡ model.Complete t ns) where
   abbrev before : List model.Command
   before = commands_of early
 
@@ -237,24 +237,24 @@ module _ (early mid : List Numbered) (l : Numbered) (c : Command) (t : Stamp) (n
         house = found.0;
         dir = found.1;
         replica = found.2;
-        place = ap (line_place (cell_behind early)) is ∙ found.3;
+        place = ap (line_place (cell_after_script early)) is ∙ found.3;
         held = subst (λ (cs : List model.Command). IsHeld (replay cs) found.0 found.1 found.2) (sym so_far) held;
         up_to = ap (λ (r : Replica). r.all_up_to) same ∙ raised.5;
         agree = λ x r held le.
-            subst (λ (cs : List model.Command). Agrees found.1 t (accepted cs) (accepted whole) found.2.history x r) (sym so_far)
+            subst (λ (cs : List model.Command). Agrees found.1 t (accepted_updates cs) (accepted_updates whole) found.2.history x r) (sym so_far)
             (found.5 x r held le);
       }
 
 -- ---- lines
 
 -- wherever a line answers that a skulk is complete, all is settled
-pub converges : (said : List Numbered) → Converges said
+pub converges : (said : List Numbered) → RunConverges said
 converges said early mid late l t ns split answers = by_line l.says refl answers
   where
-    by_line : (s : ScriptLine) → l.says ≡ s → reply_to (cell_behind early) s ≡ Some (answer.Complete t ns) → Settled early l mid t
+    by_line : (s : ScriptLine) → l.says ≡ s → reply_to (cell_after_script early) s ≡ Some (answer.Complete t ns) → Settled early l mid t
     by_line (line.Cell c) is answers =
-        command_settles early mid l c t ns is (complete_only (outcome (cell_behind early) (step_of c)).answer t ns answers)
-    by_line (line.Question q) is answers = absurd (question_none (cell_behind early) q t ns (cc))
+        command_settles early mid l c t ns is (complete_only (outcome (cell_after_script early) (step_of c)).answer t ns answers)
+    by_line (line.Question q) is answers = absurd (question_none (cell_after_script early) q t ns (cc))
 
 -- ---- imports
 
@@ -273,15 +273,15 @@ asked_only false a bs is = cc
 -- an import that is answered with bindings in a cell that commands lead to lists those that the search reaches
 pub import_finds : (commands : List model.Command) (i : Importing) (bs : List StringBinding)
     → reply_to (replay commands) (import_line i) ≡ Some (answer.Bindings bs)
-    → IsImport (reading (replay commands) (Some i.house.0) i.high) i.wanted i.name bs
+    → IsImport (cell_reader (replay commands) (Some i.house.0) i.high) i.wanted i.name bs
 import_finds commands i bs told =
     let g : Cell = replay commands in
-    let reader = reading g (Some i.house.0) i.high in
-    let found = imported reader (objects_of g) i.wanted i.name in
+    let reader = cell_reader g (Some i.house.0) i.high in
+    let found = import_list reader (objects_of g) i.wanted i.name in
     import_is reader (objects_of g) (shown_lead reader (objects_of g) (reading_shows_only commands (Some i.house.0) i.high)) i.wanted i.name bs
     (found_only found bs (asked_only (has i.house.0 g.made) (bindings_told found) bs told))
 
 -- wherever a line imports and is answered with bindings, they are those that the search reaches
 pub finds : (said : List Numbered) → Finds said
 finds said early late l i bs split is answers =
-    import_finds (commands_of early) i bs (ap (reply_to (cell_behind early)) (sym is) ∙ answers)
+    import_finds (commands_of early) i bs (ap (reply_to (cell_after_script early)) (sym is) ∙ answers)

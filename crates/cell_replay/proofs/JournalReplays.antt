@@ -7,13 +7,13 @@ use Rattle.cell_model.proofs.Runs.{replay-append}
 use Rattle.cell_script.specs.Words.{words_of}
 use Rattle.script_forms.specs.JournalLines.{said_in}
 use Rattle.script_forms.specs.declared.journal_line.JournalLine.{JournalLine}
-use Rattle.waiting_replies.specs.Responses.{Fills, in_state}
-use Rattle.line_replies.specs.Dialogues.{NumberedOf, replied}
-use Rattle.journal_replies.specs.Journaled.{journal_said}
-use Rattle.journal_replies.specs.Journals.{JournaledCell, empty_state, journaling, lacks_room, puts_by}
+use Rattle.reply_buffer.specs.Responses.{Fills, in_state}
+use Rattle.script_replay.specs.Dialogues.{NumberedOf, reply_of}
+use Rattle.journal_replay.specs.Journaled.{journal_said}
+use Rattle.journal_replay.specs.CellJournals.{JournaledCell, empty_state, journal_dialogue, lacks_room, puts_by}
 use Rattle.cell_replay.specs.Forms.{ByLines}
 use Rattle.cell_replay.specs.Headline.{commands_from}
-use Rattle.cell_replay.specs.JournalRuns.{IsJournalReplay, effective, state_behind}
+use Rattle.cell_replay.specs.JournalRuns.{IsJournalReplay, effective, state_after_lines}
 use Rattle.cell_replay.specs.LineStates.{Journaling, response}
 use Rattle.cell_replay.specs.Runs.{IsWhole, Run, Wrote}
 use Rattle.cell_replay.proofs.HeadlineLaws.{import_finds}
@@ -23,23 +23,23 @@ use Rattle.cell_replay.proofs.Scripts.{is_filling_replay}
 
 -- the cell behind lines is the model's behind their effective commands
 cells_behind : (s : JournaledCell) (ls : List (NumberedOf JournalLine))
-    → (state_behind journaling s ls).cell ≡ replay_from s.cell (commands_from (λ g l. (journal_said g l).steps) s.cell ls)
+    → (state_after_lines journal_dialogue s ls).cell ≡ replay_from s.cell (commands_from (λ g l. (journal_said g l).steps) s.cell ls)
 cells_behind s [] = refl
 cells_behind s (l ∷ ls) =
     let steps : List Command = (journal_said s.cell l.says).steps in
-    cells_behind (journaling.after l.number s l.says) ls
+    cells_behind (journal_dialogue.after l.number s l.says) ls
     ∙ sym (replay-append steps (commands_from (λ g l. (journal_said g l).steps) (replay_from s.cell steps) ls) s.cell)
 
 -- ---- what was written
 
 -- a line is answered, or finds no room
 responds : (number : ℕ) (s : JournaledCell) (line : List ℕ)
-    → (response number (Journaling s) line ≡ in_state Journaling (replied journaling number s (said_in (words_of line))))
+    → (response number (Journaling s) line ≡ in_state Journaling (reply_of journal_dialogue number s (said_in (words_of line))))
     ⊎ (response number (Journaling s) line ≡ Fills)
 responds number s line = by (lacks_room s.lists (puts_by s (said_in (words_of line)))) refl
   where
     by : (b : Bool) → lacks_room s.lists (puts_by s (said_in (words_of line))) ≡ b
-        → (response number (Journaling s) line ≡ in_state Journaling (replied journaling number s (said_in (words_of line))))
+        → (response number (Journaling s) line ≡ in_state Journaling (reply_of journal_dialogue number s (said_in (words_of line))))
         ⊎ (response number (Journaling s) line ≡ Fills)
     by true lacks = inr (rw lacks refl)
     by false has = inl (rw has refl)
@@ -47,7 +47,7 @@ responds number s line = by (lacks_room s.lists (puts_by s (said_in (words_of li
 -- what was written, of a whole input in which nothing is faulty, is the transcript of the effective commands
 pub is_journal_replay : (run : Run) → Wrote (ByLines (Journaling empty_state)) run IsWhole → IsJournalReplay run
 is_journal_replay run wrote =
-    let replay = is_filling_replay journaling Journaling responds (λ s. refl) empty_state run wrote in
+    let replay = is_filling_replay journal_dialogue Journaling responds (λ s. refl) empty_state run wrote in
     record {
       replay = replay;
       cells = λ front rest split. cells_behind empty_state front;

@@ -4,17 +4,17 @@ use Rattle.std.proofs.Common.{arith, append_assoc, append-nil, length-append, ta
 use Rattle.std.specs.Prelude.{Option, None, Some, Ok, Err, IsTrue}
 use Rattle.std.specs.Io.KnownBytes.{Appends, Consumes, IsAtEnd}
 use Rattle.cds_base.specs.LineFaults.{AreClean, IsLine, ShowsFault, fault_at}
-use Rattle.cds_base.specs.Lines.{HasFault, HasMoved, IsNext, IsReady, given, held, kept}
-use Rattle.cds_base.specs.Reading.{GrowsByReading}
+use Rattle.cds_base.specs.Lines.{HasFault, HasMoved, IsNext, IsReady, lines_so_far, octets_ahead, fault_of_lines}
+use Rattle.cds_base.specs.SourceReading.{GrowsByReading}
 use Rattle.cds_base.specs.declared.lines.Lines.{Lines}
 use Rattle.cds_base.specs.declared.scan.LineFault.{LineFault}
 use Rattle.cds_base.specs.declared.scan.LineFault.TheVariants.{NoLineEnd, ReadFault as NotRead}
 use Rattle.cds_base.proofs.KnownOctets.{appends_more, appends_none, consumes_self}
 use Rattle.cds_base.proofs.LineAnswers.{fault_shown}
-use Rattle.waiting_replies.specs.declared.replies.LineEnd.TheVariants as line
-use Rattle.waiting_replies.specs.LineEnds.{Ends}
-use Rattle.waiting_replies.specs.Responses.{GoesOn, Stops, Fills}
-use Rattle.waiting_replies.specs.Waiting.{Flushes}
+use Rattle.reply_buffer.specs.declared.replies.LineEnd.TheVariants as line
+use Rattle.reply_buffer.specs.LineEnds.{Ends}
+use Rattle.reply_buffer.specs.Responses.{GoesOn, Stops, Fills}
+use Rattle.reply_buffer.specs.Waiting.{Flushes}
 use Rattle.cell_replay.specs.declared.endings.Status.{Status}
 use Rattle.cell_replay.specs.declared.endings.Status.TheVariants.{Ok as AllRead, BadInput, ReadFault, WriteFault, OutOfMemory, JournalFull}
 use Rattle.cell_replay.specs.Leaving.{IsLeft, LeadsTo, Leaves, LinesRead, NoneFollows}
@@ -42,7 +42,7 @@ clean_same number place (x ∷ xs) (y ∷ ys) r s first second is =
     cc (same, rest)
 
 -- clean octets begin with no whole line
-clean_unended : (number place : ℕ) (held xs r : List ℕ) → AreClean number place held → AreClean number place xs → held ≡ xs ++ 10 ∷ r → ⊥
+clean_unended : (number place : ℕ) (octets_ahead xs r : List ℕ) → AreClean number place octets_ahead → AreClean number place xs → octets_ahead ≡ xs ++ 10 ∷ r → ⊥
 clean_unended number place [] [] r clean first is = absurd (cc (is))
 clean_unended number place [] (x ∷ xs) r clean first is = absurd (cc (is))
 clean_unended number place (h ∷ hs) [] r clean first is = let same : h ≡ 10 = cc in absurd (clean.0 same)
@@ -79,12 +79,12 @@ NoneAnswered number at rest = (line more : List ℕ) → rest ≡ (line ++ 10 �
 joined : (xs r : List ℕ) → (xs ++ 10 ∷ []) ++ r ≡ xs ++ 10 ∷ r
 joined xs r = append_assoc xs (10 ∷ []) r
 
-after_clean : (number : ℕ) (at : LineState) (held : List ℕ) → AreClean number 1 held → NoneAnswered number at held
-after_clean number at held clean xs more is there =
-    absurd (clean_unended number 1 held xs more clean there.0 (is ∙ joined xs more))
+after_clean : (number : ℕ) (at : LineState) (octets_ahead : List ℕ) → AreClean number 1 octets_ahead → NoneAnswered number at octets_ahead
+after_clean number at octets_ahead clean xs more is there =
+    absurd (clean_unended number 1 octets_ahead xs more clean there.0 (is ∙ joined xs more))
 
-after_fault : (number : ℕ) (at : LineState) (held : List ℕ) (fault : LineFault) → ShowsFault number fault held → NoneAnswered number at held
-after_fault number at held fault shows xs more is there =
+after_fault : (number : ℕ) (at : LineState) (octets_ahead : List ℕ) (fault : LineFault) → ShowsFault number fault octets_ahead → NoneAnswered number at octets_ahead
+after_fault number at octets_ahead fault shows xs more is there =
     absurd (fault_unended number 1 fault shows.front xs more shows.rest shows.octet shows.clean there.0 shows.shown there.1
     (sym shows.split ∙ is ∙ joined xs more))
 
@@ -102,19 +102,19 @@ StandsOrBroke At Broken number at rest =
 -- ---- the lines so far
 
 -- the lines that were answered so far, the state behind them, and what of their text was written
-pub record LinesSo (state : LineState) (first left old new : Option (List ℕ)) (held waits : List ℕ) (count : ℕ) (at : LineState) : Type 0 where
+pub record LinesSo (state : LineState) (first left old new : Option (List ℕ)) (octets_ahead waits : List ℕ) (count : ℕ) (at : LineState) : Type 0 where
   pub lines : List (List ℕ)
   pub text : List ℕ
   pub out : List ℕ
   pub leads : LeadsTo 1 state lines text at
   pub counts : count ≡ length lines
-  pub taken : Consumes first left (text_of lines ++ held)
+  pub taken : Consumes first left (text_of lines ++ octets_ahead)
   pub written : Appends old new out
   pub said : out ++ waits ≡ text
 
-pub none_so : (state : LineState) (first old : Option (List ℕ)) (held waits : List ℕ) (count : ℕ) → held ≡ [] → waits ≡ [] → count ≡ 0
-    → LinesSo state first first old old held waits count state
-none_so state first old held waits count none nothing zero_count = record {
+pub none_so : (state : LineState) (first old : Option (List ℕ)) (octets_ahead waits : List ℕ) (count : ℕ) → octets_ahead ≡ [] → waits ≡ [] → count ≡ 0
+    → LinesSo state first first old old octets_ahead waits count state
+none_so state first old octets_ahead waits count none nothing zero_count = record {
   lines = [];
   text = [];
   out = [];
@@ -159,11 +159,11 @@ text_more (l ∷ ls) line =
 length_more : (lines : List (List ℕ)) (line : List ℕ) → length (lines ++ line ∷ []) ≡ length lines + 1
 length_more lines line = let size = length-append lines (line ∷ []) in omega (arith, size)
 
-module _ (state : LineState) (first left old new : Option (List ℕ)) (held waits : List ℕ) (count : ℕ) (at : LineState)
-    (s : LinesSo state first left old new held waits count at) where
+module _ (state : LineState) (first left old new : Option (List ℕ)) (octets_ahead waits : List ℕ) (count : ℕ) (at : LineState)
+    (s : LinesSo state first left old new octets_ahead waits count at) where
   -- a part of what waits went out
   pub flushed_so : (new' : Option (List ℕ)) (waits' : List ℕ) (ready : Bool) → Flushes new new' waits waits' ready
-      → LinesSo state first left old new' held waits' count at
+      → LinesSo state first left old new' octets_ahead waits' count at
   flushed_so new' waits' ready writes = record {
     lines = s.lines;
     text = s.text;
@@ -181,9 +181,9 @@ module _ (state : LineState) (first left old new : Option (List ℕ)) (held wait
 
   -- a line more is answered
   module _ (left' : Option (List ℕ)) (held' line' : List ℕ) (number : ℕ) (is_next : number ≡ count + 1) (is_line : IsLine number line')
-      (grows : GrowsByReading left left' held ((line' ++ 10 ∷ []) ++ held')) where
+      (grows : GrowsByReading left left' octets_ahead ((line' ++ 10 ∷ []) ++ held')) where
     took : Consumes first left' (text_of s.lines ++ ((line' ++ 10 ∷ []) ++ held'))
-    took = reads_on first left left' (text_of s.lines) held ((line' ++ 10 ∷ []) ++ held') s.taken grows
+    took = reads_on first left left' (text_of s.lines) octets_ahead ((line' ++ 10 ∷ []) ++ held') s.taken grows
 
     pub answered_so : (said : List ℕ) (next : LineState) (waits' : List ℕ) → response number at line' ≡ GoesOn said next → waits' ≡ waits ++ said
         → LinesSo state first left' old new held' waits' (count + 1) next
@@ -281,7 +281,7 @@ module _ (state : LineState) (first left old new : Option (List ℕ)) (held wait
 
 module _ {S : Type 0} (left_of : S → Option (List ℕ)) (faults_of : S → ℕ) (source source' : S)
     (state : LineState) (first old new : Option (List ℕ)) (reads writes : ℕ) (lines lines' : Lines) (waits : List ℕ) (at : LineState)
-    (s : LinesSo state first (left_of source) old new (held lines) waits (given lines) at) (unbroken : kept lines ≡ None) where
+    (s : LinesSo state first (left_of source) old new (octets_ahead lines) waits (lines_so_far lines) at) (unbroken : fault_of_lines lines ≡ None) where
   abbrev left : Option (List ℕ)
   left = left_of source
 
@@ -297,26 +297,26 @@ module _ {S : Type 0} (left_of : S → Option (List ℕ)) (faults_of : S → ℕ
     is_line = subst (λ n. IsLine n octets) (sym next.answer.0) next.answer.1
 
     abbrev rest : List ℕ
-    rest = (octets ++ 10 ∷ []) ++ held lines'
+    rest = (octets ++ 10 ∷ []) ++ octets_ahead lines'
 
     taken : Consumes first left' (text_of s.lines ++ rest)
-    taken = took state first left old new (held lines) waits (given lines) at s left' (held lines') octets number next.answer.0 is_line next.answer.2
+    taken = took state first left old new (octets_ahead lines) waits (lines_so_far lines) at s left' (octets_ahead lines') octets number next.answer.0 is_line next.answer.2
 
     number_so : number ≡ length s.lines + 1
-    number_so = number_is state first left old new (held lines) waits (given lines) at s number next.answer.0
+    number_so = number_is state first left old new (octets_ahead lines) waits (lines_so_far lines) at s number next.answer.0
 
     -- the form goes on
     pub goes_on_so : (At : LineState → Type 0) → Ends line.GoesOn (response number at octets) waits waits' At
-        → (at' : LineState) × At at' × LinesSo state first left' old new (held lines') waits' (given lines') at'
+        → (at' : LineState) × At at' × LinesSo state first left' old new (octets_ahead lines') waits' (lines_so_far lines') at'
     goes_on_so At ends = by (response number at octets) refl ends
       where
         by : (r : Response) → response number at octets ≡ r → Ends line.GoesOn r waits waits' At
-            → (at' : LineState) × At at' × LinesSo state first left' old new (held lines') waits' (given lines') at'
+            → (at' : LineState) × At at' × LinesSo state first left' old new (octets_ahead lines') waits' (lines_so_far lines') at'
         by (GoesOn text then) is ends = (
           then,
           ends.1,
-          subst (λ n. LinesSo state first left' old new (held lines') waits' n then) (sym next.number)
-              (answered_so state first left old new (held lines) waits (given lines) at s left' (held lines') octets number next.answer.0 is_line
+          subst (λ n. LinesSo state first left' old new (octets_ahead lines') waits' n then) (sym next.number)
+              (answered_so state first left old new (octets_ahead lines) waits (lines_so_far lines) at s left' (octets_ahead lines') octets number next.answer.0 is_line
               next.answer.2 text then waits' is ends.0),
         )
         by (Stops text) is ends = absurd ends
@@ -335,29 +335,29 @@ module _ {S : Type 0} (left_of : S → Option (List ℕ)) (faults_of : S → ℕ
           by (GoesOn text then) is ends = absurd ends
           by Fills is ends = absurd ends
           by (Stops text) is ends =
-              last_so state first left old new (held lines) waits (given lines) at s At Broken left' new' reads (faults_of source') writes mid writes' rest
+              last_so state first left old new (octets_ahead lines) waits (lines_so_far lines) at s At Broken left' new' reads (faults_of source') writes mid writes' rest
               taken text waits' BadInput result ends finished
-              (after_stopped (given lines + 1) at octets (held lines') text next.answer.1 (subst (λ n. response n at octets ≡ Stops text) next.answer.0 is))
+              (after_stopped (lines_so_far lines + 1) at octets (octets_ahead lines') text next.answer.1 (subst (λ n. response n at octets ≡ Stops text) next.answer.0 is))
               stands (λ b none same front is. (b, none, front, is))
 
       broke : Broken number at octets → StandsOrBroke At Broken (length s.lines + 1) at rest
       broke broken =
-          inr (octets, held lines', refl, subst (λ n. IsLine n octets) number_so is_line, subst (λ n. Broken n at octets) number_so broken)
+          inr (octets, octets_ahead lines', refl, subst (λ n. IsLine n octets) number_so is_line, subst (λ n. Broken n at octets) number_so broken)
 
       -- there was no memory for it
       pub memory_so : waits' ≡ waits → Finishes (side new mid) (side new' writes') waits' OutOfMemory result → Broken number at octets
           → Leaves At Broken state ran result
       memory_so same finished broken =
-          all_so state first left old new (held lines) waits (given lines) at s At Broken left' new' reads (faults_of source') writes mid writes' rest
+          all_so state first left old new (octets_ahead lines) waits (lines_so_far lines) at s At Broken left' new' reads (faults_of source') writes mid writes' rest
           taken waits' OutOfMemory result same finished (broke broken)
           (λ went all. (
-            read_so state first left old new (held lines) waits (given lines) at s At Broken left' new' reads (faults_of source') writes mid writes'
+            read_so state first left old new (octets_ahead lines) waits (lines_so_far lines) at s At Broken left' new' reads (faults_of source') writes mid writes'
                 rest taken (s.out ++ waits') went,
             all,
             inr (
               octets,
               record {
-                more = held lines';
+                more = octets_ahead lines';
                 splits = refl;
                 is_line = subst (λ n. IsLine n octets) number_so is_line;
                 broken = subst (λ n. Broken n at octets) number_so broken;
@@ -374,16 +374,16 @@ module _ {S : Type 0} (left_of : S → Option (List ℕ)) (faults_of : S → ℕ
           by (GoesOn text then) is ends = absurd ends
           by (Stops text) is ends = absurd ends
           by Fills is ends =
-              all_so state first left old new (held lines) waits (given lines) at s At Broken left' new' reads (faults_of source') writes mid writes' rest
+              all_so state first left old new (octets_ahead lines) waits (lines_so_far lines) at s At Broken left' new' reads (faults_of source') writes mid writes' rest
               taken waits' JournalFull result ends finished (broke broken)
               (λ went all. (
-                read_so state first left old new (held lines) waits (given lines) at s At Broken left' new' reads (faults_of source') writes mid
+                read_so state first left old new (octets_ahead lines) waits (lines_so_far lines) at s At Broken left' new' reads (faults_of source') writes mid
                     writes' rest taken (s.out ++ waits') went,
                 all,
                 (
                   octets,
                   record {
-                    more = held lines';
+                    more = octets_ahead lines';
                     splits = refl;
                     is_line = subst (λ n. IsLine n octets) number_so is_line;
                     broken = subst (λ n. Broken n at octets) number_so broken;
@@ -393,42 +393,42 @@ module _ {S : Type 0} (left_of : S → Option (List ℕ)) (faults_of : S → ℕ
               ))
 
   -- nothing more is taken
-  module _ (grows : GrowsByReading left left' (held lines) (held lines')) (At : LineState → Type 0) (Broken : ℕ → LineState → List ℕ → Type 0)
+  module _ (grows : GrowsByReading left left' (octets_ahead lines) (octets_ahead lines')) (At : LineState → Type 0) (Broken : ℕ → LineState → List ℕ → Type 0)
       (new' : Option (List ℕ)) (mid writes' : ℕ) (result : Status) where
     abbrev ends : Run
     ends = between (side first reads) (side left' (faults_of source')) (side old writes) (side new' writes')
 
-    taken_so : Consumes first left' (text_of s.lines ++ held lines')
-    taken_so = reads_on first left left' (text_of s.lines) (held lines) (held lines') s.taken grows
+    taken_so : Consumes first left' (text_of s.lines ++ octets_ahead lines')
+    taken_so = reads_on first left left' (text_of s.lines) (octets_ahead lines) (octets_ahead lines') s.taken grows
 
     -- the input ended
-    pub all_read_so : held lines' ≡ [] → (text : List ℕ) → StopsWith (side new mid) (side new' writes') AllRead text waits result → At at
+    pub all_read_so : octets_ahead lines' ≡ [] → (text : List ℕ) → StopsWith (side new mid) (side new' writes') AllRead text waits result → At at
         → Leaves At Broken state ends result
     all_read_so none text stops stands =
-        stopped_so state first left old new (held lines) waits (given lines) at s At Broken left' new' reads (faults_of source') writes mid writes'
-        (held lines') taken_so text AllRead result stops (after_clean (given lines + 1) at (held lines') (subst (λ l. AreClean (given lines + 1) 1 l) (sym none) tt))
+        stopped_so state first left old new (octets_ahead lines) waits (lines_so_far lines) at s At Broken left' new' reads (faults_of source') writes mid writes'
+        (octets_ahead lines') taken_so text AllRead result stops (after_clean (lines_so_far lines + 1) at (octets_ahead lines') (subst (λ l. AreClean (lines_so_far lines + 1) 1 l) (sym none) tt))
         stands (λ b follows same front is. (b, same ∙ none, front, is))
 
     -- the octets show a fault, or end within a line
-    pub broken_so : (fault : LineFault) → ShowsFault (given lines + 1) fault (held lines') ⊎ AreClean (given lines + 1) 1 (held lines')
+    pub broken_so : (fault : LineFault) → ShowsFault (lines_so_far lines + 1) fault (octets_ahead lines') ⊎ AreClean (lines_so_far lines + 1) 1 (octets_ahead lines')
         → (text : List ℕ) → StopsWith (side new mid) (side new' writes') BadInput text waits result → At at
         → Leaves At Broken state ends result
     broken_so fault shown text stops stands =
-        stopped_so state first left old new (held lines) waits (given lines) at s At Broken left' new' reads (faults_of source') writes mid writes'
-        (held lines') taken_so text BadInput result stops (by shown)
+        stopped_so state first left old new (octets_ahead lines) waits (lines_so_far lines) at s At Broken left' new' reads (faults_of source') writes mid writes'
+        (octets_ahead lines') taken_so text BadInput result stops (by shown)
         stands (λ b follows same front is. (b, follows, front, is))
       where
-        by : ShowsFault (given lines + 1) fault (held lines') ⊎ AreClean (given lines + 1) 1 (held lines') → NoneAnswered (given lines + 1) at (held lines')
-        by (inl shows) = after_fault (given lines + 1) at (held lines') fault shows
-        by (inr clean) = after_clean (given lines + 1) at (held lines') clean
+        by : ShowsFault (lines_so_far lines + 1) fault (octets_ahead lines') ⊎ AreClean (lines_so_far lines + 1) 1 (octets_ahead lines') → NoneAnswered (lines_so_far lines + 1) at (octets_ahead lines')
+        by (inl shows) = after_fault (lines_so_far lines + 1) at (octets_ahead lines') fault shows
+        by (inr clean) = after_clean (lines_so_far lines + 1) at (octets_ahead lines') clean
 
     -- a read failed, where nothing waited
-    pub unread_so : AreClean (given lines + 1) 1 (held lines') → waits ≡ [] → new' ≡ new → At at → Leaves At Broken state ends ReadFault
+    pub unread_so : AreClean (lines_so_far lines + 1) 1 (octets_ahead lines') → waits ≡ [] → new' ≡ new → At at → Leaves At Broken state ends ReadFault
     unread_so clean none same stands = (
-      read_so state first left old new (held lines) waits (given lines) at s At Broken left' new' reads (faults_of source') writes mid writes'
-          (held lines') taken_so s.out (subst (λ n. Appends old n s.out) (sym same) s.written),
-      none_follows state first left old new (held lines) waits (given lines) at s At Broken left' new' reads (faults_of source') writes mid writes'
-          (held lines') taken_so (after_clean (given lines + 1) at (held lines') clean),
+      read_so state first left old new (octets_ahead lines) waits (lines_so_far lines) at s At Broken left' new' reads (faults_of source') writes mid writes'
+          (octets_ahead lines') taken_so s.out (subst (λ n. Appends old n s.out) (sym same) s.written),
+      none_follows state first left old new (octets_ahead lines) waits (lines_so_far lines) at s At Broken left' new' reads (faults_of source') writes mid writes'
+          (octets_ahead lines') taken_so (after_clean (lines_so_far lines + 1) at (octets_ahead lines') clean),
       sym (append-nil s.out) ∙ ap (λ (w : List ℕ). s.out ++ w) (sym none) ∙ s.said,
       stands,
     )
@@ -458,14 +458,14 @@ module _ {S : Type 0} (left_of : S → Option (List ℕ)) (faults_of : S → ℕ
     failed : fault ≡ NotRead → (waits ≡ []) ⊎ IsReady lines → ended ReadFault
     failed is (inr ready) = absurd ((moved.ready ready).1 unbroken (ap (λ (f : LineFault). Err f) is))
     failed is (inl none) =
-        let clean : HasFault (given lines + 1) (held lines') left' NotRead =
-        subst (λ f. HasFault (given lines + 1) (held lines') left' f) is no_line.answer.1 in
+        let clean : HasFault (lines_so_far lines + 1) (octets_ahead lines') left' NotRead =
+        subst (λ f. HasFault (lines_so_far lines + 1) (octets_ahead lines') left' f) is no_line.answer.1 in
         unread_so no_line.answer.0 At Broken (written_of sink') (failed_of sink) (failed_of sink') result clean none
         (ap written_of (read is).1 ∙ at_sink) stands
 
-    shown : ShowsFault (given lines + 1) fault (held lines') ⊎ (IsAtEnd left' × AreClean (given lines + 1) 1 (held lines') × (0 < length (held lines'))
-        × (fault ≡ NoLineEnd (given lines + 1) (length (held lines') + 1)))
-        → ShowsFault (given lines + 1) fault (held lines') ⊎ AreClean (given lines + 1) 1 (held lines')
+    shown : ShowsFault (lines_so_far lines + 1) fault (octets_ahead lines') ⊎ (IsAtEnd left' × AreClean (lines_so_far lines + 1) 1 (octets_ahead lines') × (0 < length (octets_ahead lines'))
+        × (fault ≡ NoLineEnd (lines_so_far lines + 1) (length (octets_ahead lines') + 1)))
+        → ShowsFault (lines_so_far lines + 1) fault (octets_ahead lines') ⊎ AreClean (lines_so_far lines + 1) 1 (octets_ahead lines')
     shown (inl shows) = inl shows
     shown (inr ended) = inr ended.1
 
@@ -473,7 +473,7 @@ module _ {S : Type 0} (left_of : S → Option (List ℕ)) (faults_of : S → ℕ
     by_fault (inl is) = subst ended (sym (read is).0) (failed is way)
     by_fault (inr is) =
         broken_so no_line.answer.0 At Broken (written_of sink') (failed_of sink) (failed_of sink') result fault
-        (shown (fault_shown (given lines + 1) (held lines') left' fault no_line.answer.1 is)) text
+        (shown (fault_shown (lines_so_far lines + 1) (octets_ahead lines') left' fault no_line.answer.1 is)) text
         (subst (λ (w : Option (List ℕ)). StopsWith (side w (failed_of sink)) (side (written_of sink') (failed_of sink')) BadInput text waits result)
         at_sink (other is)) stands
 
@@ -500,12 +500,12 @@ unread_left At Broken state left old reads writes stands = (
 
 -- a write failed between two lines
 pub write_fails_so : (At : LineState → Type 0) (Broken : ℕ → LineState → List ℕ → Type 0) (state : LineState) (first left old new : Option (List ℕ))
-    (held waits : List ℕ) (count : ℕ) (at : LineState) (s : LinesSo state first left old new held waits count at) (new' : Option (List ℕ))
+    (octets_ahead waits : List ℕ) (count : ℕ) (at : LineState) (s : LinesSo state first left old new octets_ahead waits count at) (new' : Option (List ℕ))
     (reads reads' writes writes' k : ℕ) → Appends new new' (take k waits) → At at
     → Leaves At Broken state (between (side first reads) (side left reads') (side old writes) (side new' writes')) WriteFault
-write_fails_so At Broken state first left old new held waits count at s new' reads reads' writes writes' k went stands =
-    unwritten_so state first left old new held waits count at s At Broken left new' reads reads' writes writes writes' held s.taken k waits went
-    (inl (part_waits state first left old new held waits count at s At Broken left new' reads reads' writes writes writes' held s.taken k)) (inl stands)
+write_fails_so At Broken state first left old new octets_ahead waits count at s new' reads reads' writes writes' k went stands =
+    unwritten_so state first left old new octets_ahead waits count at s At Broken left new' reads reads' writes writes writes' octets_ahead s.taken k waits went
+    (inl (part_waits state first left old new octets_ahead waits count at s At Broken left new' reads reads' writes writes writes' octets_ahead s.taken k)) (inl stands)
 
 -- nothing waits, or the next line is there already
 pub nothing_or_ready : (old new : Option (List ℕ)) (waited waits : List ℕ) (lines : Lines) {ready : Bool} → Flushes old new waited waits ready

@@ -2,12 +2,12 @@
 use Rattle.std.proofs.Common.{◌≡◌, ℕ, zero, suc, ◌+◌, List, [], ◌∷◌, ◌++◌, length, refl, sym, ap, ◌∙◌, subst, arith, length-append}
 use Rattle.std.specs.Prelude.{Option, Some, None, IfSome, slice_get}
 use Rattle.house_journal.specs.MemoryDisks.{MemState}
-use Rattle.house_journal.specs.Records.{images}
+use Rattle.house_journal.specs.JournalRecords.{images}
 use Rattle.house_journal.specs.declared.step.Stop.TheVariants.{Never}
-use Rattle.kept_journals.specs.KeptJournals.{Holds, IsNew}
-use Rattle.kept_journals.proofs.Leaving.{new_holds, no_images}
-use Rattle.journal_replies.specs.Disks.{AreNew}
-use Rattle.journal_replies.specs.Journals.{empty_state}
+use Rattle.disk_journals.specs.KeptJournals.{Holds, IsNew}
+use Rattle.disk_journals.proofs.Leaving.{new_holds, no_images}
+use Rattle.journal_replay.specs.CellDisks.{AreNew}
+use Rattle.journal_replay.specs.CellJournals.{empty_state}
 use Rattle.cell_replay.specs.JournalRuns.{AreOnDisks}
 use Rattle.cell_replay.specs.LineStates.{Journaling}
 

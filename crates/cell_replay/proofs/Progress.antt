@@ -5,13 +5,13 @@ use Rattle.std.proofs.Common.{append_assoc, append-nil, length-append, take-appe
 use Rattle.std.specs.Prelude.{Option, None, Some, IfSome, IsTrue}
 use Rattle.std.specs.Io.KnownBytes.{Consumes, Appends}
 use Rattle.cds_base.specs.Counts.{Rose}
-use Rattle.cds_base.specs.Reading.{GrowsByReading}
+use Rattle.cds_base.specs.SourceReading.{GrowsByReading}
 use Rattle.cds_base.proofs.KnownOctets.{appends_none, appends_more, consumes_self, consumes_more}
 use Rattle.cell_replay.specs.Demand.{Demand, IsUnbroken, with_front}
 use Rattle.cell_replay.specs.Forms.{FormState, Demands}
 use Rattle.cell_replay.specs.declared.endings.Status.{Status}
 use Rattle.cell_replay.specs.declared.endings.Status.TheVariants.{Ok as AllRead, Usage, BadInput, ReadFault, WriteFault, OutOfMemory, JournalFull}
-use Rattle.waiting_replies.specs.Waiting.{Flushes}
+use Rattle.reply_buffer.specs.Waiting.{Flushes}
 use Rattle.cell_replay.specs.Runs.{IsFront, Wrote, IsWhole, IsFaulty, IsFilled, IsBody, CameLate, HasReadAll, WroteAllBefore, IsPart, IsCutShort}
 use Rattle.cell_replay.specs.Runs.{IsTakenAtOnce, read_ahead, WroteSoon, AnswersFront}
 use Rattle.cell_replay.specs.PrivateEndings.{IsDue, IsQueued, Finishes, StopsWith, side, between, EndsBetween}

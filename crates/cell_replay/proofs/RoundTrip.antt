@@ -21,16 +21,16 @@ use Rattle.tower_codec.proofs.Grammar.{IsBytes-rest, IsBytes-tail}
 use Rattle.tower_codec.proofs.SpellingLaws.{tower_spelled}
 use Rattle.tower_codec.proofs.Cuts.{lacks, cut_again}
 use Rattle.cell_script.specs.Words.{words_of}
-use Rattle.waiting_replies.specs.TowerTexts.{floor_text, floors_text, floor_of_parts, floor_said, floors_said, is_dash, TowerLine, SaysNothing, SaysTower}
-use Rattle.waiting_replies.specs.TowerTexts.{short_tower, tower_in, tower_said}
-use Rattle.cell_replay.specs.Demand.{Demand, Sound, then_rest, with_front, demanded, whole}
-use Rattle.waiting_replies.specs.Responses.{in_state, spelled}
+use Rattle.reply_buffer.specs.TowerTexts.{floor_text, floors_text, floor_of_parts, floor_said, floors_said, is_dash, TowerLine, SaysNothing, SaysTower}
+use Rattle.reply_buffer.specs.TowerTexts.{short_tower, tower_in, tower_said}
+use Rattle.cell_replay.specs.Demand.{Demand, Sound, then_rest, with_front, line_demand, whole}
+use Rattle.reply_buffer.specs.Responses.{in_state, spell_response}
 use Rattle.cell_replay.specs.LineStates.{Spelling}
 use Rattle.cell_replay.specs.TowerDemand.{Rest, Nothing, AtFault, PartOf, AreTowers, towers_demand, TowersDemand}
 use Rattle.cell_replay.proofs.Scanning.{scanned, demanded_scanned}
 use Rattle.cell_replay.proofs.Demands.{demand_line, demand_part}
 use Rattle.cell_replay.proofs.Streams.{IsBytes-front}
-use Rattle.waiting_replies.proofs.TowerLines.{short}
+use Rattle.reply_buffer.proofs.TowerLines.{short}
 use Rattle.cell_replay.proofs.TowerTurns.{taken_short}
 
 -- ---- octets of hexadecimal text: digits, and the marks between them
@@ -321,8 +321,8 @@ readable_floors (f ∷ fs) fits bytes =
 
 readable : (fs : List Floor) (octets : List ℕ) → IsBytes octets → IsTower fs octets → AreReadable fs
 readable fs octets bytes tower =
-    let spelled = tower_spelled fs octets tower in
-    readable_floors fs spelled.0.1 (IsBytes-rest (number_octets (length fs)) (flat_map floor_octets fs) (subst IsBytes spelled.1 bytes))
+    let spell_response = tower_spelled fs octets tower in
+    readable_floors fs spell_response.0.1 (IsBytes-rest (number_octets (length fs)) (flat_map floor_octets fs) (subst IsBytes spell_response.1 bytes))
 
 -- ---- all towers
 
@@ -340,7 +340,7 @@ lines_again number octets (f ∷ ts) bytes are =
     let few = taken_short number f front taken in
     let later : scanned (number + 1) Spelling [] rest ≡ whole behind = lines_again (number + 1) behind ts (IsBytes-rest front behind split_bytes) are.4 in
     demand_line number Spelling (floors_text f) rest (tower_is_line number f taken.0 all few)
-    ∙ ap (λ (t : TowerLine). then_rest (in_state (λ _. Spelling) (spelled t)) (λ next. scanned (number + 1) next [] rest)) (says_again f all few)
+    ∙ ap (λ (t : TowerLine). then_rest (in_state (λ _. Spelling) (spell_response t)) (λ next. scanned (number + 1) next [] rest)) (says_again f all few)
     ∙ ap (with_front (tower_octets f)) later
     ∙ ap (λ (l : List ℕ). whole (l ++ behind)) (sym spelling)
     ∙ ap whole (sym are.2)
@@ -357,7 +357,7 @@ no_end number (t ∷ ts) = no_end (number + 1) ts
 
 -- `untowers` gives back the octets whose text `towers` wrote
 pub towers_again : (octets : List ℕ) (d : Demand) → IsBytes octets → TowersDemand 1 octets d → d.verdict ≡ Sound
-    → demanded Spelling (d.body ++ d.end) ≡ whole octets
+    → line_demand Spelling (d.body ++ d.end) ≡ whole octets
 towers_again octets d bytes demands sound =
     let none : demands.1 ≡ Nothing = sound_rest 1 demands.0 demands.1 (ap (λ (x : Demand). x.verdict) demands.3 ∙ sound) in
     let are : AreTowers 1 octets demands.0 Nothing = subst (AreTowers 1 octets demands.0) none demands.2 in

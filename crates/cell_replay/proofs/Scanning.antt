@@ -9,7 +9,7 @@ use Rattle.std.proofs.lemmas.List.Splits.{length-slice_split}
 use Rattle.cds_base.specs.declared.scan.LineFault.{LineFault}
 use Rattle.cds_base.specs.LineFaults.{fault_at, AreClean}
 use Rattle.cell_replay.specs.LineStates.{LineState, response}
-use Rattle.cell_replay.specs.Demand.{Demand, demand, demanded, first_fault, pieces_of, at_end, told_fault, unless_fault, then_rest}
+use Rattle.cell_replay.specs.Demand.{Demand, demand, line_demand, first_fault, pieces_of, at_end, told_fault, unless_fault, then_rest}
 use Rattle.cell_replay.specs.Demand.{faulty_with}
 
 -- where this much has come of line number: an octet is at fault, or ends the line, or joins it
@@ -135,5 +135,5 @@ scanned_pieces number state line (b ∷ bs) clean =
     by_ten behind joined false is = by_fault joined is (fault_at number (length line + 1) b) refl
 
 -- what an input demands, octet by octet
-pub demanded_scanned : (state : LineState) (octets : List ℕ) → demanded state octets ≡ scanned 1 state [] octets
+pub demanded_scanned : (state : LineState) (octets : List ℕ) → line_demand state octets ≡ scanned 1 state [] octets
 demanded_scanned state octets = ap (demand 1 state) (sym (glued_none (pieces_of octets) (some_pieces octets))) ∙ scanned_pieces 1 state [] octets tt

@@ -8,20 +8,20 @@ use Rattle.cds_base.specs.LineFaults.{fault_at, AreClean, IsLine}
 use Rattle.cell_model.specs.Cells.{Cell, empty_cell}
 use Rattle.cell_script.specs.declared.fault.ParseFault.{ParseFault}
 use Rattle.cell_script.specs.Words.{words_of}
-use Rattle.waiting_replies.specs.Responses.{GoesOn, Stops, Fills, in_state}
-use Rattle.line_replies.specs.Dialogues.{Dialogue, NumberedOf, replied, transcript_by}
-use Rattle.line_replies.specs.Replies.{Numbered, running, transcript}
-use Rattle.clerk_replies.specs.Clerking.{Clerked, clerking, start}
+use Rattle.reply_buffer.specs.Responses.{GoesOn, Stops, Fills, in_state}
+use Rattle.script_replay.specs.Dialogues.{Dialogue, NumberedOf, reply_of, transcript_by}
+use Rattle.script_replay.specs.Replies.{Numbered, run_dialogue, transcript}
+use Rattle.clerk_replay.specs.Clerking.{Clerked, clerk_dialogue, start}
 use Rattle.cell_replay.specs.LineStates.{LineState, Replaying, Clerking, Response, response, Inquiring}
-use Rattle.cell_replay.specs.Demand.{Demand, Sound, Faulty, demanded, end_text, told_fault}
+use Rattle.cell_replay.specs.Demand.{Demand, Sound, Faulty, line_demand, end_text, told_fault}
 use Rattle.cell_replay.specs.Demand.{unless_fault, then_rest, with_front, whole}
-use Rattle.cell_replay.specs.Forms.{ByLines, clerking_with, replaying, inquiring_form}
+use Rattle.cell_replay.specs.Forms.{ByLines, clerking_with, run_form, inquiring_form}
 use Rattle.script_forms.specs.declared.inquire_line.InquireLine.{InquireLine}
 use Rattle.script_forms.specs.InquireLines.{inquired_in}
-use Rattle.inquiry_replies.specs.Inquiring.{inquiring}
+use Rattle.inquire_replay.specs.Inquiring.{inquire_dialogue}
 use Rattle.cell_replay.specs.Runs.{IsFront, Run, Wrote, IsWhole}
 use Rattle.cell_replay.specs.Scripts.{text_of, Says, IsScript, IsScriptOf, IsReplay, IsReplayBy}
-use Rattle.cell_replay.specs.JournalRuns.{state_behind}
+use Rattle.cell_replay.specs.JournalRuns.{state_after_lines}
 use Rattle.cell_replay.proofs.Scanning.{scanned, demanded_scanned, clean_more, is_ten, no_ten}
 use Rattle.cell_replay.proofs.Demands.{demand_line, demand_part}
 use Rattle.cell_replay.proofs.HeadlineLaws.{converges, finds}
@@ -34,12 +34,12 @@ told_with text end = record { body = text; end = end; verdict = Sound }
 
 -- what a script demands of a form whose state stands for a state of the program: its transcript, and what is said at the end of its input
 abbrev pub due : {S L : Type 0} → Dialogue S L → (S → LineState) → S → List (NumberedOf L) → Demand
-due d state_of s said = told_with (transcript_by d s said) (end_text (state_of (state_behind d s said)))
+due d state_of s said = told_with (transcript_by d s said) (end_text (state_of (state_after_lines d s said)))
 
 -- a form that answers line by line, or finds no room in a journal; its state stands for a state of the program
 module _ {S L : Type 0} (d : Dialogue S L) (state_of : S → LineState)
     (responds : (number : ℕ) (s : S) (line : List ℕ)
-    → (response number (state_of s) line ≡ in_state state_of (replied d number s (d.says (words_of line)))) ⊎ (response number (state_of s) line ≡ Fills)) where
+    → (response number (state_of s) line ≡ in_state state_of (reply_of d number s (d.says (words_of line)))) ⊎ (response number (state_of s) line ≡ Fills)) where
   -- lines that are the octets of an input, what they say, and that this is what the input demands
   abbrev Script : ℕ → S → List ℕ → Demand → Type 0
   Script number s octets e =
@@ -65,8 +65,8 @@ module _ {S L : Type 0} (d : Dialogue S L) (state_of : S → LineState)
           ∙ sym (append_assoc line (10 ∷ []) (text_of lines))
 
       by_saying : Follows (number + 1) bs → IsLine number line → b ≡ 10 → (r : Result (Option L) ParseFault) → d.says (words_of line) ≡ r
-          → (then_rest (in_state state_of (replied d number s r)) (λ next. scanned (number + 1) next [] bs)).verdict ≡ Sound
-          → Script number s (line ++ b ∷ bs) (then_rest (in_state state_of (replied d number s r)) (λ next. scanned (number + 1) next [] bs))
+          → (then_rest (in_state state_of (reply_of d number s r)) (λ next. scanned (number + 1) next [] bs)).verdict ≡ Sound
+          → Script number s (line ++ b ∷ bs) (then_rest (in_state state_of (reply_of d number s r)) (λ next. scanned (number + 1) next [] bs))
       by_saying behind is ten (Ok None) says sound =
           let rest = behind s sound in (
             line ∷ rest.0,
@@ -90,7 +90,7 @@ module _ {S L : Type 0} (d : Dialogue S L) (state_of : S → LineState)
       by_saying behind is ten (Err fault) says sound = absurd (cc (sound))
 
       by_response : Follows (number + 1) bs → IsLine number line → b ≡ 10 → (r : Response)
-          → (r ≡ in_state state_of (replied d number s (d.says (words_of line)))) ⊎ (r ≡ Fills) → (then_rest r (λ next. scanned (number + 1) next [] bs)).verdict ≡ Sound
+          → (r ≡ in_state state_of (reply_of d number s (d.says (words_of line)))) ⊎ (r ≡ Fills) → (then_rest r (λ next. scanned (number + 1) next [] bs)).verdict ≡ Sound
           → Script number s (line ++ b ∷ bs) (then_rest r (λ next. scanned (number + 1) next [] bs))
       by_response behind is ten r (inl same) =
           subst (λ (r : Response). (then_rest r (λ next. scanned (number + 1) next [] bs)).verdict ≡ Sound → Script number s (line ++ b ∷ bs) (then_rest r (λ next. scanned (number + 1) next [] bs))) (sym same)
@@ -125,7 +125,7 @@ module _ {S L : Type 0} (d : Dialogue S L) (state_of : S → LineState)
       by_fault behind joined (Some fault) is sound = absurd (cc (sound))
 
   -- so is a whole input
-  pub input_script : (s : S) (octets : List ℕ) → (demanded (state_of s) octets).verdict ≡ Sound → Script 1 s octets (demanded (state_of s) octets)
+  pub input_script : (s : S) (octets : List ℕ) → (line_demand (state_of s) octets).verdict ≡ Sound → Script 1 s octets (line_demand (state_of s) octets)
   input_script s octets =
       subst (λ (e : Demand). e.verdict ≡ Sound → Script 1 s octets e) (sym (demanded_scanned (state_of s) octets)) (demand_script 1 s [] octets tt)
 
@@ -136,7 +136,7 @@ module _ {S L : Type 0} (d : Dialogue S L) (state_of : S → LineState)
     is_filling_replay s run wrote =
         let script = input_script s wrote.read (subst (λ (e : Demand). e.verdict ≡ Sound) (sym wrote.demands) wrote.due.0) in
         let text = transcript_by d s script.1 in
-        let is_demand : wrote.demand ≡ whole text = sym wrote.demands ∙ script.4 ∙ ap (told_with text) (silent (state_behind d s script.1)) in
+        let is_demand : wrote.demand ≡ whole text = sym wrote.demands ∙ script.4 ∙ ap (told_with text) (silent (state_after_lines d s script.1)) in
         record {
           lines = script.0;
           said = script.1;
@@ -148,7 +148,7 @@ module _ {S L : Type 0} (d : Dialogue S L) (state_of : S → LineState)
 -- a form that answers line by line and always has room
 module _ {S L : Type 0} (d : Dialogue S L) (state_of : S → LineState)
     (responds : (number : ℕ) (s : S) (line : List ℕ) → response number (state_of s) line
-    ≡ in_state state_of (replied d number s (d.says (words_of line)))) where
+    ≡ in_state state_of (reply_of d number s (d.says (words_of line)))) where
   -- a script demands what is due of it
   script_demand : (number : ℕ) (s : S) (lines : List (List ℕ)) (said : List (NumberedOf L)) → IsScriptOf d.says number lines said
       → scanned number (state_of s) [] (text_of lines) ≡ due d state_of s said
@@ -161,7 +161,7 @@ module _ {S L : Type 0} (d : Dialogue S L) (state_of : S → LineState)
       by_saying : ((s : S) (said : List (NumberedOf L)) → IsScriptOf d.says (number + 1) ls said
           → scanned (number + 1) (state_of s) [] (text_of ls) ≡ due d state_of s said)
           → (r : Result (Option L) ParseFault) → Says number r said (IsScriptOf d.says (number + 1) ls)
-          → then_rest (in_state state_of (replied d number s r)) (λ next. scanned (number + 1) next [] (text_of ls)) ≡ due d state_of s said
+          → then_rest (in_state state_of (reply_of d number s r)) (λ next. scanned (number + 1) next [] (text_of ls)) ≡ due d state_of s said
       by_saying behind (Ok None) says = ap (with_front []) (behind s said says)
       by_saying behind (Ok (Some x)) says =
           ap (with_front (d.text number s x)) (behind (d.after number s x) says.0 says.2) ∙ ap (due d state_of s) (sym says.1)
@@ -169,11 +169,11 @@ module _ {S L : Type 0} (d : Dialogue S L) (state_of : S → LineState)
 
   -- what a whole script demands
   pub script_due : (s : S) (lines : List (List ℕ)) (said : List (NumberedOf L)) → IsScriptOf d.says 1 lines said
-      → demanded (state_of s) (text_of lines) ≡ due d state_of s said
+      → line_demand (state_of s) (text_of lines) ≡ due d state_of s said
   script_due s lines said is = demanded_scanned (state_of s) (text_of lines) ∙ script_demand 1 s lines said is
 
   -- a whole input in which nothing is faulty is a script
-  pub faultless_script : (s : S) (octets : List ℕ) → (demanded (state_of s) octets).verdict ≡ Sound
+  pub faultless_script : (s : S) (octets : List ℕ) → (line_demand (state_of s) octets).verdict ≡ Sound
       → (lines : List (List ℕ)) × (said : List (NumberedOf L)) × (octets ≡ text_of lines) × IsScriptOf d.says 1 lines said
   faultless_script s octets sound =
       let script = input_script d state_of (λ number s line. inl (responds number s line)) s octets sound in
@@ -183,11 +183,11 @@ module _ {S L : Type 0} (d : Dialogue S L) (state_of : S → LineState)
   module _ (silent : (s : S) → end_text (state_of s) ≡ []) where
     -- a whole script demands its transcript
     pub script_demanded : (s : S) (lines : List (List ℕ)) (said : List (NumberedOf L)) → IsScriptOf d.says 1 lines said
-        → demanded (state_of s) (text_of lines) ≡ whole (transcript_by d s said)
-    script_demanded s lines said is = script_due s lines said is ∙ ap (told_with (transcript_by d s said)) (silent (state_behind d s said))
+        → line_demand (state_of s) (text_of lines) ≡ whole (transcript_by d s said)
+    script_demanded s lines said is = script_due s lines said is ∙ ap (told_with (transcript_by d s said)) (silent (state_after_lines d s said))
 
     -- and the other way round
-    pub demanded_script : (s : S) (octets : List ℕ) → (demanded (state_of s) octets).verdict ≡ Sound
+    pub demanded_script : (s : S) (octets : List ℕ) → (line_demand (state_of s) octets).verdict ≡ Sound
         → (lines : List (List ℕ)) × (said : List (NumberedOf L)) × (octets ≡ text_of lines) × IsScriptOf d.says 1 lines said
     demanded_script s octets sound = faultless_script s octets sound
 
@@ -199,35 +199,35 @@ module _ {S L : Type 0} (d : Dialogue S L) (state_of : S → LineState)
 
 -- a script demands its transcript
 pub run_demanded : (g : Cell) (lines : List (List ℕ)) (said : List Numbered) → IsScript 1 lines said
-    → demanded (Replaying g) (text_of lines) ≡ whole (transcript g said)
-run_demanded = script_demanded running Replaying (λ number g line. refl) (λ g. refl)
+    → line_demand (Replaying g) (text_of lines) ≡ whole (transcript g said)
+run_demanded = script_demanded run_dialogue Replaying (λ number g line. refl) (λ g. refl)
 
 -- an input in which nothing is faulty is a script
-pub demanded_run : (g : Cell) (octets : List ℕ) → (demanded (Replaying g) octets).verdict ≡ Sound → (lines : List (List ℕ))
+pub demanded_run : (g : Cell) (octets : List ℕ) → (line_demand (Replaying g) octets).verdict ≡ Sound → (lines : List (List ℕ))
     × (said : List Numbered) × (octets ≡ text_of lines) × IsScript 1 lines said
-demanded_run = demanded_script running Replaying (λ number g line. refl) (λ g. refl)
+demanded_run = demanded_script run_dialogue Replaying (λ number g line. refl) (λ g. refl)
 
 -- ---- the same of `clerk`
 
 pub clerk_demanded : (c : Clerked) (lines : List (List ℕ)) (said : List Numbered) → IsScript 1 lines said
-    → demanded (Clerking c) (text_of lines) ≡ whole (transcript_by clerking c said)
-clerk_demanded = script_demanded clerking Clerking (λ number c line. refl) (λ c. refl)
+    → line_demand (Clerking c) (text_of lines) ≡ whole (transcript_by clerk_dialogue c said)
+clerk_demanded = script_demanded clerk_dialogue Clerking (λ number c line. refl) (λ c. refl)
 
-pub demanded_clerk : (c : Clerked) (octets : List ℕ) → (demanded (Clerking c) octets).verdict ≡ Sound → (lines : List (List ℕ))
+pub demanded_clerk : (c : Clerked) (octets : List ℕ) → (line_demand (Clerking c) octets).verdict ≡ Sound → (lines : List (List ℕ))
     × (said : List Numbered) × (octets ≡ text_of lines) × IsScript 1 lines said
-demanded_clerk = demanded_script clerking Clerking (λ number c line. refl) (λ c. refl)
+demanded_clerk = demanded_script clerk_dialogue Clerking (λ number c line. refl) (λ c. refl)
 
 -- ---- the same of `inquire`
 
 -- a script demands its transcript
 pub inquire_demanded : (g : Cell) (lines : List (List ℕ)) (said : List (NumberedOf InquireLine)) → IsScriptOf inquired_in 1 lines said
-    → demanded (Inquiring g) (text_of lines) ≡ whole (transcript_by inquiring g said)
-inquire_demanded = script_demanded inquiring Inquiring (λ number g line. refl) (λ g. refl)
+    → line_demand (Inquiring g) (text_of lines) ≡ whole (transcript_by inquire_dialogue g said)
+inquire_demanded = script_demanded inquire_dialogue Inquiring (λ number g line. refl) (λ g. refl)
 
 -- an input in which nothing is faulty is a script
-pub demanded_inquire : (g : Cell) (octets : List ℕ) → (demanded (Inquiring g) octets).verdict ≡ Sound → (lines : List (List ℕ))
+pub demanded_inquire : (g : Cell) (octets : List ℕ) → (line_demand (Inquiring g) octets).verdict ≡ Sound → (lines : List (List ℕ))
     × (said : List (NumberedOf InquireLine)) × (octets ≡ text_of lines) × IsScriptOf inquired_in 1 lines said
-demanded_inquire = demanded_script inquiring Inquiring (λ number g line. refl) (λ g. refl)
+demanded_inquire = demanded_script inquire_dialogue Inquiring (λ number g line. refl) (λ g. refl)
 
 -- ---- what stays due
 
@@ -316,7 +316,7 @@ fault_stays number state line (x ∷ xs) ys faulty =
 -- ---- the same of whole inputs
 
 -- the body of lines is due whatever follows
-pub demanded_body : (state : LineState) (xs ys : List ℕ) → IsFront (demanded state xs).body (demanded state (xs ++ ys)).body
+pub demanded_body : (state : LineState) (xs ys : List ℕ) → IsFront (line_demand state xs).body (line_demand state (xs ++ ys)).body
 demanded_body state xs ys =
     let front = body_stays 1 state [] xs ys in (
       front.0,
@@ -325,7 +325,7 @@ demanded_body state xs ys =
     )
 
 -- a fault of lines that shows ends what is due
-pub demanded_fault : (state : LineState) (xs ys : List ℕ) → (demanded state xs).verdict ≡ Faulty → demanded state (xs ++ ys) ≡ demanded state xs
+pub demanded_fault : (state : LineState) (xs ys : List ℕ) → (line_demand state xs).verdict ≡ Faulty → line_demand state (xs ++ ys) ≡ line_demand state xs
 demanded_fault state xs ys faulty =
     let same = demanded_scanned state xs in
     demanded_scanned state (xs ++ ys)
@@ -335,15 +335,15 @@ demanded_fault state xs ys faulty =
 -- ---- a run that ends Ok
 
 -- what `run` wrote, of a whole input in which nothing is faulty, is the transcript of the script that was read
-pub is_replay : (run : Run) → Wrote replaying run IsWhole → IsReplay run
+pub is_replay : (run : Run) → Wrote run_form run IsWhole → IsReplay run
 is_replay run wrote =
-    let replay = is_replay_by running Replaying (λ number g line. refl) (λ g. refl) empty_cell run wrote in
+    let replay = is_replay_by run_dialogue Replaying (λ number g line. refl) (λ g. refl) empty_cell run wrote in
     record { replay = replay; settled = converges replay.said; found = finds replay.said }
 
 -- and so of `clerk`
-pub is_clerked : (room : ℕ) (run : Run) → Wrote (clerking_with room) run IsWhole → IsReplayBy clerking (start room) run
-is_clerked room run wrote = is_replay_by clerking Clerking (λ number s line. refl) (λ s. refl) (start room) run wrote
+pub is_clerked : (room : ℕ) (run : Run) → Wrote (clerking_with room) run IsWhole → IsReplayBy clerk_dialogue (start room) run
+is_clerked room run wrote = is_replay_by clerk_dialogue Clerking (λ number s line. refl) (λ s. refl) (start room) run wrote
 
 -- and so of `inquire`
-pub is_inquired : (run : Run) → Wrote inquiring_form run IsWhole → IsReplayBy inquiring empty_cell run
-is_inquired run wrote = is_replay_by inquiring Inquiring (λ number g line. refl) (λ g. refl) empty_cell run wrote
+pub is_inquired : (run : Run) → Wrote inquiring_form run IsWhole → IsReplayBy inquire_dialogue empty_cell run
+is_inquired run wrote = is_replay_by inquire_dialogue Inquiring (λ number g line. refl) (λ g. refl) empty_cell run wrote

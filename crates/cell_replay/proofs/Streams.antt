@@ -7,14 +7,14 @@ use Rattle.std.proofs.lemmas.List.{take_all, take-take}
 use Rattle.tower_codec.specs.declared.fault.TowerFault.{TowerFault}
 use Rattle.tower_codec.specs.declared.fault.TowerFault.TheVariants.{ShortCount, ShortLength, ShortPart, EmptyLeft}
 use Rattle.tower_codec.specs.Tower.{Floor, IsTower, IsFault}
-use Rattle.tower_codec.specs.Reading.{body_at, known_floors}
+use Rattle.tower_codec.specs.TowerReading.{body_at, known_floors}
 use Rattle.tower_codec.proofs.Grammar.{IsBytes, IsBytes-rest, IsBytes-tail}
 use Rattle.tower_codec.proofs.TowersRead.{body_read, body_again}
 use Rattle.tower_codec.proofs.FaultsRead.{fault_read, fault_again}
 use Rattle.tower_codec.proofs.SpellingLaws.{towers_apart}
 use Rattle.cell_replay.specs.declared.towers.StreamFault.TheVariants as stream
 use Rattle.cell_replay.specs.declared.towers.Seen.TheVariants as seen
-use Rattle.waiting_replies.specs.TowerTexts.{tower_text}
+use Rattle.reply_buffer.specs.TowerTexts.{tower_text}
 use Rattle.cell_replay.specs.TowerDemand.{in_sight, ShowsFault, EndsWithin, Rest, Nothing, AtFault, PartOf, IsRest, rest_demand, TowersDemand}
 use Rattle.cell_replay.specs.Demand.{Demand, with_front}
 use Rattle.cell_replay.specs.PrivateSights.{Sees, part_seen, seen_fault}

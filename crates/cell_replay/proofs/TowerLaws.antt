@@ -10,7 +10,7 @@ use Rattle.tower_codec.proofs.Grammar.{floors_before}
 use Rattle.tower_codec.proofs.SpellingLaws.{towers_apart}
 use Rattle.cell_replay.specs.declared.towers.StreamFault.{StreamFault}
 use Rattle.cell_replay.specs.declared.towers.StreamFault.TheVariants as stream
-use Rattle.waiting_replies.specs.TowerTexts.{tower_text}
+use Rattle.reply_buffer.specs.TowerTexts.{tower_text}
 use Rattle.cell_replay.specs.TowerDemand.{in_sight, BeginsWithTower, ShowsFault, EndsWithin, Rest, Nothing, AtFault, PartOf, IsRest, AreTowers}
 use Rattle.cell_replay.specs.TowerDemand.{rest_demand, towers_demand, TowersDemand, stream_fault_text}
 use Rattle.cell_replay.specs.Demand.{Demand, Faulty, with_front}

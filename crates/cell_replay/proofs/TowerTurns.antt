@@ -6,7 +6,7 @@ use Rattle.std.specs.Io.KnownBytes.{Appends, IsAtEnd}
 use Rattle.std.proofs.lemmas.Bool.Decides.{nat_tests}
 use Rattle.hex.specs.Hex.{IsBytes}
 use Rattle.cds_base.specs.Counts.{Rose}
-use Rattle.cds_base.specs.Reading.{GrowsByReading}
+use Rattle.cds_base.specs.SourceReading.{GrowsByReading}
 use Rattle.cds_base.specs.Windows.{WindowOctets}
 use Rattle.cds_base.proofs.KnownOctets.{consumes_self, consumes_more, appends_none}
 use Rattle.tower_codec.specs.Tower.{Floor}
@@ -16,7 +16,7 @@ use Rattle.cell_replay.specs.declared.towers.StreamFault.{StreamFault}
 use Rattle.cell_replay.specs.declared.towers.StreamFault.TheVariants as stream
 use Rattle.cell_replay.specs.declared.endings.Status.{Status}
 use Rattle.cell_replay.specs.declared.endings.Status.TheVariants.{Ok as AllRead, BadInput, ReadFault, WriteFault, OutOfMemory}
-use Rattle.waiting_replies.specs.TowerTexts.{tower_text}
+use Rattle.reply_buffer.specs.TowerTexts.{tower_text}
 use Rattle.cell_replay.specs.TowerDemand.{IsTaken, Nothing, AtFault, PartOf, TowersDemand, stream_fault_text}
 use Rattle.cell_replay.specs.Demand.{Demand, IsUnbroken, whole, with_front, faulty_with, ends_with, cut_short_with}
 use Rattle.cell_replay.specs.Forms.{ByTowers}

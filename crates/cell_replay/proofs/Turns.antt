@@ -5,26 +5,26 @@ use Rattle.std.proofs.Common.{arith, append_assoc, append-nil}
 use Rattle.std.specs.Prelude.{Option, None, Some, Ok, Err, Result, IsTrue}
 use Rattle.std.specs.Io.KnownBytes.{Appends, IsAtEnd}
 use Rattle.cds_base.specs.Counts.{Rose}
-use Rattle.cds_base.specs.Reading.{GrowsByReading}
+use Rattle.cds_base.specs.SourceReading.{GrowsByReading}
 use Rattle.cds_base.specs.declared.lines.Lines.{Lines}
 use Rattle.cds_base.specs.declared.scan.LineFault.{LineFault}
 use Rattle.cds_base.specs.declared.scan.LineFault.TheVariants.{LineTooLong, NotAscii, NoLineEnd, TooManyLines, ReadFault as NotRead}
 use Rattle.cds_base.specs.LineFaults.{AreClean, IsLine, ShowsFault}
-use Rattle.cds_base.specs.Lines.{given, held, kept, IsReady, IsNext, HasLineCause, HasMoved}
+use Rattle.cds_base.specs.Lines.{lines_so_far, octets_ahead, fault_of_lines, IsReady, IsNext, HasLineCause, HasMoved}
 use Rattle.cds_base.proofs.KnownOctets.{consumes_self, appends_none}
 use Rattle.cds_base.proofs.LineAnswers.{fault_shown}
 use Rattle.cell_replay.specs.declared.forms.LineForm.{LineForm}
-use Rattle.waiting_replies.specs.declared.replies.LineEnd.TheVariants as line
+use Rattle.reply_buffer.specs.declared.replies.LineEnd.TheVariants as line
 use Rattle.cell_replay.specs.declared.endings.Status.{Status}
 use Rattle.cell_replay.specs.declared.endings.Status.TheVariants.{Ok as AllRead, BadInput, ReadFault, WriteFault, OutOfMemory, JournalFull}
-use Rattle.cell_replay.specs.Demand.{Demand, IsUnbroken, demanded, at_end, end_text, told_fault, then_rest}
-use Rattle.waiting_replies.specs.Responses.{GoesOn, Stops, Fills}
+use Rattle.cell_replay.specs.Demand.{Demand, IsUnbroken, line_demand, at_end, end_text, told_fault, then_rest}
+use Rattle.reply_buffer.specs.Responses.{GoesOn, Stops, Fills}
 use Rattle.cell_replay.specs.LineStates.{LineState, Response, response}
-use Rattle.cell_replay.specs.Demand.{faulty_with, filled, ends_with, cut_short_with, with_front}
+use Rattle.cell_replay.specs.Demand.{faulty_with, full_journal_demand, ends_with, cut_short_with, with_front}
 use Rattle.cell_replay.specs.Forms.{ByLines, Demands}
 use Rattle.cell_replay.specs.PrivateStanding.{IsAt}
-use Rattle.waiting_replies.specs.LineEnds.{Ends}
-use Rattle.waiting_replies.specs.Waiting.{Flushes}
+use Rattle.reply_buffer.specs.LineEnds.{Ends}
+use Rattle.reply_buffer.specs.Waiting.{Flushes}
 use Rattle.cell_replay.specs.Runs.{AnswersFront, IsBody, IsFaulty, IsFilled, IsPart, IsWhole}
 use Rattle.cell_replay.specs.PrivateEndings.{IsDue, Finishes, StopsWith, side, EndsBetween}
 use Rattle.cell_replay.proofs.Scanning.{scanned, demanded_scanned}
@@ -40,10 +40,10 @@ pub lines_stop : (count : ℕ) (at : LineState) → StopsHere (BehindLines count
 lines_stop count at = record { demand = at_end (count + 1) at []; behind = demand_part (count + 1) at [] tt; none = refl; unbroken = tt }
 
 -- before the first line
-pub first_line : (state : LineState) (first old : Option (List ℕ)) (held waits : List ℕ) (count : ℕ) → held ≡ [] → waits ≡ [] → count ≡ 0
-    → Reached (ByLines state) first first old old held waits (BehindLines count state)
-first_line state first old held waits count none nothing zero_count =
-    started (ByLines state) first old held waits (BehindLines count state) none nothing
+pub first_line : (state : LineState) (first old : Option (List ℕ)) (octets_ahead waits : List ℕ) (count : ℕ) → octets_ahead ≡ [] → waits ≡ [] → count ≡ 0
+    → Reached (ByLines state) first first old old octets_ahead waits (BehindLines count state)
+first_line state first old octets_ahead waits count none nothing zero_count =
+    started (ByLines state) first old octets_ahead waits (BehindLines count state) none nothing
     (λ r d behind. demanded_scanned state r ∙ ap (λ (n : ℕ). scanned (n + 1) state [] r) (sym zero_count) ∙ behind) (lines_stop count state)
 
 -- the form stands where the lines so far bring it, no fault was met, and no call failed
@@ -51,8 +51,8 @@ pub record IsBetween (state : LineState) (first left old new : Option (List ℕ)
     (waits : List ℕ) : Type 0 where
   pub at : LineState
   pub stands : IsAt form at
-  pub reached : Reached (ByLines state) first left old new (held lines) waits (BehindLines (given lines) at)
-  pub unbroken : kept lines ≡ None
+  pub reached : Reached (ByLines state) first left old new (octets_ahead lines) waits (BehindLines (lines_so_far lines) at)
+  pub unbroken : fault_of_lines lines ≡ None
   pub calm : reads' ≡ reads
   pub quiet : writes' ≡ writes
 
@@ -63,17 +63,17 @@ module _ (state : LineState) (first left old new : Option (List ℕ)) (reads rea
       → EndsBetween (ByLines state) (side first reads) (side left reads') (side old writes) (side new' writes'') WriteFault
   write_fails new' k writes'' went rose =
       let now = b.reached.pending in
-      let rest : Demand = scanned (given lines + 1) b.at [] (held lines) in
-      write_failed (ByLines state) first left old new (held lines) now (with_front (now.out ++ waits) rest)
-      (b.reached.so_far (held lines) rest refl) new' waits k writes writes'' reads reads' went
+      let rest : Demand = scanned (lines_so_far lines + 1) b.at [] (octets_ahead lines) in
+      write_failed (ByLines state) first left old new (octets_ahead lines) now (with_front (now.out ++ waits) rest)
+      (b.reached.so_far (octets_ahead lines) rest refl) new' waits k writes writes'' reads reads' went
       (inl (rest.body, refl))
       (subst (λ n. Rose n writes'') b.quiet rose) b.calm
 
   -- way was made for the next line
   pub turned : (new' : Option (List ℕ)) (waits' : List ℕ) (ready : Bool) → Flushes new new' waits waits' ready → (IsTrue ready ↔ IsReady lines)
-      → Turn (ByLines state) first left old new' (held lines) waits' (BehindLines (given lines) b.at) (IsReady lines)
-  turned new' waits' ready writes means = flushed_before (ByLines state) first left old new new' (held lines) waits waits'
-      (BehindLines (given lines) b.at) ready (IsReady lines) b.reached (lines_stop (given lines) b.at) writes means.0
+      → Turn (ByLines state) first left old new' (octets_ahead lines) waits' (BehindLines (lines_so_far lines) b.at) (IsReady lines)
+  turned new' waits' ready writes means = flushed_before (ByLines state) first left old new new' (octets_ahead lines) waits waits'
+      (BehindLines (lines_so_far lines) b.at) ready (IsReady lines) b.reached (lines_stop (lines_so_far lines) b.at) writes means.0
 
 -- the count of failures stays where no read failed
 no_rise : (T : Type 0) (before now : ℕ) (fault : LineFault) → fault ≢ NotRead
@@ -94,7 +94,7 @@ is_read NotRead = inl refl
 
 -- what was counted is not more than the lines given
 pub counts_on : (left left' : Option (List ℕ)) (lines lines' : Lines) (number : ℕ) (octets : List ℕ) (x : ℕ)
-    → IsNext left left' lines lines' (Ok (Some (number, octets))) → x ≤ number → x ≤ given lines'
+    → IsNext left left' lines lines' (Ok (Some (number, octets))) → x ≤ number → x ≤ lines_so_far lines'
 counts_on left left' lines lines' number octets x next few =
     let first = next.answer.0 in
     let more = next.number in
@@ -113,7 +113,7 @@ module _ (left' : Option (List ℕ)) (out waits : List ℕ) (count : ℕ) (at : 
 
   -- a line finds no room in a journal
   fill_due : (line r waits' : List ℕ) → IsLine (count + 1) line → response (count + 1) at line ≡ Fills → waits' ≡ waits
-      → BehindLines count at ((line ++ 10 ∷ []) ++ r) filled × IsFilled (with_front (out ++ waits) filled) (out ++ waits')
+      → BehindLines count at ((line ++ 10 ∷ []) ++ r) full_journal_demand × IsFilled (with_front (out ++ waits) full_journal_demand) (out ++ waits')
   fill_due line r waits' is responds same = (
     demand_line (count + 1) at line r is ∙ ap (λ e. then_rest e (λ next. scanned (count + 1 + 1) next [] r)) responds,
     (refl, ap (λ (w : List ℕ). out ++ w) same ∙ sym (append-nil (out ++ waits))),
@@ -167,8 +167,8 @@ module _ (left' : Option (List ℕ)) (out waits : List ℕ) (count : ℕ) (at : 
 
 module _ {S : Type 0} (left_of : S → Option (List ℕ)) (faults_of : S → ℕ) (source source' : S)
     (state : LineState) (first old new : Option (List ℕ)) (reads writes : ℕ) (lines lines' : Lines) (waits : List ℕ) (at : LineState)
-    (t : Turn (ByLines state) first (left_of source) old new (held lines) waits (BehindLines (given lines) at) (IsReady lines))
-    (unbroken : kept lines ≡ None) (calm : faults_of source ≡ reads) where
+    (t : Turn (ByLines state) first (left_of source) old new (octets_ahead lines) waits (BehindLines (lines_so_far lines) at) (IsReady lines))
+    (unbroken : fault_of_lines lines ≡ None) (calm : faults_of source ≡ reads) where
   abbrev left : Option (List ℕ)
   left = left_of source
 
@@ -176,9 +176,9 @@ module _ {S : Type 0} (left_of : S → Option (List ℕ)) (faults_of : S → ℕ
   left' = left_of source'
 
   abbrev Behind : List ℕ → Demand → Type 0
-  Behind = BehindLines (given lines) at
+  Behind = BehindLines (lines_so_far lines) at
 
-  abbrev now : Pending (ByLines state) first left old new (held lines)
+  abbrev now : Pending (ByLines state) first left old new (octets_ahead lines)
   now = t.reached.pending
 
   abbrev Moved : Result (Option (ℕ × List ℕ)) LineFault → Type 0
@@ -196,23 +196,23 @@ module _ {S : Type 0} (left_of : S → Option (List ℕ)) (faults_of : S → ℕ
     abbrev one : List ℕ
     one = octets ++ 10 ∷ []
 
-    is_line : IsLine (given lines + 1) octets
+    is_line : IsLine (lines_so_far lines + 1) octets
     is_line = next.answer.1
 
     abbrev turned_so : (now.since ≡ []) ⊎ (left' ≡ left)
     turned_so = turn (Ok (Some (number, octets))) moved
 
-    abbrev taken : Pending (ByLines state) first left' old new (held lines')
-    taken = one_taken (ByLines state) first left old new (held lines) waits Behind t.reached left' (held lines') one
-        (given lines + 1, octets, is_line, refl) next.answer.2 moved.few turned_so
+    abbrev taken : Pending (ByLines state) first left' old new (octets_ahead lines')
+    taken = one_taken (ByLines state) first left old new (octets_ahead lines) waits Behind t.reached left' (octets_ahead lines') one
+        (lines_so_far lines + 1, octets, is_line, refl) next.answer.2 moved.few turned_so
 
-    responds : (r : Response) → response number at octets ≡ r → response (given lines + 1) at octets ≡ r
+    responds : (r : Response) → response number at octets ≡ r → response (lines_so_far lines + 1) at octets ≡ r
     responds r is = subst (λ (n : ℕ). response n at octets ≡ r) next.answer.0 is
 
-    demands : (d : Demand) → Behind (one ++ held lines') d → Demands (ByLines state) ((taken.front ++ taken.since) ++ held lines')
+    demands : (d : Demand) → Behind (one ++ octets_ahead lines') d → Demands (ByLines state) ((taken.front ++ taken.since) ++ octets_ahead lines')
         (with_front (now.out ++ waits) d)
-    demands d behind = demands_with (ByLines state) first left old new (held lines) waits Behind t.reached left' (held lines') one
-        (given lines + 1, octets, is_line, refl) next.answer.2 moved.few turned_so (held lines') d behind
+    demands d behind = demands_with (ByLines state) first left old new (octets_ahead lines) waits Behind t.reached left' (octets_ahead lines') one
+        (lines_so_far lines + 1, octets, is_line, refl) next.answer.2 moved.few turned_so (octets_ahead lines') d behind
 
     -- the form goes on
     pub line_goes_on : (form' : LineForm) (writes' : ℕ) → Ends line.GoesOn (response number at octets) waits waits' (IsAt form') → writes' ≡ writes
@@ -224,11 +224,11 @@ module _ {S : Type 0} (left_of : S → Option (List ℕ)) (faults_of : S → ℕ
         by_response (GoesOn text then) is ends = record {
           at = then;
           stands = ends.1;
-          reached = goes_on (ByLines state) first left old new (held lines) waits Behind t.reached left' (held lines') one
-              (given lines + 1, octets, is_line, refl) next.answer.2 moved.few turned_so text waits' (BehindLines (given lines') then)
+          reached = goes_on (ByLines state) first left old new (octets_ahead lines) waits Behind t.reached left' (octets_ahead lines') one
+              (lines_so_far lines + 1, octets, is_line, refl) next.answer.2 moved.few turned_so text waits' (BehindLines (lines_so_far lines') then)
               (λ r d behind.
-              demand_line (given lines + 1) at octets r is_line
-              ∙ ap (λ e. then_rest e (λ next. scanned (given lines + 1 + 1) next [] r)) (responds (GoesOn text then) is)
+              demand_line (lines_so_far lines + 1) at octets r is_line
+              ∙ ap (λ e. then_rest e (λ next. scanned (lines_so_far lines + 1 + 1) next [] r)) (responds (GoesOn text then) is)
               ∙ ap (λ (n : ℕ). with_front text (scanned (n + 1) then [] r)) (sym next.number)
               ∙ ap (with_front text) behind)
               ends.0;
@@ -250,8 +250,8 @@ module _ {S : Type 0} (left_of : S → Option (List ℕ)) (faults_of : S → ℕ
               → EndsBetween (ByLines state) (side first reads) (side left' (faults_of source')) (side old writes) (side new' writes') result
           by_response (GoesOn text then) is ends = absurd ends
           by_response (Stops text) is ends =
-              let due = line_due left' now.out waits (given lines) at octets (held lines') text waits' is_line (responds (Stops text) is) ends in
-              finishes (ByLines state) first left' old new (held lines') taken (with_front (now.out ++ waits) (faulty_with text))
+              let due = line_due left' now.out waits (lines_so_far lines) at octets (octets_ahead lines') text waits' is_line (responds (Stops text) is) ends in
+              finishes (ByLines state) first left' old new (octets_ahead lines') taken (with_front (now.out ++ waits) (faulty_with text))
               (demands (faulty_with text) due.0)
               new' waits' BadInput result reads (faults_of source') writes mid writes' due.1 finished (moved.cause unbroken ∙ calm) quiet
           by_response Fills is ends = absurd ends
@@ -267,52 +267,52 @@ module _ {S : Type 0} (left_of : S → Option (List ℕ)) (faults_of : S → ℕ
           by_response (GoesOn text then) is ends = absurd ends
           by_response (Stops text) is ends = absurd ends
           by_response Fills is ends =
-              let due = fill_due left' now.out waits (given lines) at octets (held lines') waits' is_line (responds Fills is) ends in
-              finishes (ByLines state) first left' old new (held lines') taken (with_front (now.out ++ waits) filled)
-              (demands filled due.0)
+              let due = fill_due left' now.out waits (lines_so_far lines) at octets (octets_ahead lines') waits' is_line (responds Fills is) ends in
+              finishes (ByLines state) first left' old new (octets_ahead lines') taken (with_front (now.out ++ waits) full_journal_demand)
+              (demands full_journal_demand due.0)
               new' waits' JournalFull result reads (faults_of source') writes mid writes' due.1 finished (moved.cause unbroken ∙ calm) quiet
 
       -- there was no memory for the reply
       pub line_without_memory : waits' ≡ waits → Finishes (side new mid) (side new' writes') waits' OutOfMemory result
           → EndsBetween (ByLines state) (side first reads) (side left' (faults_of source')) (side old writes) (side new' writes') result
       line_without_memory same finished =
-          let rest : Demand = scanned (given lines + 1) at [] (one ++ held lines') in
+          let rest : Demand = scanned (lines_so_far lines + 1) at [] (one ++ octets_ahead lines') in
           let answered : AnswersFront (ByLines state) first left' (now.out ++ waits) =
-          answers_taken (ByLines state) first left old new (held lines) waits Behind t.reached left' one (held lines') (lines_stop (given lines) at)
-          (reads_on first left left' (now.front ++ now.since) (held lines) (one ++ held lines') now.taken next.answer.2)
-          (inr (given lines + 1, octets, is_line, refl)) moved.few in
-          finishes (ByLines state) first left' old new (held lines') taken (with_front (now.out ++ waits) rest) (demands rest refl)
+          answers_taken (ByLines state) first left old new (octets_ahead lines) waits Behind t.reached left' one (octets_ahead lines') (lines_stop (lines_so_far lines) at)
+          (reads_on first left left' (now.front ++ now.since) (octets_ahead lines) (one ++ octets_ahead lines') now.taken next.answer.2)
+          (inr (lines_so_far lines + 1, octets, is_line, refl)) moved.few in
+          finishes (ByLines state) first left' old new (octets_ahead lines') taken (with_front (now.out ++ waits) rest) (demands rest refl)
           new' waits' OutOfMemory result reads (faults_of source') writes mid writes'
           (subst (λ (w : List ℕ). IsPart (IsAtEnd left') (with_front (now.out ++ waits) rest) (now.out ++ w) × AnswersFront (ByLines state) first left' (now.out ++ w))
           (sym same) (inl (rest.body, refl), answered))
           finished (moved.cause unbroken ∙ calm) quiet
 
   -- nothing more is taken
-  module _ (grows : GrowsByReading left left' (held lines) (held lines')) (few : length (held lines') ≤ 8192) (turns : (now.since ≡ []) ⊎ (left' ≡ left)) where
-    abbrev read_so : Pending (ByLines state) first left' old new (held lines')
-    read_so = more_read (ByLines state) first left old new (held lines) waits Behind t.reached left' (held lines') grows few turns
+  module _ (grows : GrowsByReading left left' (octets_ahead lines) (octets_ahead lines')) (few : length (octets_ahead lines') ≤ 8192) (turns : (now.since ≡ []) ⊎ (left' ≡ left)) where
+    abbrev read_so : Pending (ByLines state) first left' old new (octets_ahead lines')
+    read_so = more_read (ByLines state) first left old new (octets_ahead lines) waits Behind t.reached left' (octets_ahead lines') grows few turns
 
     -- what is due goes out with a last text
-    ends_so : (d : Demand) → Behind (held lines') d → (text : List ℕ) (status : Status)
+    ends_so : (d : Demand) → Behind (octets_ahead lines') d → (text : List ℕ) (status : Status)
         → IsDue (AnswersFront (ByLines state) first left') (IsAtEnd left') status (with_front (now.out ++ waits) d) (now.out ++ (waits ++ text))
         → (new' : Option (List ℕ)) (mid writes' : ℕ) (result : Status) → StopsWith (side new mid) (side new' writes') status text waits result
         → faults_of source' ≡ reads → mid ≡ writes → EndsBetween (ByLines state) (side first reads) (side left' (faults_of source')) (side old writes)
         (side new' writes') result
     ends_so d behind text status due new' mid writes' result stops calm quiet =
-        stops_with (ByLines state) first left' old new (held lines') read_so (with_front (now.out ++ waits) d) (t.reached.so_far (held lines') d behind)
+        stops_with (ByLines state) first left' old new (octets_ahead lines') read_so (with_front (now.out ++ waits) d) (t.reached.so_far (octets_ahead lines') d behind)
         new' text waits status result reads (faults_of source') writes mid writes' due
-        (answers_taken (ByLines state) first left old new (held lines) waits Behind t.reached left' [] (held lines') (lines_stop (given lines) at)
-        (reads_on first left left' (now.front ++ now.since) (held lines) (held lines') now.taken grows) (inl refl) few)
+        (answers_taken (ByLines state) first left old new (octets_ahead lines) waits Behind t.reached left' [] (octets_ahead lines') (lines_stop (lines_so_far lines) at)
+        (reads_on first left left' (now.front ++ now.since) (octets_ahead lines) (octets_ahead lines') now.taken grows) (inl refl) few)
         stops calm quiet
 
     -- a read failed, where nothing waited
-    fails_so : AreClean (given lines + 1) 1 (held lines') → waits ≡ [] → (writes' : ℕ) → Rose reads (faults_of source') → writes' ≡ writes
+    fails_so : AreClean (lines_so_far lines + 1) 1 (octets_ahead lines') → waits ≡ [] → (writes' : ℕ) → Rose reads (faults_of source') → writes' ≡ writes
         → EndsBetween (ByLines state) (side first reads) (side left' (faults_of source')) (side old writes) (side new writes') ReadFault
     fails_so clean none writes' rose quiet =
-        read_failed (ByLines state) first left' old new (held lines') read_so reads (faults_of source') writes writes'
-        (wrote_all (ByLines state) first left' old new (held lines') read_so (with_front (now.out ++ waits) (at_end (given lines + 1) at (held lines')))
-        (t.reached.so_far (held lines') (at_end (given lines + 1) at (held lines')) (demand_part (given lines + 1) at (held lines') clean))
-        refl (body_due left' now.out waits (given lines) at (held lines') none) reads (faults_of source') writes writes')
+        read_failed (ByLines state) first left' old new (octets_ahead lines') read_so reads (faults_of source') writes writes'
+        (wrote_all (ByLines state) first left' old new (octets_ahead lines') read_so (with_front (now.out ++ waits) (at_end (lines_so_far lines + 1) at (octets_ahead lines')))
+        (t.reached.so_far (octets_ahead lines') (at_end (lines_so_far lines + 1) at (octets_ahead lines')) (demand_part (lines_so_far lines + 1) at (octets_ahead lines') clean))
+        refl (body_due left' now.out waits (lines_so_far lines) at (octets_ahead lines') none) reads (faults_of source') writes writes')
         rose quiet
 
   module _ (new' : Option (List ℕ)) (mid writes' : ℕ) (result : Status) (quiet : mid ≡ writes) where
@@ -321,7 +321,7 @@ module _ {S : Type 0} (left_of : S → Option (List ℕ)) (faults_of : S → ℕ
         → EndsBetween (ByLines state) (side first reads) (side left' (faults_of source')) (side old writes) (side new' writes') result
     input_ends moved stops =
         let next = moved.next unbroken in
-        let due = all_due left' now.out waits (given lines) at (held lines') next.answer.1 next.answer.2 in
+        let due = all_due left' now.out waits (lines_so_far lines) at (octets_ahead lines') next.answer.1 next.answer.2 in
         ends_so next.answer.0 moved.few (turn (Ok None) moved) (ends_with (end_text at)) due.0
         (end_text at) AllRead (due.1, due.2) new' mid writes' result stops (moved.cause unbroken ∙ calm) quiet
 
@@ -331,8 +331,8 @@ module _ {S : Type 0} (left_of : S → Option (List ℕ)) (faults_of : S → ℕ
         → EndsBetween (ByLines state) (side first reads) (side left' (faults_of source')) (side old writes) (side new' writes') result
     line_breaks fault moved other stops =
         let next = moved.next unbroken in
-        let due = fault_due left' now.out waits (given lines) at (held lines') fault
-        (fault_shown (given lines + 1) (held lines') left' fault next.answer.1 other) in
+        let due = fault_due left' now.out waits (lines_so_far lines) at (octets_ahead lines') fault
+        (fault_shown (lines_so_far lines + 1) (octets_ahead lines') left' fault next.answer.1 other) in
         ends_so next.answer.0 moved.few (turn (Err fault) moved) due.0 due.1 (told_fault at fault) BadInput due.2 new' mid writes' result stops
         (no_rise (Option (ℕ × List ℕ)) (faults_of source) (faults_of source') fault other (moved.cause unbroken) ∙ calm) quiet
 
@@ -377,11 +377,11 @@ unread_lines state left old reads writes = (
   record {
     read = [];
     text = [];
-    demand = demanded state [];
+    demand = line_demand state [];
     taken = consumes_self left;
     written = appends_none old;
     demands = refl;
-    due = inl ((demanded state []).body, refl);
+    due = inl ((line_demand state []).body, refl);
   },
   (
     [],

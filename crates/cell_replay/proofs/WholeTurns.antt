@@ -6,7 +6,7 @@ use Rattle.std.specs.Prelude.{Option, Result, Ok, Err, IfOk, IsTrue, nat_lt}
 use Rattle.std.specs.declared.alloc.AllocError.{AllocError}
 use Rattle.std.specs.Io.KnownBytes.{Consumes, IsAtEnd}
 use Rattle.cds_base.specs.Counts.{Rose}
-use Rattle.cds_base.specs.Reading.{GrowsByReading}
+use Rattle.cds_base.specs.SourceReading.{GrowsByReading}
 use Rattle.cds_base.proofs.KnownOctets.{appends_none}
 use Rattle.cell_replay.specs.declared.whole.Said.{Said}
 use Rattle.cell_replay.specs.declared.whole.Said.TheVariants as says

@@ -6,10 +6,10 @@ use Rattle.std.specs.Fmt.{decimal}
 use Rattle.cds_base.specs.declared.scan.LineFault.{LineFault}
 use Rattle.cds_base.specs.declared.scan.LineFault.TheVariants.{NoLineEnd}
 use Rattle.cds_base.specs.LineFaults.{fault_at}
-use Rattle.waiting_replies.specs.Texts.{line_fault_text}
-use Rattle.waiting_replies.specs.Responses.{GoesOn, Stops, Fills}
+use Rattle.reply_buffer.specs.FaultTexts.{line_fault_text}
+use Rattle.reply_buffer.specs.Responses.{GoesOn, Stops, Fills}
 use Rattle.cell_replay.specs.LineStates.{LineState, Replaying, Checking, Spelling, Mending, Clerking, Response, response, Inquiring, Journaling}
-use Rattle.mend_lines.specs.Lines.{mend_text}
+use Rattle.mend_replay.specs.MendLines.{mend_text}
 
 -- the text that is due whatever follows, the further text where nothing follows, and whether anything is faulty: nothing;
 -- the octets show a fault, whatever follows; it is a fault that they end here; or a line finds no room in a journal, whatever follows (own)
@@ -41,8 +41,8 @@ abbrev pub faulty_with : List ℕ → Demand
 faulty_with text = record { body = text; end = []; verdict = Faulty }
 
 -- nothing is due of a line that finds no room in a journal, and nothing behind it (own)
-abbrev pub filled : Demand
-filled = record { body = []; end = []; verdict = Filled }
+abbrev pub full_journal_demand : Demand
+full_journal_demand = record { body = []; end = []; verdict = Filled }
 
 -- where the input ends: this is due, and nothing is faulty; or this is due of the fault that it ends there (own)
 abbrev pub ends_with : List ℕ → Demand
@@ -91,7 +91,7 @@ unless_fault state (Some fault) rest = faulty_with (told_fault state fault)
 abbrev pub then_rest : Response → (LineState → Demand) → Demand
 then_rest (GoesOn text next) rest = with_front text (rest next)
 then_rest (Stops text) rest = faulty_with text
-then_rest Fills rest = filled
+then_rest Fills rest = full_journal_demand
 
 -- the first fault among these octets of line number, from this place on (own)
 abbrev pub first_fault : ℕ → ℕ → List ℕ → Option LineFault
@@ -111,5 +111,5 @@ demand number state (line ∷ piece ∷ pieces) =
     (then_rest (response number state line) (λ next. demand (number + 1) next (piece ∷ pieces)))
 
 -- what an input demands of a form that reads lines, from its start (own)
-abbrev pub demanded : LineState → List ℕ → Demand
-demanded state octets = demand 1 state (pieces_of octets)
+abbrev pub line_demand : LineState → List ℕ → Demand
+line_demand state octets = demand 1 state (pieces_of octets)

@@ -6,10 +6,10 @@ use Rattle.cell_model.specs.Cells.{empty_cell}
 use Rattle.cell_script.specs.Words.{number_to}
 use Rattle.cell_replay.specs.declared.limits.TheConstants.{LAST_DIR, MOST_KEPT, MOST_ROUNDS}
 use Rattle.cell_replay.specs.LineStates.{LineState, Replaying, Checking, Spelling, Mending, Clerking, Inquiring, Journaling}
-use Rattle.journal_replies.specs.Journals.{empty_state}
-use Rattle.line_replies.specs.Loading.{load_text}
-use Rattle.clerk_replies.specs.Clerking.{start}
-use Rattle.cell_replay.specs.Demand.{Demand, demanded, ends_with}
+use Rattle.journal_replay.specs.CellJournals.{empty_state}
+use Rattle.script_replay.specs.Loading.{load_text}
+use Rattle.clerk_replay.specs.Clerking.{start}
+use Rattle.cell_replay.specs.Demand.{Demand, line_demand, ends_with}
 use Rattle.cell_replay.specs.TowerDemand.{TowersDemand}
 use Rattle.cell_replay.specs.WholeDemand.{WholeTask, Migrating, Auditing, whole_demand}
 
@@ -22,16 +22,16 @@ pub data FormState : Type 0 where
   WithoutInput : (text : List ℕ) → FormState
 
 -- the form that replays a script on a cell without houses (own)
-abbrev pub replaying : FormState
-replaying = ByLines (Replaying empty_cell)
+abbrev pub run_form : FormState
+run_form = ByLines (Replaying empty_cell)
 
 -- the form that replays a script with inquiries on a cell without houses (own)
 abbrev pub inquiring_form : FormState
 inquiring_form = ByLines (Inquiring empty_cell)
 
 -- the form of `cdsmend`: it replays a script on such a cell, and writes what mends the directory d behind it (own)
-abbrev pub mending : (d : ℕ) → FormState
-mending d = ByLines (Mending d empty_cell)
+abbrev pub mend_form : (d : ℕ) → FormState
+mend_form d = ByLines (Mending d empty_cell)
 
 -- the form that replays a script on a cell without houses, and keeps their journals (own)
 abbrev pub with_journals : FormState
@@ -40,7 +40,7 @@ with_journals = ByLines (Journaling empty_state)
 -- the form that a word names, at its start (own)
 abbrev pub form_named : List ℕ → Option FormState
 form_named word =
-    if bytes_eq word (codes "run") then Some replaying
+    if bytes_eq word (codes "run") then Some run_form
     else (if bytes_eq word (codes "check") then Some (ByLines (Checking 0 0))
     else (if bytes_eq word (codes "towers") then Some ByTowers
     else (if bytes_eq word (codes "untowers") then Some (ByLines Spelling)
@@ -49,24 +49,24 @@ form_named word =
     else (if bytes_eq word (codes "journal") then Some with_journals else None))))))
 
 -- a cell is loaded by the script with so many rounds, which nothing reads (own)
-abbrev pub loading : (rounds : ℕ) → FormState
-loading rounds = WithoutInput (load_text rounds)
+abbrev pub load_form : (rounds : ℕ) → FormState
+load_form rounds = WithoutInput (load_text rounds)
 
 -- the form that replays a script on a cell without houses, which a clerk that keeps so many answers reads (own)
 abbrev pub clerking_with : (room : ℕ) → FormState
 clerking_with room = ByLines (Clerking (start room))
 
 -- the form that audits a directory (own)
-abbrev pub auditing : (dir : ℕ) → FormState
-auditing dir = ByWhole (Auditing dir)
+abbrev pub audit_form : (dir : ℕ) → FormState
+audit_form dir = ByWhole (Auditing dir)
 
 -- the form that a word and a number name, which is at least one: `load` and how many rounds, `clerk` and its room, or `audit` and a
 -- directory (own)
 abbrev pub form_numbered : (word number : List ℕ) → Option FormState
 form_numbered word number =
-    if bytes_eq word (codes "load") then option_map loading (number_to MOST_ROUNDS number)
+    if bytes_eq word (codes "load") then option_map load_form (number_to MOST_ROUNDS number)
     else (if bytes_eq word (codes "clerk") then option_map clerking_with (number_to MOST_KEPT number)
-    else (if bytes_eq word (codes "audit") then option_map auditing (number_to LAST_DIR number) else None))
+    else (if bytes_eq word (codes "audit") then option_map audit_form (number_to LAST_DIR number) else None))
 
 -- the form that the words of the command line name (own)
 abbrev pub form_of : List (List ℕ) → Option FormState
@@ -77,7 +77,7 @@ form_of (word ∷ number ∷ third ∷ words) = None
 
 -- what an input demands of a form that reads it, from its start. Of a form without input its text is due, whatever stands there (own)
 abbrev pub Demands : FormState → List ℕ → Demand → Type 0
-Demands (ByLines state) octets d = demanded state octets ≡ d
+Demands (ByLines state) octets d = line_demand state octets ≡ d
 Demands ByTowers octets d = TowersDemand 1 octets d
 Demands (ByWhole task) octets d = whole_demand task octets ≡ d
 Demands (WithoutInput text) octets d = ends_with text ≡ d

@@ -6,7 +6,7 @@ use Rattle.cds_stamps.specs.declared.stamp.Stamp.{Stamp}
 use Rattle.cell_model.specs.Agreement.{Agrees, place_of}
 use Rattle.cell_model.specs.Cells.{Cell, Replica, IsHeld, empty_cell}
 use Rattle.cell_model.specs.Commands.{Accepted, Command}
-use Rattle.cell_model.specs.Steps.{accepted, replay, replay_from}
+use Rattle.cell_model.specs.Steps.{accepted_updates, replay, replay_from}
 use Rattle.script_answers.specs.declared.answer.Answer.TheVariants as answer
 use Rattle.cell_script.specs.declared.command.Question.TheVariants as question
 use Rattle.cell_script.specs.declared.command.ScriptLine.{ScriptLine}
@@ -14,10 +14,10 @@ use Rattle.cell_script.specs.declared.command.ScriptLine.TheVariants as line
 use Rattle.tower_codec.specs.declared.binding.StringBinding.{StringBinding}
 use Rattle.server_entries.specs.declared.client.Wanted.{Wanted}
 use Rattle.ns_import.specs.Imports.{IsImport}
-use Rattle.cds_cell.specs.Readings.{reading}
+use Rattle.cds_cell.specs.Readings.{cell_reader}
 use Rattle.cds_cell.specs.Scripted.{step_of}
-use Rattle.line_replies.specs.Dialogues.{NumberedOf}
-use Rattle.line_replies.specs.Replies.{Numbered, reply_to, steps_of}
+use Rattle.script_replay.specs.Dialogues.{NumberedOf}
+use Rattle.script_replay.specs.Replies.{Numbered, reply_to, steps_of}
 
 -- the commands of the model that lines make from a cell on, of whichever form the lines are (own)
 abbrev pub commands_from : {L : Type 0} → (steps : Cell → L → List Command) → Cell → List (NumberedOf L) → List Command
@@ -29,12 +29,12 @@ abbrev pub commands_of : List Numbered → List Command
 commands_of = commands_from steps_of empty_cell
 
 -- the cell behind lines (own)
-abbrev pub cell_behind : List Numbered → Cell
-cell_behind said = replay (commands_of said)
+abbrev pub cell_after_script : List Numbered → Cell
+cell_after_script said = replay (commands_of said)
 
 -- the updates that it accepted on the way (own)
 abbrev pub accepted_in : List Numbered → List Accepted
-accepted_in said = accepted (commands_of said)
+accepted_in said = accepted_updates (commands_of said)
 
 -- the house and the directory that a line acts at, if it is a command that acts at one (own)
 abbrev pub line_place : Cell → ScriptLine → Option (ℕ × ℕ)
@@ -48,18 +48,18 @@ pub record Settled (early : List Numbered) (l : Numbered) (mid : List Numbered) 
   pub house : ℕ
   pub dir : ℕ
   pub replica : Replica
-  pub place : line_place (cell_behind early) l.says ≡ Some (house, dir)
-  pub held : IsHeld (cell_behind (early ++ l ∷ [])) house dir replica
+  pub place : line_place (cell_after_script early) l.says ≡ Some (house, dir)
+  pub held : IsHeld (cell_after_script (early ++ l ∷ [])) house dir replica
   pub up_to : replica.all_up_to ≡ Some t
-  pub agree : (x : ℕ) (r : Replica) → IsHeld (cell_behind (early ++ l ∷ mid)) x dir r → replica.epoch ≤ r.epoch
+  pub agree : (x : ℕ) (r : Replica) → IsHeld (cell_after_script (early ++ l ∷ mid)) x dir r → replica.epoch ≤ r.epoch
       → Agrees dir t (accepted_in (early ++ l ∷ [])) (accepted_in (early ++ l ∷ mid)) replica.history x r
 
 -- of the lines of a script: wherever one answers that the skulk t is complete, all is settled at that moment, and behind each of the lines
 -- that follow it (own)
-abbrev pub Converges : List Numbered → Type 0
-Converges said =
+abbrev pub RunConverges : List Numbered → Type 0
+RunConverges said =
     (early mid late : List Numbered) (l : Numbered) (t : Stamp) (ns : List ℕ) → said ≡ early ++ l ∷ (mid ++ late)
-    → reply_to (cell_behind early) l.says ≡ Some (answer.Complete t ns) → Settled early l mid t
+    → reply_to (cell_after_script early) l.says ≡ Some (answer.Complete t ns) → Settled early l mid t
 
 -- ---- imports
 
@@ -79,5 +79,5 @@ import_line i = line.Question (question.Import i.house i.high i.name i.wanted.in
 abbrev pub Finds : List Numbered → Type 0
 Finds said =
     (early late : List Numbered) (l : Numbered) (i : Importing) (bindings : List StringBinding) → said ≡ early ++ l ∷ late
-    → l.says ≡ import_line i → reply_to (cell_behind early) l.says ≡ Some (answer.Bindings bindings)
-    → IsImport (reading (cell_behind early) (Some i.house.0) i.high) i.wanted i.name bindings
+    → l.says ≡ import_line i → reply_to (cell_after_script early) l.says ≡ Some (answer.Bindings bindings)
+    → IsImport (cell_reader (cell_after_script early) (Some i.house.0) i.high) i.wanted i.name bindings

@@ -8,16 +8,16 @@ use Rattle.cell_model.specs.Cells.{empty_cell}
 use Rattle.cell_model.specs.Commands.{Command}
 use Rattle.cell_model.specs.Steps.{replay_from}
 use Rattle.cell_script.specs.Words.{words_of}
-use Rattle.cds_cell.specs.Readings.{reading}
+use Rattle.cds_cell.specs.Readings.{cell_reader}
 use Rattle.script_answers.specs.declared.answer.Answer.TheVariants as answer
 use Rattle.script_forms.specs.JournalLines.{said_in}
 use Rattle.script_forms.specs.declared.journal_line.JournalLine.{JournalLine}
 use Rattle.script_forms.specs.declared.journal_line.JournalLine.TheVariants as line
-use Rattle.line_replies.specs.Dialogues.{Dialogue, NumberedOf}
-use Rattle.line_replies.specs.Replies.{reply_to}
-use Rattle.journal_replies.specs.Disks.{ArePutting, GiveImages, HoldAll}
-use Rattle.journal_replies.specs.Journaled.{journal_said}
-use Rattle.journal_replies.specs.Journals.{empty_state, journaling, puts_by}
+use Rattle.script_replay.specs.Dialogues.{Dialogue, NumberedOf}
+use Rattle.script_replay.specs.Replies.{reply_to}
+use Rattle.journal_replay.specs.CellDisks.{ArePutting, GiveImages, HoldAll}
+use Rattle.journal_replay.specs.Journaled.{journal_said}
+use Rattle.journal_replay.specs.CellJournals.{empty_state, journal_dialogue, puts_by}
 use Rattle.cell_replay.specs.Headline.{Importing, commands_from, import_line}
 use Rattle.cell_replay.specs.LineStates.{LineState, Journaling}
 use Rattle.cell_replay.specs.Runs.{Run}
@@ -30,27 +30,27 @@ abbrev pub effective : List (NumberedOf JournalLine) → List Command
 effective = commands_from (λ g l. (journal_said g l).steps) empty_cell
 
 -- the state of a form behind lines (own)
-abbrev pub state_behind : {S L : Type 0} → Dialogue S L → S → List (NumberedOf L) → S
-state_behind d s [] = s
-state_behind d s (l ∷ ls) = state_behind d (d.after l.number s l.says) ls
+abbrev pub state_after_lines : {S L : Type 0} → Dialogue S L → S → List (NumberedOf L) → S
+state_after_lines d s [] = s
+state_after_lines d s (l ∷ ls) = state_after_lines d (d.after l.number s l.says) ls
 
 -- wherever one of these lines imports and is answered with bindings, these are those of exactly the entries that the search reaches, each once
 -- and in its order, by what the cell behind the effective commands tells (own, after C706, importing bindings)
-abbrev pub Finds : List (NumberedOf JournalLine) → Type 0
-Finds said =
+abbrev pub JournalFinds : List (NumberedOf JournalLine) → Type 0
+JournalFinds said =
     (early late : List (NumberedOf JournalLine)) (l : NumberedOf JournalLine) (i : Importing) (bindings : List StringBinding) → said ≡ early ++ l ∷ late
     → l.says ≡ line.Plain (import_line i) → reply_to (replay_from empty_cell (effective early)) (import_line i) ≡ Some (answer.Bindings bindings)
-    → IsImport (reading (replay_from empty_cell (effective early)) (Some i.house.0) i.high) i.wanted i.name bindings
+    → IsImport (cell_reader (replay_from empty_cell (effective early)) (Some i.house.0) i.high) i.wanted i.name bindings
 
 -- A script was read, and the transcript of its effective commands was written. The cell behind each front of its lines is the model's behind their
 -- effective commands; wherever one of these completes a skulk, the replicas of its epoch and of later ones agree from then on, also behind crashes inside a
 -- step; and imports find what the search reaches (own, after C705, skulks)
 pub record IsJournalReplay (run : Run) : Type 0 where
-  pub replay : IsReplayBy journaling empty_state run
+  pub replay : IsReplayBy journal_dialogue empty_state run
   pub cells : (front rest : List (NumberedOf JournalLine)) → replay.said ≡ front ++ rest
-      → (state_behind journaling empty_state front).cell ≡ replay_from empty_cell (effective front)
+      → (state_after_lines journal_dialogue empty_state front).cell ≡ replay_from empty_cell (effective front)
   pub settled : (front rest : List (NumberedOf JournalLine)) → replay.said ≡ front ++ rest → Converges (effective front)
-  pub found : Finds replay.said
+  pub found : JournalFinds replay.said
 
 -- ---- what is on the disks
 

@@ -2,7 +2,7 @@
 use Rattle.std.specs.Prelude.{◌≡◌, ◌⊎◌, ℕ, ◌+◌, List, [], ◌∷◌, ◌++◌, length}
 use Rattle.std.specs.Io.KnownBytes.{Consumes, Appends}
 use Rattle.cds_base.specs.LineFaults.{IsLine}
-use Rattle.waiting_replies.specs.Responses.{GoesOn, Stops, Fills}
+use Rattle.reply_buffer.specs.Responses.{GoesOn, Stops, Fills}
 use Rattle.cell_replay.specs.LineStates.{LineState, response}
 use Rattle.cell_replay.specs.Runs.{IsFront, Run}
 use Rattle.cell_replay.specs.Scripts.{text_of}

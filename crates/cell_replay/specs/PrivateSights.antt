@@ -2,7 +2,7 @@
 use Rattle.std.specs.Prelude.{◌≡◌, ◌⊎◌, ℕ, ◌≤◌, ◌<◌, Bool, true, false, nat_lt, if◌then◌else◌, List, [], length, take}
 use Rattle.tower_codec.specs.declared.fault.TowerFault.{TowerFault}
 use Rattle.tower_codec.specs.declared.fault.TowerFault.TheVariants.{ShortCount, ShortLength, ShortPart, EmptyLeft}
-use Rattle.waiting_replies.specs.declared.limits.TheConstants.{LONGEST_TOWER}
+use Rattle.reply_buffer.specs.declared.limits.TheConstants.{LONGEST_TOWER}
 use Rattle.cell_replay.specs.declared.limits.TheConstants.{TOWER_SIGHT}
 use Rattle.cell_replay.specs.declared.towers.StreamFault.{StreamFault}
 use Rattle.cell_replay.specs.declared.towers.StreamFault.TheVariants as stream

@@ -2,22 +2,22 @@
 use Rattle.std.specs.Prelude.{◌≡◌, ℕ, ◌≤◌, Bool, List, [], Option, Result, Ok, Err, is_some}
 use Rattle.cell_script.specs.declared.command.ScriptLine.{ScriptLine}
 use Rattle.cell_script.specs.declared.fault.ParseFault.{ParseFault}
-use Rattle.waiting_replies.specs.LineEnds.{Ends}
-use Rattle.waiting_replies.specs.declared.replies.LineEnd.{LineEnd}
-use Rattle.waiting_replies.specs.declared.replies.LineEnd.TheVariants as line
+use Rattle.reply_buffer.specs.LineEnds.{Ends}
+use Rattle.reply_buffer.specs.declared.replies.LineEnd.{LineEnd}
+use Rattle.reply_buffer.specs.declared.replies.LineEnd.TheVariants as line
 use Rattle.cds_cell.specs.declared.cell.Cell.{Cell}
-use Rattle.cds_cell.specs.Standing.{Stands}
-use Rattle.clerk_replies.specs.declared.replayer.ClerkReplayer.{ClerkReplayer}
-use Rattle.clerk_replies.specs.Standing as clerk
+use Rattle.cds_cell.specs.ModelCells.{Stands}
+use Rattle.clerk_replay.specs.declared.replayer.ClerkReplayer.{ClerkReplayer}
+use Rattle.clerk_replay.specs.ClerkLines as clerk
 use Rattle.house_journal.specs.MemoryDisks.{MemState}
-use Rattle.journal_replies.specs.Keeping.{StandsJournals}
-use Rattle.journal_replies.specs.declared.journals.Journals.{Journals}
-use Rattle.mend_lines.specs.declared.mender.Mender.{Mender}
+use Rattle.journal_replay.specs.Keeping.{StandsJournals}
+use Rattle.journal_replay.specs.declared.journals.Journals.{Journals}
+use Rattle.mend_replay.specs.declared.mender.Mender.{Mender}
 use Rattle.cell_replay.specs.JournalRuns.{AreOnDisks, ArePut}
 use Rattle.cell_replay.specs.LineStates.{LineState, Replaying, Checking, Spelling, Mending, Inquiring, Clerking, Journaling, Response}
 use Rattle.cell_replay.specs.declared.limits.TheConstants.{MOST_KEPT, MOST_ROUNDS}
 use Rattle.cell_replay.specs.WholeDemand.{Migrating}
-use Rattle.cell_replay.specs.Forms.{FormState, ByLines, ByTowers, ByWhole, auditing, clerking_with, inquiring_form, loading, replaying, with_journals}
+use Rattle.cell_replay.specs.Forms.{FormState, ByLines, ByTowers, ByWhole, audit_form, clerking_with, inquiring_form, load_form, run_form, with_journals}
 use Rattle.cell_replay.specs.declared.check.Tally.{Tally}
 use Rattle.cell_replay.specs.declared.forms.Form.{Form}
 use Rattle.cell_replay.specs.declared.forms.Form.TheVariants as chosen
@@ -26,15 +26,15 @@ use Rattle.cell_replay.specs.declared.forms.LineForm.TheVariants as form
 
 -- a form at its start
 abbrev pub start_of : Form → FormState
-start_of chosen.Run = replaying
+start_of chosen.Run = run_form
 start_of chosen.Check = ByLines (Checking 0 0)
-start_of (chosen.Load rounds) = loading rounds
+start_of (chosen.Load rounds) = load_form rounds
 start_of (chosen.Clerk room) = clerking_with room
 start_of chosen.Towers = ByTowers
 start_of chosen.Untowers = ByLines Spelling
 start_of chosen.Migrate = ByWhole Migrating
 start_of chosen.Inquire = inquiring_form
-start_of (chosen.Audit dir) = auditing dir
+start_of (chosen.Audit dir) = audit_form dir
 start_of chosen.Journal = with_journals
 
 -- a script has from 1 round to MOST_ROUNDS, and a clerk room for 1 answer to MOST_KEPT

@@ -5,11 +5,11 @@ use Rattle.cds_base.specs.LineFaults.{IsLine}
 use Rattle.cell_model.specs.Cells.{empty_cell}
 use Rattle.cell_script.specs.declared.fault.ParseFault.{ParseFault}
 use Rattle.cell_script.specs.Words.{words_of}
-use Rattle.cell_script.specs.Commands.{said_in}
-use Rattle.cell_replay.specs.Headline.{Converges, Finds}
+use Rattle.cell_script.specs.CommandRows.{said_in}
+use Rattle.cell_replay.specs.Headline.{RunConverges, Finds}
 use Rattle.cell_replay.specs.Runs.{Run}
-use Rattle.line_replies.specs.Dialogues.{Dialogue, NumberedOf, transcript_by}
-use Rattle.line_replies.specs.Replies.{Numbered, running}
+use Rattle.script_replay.specs.Dialogues.{Dialogue, NumberedOf, transcript_by}
+use Rattle.script_replay.specs.Replies.{Numbered, run_dialogue}
 
 -- lines, each with its end (own)
 abbrev pub text_of : List (List ℕ) → List ℕ
@@ -44,6 +44,6 @@ pub record IsReplayBy {S L : Type 0} (d : Dialogue S L) (s : S) (run : Run) : Ty
 -- the same by the model, from a cell without houses on; and each skulk that the transcript tells complete settles its directory
 -- (own, after C705, skulks)
 pub record IsReplay (run : Run) : Type 0 where
-  pub replay : IsReplayBy running empty_cell run
-  pub settled : Converges replay.said
+  pub replay : IsReplayBy run_dialogue empty_cell run
+  pub settled : RunConverges replay.said
   pub found : Finds replay.said

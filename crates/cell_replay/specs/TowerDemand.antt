@@ -3,12 +3,12 @@ use Rattle.std.specs.Prelude.{◌≡◌, ℕ, ◌+◌, ◌≤◌, ◌<◌, List,
 use Rattle.tower_codec.specs.declared.fault.TowerFault.{TowerFault}
 use Rattle.tower_codec.specs.declared.fault.TowerFault.TheVariants.{ShortCount, ShortLength, ShortPart, EmptyLeft}
 use Rattle.tower_codec.specs.Tower.{Floor, IsTower, IsFault}
-use Rattle.waiting_replies.specs.declared.limits.TheConstants.{LONGEST_TOWER}
+use Rattle.reply_buffer.specs.declared.limits.TheConstants.{LONGEST_TOWER}
 use Rattle.cell_replay.specs.declared.limits.TheConstants.{MOST_TOWERS, TOWER_SIGHT}
 use Rattle.cell_replay.specs.declared.towers.StreamFault.{StreamFault}
 use Rattle.cell_replay.specs.declared.towers.StreamFault.TheVariants as stream
 use Rattle.script_answers.specs.Texts.{fault_text}
-use Rattle.waiting_replies.specs.TowerTexts.{tower_text}
+use Rattle.reply_buffer.specs.TowerTexts.{tower_text}
 use Rattle.cell_replay.specs.Demand.{Demand, faulty_with, ends_with, cut_short_with, with_front}
 
 -- a tower of at most 1,024 octets, and there are at most 16,777,216 of them (own)

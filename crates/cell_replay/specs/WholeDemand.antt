@@ -1,11 +1,11 @@
 -- What an input demands of a form that reads it whole and then says one thing (own).
 use Rattle.std.specs.Prelude.{ℕ, nat_lt, if◌then◌else◌, List, [], length, codes, Ok, Err, Result}
 use Rattle.record_fields.specs.declared.fault.RecordFault.{RecordFault}
-use Rattle.cds_records.specs.Migration.{migrated}
+use Rattle.cds_records.specs.Migration.{migrated_image}
 use Rattle.script_answers.specs.Texts.{fault_text}
 use Rattle.image_audit.specs.declared.pair.PairFault.{PairFault}
 use Rattle.image_audit.specs.declared.verdict.Verdict.{Verdict}
-use Rattle.image_audit.specs.Pairs.{audited}
+use Rattle.image_audit.specs.Pairs.{audit_verdict}
 use Rattle.cell_replay.specs.AuditTexts.{verdict_text, pair_fault_text}
 use Rattle.cell_replay.specs.declared.limits.TheConstants.{MOST_WHOLE, WHOLE_SIGHT}
 use Rattle.cell_replay.specs.Demand.{Demand, faulty_with, ends_with, cut_short_with}
@@ -32,8 +32,8 @@ audit_said dir (Err fault) = Err (pair_fault_text fault)
 
 -- the text that is said of an input, or that of its fault (own)
 abbrev pub said_of : WholeTask → List ℕ → Result (List ℕ) (List ℕ)
-said_of Migrating octets = image_said (migrated octets)
-said_of (Auditing dir) octets = audit_said dir (audited octets (record { 0 = dir }))
+said_of Migrating octets = image_said (migrated_image octets)
+said_of (Auditing dir) octets = audit_said dir (audit_verdict octets (record { 0 = dir }))
 
 -- either is due where the input ends (own)
 abbrev pub told_whole : Result (List ℕ) (List ℕ) → Demand

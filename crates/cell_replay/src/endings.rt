@@ -5,7 +5,7 @@ ghost use Rattle.cell_replay.specs.PrivateEndings.{Finishes, IsQueued, StopsWith
 
 use cds_base::{Sink, WordsFault};
 use std::alloc::AllocError;
-use waiting_replies::Waiting;
+use reply_buffer::Waiting;
 
 /// How a run ends.
 #[derive(Clone, Copy, Debug, PartialEq, Eq)]

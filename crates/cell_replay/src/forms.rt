@@ -1,29 +1,29 @@
 // The forms of the program, and what those that read lines make of a line.
 ghost use Rattle.std.specs.Prelude.{◌≡◌, ◌<◌, ◌≤◌, ℕ, [], ◌∷◌, ◌++◌, MatchOption, IfOk, IfSome, OnOk, OnErr, map, string_bytes};
 ghost use Rattle.cell_script.specs.Words.{number_to, words_of};
-ghost use Rattle.cell_script.specs.Commands.{said_in};
+ghost use Rattle.cell_script.specs.CommandRows.{said_in};
 ghost use Rattle.cds_base.specs.declared.scan.TheConstants.{MOST_LINES};
 ghost use Rattle.std.specs.Option.{option_map};
 ghost use Rattle.cds_stamps.specs.Outcomes.{Answers};
-ghost use Rattle.cell_replay.specs.LineStates.{LineState, checked, response};
+ghost use Rattle.cell_replay.specs.LineStates.{LineState, line_check, response};
 ghost use Rattle.cell_replay.specs.Demand.{end_text, told_fault};
 ghost use Rattle.cell_replay.specs.Forms.{form_named, form_numbered, form_of};
 ghost use Rattle.cell_replay.specs.PrivateStanding.{IsAt, IsBroken, IsForm, IsKept, IsShort, Replies, Counts, counted, disks_of, has_command, start_of};
-ghost use Rattle.waiting_replies.specs.declared.replies.LineEnd.TheVariants as end;
+ghost use Rattle.reply_buffer.specs.declared.replies.LineEnd.TheVariants as end;
 
 use crate::check::Tally;
 use crate::limits::{LAST_DIR, MOST_KEPT, MOST_ROUNDS};
 use cds_base::LineFault;
 use cds_stamps::AllocOr;
 use cell_script::{ParseFault, number_up_to, parse_line};
-use clerk_replies::ClerkReplayer;
+use clerk_replay::ClerkReplayer;
 use house_journal::MemDisk;
-use inquiry_replies::replay_inquiry;
-use journal_replies::Journals;
-use line_replies::Replayer;
-use mend_lines::Mender;
+use inquire_replay::replay_inquiry;
+use journal_replay::Journals;
+use script_replay::Replayer;
+use mend_replay::Mender;
 use std::alloc::{AllocError, Global};
-use waiting_replies::{LineEnd, Speller, Waiting, print_line_fault, reply_to_fault};
+use reply_buffer::{LineEnd, Speller, Waiting, print_line_fault, reply_to_fault};
 
 /// A form of the program.
 #[derive(Clone, Copy, Debug, PartialEq, Eq)]
@@ -201,7 +201,7 @@ fn check_line(
     waiting: &mut Waiting,
 ) -> LineEnd
     requires { tally.old.lines < number }
-    ensures reply { Counts result (checked number tally.old.commands (said_in (words_of line.now))) waiting.old waiting.new tally.new }
+    ensures reply { Counts result (line_check number tally.old.commands (said_in (words_of line.now))) waiting.old waiting.new tally.new }
     ensures counted { tally.new.lines ≤ number }
 {
     match says_command(alloc, line) {

@@ -8,11 +8,11 @@ ghost use Rattle.tower_codec.specs.declared.rpc.Interface.{Interface};
 ghost use Rattle.ns_commands.specs.Asks.{add_element, add_member, delete_element, delete_member, export, unexport};
 ghost use Rattle.script_forms.specs.declared.inquire_line.InquireLine.{InquireLine};
 ghost use Rattle.script_forms.specs.InquireLines.{inquired_in};
-ghost use Rattle.inquiry_replies.specs.Inquiring.{inquiring};
-ghost use Rattle.clerk_replies.specs.Clerking.{Clerked, clerking};
-ghost use Rattle.line_replies.specs.Dialogues.{NumberedOf, transcript_by};
-ghost use Rattle.line_replies.specs.Replies.{LacksStampsAlone, Numbered, transcript, trusted};
-ghost use Rattle.cell_replay.specs.Demand.{Demand, Sound, Faulty, demanded, whole};
+ghost use Rattle.inquire_replay.specs.Inquiring.{inquire_dialogue};
+ghost use Rattle.clerk_replay.specs.Clerking.{Clerked, clerk_dialogue};
+ghost use Rattle.script_replay.specs.Dialogues.{NumberedOf, transcript_by};
+ghost use Rattle.script_replay.specs.Replies.{LacksStampsAlone, Numbered, transcript, trusted_reader};
+ghost use Rattle.cell_replay.specs.Demand.{Demand, Sound, Faulty, line_demand, whole};
 ghost use Rattle.cell_replay.specs.LineStates.{Clerking, Inquiring, Replaying, Spelling};
 ghost use Rattle.cell_replay.specs.Forms.{FormState, ByLines, ByTowers, Demands};
 ghost use Rattle.cell_replay.specs.Runs.{Ended, IsFront, NoCallFailed, Run};
@@ -23,29 +23,29 @@ ghost use Rattle.cell_replay.specs.Scripts.{IsScript, IsScriptOf, text_of};
 use crate::limits::{MOST_KEPT, MOST_ROUNDS, MOST_TOWERS, MOST_WHOLE, TOWER_SIGHT, WHOLE_SIGHT};
 use cds_cell::laws::{asked_houses_accept, masters_refuse_for_stamps_alone};
 use cell_model::holdings;
-use line_replies::MOST_UPDATES;
+use script_replay::MOST_UPDATES;
 use ns_groups::laws::group_updates_are_accepted;
 use ns_profiles::laws::profile_updates_are_accepted;
 use server_entries::laws::server_updates_are_accepted;
-use waiting_replies::{LONGEST_TOWER, MOST_WAITING};
+use reply_buffer::{LONGEST_TOWER, MOST_WAITING};
 
 /// A script demands its transcript by the model, and nothing else.
 pub fn scripts_demand_transcripts()
     ensures run { (g : Cell) (lines : List (List ℕ)) (said : List Numbered) → IsScript 1 lines said
-        → demanded (Replaying g) (text_of lines) ≡ whole (transcript g said) }
+        → line_demand (Replaying g) (text_of lines) ≡ whole (transcript g said) }
     ensures inquire { (g : Cell) (lines : List (List ℕ)) (said : List (NumberedOf InquireLine)) → IsScriptOf inquired_in 1 lines said
-        → demanded (Inquiring g) (text_of lines) ≡ whole (transcript_by inquiring g said) }
+        → line_demand (Inquiring g) (text_of lines) ≡ whole (transcript_by inquire_dialogue g said) }
     ensures clerk { (s : Clerked) (lines : List (List ℕ)) (said : List Numbered) → IsScript 1 lines said
-        → demanded (Clerking s) (text_of lines) ≡ whole (transcript_by clerking s said) }
+        → line_demand (Clerking s) (text_of lines) ≡ whole (transcript_by clerk_dialogue s said) }
 {}
 
 /// An input in which nothing is faulty is a script.
 pub fn inputs_without_faults_are_scripts()
-    ensures run { (g : Cell) (octets : List ℕ) → (demanded (Replaying g) octets).verdict ≡ Sound
+    ensures run { (g : Cell) (octets : List ℕ) → (line_demand (Replaying g) octets).verdict ≡ Sound
         → (lines : List (List ℕ)) × (said : List Numbered) × (octets ≡ text_of lines) × IsScript 1 lines said }
-    ensures inquire { (g : Cell) (octets : List ℕ) → (demanded (Inquiring g) octets).verdict ≡ Sound
+    ensures inquire { (g : Cell) (octets : List ℕ) → (line_demand (Inquiring g) octets).verdict ≡ Sound
         → (lines : List (List ℕ)) × (said : List (NumberedOf InquireLine)) × (octets ≡ text_of lines) × IsScriptOf inquired_in 1 lines said }
-    ensures clerk { (s : Clerked) (octets : List ℕ) → (demanded (Clerking s) octets).verdict ≡ Sound
+    ensures clerk { (s : Clerked) (octets : List ℕ) → (line_demand (Clerking s) octets).verdict ≡ Sound
         → (lines : List (List ℕ)) × (said : List Numbered) × (octets ≡ text_of lines) × IsScript 1 lines said }
 {}
 
@@ -81,14 +81,14 @@ pub fn towers_come_back()
 /// In a cell that commands lead to, a command of the name service meets no refusal of its updates but want of stamps.
 pub fn name_commands_lack_stamps_alone()
     ensures exports { (g : Cell) (name : List (List ℕ)) (interface : Interface) (bindings : List StringBinding) (objects : List (List ℕ))
-        → IsReached g → LacksStampsAlone g (export (trusted g) name interface bindings objects) }
+        → IsReached g → LacksStampsAlone g (export (trusted_reader g) name interface bindings objects) }
     ensures unexports { (g : Cell) (name : List (List ℕ)) (interface : Option Interface) (objects : List (List ℕ))
-        → IsReached g → LacksStampsAlone g (unexport (trusted g) name interface objects) }
+        → IsReached g → LacksStampsAlone g (unexport (trusted_reader g) name interface objects) }
     ensures members { (g : Cell) (name member : List (List ℕ)) → IsReached g
-        → LacksStampsAlone g (add_member (trusted g) name member) × LacksStampsAlone g (delete_member (trusted g) name member) }
+        → LacksStampsAlone g (add_member (trusted_reader g) name member) × LacksStampsAlone g (delete_member (trusted_reader g) name member) }
     ensures elements { (g : Cell) (name : List (List ℕ)) (interface : Option Interface) (member : List (List ℕ)) (priority : ℕ) (note : List ℕ)
-        → IsReached g → LacksStampsAlone g (add_element (trusted g) name interface member priority note)
-        × LacksStampsAlone g (delete_element (trusted g) name interface member) }
+        → IsReached g → LacksStampsAlone g (add_element (trusted_reader g) name interface member priority note)
+        × LacksStampsAlone g (delete_element (trusted_reader g) name interface member) }
 {
     holdings();
     asked_houses_accept();

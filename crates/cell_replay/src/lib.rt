@@ -20,4 +20,4 @@ pub use limits::{
 };
 pub use mending::mend;
 pub use replay::{new_disks, run, run_journal};
-pub use waiting_replies::{LONGEST_TOWER, MOST_WAITING};
+pub use reply_buffer::{LONGEST_TOWER, MOST_WAITING};

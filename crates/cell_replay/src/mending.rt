@@ -1,5 +1,5 @@
 // The form of `cdsmend`: a script is replayed, and what mends a directory behind it is written.
-ghost use Rattle.cell_replay.specs.Forms.{mending};
+ghost use Rattle.cell_replay.specs.Forms.{mend_form};
 ghost use Rattle.cell_replay.specs.Runs.{Ended, run_of};
 
 use crate::endings::Status;
@@ -7,12 +7,12 @@ use crate::forms::LineForm;
 use crate::replay::serve_lines;
 use cds_base::{Sink, Source};
 use cds_stamps::DirId;
-use mend_lines::Mender;
+use mend_replay::Mender;
 use std::alloc::Global;
 
 /// Reads a script, and writes the lines that mend the directory behind it, or why none do.
 pub fn mend<S: Source, K: Sink>(alloc: Global, dir: DirId, source: &mut S, sink: &mut K) -> Status
-    ensures { Ended (mending dir.0) (run_of S.left S.faults K.written K.faults source.old source.new sink.old sink.new) result }
+    ensures { Ended (mend_form dir.0) (run_of S.left S.faults K.written K.faults source.old source.new sink.old sink.new) result }
 {
     serve_lines(alloc, LineForm::Mend(Mender::new(alloc, dir)), source, sink)
 }

@@ -2,13 +2,13 @@
 ghost use Rattle.std.specs.Prelude.{◌≡◌, ◌≢◌, ◌≤◌, ◌↔◌, ℕ, None, Some, IfOk, IfSome, map, string_bytes};
 ghost use Rattle.cds_base.specs.Lines.{IsFresh};
 ghost use Rattle.cell_model.specs.Cells.{empty_cell};
-ghost use Rattle.clerk_replies.specs.Clerking.{clerking, start};
-ghost use Rattle.inquiry_replies.specs.Inquiring.{inquiring};
-ghost use Rattle.journal_replies.specs.Journals.{empty_state};
-ghost use Rattle.journal_replies.specs.Disks.{AreNew};
+ghost use Rattle.clerk_replay.specs.Clerking.{clerk_dialogue, start};
+ghost use Rattle.inquire_replay.specs.Inquiring.{inquire_dialogue};
+ghost use Rattle.journal_replay.specs.CellJournals.{empty_state};
+ghost use Rattle.journal_replay.specs.CellDisks.{AreNew};
 ghost use Rattle.cell_replay.specs.LineStates.{LineState, Journaling};
 ghost use Rattle.cell_replay.specs.Demand.{end_text, told_fault};
-ghost use Rattle.cell_replay.specs.Forms.{ByLines, clerking_with, form_of, inquiring_form, replaying, with_journals};
+ghost use Rattle.cell_replay.specs.Forms.{ByLines, clerking_with, form_of, inquiring_form, run_form, with_journals};
 ghost use Rattle.cell_replay.specs.Scripts.{IsReplay, IsReplayBy};
 ghost use Rattle.cell_replay.specs.JournalRuns.{AreOnDisks, ArePut, IsJournalReplay};
 ghost use Rattle.cell_replay.specs.Runs.{Ended, ReadsNothing, run_of};
@@ -24,12 +24,12 @@ use crate::load::load;
 use crate::towers::print_towers;
 use crate::whole::{Whole, say_whole};
 use cds_base::{LineFault, Lines, Sink, Source};
-use clerk_replies::ClerkReplayer;
+use clerk_replay::ClerkReplayer;
 use house_journal::MemDisk;
-use journal_replies::Journals;
-use line_replies::Replayer;
+use journal_replay::Journals;
+use script_replay::Replayer;
 use std::alloc::{AllocError, Global};
-use waiting_replies::{LineEnd, Speller, Waiting};
+use reply_buffer::{LineEnd, Speller, Waiting};
 
 // Ends a run at the end of the input.
 fn stop_at_end<K: Sink>(
@@ -237,12 +237,12 @@ pub fn run<S: Source, K: Sink>(
     ensures unread { ReadsNothing (form_of (map string_bytes words.now)) → source.new ≡ source.old }
     ensures ends { IfSome (form_of (map string_bytes words.now)) (λ form. Ended form
         (run_of S.left S.faults K.written K.faults source.old source.new sink.old sink.new) result) }
-    ensures transcript { form_of (map string_bytes words.now) ≡ Some replaying → result ≡ Status.Ok
+    ensures transcript { form_of (map string_bytes words.now) ≡ Some run_form → result ≡ Status.Ok
         → IsReplay (run_of S.left S.faults K.written K.faults source.old source.new sink.old sink.new) }
-    ensures inquired { form_of (map string_bytes words.now) ≡ Some inquiring_form → result ≡ Status.Ok → IsReplayBy inquiring empty_cell
+    ensures inquired { form_of (map string_bytes words.now) ≡ Some inquiring_form → result ≡ Status.Ok → IsReplayBy inquire_dialogue empty_cell
         (run_of S.left S.faults K.written K.faults source.old source.new sink.old sink.new) }
     ensures clerked { (room : ℕ) → form_of (map string_bytes words.now) ≡ Some (clerking_with room) → result ≡ Status.Ok
-        → IsReplayBy clerking (start room)
+        → IsReplayBy clerk_dialogue (start room)
         (run_of S.left S.faults K.written K.faults source.old source.new sink.old sink.new) }
     ensures journaled { form_of (map string_bytes words.now) ≡ Some with_journals → result ≡ Status.Ok
         → IsJournalReplay (run_of S.left S.faults K.written K.faults source.old source.new sink.old sink.new) }

@@ -3,7 +3,7 @@ ghost use Rattle.std.specs.Prelude.{◌≡◌, ◌≤◌, ◌<◌, ◌↔◌, []
 ghost use Rattle.std.specs.Io.KnownBytes.{IsAtEnd};
 ghost use Rattle.hex.specs.Hex.{IsBytes};
 ghost use Rattle.cds_base.specs.Counts.{HasCause};
-ghost use Rattle.cds_base.specs.Reading.{GrowsByReading};
+ghost use Rattle.cds_base.specs.SourceReading.{GrowsByReading};
 ghost use Rattle.cell_replay.specs.TowerDemand.{stream_fault_text};
 ghost use Rattle.cell_replay.specs.Forms.{ByTowers};
 ghost use Rattle.cell_replay.specs.Runs.{Ended, run_of};
@@ -16,7 +16,7 @@ use cds_base::{Failed, Sink, Source, Window};
 use script_answers::print_fault;
 use std::alloc::{AllocError, Global};
 use tower_codec::{TowerFault, TowerView};
-use waiting_replies::{LONGEST_TOWER, Waiting};
+use reply_buffer::{LONGEST_TOWER, Waiting};
 
 /// Why there is no further tower.
 #[derive(Clone, Copy, Debug, PartialEq, Eq)]

@@ -3,7 +3,7 @@ use Rattle.std.proofs.Common.{◌≡◌, ℕ, Bor, Bool, true, false, List, [], 
 use Rattle.std.specs.Prelude.{Option, Some, None, ◌==◌}
 use Rattle.std.specs.Option.{option_map, option_map_or}
 use Rattle.std.specs.List.{onto_first}
-use Rattle.tower_codec.specs.BindingReading.{cut}
+use Rattle.tower_codec.specs.BindingReading.{cut_at_mark}
 use Rattle.cell_script.specs.NameService.{◌>>=◌, all_said, texts_of}
 
 -- the texts of a list that is cut at its first comma
@@ -20,23 +20,23 @@ onto_first_text c w None = refl
 onto_first_text c w (Some p) = refl
 
 -- the texts of a list are those of its first cut
-texts_of-cut : (w : List ℕ) → texts_of w ≡ texts_cut w (cut 44 w)
-unfolding cut
+texts_of-cut : (w : List ℕ) → texts_of w ≡ texts_cut w (cut_at_mark 44 w)
+unfolding cut_at_mark
 texts_of-cut [] = refl
 texts_of-cut (c ∷ w) = one_more (c == 44) (texts_of-cut w)
   where
-    one_more : (comma : Bool) → texts_of w ≡ texts_cut w (cut 44 w)
+    one_more : (comma : Bool) → texts_of w ≡ texts_cut w (cut_at_mark 44 w)
         → (if comma then [] ∷ texts_of w else onto_first c (texts_of w))
-        ≡ texts_cut (c ∷ w) (if comma then Some ([], w) else octet_first c (cut 44 w))
+        ≡ texts_cut (c ∷ w) (if comma then Some ([], w) else octet_first c (cut_at_mark 44 w))
     one_more true rest = refl
-    one_more false rest = ap (onto_first c) rest ∙ onto_first_text c w (cut 44 w)
+    one_more false rest = ap (onto_first c) rest ∙ onto_first_text c w (cut_at_mark 44 w)
 
 -- the texts of a list with a comma
-pub texts_at_cut : (w a b : List ℕ) → Some (a, b) ≡ cut 44 w → texts_of w ≡ a ∷ texts_of b
+pub texts_at_cut : (w a b : List ℕ) → Some (a, b) ≡ cut_at_mark 44 w → texts_of w ≡ a ∷ texts_of b
 texts_at_cut w a b is = texts_of-cut w ∙ ap (texts_cut w) (sym is)
 
 -- the one text of a list without a comma
-pub texts_uncut : (w : List ℕ) → None ≡ cut 44 w → texts_of w ≡ w ∷ []
+pub texts_uncut : (w : List ℕ) → None ≡ cut_at_mark 44 w → texts_of w ≡ w ∷ []
 texts_uncut w is = texts_of-cut w ∙ ap (texts_cut w) (sym is)
 
 -- what texts say, behind what was said

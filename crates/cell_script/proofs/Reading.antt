@@ -2,8 +2,8 @@
 use Rattle.std.proofs.Common.{◌≡◌, List, ◌++◌}
 use Rattle.std.specs.Prelude.{Result, Ok, Err, None}
 use Rattle.cell_script.specs.declared.fault.ParseFault.{ParseFault}
-use Rattle.cell_script.specs.Commands.{some_line}
-use Rattle.cell_script.specs.Forms.{◌>>=◌}
+use Rattle.cell_script.specs.CommandRows.{some_line}
+use Rattle.cell_script.specs.WordForms.{◌>>=◌}
 
 -- items behind others
 abbrev pub behind : {A : Type 0} → List A → Result (List A) ParseFault → Result (List A) ParseFault

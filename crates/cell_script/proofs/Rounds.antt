@@ -9,7 +9,7 @@ use Rattle.cell_script.specs.declared.command.Command.TheVariants as command
 use Rattle.cell_script.specs.declared.place.Place.{Place}
 use Rattle.cell_script.specs.Generated.{Part, change_round, drawn_change, drawn_entry, drawn_value, entry_deleted, entry_made, laid_out, next_draw, nobody}
 use Rattle.cell_script.specs.Generated.{ends_with_skulk, round_of, rounds_behind, skulk_if, the_first, value_changed}
-use Rattle.cell_script.specs.PrivateGenerated.{behind, commands_of, fates_of, left_at, stepped}
+use Rattle.cell_script.specs.PrivateGenerated.{behind, commands_of, fates_of, left_at, numbers_by_steps}
 
 -- the number of an entry, in two digits
 pub decimal_teen : (k : ℕ) → k < 6 → decimal (10 + k) ≡ 49 ∷ (48 + k) ∷ []
@@ -41,12 +41,12 @@ behind_round p entries due more = rw (entries, due, rounds_more p.rounds p.round
 
 -- ---- what a round makes of its messages
 
-two_told : (t s : ℕ) → t < 2 → (if t == 1 then (λ (first : ℕ). first ∷ (first + 2) ∷ []) else nobody) s ≡ stepped s 2 (2 * t)
+two_told : (t s : ℕ) → t < 2 → (if t == 1 then (λ (first : ℕ). first ∷ (first + 2) ∷ []) else nobody) s ≡ numbers_by_steps s 2 (2 * t)
 two_told zero s small = refl
 two_told (suc zero) s small = refl
 two_told (suc (suc t)) s small = absurd (omega arith)
 
-one_told : (t s : ℕ) → t < 2 → (if t == 1 then the_first else nobody) s ≡ stepped s 2 t
+one_told : (t s : ℕ) → t < 2 → (if t == 1 then the_first else nobody) s ≡ numbers_by_steps s 2 t
 one_told zero s small = refl
 one_told (suc zero) s small = refl
 one_told (suc (suc t)) s small = absurd (omega arith)
@@ -55,7 +55,7 @@ one_told (suc (suc t)) s small = absurd (omega arith)
 renewed : (x s : ℕ) (ps : List Part) → drawn_change x ≡ 7
     → laid_out s (change_round x ∷ ps)
     ≡ entry_deleted (drawn_entry x) ∷ entry_made (drawn_entry x)
-    ∷ (map command.Deliver (stepped s 2 (2 * (x / 256 / 32768 % 2))) ++ (map command.Lose (range_with_len s 4) ++ laid_out (s + 4) ps))
+    ∷ (map command.Deliver (numbers_by_steps s 2 (2 * (x / 256 / 32768 % 2))) ++ (map command.Lose (range_with_len s 4) ++ laid_out (s + 4) ps))
 renewed x s ps is =
     let told : x / 256 / 32768 % 2 < 2 = omega arith in
     rw (is, two_told (x / 256 / 32768 % 2) s told) refl
@@ -64,7 +64,7 @@ renewed x s ps is =
 changed : (x s : ℕ) (ps : List Part) → (drawn_change x == 7) ≡ false
     → laid_out s (change_round x ∷ ps)
     ≡ value_changed (drawn_change x) (drawn_entry x) (drawn_value x)
-    ∷ (map command.Deliver (stepped s 2 (x / 256 / 32768 % 2)) ++ (map command.Lose (range_with_len s 2) ++ laid_out (s + 2) ps))
+    ∷ (map command.Deliver (numbers_by_steps s 2 (x / 256 / 32768 % 2)) ++ (map command.Lose (range_with_len s 2) ++ laid_out (s + 2) ps))
 changed x s ps is =
     let told : x / 256 / 32768 % 2 < 2 = omega arith in
     rw (is, one_told (x / 256 / 32768 % 2) s told) refl
@@ -91,20 +91,20 @@ module _ (p q : Place) (x : ℕ) (due : Bool) (entries : p.entries ≡ 16) (none
 
   pub begins_renewed : drawn_change x ≡ 7
       → commands_of q.work ≡ entry_deleted (drawn_entry x) ∷ entry_made (drawn_entry x) ∷ []
-      → fates_of q.fates ≡ map command.Deliver (stepped p.serial 2 (2 * (x / 256 / 32768 % 2))) ++ map command.Lose (range_with_len p.serial 4)
+      → fates_of q.fates ≡ map command.Deliver (numbers_by_steps p.serial 2 (2 * (x / 256 / 32768 % 2))) ++ map command.Lose (range_with_len p.serial 4)
       → behind q ≡ laid_out (p.serial + 4) (parts_behind p x due) → left_at q ≡ behind p
   begins_renewed seven work fates rest =
       laid_at q (entry_deleted (drawn_entry x) ∷ entry_made (drawn_entry x) ∷ [])
-      (map command.Deliver (stepped p.serial 2 (2 * (x / 256 / 32768 % 2)))) (map command.Lose (range_with_len p.serial 4)) _ work fates rest
+      (map command.Deliver (numbers_by_steps p.serial 2 (2 * (x / 256 / 32768 % 2)))) (map command.Lose (range_with_len p.serial 4)) _ work fates rest
       ∙ sym (renewed x p.serial (parts_behind p x due) seven)
       ∙ here
 
   pub begins_changed : (drawn_change x == 7) ≡ false
       → commands_of q.work ≡ value_changed (drawn_change x) (drawn_entry x) (drawn_value x) ∷ []
-      → fates_of q.fates ≡ map command.Deliver (stepped p.serial 2 (x / 256 / 32768 % 2)) ++ map command.Lose (range_with_len p.serial 2)
+      → fates_of q.fates ≡ map command.Deliver (numbers_by_steps p.serial 2 (x / 256 / 32768 % 2)) ++ map command.Lose (range_with_len p.serial 2)
       → behind q ≡ laid_out (p.serial + 2) (parts_behind p x due) → left_at q ≡ behind p
   begins_changed other work fates rest =
       laid_at q (value_changed (drawn_change x) (drawn_entry x) (drawn_value x) ∷ [])
-      (map command.Deliver (stepped p.serial 2 (x / 256 / 32768 % 2))) (map command.Lose (range_with_len p.serial 2)) _ work fates rest
+      (map command.Deliver (numbers_by_steps p.serial 2 (x / 256 / 32768 % 2))) (map command.Lose (range_with_len p.serial 2)) _ work fates rest
       ∙ sym (changed x p.serial (parts_behind p x due) other)
       ∙ here

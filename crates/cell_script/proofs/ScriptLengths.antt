@@ -6,7 +6,7 @@ use Rattle.std.proofs.lemmas.List.{length-map}
 use Rattle.std.proofs.lemmas.List.FromFn.{length-range_with_len}
 use Rattle.cell_script.specs.declared.command.Command.{Command}
 use Rattle.cell_script.specs.declared.command.Command.TheVariants as command
-use Rattle.cell_script.specs.Generated.{Part, change_round, drawn_change, entry, is_told, laid_out, new_entry_round, next_draw, nobody, opening}
+use Rattle.cell_script.specs.Generated.{Part, change_round, drawn_change, entry, is_told, laid_out, new_entry_round, next_draw, nobody, first_part}
 use Rattle.cell_script.specs.Generated.{ends_with_skulk, rounds_behind, script, skulk_if, the_first, value_round}
 
 -- a part has at most 21 commands, wherever its messages begin
@@ -91,5 +91,5 @@ entries_short k (suc count) most ps more =
 pub few_commands : (n : ℕ) → length (script n) ≤ 42 * n + 357
 unfolding IsShort
 few_commands n =
-    let all = one_more (2 * n + 16) opening _ (λ first. omega arith) (entries_short 0 16 (2 * n) (rounds_behind n 0 n n) (rounds_short n 0 n n)) in
+    let all = one_more (2 * n + 16) first_part _ (λ first. omega arith) (entries_short 0 16 (2 * n) (rounds_behind n 0 n n) (rounds_short n 0 n n)) in
     omega (arith, all.few, all.short 1)

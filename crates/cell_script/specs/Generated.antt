@@ -58,8 +58,8 @@ abbrev pub root_made : Command
 root_made = command.Root (house 1) (reader 2 ∷ reader 3 ∷ [])
 
 -- houses 1, 2 and 3, and the root directory, of which the two others are told (own)
-abbrev pub opening : Part
-opening = record { commands = map house_made (range_with_len 1 3) ++ root_made ∷ []; delivered = so_many 2; posted = 2 }
+abbrev pub first_part : Part
+first_part = record { commands = map house_made (range_with_len 1 3) ++ root_made ∷ []; delivered = so_many 2; posted = 2 }
 
 -- the name of entry k: `e0` to `e15` (own)
 abbrev pub entry_name : ℕ → List ℕ
@@ -166,7 +166,7 @@ rounds_behind last before x count = flat_map (round_of last) (enumerate_from (be
 
 -- the cell, its entries, and n rounds with the numbers from n on (own)
 abbrev pub parts_of : ℕ → List Part
-parts_of n = opening ∷ (map entry (range_with_len 0 16) ++ rounds_behind n 0 n n)
+parts_of n = first_part ∷ (map entry (range_with_len 0 16) ++ rounds_behind n 0 n n)
 
 -- the commands of the script with n rounds (own)
 abbrev pub script : ℕ → List Command

@@ -3,8 +3,8 @@ pub mod Listings
 pub mod PrivateCounts
 pub mod Notes
 pub mod NameService
-pub mod Forms
-pub mod Commands
+pub mod WordForms
+pub mod CommandRows
 pub mod PrivateRows
 pub mod Generated
 pub mod PrivateWorks

@@ -8,7 +8,7 @@ use Rattle.uuid.specs.Parts.{zero_bytes, is_nil_bytes}
 use Rattle.uuid.specs.Text.{parsed_hyphenated}
 use Rattle.tower_codec.specs.declared.rpc.Interface.{Interface}
 use Rattle.tower_codec.specs.declared.binding.StringBinding.{StringBinding}
-use Rattle.tower_codec.specs.BindingReading.{cut, binding_of}
+use Rattle.tower_codec.specs.BindingReading.{cut_at_mark, binding_of}
 use Rattle.cell_script.specs.Words.{number_of}
 use Rattle.cell_script.specs.Notes.{note_in}
 
@@ -35,8 +35,8 @@ most_version = 65535
 -- an interface: its UUID, `:`, its major version, `.` and its minor version (own, after C706, interface identifiers)
 unfoldable pub interface_of : List ℕ → Option Interface
 interface_of w = do
-  parts ← cut 58 w
-  versions ← cut 46 parts.1
+  parts ← cut_at_mark 58 w
+  versions ← cut_at_mark 46 parts.1
   uuid ← parsed_hyphenated parts.0
   major ← number_within most_version versions.0
   minor ← number_within most_version versions.1

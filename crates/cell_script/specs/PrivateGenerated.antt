@@ -21,13 +21,13 @@ commands_of part.Skulk = skulk_made ∷ []
 commands_of part.Nothing = []
 
 -- so many numbers from a on, by steps of d
-abbrev pub stepped : (a d count : ℕ) → List ℕ
-stepped a d zero = []
-stepped a d (suc count) = a ∷ stepped (a + d) d count
+abbrev pub numbers_by_steps : (a d count : ℕ) → List ℕ
+numbers_by_steps a d zero = []
+numbers_by_steps a d (suc count) = a ∷ numbers_by_steps (a + d) d count
 
 -- messages that are still to be delivered, and then those that are still to be lost
 abbrev pub fates_of : Fates → List Command
-fates_of f = map command.Deliver (stepped f.deliver f.step f.deliveries) ++ map command.Lose (range_with_len f.lose f.losses)
+fates_of f = map command.Deliver (numbers_by_steps f.deliver f.step f.deliveries) ++ map command.Lose (range_with_len f.lose f.losses)
 
 -- the parts that are still to come: entries, a skulk if one is due, and rounds
 abbrev pub parts_left : Place → List Part

@@ -5,9 +5,9 @@ use Rattle.cds_stamps.specs.declared.alloc_or.AllocOr.TheVariants.{Fault, OutOfM
 use Rattle.cell_script.specs.declared.command.ScriptLine.{ScriptLine}
 use Rattle.cell_script.specs.declared.fault.ParseFault.{ParseFault}
 use Rattle.cell_script.specs.declared.fault.ParseFault.TheVariants.{UnknownCommand}
-use Rattle.cell_script.specs.Forms.{Words}
-use Rattle.cell_script.specs.Commands.{Row, said_among, early_among, no_command, making_rows, entry_rows, value_rows, replica_rows}
-use Rattle.cell_script.specs.Commands.{event_rows, question_rows, service_rows}
+use Rattle.cell_script.specs.WordForms.{Words}
+use Rattle.cell_script.specs.CommandRows.{Row, said_among, early_among, no_command, making_rows, entry_rows, value_rows, replica_rows}
+use Rattle.cell_script.specs.CommandRows.{event_rows, question_rows, service_rows}
 
 -- what a line says, or its fault, and the fault of it that shows before a word behind the first one is read (own)
 pub record Saying : Type 0 where
@@ -29,29 +29,29 @@ abbrev pub unknown : Saying
 unknown = record { said = no_command; early = Some (UnknownCommand 1) }
 
 -- a line of no family before: of a command of the name service, or of no command (own)
-unfoldable pub served : List ℕ → Words → Saying
-served = saying_among service_rows unknown
+unfoldable pub by_service_rows : List ℕ → Words → Saying
+by_service_rows = saying_among service_rows unknown
 
 -- such a line, or that of a question (own)
-unfoldable pub asked : List ℕ → Words → Saying
-asked word s = saying_among question_rows (served word s) word s
+unfoldable pub by_question_rows : List ℕ → Words → Saying
+by_question_rows word s = saying_among question_rows (by_service_rows word s) word s
 
 -- one of these, or that of an event (own)
 unfoldable pub befallen : List ℕ → Words → Saying
-befallen word s = saying_among event_rows (asked word s) word s
+befallen word s = saying_among event_rows (by_question_rows word s) word s
 
 -- one of these, or that of a command about all replicas of a directory (own)
-unfoldable pub replicated : List ℕ → Words → Saying
-replicated word s = saying_among replica_rows (befallen word s) word s
+unfoldable pub by_replica_rows : List ℕ → Words → Saying
+by_replica_rows word s = saying_among replica_rows (befallen word s) word s
 
 -- one of these, or that of a change of an entry's values (own)
-unfoldable pub changed : List ℕ → Words → Saying
-changed word s = saying_among value_rows (replicated word s) word s
+unfoldable pub by_value_rows : List ℕ → Words → Saying
+by_value_rows word s = saying_among value_rows (by_replica_rows word s) word s
 
 -- one of these, or that of an update of an entry (own)
-unfoldable pub updated : List ℕ → Words → Saying
-updated word s = saying_among entry_rows (changed word s) word s
+unfoldable pub by_entry_rows : List ℕ → Words → Saying
+by_entry_rows word s = saying_among entry_rows (by_value_rows word s) word s
 
 -- one of these, or that of a command that makes houses or directories: so any line (own)
-unfoldable pub made : List ℕ → Words → Saying
-made word s = saying_among making_rows (updated word s) word s
+unfoldable pub by_all_rows : List ℕ → Words → Saying
+by_all_rows word s = saying_among making_rows (by_entry_rows word s) word s

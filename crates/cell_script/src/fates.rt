@@ -17,7 +17,7 @@ pub(crate) struct Fates {
 impl Fates {
     ghost use Rattle.std.specs.Prelude.{◌≡◌, ◌≢◌, ◌++◌, ◌*◌, ◌+◌, ◌≤◌, ◌^◌, [], map, MatchBool};
     ghost use Rattle.std.specs.List.{range_with_len};
-    ghost use Rattle.cell_script.specs.PrivateGenerated.{IsFirst, fates_of, stepped};
+    ghost use Rattle.cell_script.specs.PrivateGenerated.{IsFirst, fates_of, numbers_by_steps};
     ghost use Rattle.cell_script.specs.declared.command.Command.TheVariants as command;
 
     /// So many messages are delivered, the first and then each by a step behind the one before, and so many from the first on are lost.
@@ -26,7 +26,7 @@ impl Fates {
         requires step { step ≤ 2 }
         requires deliveries { deliveries ≤ 10 }
         requires losses { losses ≤ 10 }
-        ensures { fates_of result ≡ map command.Deliver (stepped first step deliveries) ++ map command.Lose (range_with_len first losses) }
+        ensures { fates_of result ≡ map command.Deliver (numbers_by_steps first step deliveries) ++ map command.Lose (range_with_len first losses) }
     {
         Fates {
             deliver: first,

@@ -3,8 +3,8 @@ ghost use Rattle.std.specs.Prelude.{◌≡◌, ◌∷◌, Ok, Err, None, IfSome}
 ghost use Rattle.cds_stamps.specs.Outcomes.{Answers};
 ghost use Rattle.cds_stamps.specs.declared.alloc_or.AllocOr.TheVariants.{Fault};
 ghost use Rattle.cell_script.specs.Words.{words_of};
-ghost use Rattle.cell_script.specs.Commands.{said_by, early_by, said_in, early_fault};
-ghost use Rattle.cell_script.specs.PrivateRows.{Says, made, updated, changed, replicated, befallen, asked, served};
+ghost use Rattle.cell_script.specs.CommandRows.{said_by, early_by, said_in, early_fault};
+ghost use Rattle.cell_script.specs.PrivateRows.{Says, by_all_rows, by_entry_rows, by_value_rows, by_replica_rows, befallen, by_question_rows, by_service_rows};
 
 use crate::command::ScriptLine;
 use crate::fault::ParseFault;
@@ -26,7 +26,7 @@ pub fn line_behind(alloc: Global, word: &[u8], words: &mut Words<'_>) -> Parsed<
 // What they say where the first one is of a command that makes houses or directories, or of another.
 #[tactic(auto, unfolding(crate::specs::PrivateRows::made))]
 fn made(alloc: Global, word: &[u8], words: &mut Words<'_>) -> Parsed<ScriptLine>
-    ensures { Says result (made word.now words.old) }
+    ensures { Says result (by_all_rows word.now words.old) }
 {
     if word == b"house".as_slice() {
         return commands::house(words);
@@ -49,7 +49,7 @@ fn made(alloc: Global, word: &[u8], words: &mut Words<'_>) -> Parsed<ScriptLine>
 // The same of an update of an entry, or of another.
 #[tactic(auto, unfolding(crate::specs::PrivateRows::updated))]
 fn updated(alloc: Global, word: &[u8], words: &mut Words<'_>) -> Parsed<ScriptLine>
-    ensures { Says result (updated word.now words.old) }
+    ensures { Says result (by_entry_rows word.now words.old) }
 {
     if word == b"create".as_slice() {
         return updates::create(alloc, words);
@@ -66,7 +66,7 @@ fn updated(alloc: Global, word: &[u8], words: &mut Words<'_>) -> Parsed<ScriptLi
 // The same of a change of an entry's values, or of another.
 #[tactic(auto, unfolding(crate::specs::PrivateRows::changed))]
 fn changed(alloc: Global, word: &[u8], words: &mut Words<'_>) -> Parsed<ScriptLine>
-    ensures { Says result (changed word.now words.old) }
+    ensures { Says result (by_value_rows word.now words.old) }
 {
     if word == b"add".as_slice() {
         return updates::add(alloc, words);
@@ -86,7 +86,7 @@ fn changed(alloc: Global, word: &[u8], words: &mut Words<'_>) -> Parsed<ScriptLi
 // The same of a command about all replicas of a directory, or of another.
 #[tactic(auto, unfolding(crate::specs::PrivateRows::replicated))]
 fn replicated(alloc: Global, word: &[u8], words: &mut Words<'_>) -> Parsed<ScriptLine>
-    ensures { Says result (replicated word.now words.old) }
+    ensures { Says result (by_replica_rows word.now words.old) }
 {
     if word == b"epoch".as_slice() {
         return replicas::epoch(alloc, words);
@@ -120,7 +120,7 @@ fn befallen(alloc: Global, word: &[u8], words: &mut Words<'_>) -> Parsed<ScriptL
 // The same of a question, or of a command of the name service.
 #[tactic(auto, unfolding(crate::specs::PrivateRows::asked))]
 fn asked(alloc: Global, word: &[u8], words: &mut Words<'_>) -> Parsed<ScriptLine>
-    ensures { Says result (asked word.now words.old) }
+    ensures { Says result (by_question_rows word.now words.old) }
 {
     if word == b"read".as_slice() {
         return questions::read(alloc, words);
@@ -144,7 +144,7 @@ fn asked(alloc: Global, word: &[u8], words: &mut Words<'_>) -> Parsed<ScriptLine
 // command.
 #[tactic(auto, unfolding(crate::specs::PrivateRows::served))]
 fn served(alloc: Global, word: &[u8], words: &mut Words<'_>) -> Parsed<ScriptLine>
-    ensures { Says result (served word.now words.old) }
+    ensures { Says result (by_service_rows word.now words.old) }
 {
     if word == b"export".as_slice() {
         return service::export(alloc, words);

@@ -28,7 +28,7 @@ impl Place {
     ghost use Rattle.std.specs.Prelude.{◌≡◌, ◌+◌, ◌<◌, ◌≤◌, ◌++◌, true, false, map, IsTrue, IfOk, OnErr};
     ghost use Rattle.std.specs.List.{range_with_len};
     ghost use Rattle.cell_script.specs.Generated.{TakesFirst, laid_out, script};
-    ghost use Rattle.cell_script.specs.PrivateGenerated.{IsBegun, IsOver, behind, fates_of, left_at, parts_left, stepped};
+    ghost use Rattle.cell_script.specs.PrivateGenerated.{IsBegun, IsOver, behind, fates_of, left_at, parts_left, numbers_by_steps};
     ghost use Rattle.cell_script.specs.PrivateWorks.{is_work, most_serial};
     ghost use Rattle.cell_script.specs.declared.command.Command.TheVariants as command;
 
@@ -59,7 +59,7 @@ impl Place {
         requires skulk { self.skulk_is_due ≡ true → self.serial + losses + 10 ≤ most_serial self.entries self.round }
         ensures work { result.work ≡ work }
         ensures fates { fates_of result.fates ≡
-            map command.Deliver (stepped self.serial step deliveries) ++ map command.Lose (range_with_len self.serial losses) }
+            map command.Deliver (numbers_by_steps self.serial step deliveries) ++ map command.Lose (range_with_len self.serial losses) }
         ensures behind { behind result ≡ laid_out (self.serial + losses) (parts_left self) }
     {
         let mut begun = self;

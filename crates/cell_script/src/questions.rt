@@ -2,14 +2,14 @@
 #![tactic(auto, unfolding(crate::specs::PrivateRows::asked))]
 
 ghost use Rattle.std.specs.Prelude.{codes};
-ghost use Rattle.cell_script.specs.PrivateRows.{Says, asked};
+ghost use Rattle.cell_script.specs.PrivateRows.{Says, by_question_rows};
 
 use crate::command::{Question, ScriptLine};
 use crate::words::{Parsed, Words};
 use std::alloc::Global;
 
 pub(crate) fn read(alloc: Global, words: &mut Words<'_>) -> Parsed<ScriptLine>
-    ensures { Says result (asked (codes "read") words.old) }
+    ensures { Says result (by_question_rows (codes "read") words.old) }
 {
     words.exactly(4)?;
     Ok(ScriptLine::Question(Question::Read(
@@ -21,7 +21,7 @@ pub(crate) fn read(alloc: Global, words: &mut Words<'_>) -> Parsed<ScriptLine>
 }
 
 pub(crate) fn readlink(alloc: Global, words: &mut Words<'_>) -> Parsed<ScriptLine>
-    ensures { Says result (asked (codes "readlink") words.old) }
+    ensures { Says result (by_question_rows (codes "readlink") words.old) }
 {
     words.exactly(3)?;
     Ok(ScriptLine::Question(Question::Readlink(
@@ -32,21 +32,21 @@ pub(crate) fn readlink(alloc: Global, words: &mut Words<'_>) -> Parsed<ScriptLin
 }
 
 pub(crate) fn dump(words: &mut Words<'_>) -> Parsed<ScriptLine>
-    ensures { Says result (asked (codes "dump") words.old) }
+    ensures { Says result (by_question_rows (codes "dump") words.old) }
 {
     words.exactly(2)?;
     Ok(ScriptLine::Question(Question::Dump(words.house()?, words.directory()?)))
 }
 
 pub(crate) fn octets(words: &mut Words<'_>) -> Parsed<ScriptLine>
-    ensures { Says result (asked (codes "octets") words.old) }
+    ensures { Says result (by_question_rows (codes "octets") words.old) }
 {
     words.exactly(2)?;
     Ok(ScriptLine::Question(words.encoded()?))
 }
 
 pub(crate) fn decode(alloc: Global, words: &mut Words<'_>) -> Parsed<ScriptLine>
-    ensures { Says result (asked (codes "decode") words.old) }
+    ensures { Says result (by_question_rows (codes "decode") words.old) }
 {
     words.exactly(1)?;
     Ok(ScriptLine::Question(Question::Decode(words.octets(alloc)?)))

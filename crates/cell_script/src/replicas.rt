@@ -2,21 +2,21 @@
 #![tactic(auto, unfolding(crate::specs::PrivateRows::replicated))]
 
 ghost use Rattle.std.specs.Prelude.{codes};
-ghost use Rattle.cell_script.specs.PrivateRows.{Says, replicated, befallen};
+ghost use Rattle.cell_script.specs.PrivateRows.{Says, by_replica_rows, befallen};
 
 use crate::command::{Command, ScriptLine};
 use crate::words::{Parsed, Words};
 use std::alloc::Global;
 
 pub(crate) fn epoch(alloc: Global, words: &mut Words<'_>) -> Parsed<ScriptLine>
-    ensures { Says result (replicated (codes "epoch") words.old) }
+    ensures { Says result (by_replica_rows (codes "epoch") words.old) }
 {
     words.at_least(2)?;
     Ok(ScriptLine::Cell(Command::Epoch(words.directory()?, words.house()?, words.listeds(alloc)?)))
 }
 
 pub(crate) fn skulk(words: &mut Words<'_>) -> Parsed<ScriptLine>
-    ensures { Says result (replicated (codes "skulk") words.old) }
+    ensures { Says result (by_replica_rows (codes "skulk") words.old) }
 {
     words.exactly(2)?;
     Ok(ScriptLine::Cell(Command::Skulk(words.house()?, words.directory()?)))

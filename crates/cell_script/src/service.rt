@@ -2,14 +2,14 @@
 #![tactic(auto, unfolding(crate::specs::PrivateRows::served))]
 
 ghost use Rattle.std.specs.Prelude.{codes};
-ghost use Rattle.cell_script.specs.PrivateRows.{Says, served};
+ghost use Rattle.cell_script.specs.PrivateRows.{Says, by_service_rows};
 
 use crate::command::{Question, ScriptLine};
 use crate::words::{Parsed, Words};
 use std::alloc::Global;
 
 pub(crate) fn export(alloc: Global, words: &mut Words<'_>) -> Parsed<ScriptLine>
-    ensures { Says result (served (codes "export") words.old) }
+    ensures { Says result (by_service_rows (codes "export") words.old) }
 {
     words.exactly(4)?;
     Ok(ScriptLine::Question(Question::Export(
@@ -21,7 +21,7 @@ pub(crate) fn export(alloc: Global, words: &mut Words<'_>) -> Parsed<ScriptLine>
 }
 
 pub(crate) fn unexport(alloc: Global, words: &mut Words<'_>) -> Parsed<ScriptLine>
-    ensures { Says result (served (codes "unexport") words.old) }
+    ensures { Says result (by_service_rows (codes "unexport") words.old) }
 {
     words.exactly(3)?;
     Ok(ScriptLine::Question(Question::Unexport(
@@ -32,21 +32,21 @@ pub(crate) fn unexport(alloc: Global, words: &mut Words<'_>) -> Parsed<ScriptLin
 }
 
 pub(crate) fn groupadd(alloc: Global, words: &mut Words<'_>) -> Parsed<ScriptLine>
-    ensures { Says result (served (codes "groupadd") words.old) }
+    ensures { Says result (by_service_rows (codes "groupadd") words.old) }
 {
     words.exactly(2)?;
     Ok(ScriptLine::Question(Question::Groupadd(words.full_name(alloc)?, words.full_name(alloc)?)))
 }
 
 pub(crate) fn groupdel(alloc: Global, words: &mut Words<'_>) -> Parsed<ScriptLine>
-    ensures { Says result (served (codes "groupdel") words.old) }
+    ensures { Says result (by_service_rows (codes "groupdel") words.old) }
 {
     words.exactly(2)?;
     Ok(ScriptLine::Question(Question::Groupdel(words.full_name(alloc)?, words.full_name(alloc)?)))
 }
 
 pub(crate) fn profadd(alloc: Global, words: &mut Words<'_>) -> Parsed<ScriptLine>
-    ensures { Says result (served (codes "profadd") words.old) }
+    ensures { Says result (by_service_rows (codes "profadd") words.old) }
 {
     words.exactly(5)?;
     Ok(ScriptLine::Question(Question::Profadd(
@@ -59,7 +59,7 @@ pub(crate) fn profadd(alloc: Global, words: &mut Words<'_>) -> Parsed<ScriptLine
 }
 
 pub(crate) fn profdel(alloc: Global, words: &mut Words<'_>) -> Parsed<ScriptLine>
-    ensures { Says result (served (codes "profdel") words.old) }
+    ensures { Says result (by_service_rows (codes "profdel") words.old) }
 {
     words.exactly(3)?;
     Ok(ScriptLine::Question(Question::Profdel(
@@ -70,7 +70,7 @@ pub(crate) fn profdel(alloc: Global, words: &mut Words<'_>) -> Parsed<ScriptLine
 }
 
 pub(crate) fn import(alloc: Global, words: &mut Words<'_>) -> Parsed<ScriptLine>
-    ensures { Says result (served (codes "import") words.old) }
+    ensures { Says result (by_service_rows (codes "import") words.old) }
 {
     words.exactly(6)?;
     let house = words.house()?;

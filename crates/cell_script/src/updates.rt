@@ -2,14 +2,14 @@
 #![tactic(auto, unfolding(crate::specs::PrivateRows::updated))]
 
 ghost use Rattle.std.specs.Prelude.{codes};
-ghost use Rattle.cell_script.specs.PrivateRows.{Says, updated, changed};
+ghost use Rattle.cell_script.specs.PrivateRows.{Says, by_entry_rows, by_value_rows};
 
 use crate::command::{Command, ScriptLine};
 use crate::words::{Parsed, Words};
 use std::alloc::Global;
 
 pub(crate) fn create(alloc: Global, words: &mut Words<'_>) -> Parsed<ScriptLine>
-    ensures { Says result (updated (codes "create") words.old) }
+    ensures { Says result (by_entry_rows (codes "create") words.old) }
 {
     words.exactly(3)?;
     Ok(ScriptLine::Cell(Command::Create(
@@ -20,7 +20,7 @@ pub(crate) fn create(alloc: Global, words: &mut Words<'_>) -> Parsed<ScriptLine>
 }
 
 pub(crate) fn link(alloc: Global, words: &mut Words<'_>) -> Parsed<ScriptLine>
-    ensures { Says result (updated (codes "link") words.old) }
+    ensures { Says result (by_entry_rows (codes "link") words.old) }
 {
     words.exactly(4)?;
     Ok(ScriptLine::Cell(Command::Link(
@@ -32,7 +32,7 @@ pub(crate) fn link(alloc: Global, words: &mut Words<'_>) -> Parsed<ScriptLine>
 }
 
 pub(crate) fn delete(alloc: Global, words: &mut Words<'_>) -> Parsed<ScriptLine>
-    ensures { Says result (updated (codes "delete") words.old) }
+    ensures { Says result (by_entry_rows (codes "delete") words.old) }
 {
     words.exactly(3)?;
     Ok(ScriptLine::Cell(Command::Delete(
@@ -44,7 +44,7 @@ pub(crate) fn delete(alloc: Global, words: &mut Words<'_>) -> Parsed<ScriptLine>
 
 #[tactic(auto, unfolding(crate::specs::PrivateRows::changed))]
 pub(crate) fn add(alloc: Global, words: &mut Words<'_>) -> Parsed<ScriptLine>
-    ensures { Says result (changed (codes "add") words.old) }
+    ensures { Says result (by_value_rows (codes "add") words.old) }
 {
     words.exactly(5)?;
     Ok(ScriptLine::Cell(Command::Add(
@@ -58,7 +58,7 @@ pub(crate) fn add(alloc: Global, words: &mut Words<'_>) -> Parsed<ScriptLine>
 
 #[tactic(auto, unfolding(crate::specs::PrivateRows::changed))]
 pub(crate) fn remove(alloc: Global, words: &mut Words<'_>) -> Parsed<ScriptLine>
-    ensures { Says result (changed (codes "remove") words.old) }
+    ensures { Says result (by_value_rows (codes "remove") words.old) }
 {
     words.exactly(5)?;
     Ok(ScriptLine::Cell(Command::Remove(
@@ -72,7 +72,7 @@ pub(crate) fn remove(alloc: Global, words: &mut Words<'_>) -> Parsed<ScriptLine>
 
 #[tactic(auto, unfolding(crate::specs::PrivateRows::changed))]
 pub(crate) fn put(alloc: Global, words: &mut Words<'_>) -> Parsed<ScriptLine>
-    ensures { Says result (changed (codes "put") words.old) }
+    ensures { Says result (by_value_rows (codes "put") words.old) }
 {
     words.exactly(5)?;
     Ok(ScriptLine::Cell(Command::Put(
@@ -86,7 +86,7 @@ pub(crate) fn put(alloc: Global, words: &mut Words<'_>) -> Parsed<ScriptLine>
 
 #[tactic(auto, unfolding(crate::specs::PrivateRows::changed))]
 pub(crate) fn clear(alloc: Global, words: &mut Words<'_>) -> Parsed<ScriptLine>
-    ensures { Says result (changed (codes "clear") words.old) }
+    ensures { Says result (by_value_rows (codes "clear") words.old) }
 {
     words.exactly(4)?;
     Ok(ScriptLine::Cell(Command::Clear(

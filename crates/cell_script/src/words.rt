@@ -11,8 +11,8 @@ ghost use Rattle.cell_script.specs.declared.fault.ParseFault.TheVariants.{WrongC
 ghost use Rattle.cell_script.specs.Words.{words_of};
 ghost use Rattle.cell_script.specs.PrivateCounts.{words_behind};
 ghost use Rattle.cell_script.specs.declared.words.TheConstants.{STRIDE};
-ghost use Rattle.cell_script.specs.Forms as form;
-ghost use Rattle.cell_script.specs.Forms.{Takes, taken, counted, said_at};
+ghost use Rattle.cell_script.specs.WordForms as form;
+ghost use Rattle.cell_script.specs.WordForms.{Takes, take_words, check_count, said_at};
 
 use crate::command::Question;
 use crate::fault::ParseFault;
@@ -41,7 +41,7 @@ pub struct Words<'a> {
 impl<'a> Model for Words<'a> {
     ghost use Rattle.std.specs.Prelude.{◌+◌, ◌<◌, ◌^◌, length};
     ghost use Rattle.cell_script.specs.Words.{words_of};
-    ghost use Rattle.cell_script.specs.Forms.{Words as Words'};
+    ghost use Rattle.cell_script.specs.WordForms.{Words as Words'};
 
     ghost Value = { Words' };
 
@@ -153,7 +153,7 @@ impl<'a> Words<'a> {
 
     /// There have to be so many words.
     pub fn exactly(&self, wanted: usize) -> Parsed<()>
-        ensures answer { Answers result (counted false wanted self.now) }
+        ensures answer { Answers result (check_count false wanted self.now) }
         ensures memory { result ≢ Err OutOfMemory }
     {
         let count = self.count();
@@ -166,7 +166,7 @@ impl<'a> Words<'a> {
 
     /// There have to be so many words, or more.
     pub fn at_least(&self, wanted: usize) -> Parsed<()>
-        ensures answer { Answers result (counted true wanted self.now) }
+        ensures answer { Answers result (check_count true wanted self.now) }
         ensures memory { result ≢ Err OutOfMemory }
     {
         let count = self.count();
@@ -215,7 +215,7 @@ impl<'a> Words<'a> {
 
     /// The number of a house, 1 to 255.
     pub fn house(&mut self) -> Parsed<HouseNo>
-        ensures { Takes result self.new (taken form.House self.old) }
+        ensures { Takes result self.new (take_words form.House self.old) }
     {
         let word = self.needed()?;
         self.said(word::house(word))
@@ -223,7 +223,7 @@ impl<'a> Words<'a> {
 
     /// The number of a directory, 1 to 4,294,967,295.
     pub fn directory(&mut self) -> Parsed<DirId>
-        ensures { Takes result self.new (taken form.Directory self.old) }
+        ensures { Takes result self.new (take_words form.Directory self.old) }
     {
         let word = self.needed()?;
         self.said(word::directory(word))
@@ -231,7 +231,7 @@ impl<'a> Words<'a> {
 
     /// The serial number of a message, from 1 on.
     pub fn serial(&mut self) -> Parsed<u64>
-        ensures { Takes result self.new (taken form.Serial self.old) }
+        ensures { Takes result self.new (take_words form.Serial self.old) }
     {
         let word = self.needed()?;
         self.said(word::serial(word))
@@ -239,7 +239,7 @@ impl<'a> Words<'a> {
 
     /// A time.
     pub fn time(&mut self) -> Parsed<u64>
-        ensures { Takes result self.new (taken form.Time self.old) }
+        ensures { Takes result self.new (take_words form.Time self.old) }
     {
         let word = self.needed()?;
         self.said(word::number(word))
@@ -247,7 +247,7 @@ impl<'a> Words<'a> {
 
     /// A node, in twelve hexadecimal digits.
     pub fn node(&mut self) -> Parsed<Node>
-        ensures { Takes result self.new (taken form.Node self.old) }
+        ensures { Takes result self.new (take_words form.Node self.old) }
     {
         let word = self.needed()?;
         self.said(word::node(word))
@@ -255,7 +255,7 @@ impl<'a> Words<'a> {
 
     /// How much the answer of a replica is trusted: true for `high`.
     pub fn confidence(&mut self) -> Parsed<bool>
-        ensures { Takes result self.new (taken form.Confidence self.old) }
+        ensures { Takes result self.new (take_words form.Confidence self.old) }
     {
         let word = self.needed()?;
         self.said(word::confidence(word))
@@ -263,7 +263,7 @@ impl<'a> Words<'a> {
 
     /// A simple name.
     pub fn simple_name(&mut self, alloc: Global) -> Parsed<SimpleName>
-        ensures { Takes result self.new (taken form.SimpleName self.old) }
+        ensures { Takes result self.new (take_words form.SimpleName self.old) }
     {
         let word = self.needed()?;
         self.kept(SimpleName::parse(alloc, word))
@@ -271,7 +271,7 @@ impl<'a> Words<'a> {
 
     /// A full name.
     pub fn full_name(&mut self, alloc: Global) -> Parsed<FullName>
-        ensures { Takes result self.new (taken form.FullName self.old) }
+        ensures { Takes result self.new (take_words form.FullName self.old) }
     {
         let word = self.needed()?;
         self.kept(FullName::parse(alloc, word))
@@ -279,7 +279,7 @@ impl<'a> Words<'a> {
 
     /// The name of an attribute.
     pub fn attr_name(&mut self, alloc: Global) -> Parsed<AttrName>
-        ensures { Takes result self.new (taken form.AttrName self.old) }
+        ensures { Takes result self.new (take_words form.AttrName self.old) }
     {
         let word = self.needed()?;
         self.kept(AttrName::parse(alloc, word))
@@ -287,7 +287,7 @@ impl<'a> Words<'a> {
 
     /// A value, in hexadecimal digits.
     pub fn value(&mut self, alloc: Global) -> Parsed<Value>
-        ensures { Takes result self.new (taken form.Value self.old) }
+        ensures { Takes result self.new (take_words form.Value self.old) }
     {
         let word = self.needed()?;
         let value = word::value(alloc, word)?;
@@ -296,7 +296,7 @@ impl<'a> Words<'a> {
 
     /// Octets, in hexadecimal digits.
     pub fn octets(&mut self, alloc: Global) -> Parsed<Octets>
-        ensures { Takes result self.new (taken form.Octets self.old) }
+        ensures { Takes result self.new (take_words form.Octets self.old) }
     {
         let word = self.needed()?;
         let octets = word::octets(alloc, word)?;
@@ -305,7 +305,7 @@ impl<'a> Words<'a> {
 
     /// Whose octets are asked for: `msg` and the number of a message, or `house` and that of a house.
     pub fn encoded(&mut self) -> Parsed<Question>
-        ensures { Takes result self.new (taken form.Encoded self.old) }
+        ensures { Takes result self.new (take_words form.Encoded self.old) }
     {
         let word = self.needed()?;
         if word == b"msg".as_slice() {
@@ -321,7 +321,7 @@ impl<'a> Words<'a> {
 
     /// Numbers of houses, as many as there are words.
     pub fn houses(&mut self, alloc: Global) -> Parsed<HouseNos>
-        ensures { Takes result self.new (taken form.Houses self.old) }
+        ensures { Takes result self.new (take_words form.Houses self.old) }
     {
         let mut houses = HouseNos::new(alloc);
         while let Some(word) = self.next() {
@@ -332,7 +332,7 @@ impl<'a> Words<'a> {
 
     /// Houses of a replica set, as many as there are words: each a number, behind an `s` where the house is secondary.
     pub fn listeds(&mut self, alloc: Global) -> Parsed<Listeds>
-        ensures { Takes result self.new (taken form.Listeds self.old) }
+        ensures { Takes result self.new (take_words form.Listeds self.old) }
     {
         let mut list = Vec::new(alloc);
         while let Some(word) = self.next() {

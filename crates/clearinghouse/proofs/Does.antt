@@ -14,7 +14,7 @@ use Rattle.purge_rule.specs.declared.delta.Delta.{Delta}
 use Rattle.purge_rule.specs.declared.replica.Replica.{Replica}
 use Rattle.skulk_core.specs.declared.skulk.Next.{Next}
 use Rattle.skulk_core.specs.declared.skulk.Next.TheVariants as next
-use Rattle.skulk_core.specs.Rounds.{TakesSpread}
+use Rattle.skulk_core.specs.MasterRounds.{TakesSpread}
 use Rattle.cds_messages.specs.declared.message.Body.{Body}
 use Rattle.cds_messages.specs.declared.message.Body.TheVariants as body
 use Rattle.cds_messages.specs.declared.message.Message.{Message}
@@ -24,32 +24,32 @@ use Rattle.cell_model.specs.Taking.{CanTake}
 use Rattle.cell_model.specs.Turns.{take}
 use Rattle.cell_model.proofs.Rows as rows
 use Rattle.clearinghouse.specs.declared.house.Clearinghouse.{Clearinghouse}
-use Rattle.held_directories.specs.declared.states.Held.{Held}
-use Rattle.held_directories.specs.declared.states.DirState.{DirState}
-use Rattle.held_directories.specs.declared.states.DirState.TheVariants as state
-use Rattle.held_directories.specs.declared.outgoing.Outgoing.{Outgoing}
-use Rattle.held_directories.specs.declared.outgoing.Turn.{Turn}
-use Rattle.held_directories.specs.declared.taking.Taken.{Taken}
-use Rattle.held_directories.specs.declared.taking.Taken.TheVariants as answers
-use Rattle.clearinghouse.specs.Lawful.{IsLawful}
-use Rattle.held_directories.specs.Posting.{LooksBody, LooksMessage, StandsMessage}
-use Rattle.clearinghouse.specs.Posting.{posts_at}
-use Rattle.clearinghouse.specs.Standing.{LooksHouse, StandsHouse}
-use Rattle.held_directories.specs.Stepping.{IsTakeAnswer, UnlessTaken, is_taken}
-use Rattle.clearinghouse.specs.Stepping.{IsStep, LooksStep}
-use Rattle.clearinghouse.specs.Taking.{Takes, TakesBody}
-use Rattle.held_directories.specs.Times.{latest_in_message}
+use Rattle.house_directory.specs.declared.states.Held.{Held}
+use Rattle.house_directory.specs.declared.states.DirState.{DirState}
+use Rattle.house_directory.specs.declared.states.DirState.TheVariants as state
+use Rattle.house_directory.specs.declared.outgoing.Outgoing.{Outgoing}
+use Rattle.house_directory.specs.declared.outgoing.Turn.{Turn}
+use Rattle.house_directory.specs.declared.taking.Taken.{Taken}
+use Rattle.house_directory.specs.declared.taking.Taken.TheVariants as answers
+use Rattle.clearinghouse.specs.LawfulHouses.{IsLawful}
+use Rattle.house_directory.specs.HouseMessages.{LooksBody, LooksMessage, StandsMessage}
+use Rattle.clearinghouse.specs.HouseLetters.{posts_at}
+use Rattle.clearinghouse.specs.ModelHouses.{LooksHouse, StandsHouse}
+use Rattle.house_directory.specs.DirectorySteps.{IsTakeAnswer, UnlessTaken, is_taken}
+use Rattle.clearinghouse.specs.HouseSteps.{IsStep, LooksStep}
+use Rattle.clearinghouse.specs.HouseTakes.{Takes, TakesBody}
+use Rattle.house_directory.specs.Times.{latest_in_message}
 use Rattle.clearinghouse.specs.PrivateTurns.{Heeds, SameHouse}
-use Rattle.held_directories.specs.Taking.{AfterGathered, AfterSpread, Answers, TakesFirst}
-use Rattle.clearinghouse.specs.Taking.{Copies, HasCopy, HasJoined, HasLeft, Merges, TakesAt}
-use Rattle.held_directories.specs.Taking.{TakesHere, TakesOwn, TakesSecond, copy_of, held_in, join_bar}
-use Rattle.clearinghouse.specs.Taking.{TakesJoin, TakesLeave, TakesOther, holding}
-use Rattle.held_directories.specs.Taking.{leave_passed}
+use Rattle.house_directory.specs.DirectoryTakes.{AfterGathered, AfterSpread, Answers, TakesFirst}
+use Rattle.clearinghouse.specs.HouseTakes.{Copies, HasCopy, HasJoined, HasLeft, Merges, TakesAt}
+use Rattle.house_directory.specs.DirectoryTakes.{TakesHere, TakesOwn, TakesSecond, copy_of, held_in, join_bar}
+use Rattle.clearinghouse.specs.HouseTakes.{TakesJoin, TakesLeave, TakesOther, with_directory_state}
+use Rattle.house_directory.specs.DirectoryTakes.{leave_passed}
 use Rattle.clearinghouse.proofs.Houses.{got_there, same_house}
-use Rattle.held_directories.proofs.Keeping.{stale_phase}
+use Rattle.house_directory.proofs.Keeping.{stale_phase}
 use Rattle.clearinghouse.proofs.Keeping.{other_kept, join_kept, leave_kept}
-use Rattle.held_directories.proofs.Maps.{if_ok_map}
-use Rattle.held_directories.proofs.TakeSteps.{body_looks}
+use Rattle.house_directory.proofs.Maps.{if_ok_map}
+use Rattle.house_directory.proofs.TakeSteps.{body_looks}
 use Rattle.clearinghouse.proofs.JoinSteps.{message_step, message_looks, join_step, join_looks, leave_step, leave_looks}
 
 -- what the call makes of the clearinghouse, what it answers, and what is to be posted
@@ -147,12 +147,12 @@ at_same : (m : Message) (old new : Clearinghouse) (h : Held) (a : Taken) (o : Op
     → UnlessTaken a ((new ≡ old) × (o ≡ None))
 at_same m old new h a o here z = by a (here_same old.house m h z.held a o z.takes) z.after
   where
-    stays : z.held ≡ h → new ≡ holding old m 0 (state.Held z.held) → new ≡ old
+    stays : z.held ≡ h → new ≡ with_directory_state old m 0 (state.Held z.held) → new ≡ old
     stays same after =
         let low : max old.floor.time 0 ≡ old.floor.time = omega arith in
         after ∙ same_house old m.dir h z.held (record { time = max old.floor.time 0 }) here same (λ i. record { time = low i })
 
-    by : (b : Taken) → UnlessTaken b ((z.held ≡ h) × (o ≡ None)) → new ≡ holding old m (if is_taken b then latest_in_message m else 0) (state.Held z.held)
+    by : (b : Taken) → UnlessTaken b ((z.held ≡ h) × (o ≡ None)) → new ≡ with_directory_state old m (if is_taken b then latest_in_message m else 0) (state.Held z.held)
         → UnlessTaken b ((new ≡ old) × (o ≡ None))
     by answers.Taken u after = tt
     by (answers.Complete t) u after = tt

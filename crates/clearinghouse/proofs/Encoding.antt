@@ -1,18 +1,18 @@
 -- Messages as octets: the messages that they are.
 use Rattle.std.proofs.Common.{◌≡◌, List, [], sym, ap, ◌∙◌}
 use Rattle.record_fields.specs.Decoding.{IsWhole}
-use Rattle.cds_records.specs.Octets.{message_octets}
+use Rattle.cds_records.specs.RecordOctets.{message_octets}
 use Rattle.cds_records.specs.Records as records
 use Rattle.cds_messages.specs.Validity.{IsValidMessage}
 use Rattle.cds_stamps.specs.declared.numbers.EpochNo.{EpochNo}
 use Rattle.cds_stamps.specs.declared.numbers.HouseNo.{HouseNo}
 use Rattle.cds_stamps.specs.Members.{members_of, others_of}
 use Rattle.clearinghouse.specs.declared.letters.Letters.{Letters}
-use Rattle.held_directories.specs.declared.outgoing.Outgoing.{Outgoing}
-use Rattle.held_directories.specs.declared.outgoing.Sender.{Sender}
-use Rattle.held_directories.specs.declared.states.Held.{Held}
-use Rattle.held_directories.specs.Posting.{leave_of, message_of, numbers_of, posts_of, posts_to, receiver_of, receivers_of}
-use Rattle.clearinghouse.specs.Posting.{AreLetters}
+use Rattle.house_directory.specs.declared.outgoing.Outgoing.{Outgoing}
+use Rattle.house_directory.specs.declared.outgoing.Sender.{Sender}
+use Rattle.house_directory.specs.declared.states.Held.{Held}
+use Rattle.house_directory.specs.HouseMessages.{leave_of, message_of, numbers_of, posts_of, posts_to, receiver_of, receivers_of}
+use Rattle.clearinghouse.specs.HouseLetters.{AreLetters}
 
 module _ (s : Sender) (h : Held) (o : Outgoing) where
   -- where nobody is to be told nothing is posted

@@ -18,30 +18,30 @@ use Rattle.skulk_core.specs.declared.skulk.Skulk.TheVariants as skulk
 use Rattle.cell_model.specs.Cells as model
 use Rattle.cell_model.specs.Commands as command
 use Rattle.cell_model.specs.Turns as turn
-use Rattle.cell_model.specs.Turns.{copy_of, epoch_posts, epoch_replica, first_replica, found, holding, new_epoch, new_epoch_in, to_each}
-use Rattle.held_directories.specs.declared.epochs.EpochRefusal.{EpochRefusal}
-use Rattle.held_directories.specs.declared.epochs.EpochRefusal.TheVariants as refusal
+use Rattle.cell_model.specs.Turns.{copy_of, epoch_posts, epoch_replica, first_replica, found_directory, with_slot, new_epoch, new_epoch_in, to_each}
+use Rattle.house_directory.specs.declared.epochs.EpochRefusal.{EpochRefusal}
+use Rattle.house_directory.specs.declared.epochs.EpochRefusal.TheVariants as refusal
 use Rattle.clearinghouse.specs.declared.house.Clearinghouse.{Clearinghouse}
-use Rattle.held_directories.specs.declared.outgoing.Outgoing.{Outgoing}
-use Rattle.held_directories.specs.declared.outgoing.Outgoing.TheVariants as out
-use Rattle.held_directories.specs.declared.states.DirState.{DirState}
-use Rattle.held_directories.specs.declared.states.DirState.TheVariants as state
-use Rattle.held_directories.specs.declared.states.Held.{Held}
-use Rattle.held_directories.specs.Lawful.{IsLawfulHeld}
-use Rattle.clearinghouse.specs.Lawful.{IsLawful}
-use Rattle.held_directories.specs.Posting.{StandEach, leave_of, numbers_of, posts_if, posts_to}
-use Rattle.clearinghouse.specs.Posting.{epoch_posts_at, posts_at}
-use Rattle.held_directories.specs.Refusing.{IsLater, epoch_refused}
-use Rattle.held_directories.specs.Standing.{StandsHeld}
-use Rattle.clearinghouse.specs.Standing.{StandsHouse}
-use Rattle.held_directories.specs.Stepping.{IsEpochAnswer}
-use Rattle.clearinghouse.specs.Stepping.{Enters, IsStep, IsTurn}
+use Rattle.house_directory.specs.declared.outgoing.Outgoing.{Outgoing}
+use Rattle.house_directory.specs.declared.outgoing.Outgoing.TheVariants as out
+use Rattle.house_directory.specs.declared.states.DirState.{DirState}
+use Rattle.house_directory.specs.declared.states.DirState.TheVariants as state
+use Rattle.house_directory.specs.declared.states.Held.{Held}
+use Rattle.house_directory.specs.LawfulDirectories.{IsLawfulHeld}
+use Rattle.clearinghouse.specs.LawfulHouses.{IsLawful}
+use Rattle.house_directory.specs.HouseMessages.{StandEach, leave_of, numbers_of, posts_if, posts_to}
+use Rattle.clearinghouse.specs.HouseLetters.{epoch_posts_at, posts_at}
+use Rattle.house_directory.specs.Refusing.{IsLater, epoch_refused}
+use Rattle.house_directory.specs.ModelReplicas.{StandsHeld}
+use Rattle.clearinghouse.specs.ModelHouses.{StandsHouse}
+use Rattle.house_directory.specs.DirectorySteps.{IsEpochAnswer}
+use Rattle.clearinghouse.specs.HouseSteps.{Enters, IsStep, IsTurn}
 use Rattle.clearinghouse.specs.PrivateTurns.{SameHouse}
-use Rattle.held_directories.specs.Stepping.{first_held}
-use Rattle.clearinghouse.specs.Stepping.{founded}
-use Rattle.held_directories.specs.Taking.{held_in}
+use Rattle.house_directory.specs.DirectorySteps.{first_held}
+use Rattle.clearinghouse.specs.HouseSteps.{with_new_directory}
+use Rattle.house_directory.specs.DirectoryTakes.{held_in}
 use Rattle.clearinghouse.proofs.Houses.{by_slot, got_here, house_holds, house_lawful, turn_of}
-use Rattle.held_directories.proofs.Posts.{each_append, each_stands, posts_stand}
+use Rattle.house_directory.proofs.Posts.{each_append, each_stands, posts_stand}
 
 -- ---- a new directory
 
@@ -64,12 +64,12 @@ first_lawful me floor ms = record {
 
 -- makes a turn of the model
 founds : (c : Clearinghouse) (now : model.House) (dir : DirId) (ms : List declared.Member) → StandsHouse c now
-    → IsTurn (found c.house.0 now dir.0 (members_of ms)) (founded c dir ms) (posts_at (founded c dir ms) dir (Some out.Join))
+    → IsTurn (found_directory c.house.0 now dir.0 (members_of ms)) (with_new_directory c dir ms) (posts_at (with_new_directory c dir ms) dir (Some out.Join))
 founds c now dir ms stands =
-    turn_of c now dir (first_held ms) c.floor (found c.house.0 now dir.0 (members_of ms)) (Some out.Join) stands (le_refl _)
+    turn_of c now dir (first_held ms) c.floor (found_directory c.house.0 now dir.0 (members_of ms)) (Some out.Join) stands (le_refl _)
     (record {
       replica = first_replica (members_of ms);
-      house = ap (λ f. holding now dir.0 f (model.Held (first_replica (members_of ms)))) stands.floor;
+      house = ap (λ f. with_slot now dir.0 f (model.Held (first_replica (members_of ms)))) stands.floor;
       stands = first_stands c.house.0 c.floor.time ms;
       each =
           posts_stand (record { house = c.house; dir = dir; floor = c.floor.time }) (first_held ms) out.Join
@@ -78,19 +78,19 @@ founds c now dir ms stands =
     })
 
 module _ (c : Clearinghouse) (dir : DirId) (ms : List declared.Member) (mid : Clearinghouse) where
-  pub found_lawful : (done : Result Outgoing AllocError) → OnOk done (mid ≡ founded c dir ms) → OnErr done (mid ≡ c) → IsLawful c → IsLawful mid
+  pub found_lawful : (done : Result Outgoing AllocError) → OnOk done (mid ≡ with_new_directory c dir ms) → OnErr done (mid ≡ c) → IsLawful c → IsLawful mid
   found_lawful (Ok o) holds same lawful =
       subst IsLawful (sym holds)
       (house_lawful c dir c.floor (state.Held (first_held ms)) (le_refl _)
       (λ h is. let same : first_held ms ≡ h = cc in subst (IsLawfulHeld c.house.0 c.floor.time) same (first_lawful c.house.0 c.floor.time ms)) lawful)
   found_lawful (Err e) holds same lawful = subst IsLawful (sym same) lawful
 
-  pub found_step : (now : model.House) (done : Result Outgoing AllocError) → IfOk done (λ o. o ≡ out.Join) → OnOk done (mid ≡ founded c dir ms)
+  pub found_step : (now : model.House) (done : Result Outgoing AllocError) → IfOk done (λ o. o ≡ out.Join) → OnOk done (mid ≡ with_new_directory c dir ms)
       → StandsHouse c now
-      → IfOk done (λ o. IsTurn (found c.house.0 now dir.0 (members_of ms)) mid (posts_at mid dir (Some o)))
+      → IfOk done (λ o. IsTurn (found_directory c.house.0 now dir.0 (members_of ms)) mid (posts_at mid dir (Some o)))
   found_step now (Ok o) join holds stands =
-      subst (λ x. IsTurn (found c.house.0 now dir.0 (members_of ms)) mid (posts_at mid dir (Some x))) (sym join)
-      (subst (λ x. IsTurn (found c.house.0 now dir.0 (members_of ms)) x (posts_at x dir (Some out.Join))) (sym holds) (founds c now dir ms stands))
+      subst (λ x. IsTurn (found_directory c.house.0 now dir.0 (members_of ms)) mid (posts_at mid dir (Some x))) (sym join)
+      (subst (λ x. IsTurn (found_directory c.house.0 now dir.0 (members_of ms)) x (posts_at x dir (Some out.Join))) (sym holds) (founds c now dir ms stands))
   found_step now (Err e) join holds stands = tt
 
 -- ---- a new epoch
@@ -129,14 +129,14 @@ module _ (c new : Clearinghouse) (now : model.House) (dir : DirId) (k : EpochNo)
   takes_here : (h : Held) (r : model.Replica) → new ≡ record c { dirs = insert c.dirs dir (state.Held (entered k ms h)) } → StandsHouse c now
       → StandsHeld c.house.0 c.floor.time h r
       → IsTurn (record {
-        house = holding now dir.0 now.floor (model.Held (epoch_replica k.0 (members_of ms) r));
+        house = with_slot now dir.0 now.floor (model.Held (epoch_replica k.0 (members_of ms) r));
         posts = epoch_posts now.floor dir.0 c.house.0 k.0 (members_of ms) (numbers_of leaving) r;
         answer = command.NewEpoch k.0;
         accepted = [];
       }) new (epoch_posts_at new dir k leaving None)
   takes_here h r after stands held =
       subst (λ x. IsTurn (record {
-        house = holding now dir.0 now.floor (model.Held (epoch_replica k.0 (members_of ms) r));
+        house = with_slot now dir.0 now.floor (model.Held (epoch_replica k.0 (members_of ms) r));
         posts = epoch_posts now.floor dir.0 c.house.0 k.0 (members_of ms) (numbers_of leaving) r;
         answer = command.NewEpoch k.0;
         accepted = [];
@@ -144,7 +144,7 @@ module _ (c new : Clearinghouse) (now : model.House) (dir : DirId) (k : EpochNo)
       (record {
         stands =
             subst (λ f. StandsHouse (record c { dirs = insert c.dirs dir (state.Held (entered k ms h)) })
-            (holding now dir.0 f (model.Held (epoch_replica k.0 (members_of ms) r)))) (sym stands.floor)
+            (with_slot now dir.0 f (model.Held (epoch_replica k.0 (members_of ms) r)))) (sym stands.floor)
             (house_holds c now dir c.floor (state.Held (entered k ms h)) (model.Held (epoch_replica k.0 (members_of ms) r)) stands (le_refl _)
             (record {
               looks = record { epoch = refl; members = refl; phase = tt };
@@ -183,7 +183,7 @@ module _ (c new : Clearinghouse) (now : model.House) (dir : DirId) (k : EpochNo)
     abbrev joined_or : Bool → turn.HouseStep
     joined_or b =
         if b
-        then turn.turned (holding now dir.0 now.floor (model.Held (epoch_replica k.0 (members_of ms) r)))
+        then turn.turn_without_updates (with_slot now dir.0 now.floor (model.Held (epoch_replica k.0 (members_of ms) r)))
         (epoch_posts now.floor dir.0 c.house.0 k.0 (members_of ms) (numbers_of leaving) r) (command.NewEpoch k.0)
         else turn.Stays (command.Refused (command.NotJoined r.epoch (since_in (members_of ms) c.house.0 0)))
 

@@ -7,31 +7,31 @@ use Rattle.std.specs.declared.alloc.AllocError.{AllocError}
 use Rattle.std.proofs.lemmas.Bool.Decides.{nat_tests}
 use Rattle.cds_stamps.specs.declared.numbers.DirId.{DirId}
 use Rattle.cds_stamps.specs.declared.stamp.Floor.{Floor}
-use Rattle.cds_stamps.specs.Keyed.{tied}
+use Rattle.cds_stamps.specs.Keyed.{ties_are_equal}
 use Rattle.cds_messages.specs.Dirs.{dir_cmp, dir_total, dir_exact}
 use Rattle.cell_model.specs.Cells as model
 use Rattle.cell_model.specs.Commands as command
-use Rattle.cell_model.specs.Turns.{Turn, HouseStep, Stays, Turns, holding}
+use Rattle.cell_model.specs.Turns.{Turn, HouseStep, Stays, Turns, with_slot}
 use Rattle.cell_model.proofs.Fine.{below_later}
 use Rattle.clearinghouse.specs.declared.house.Clearinghouse.{Clearinghouse}
-use Rattle.held_directories.specs.declared.outgoing.Outgoing.{Outgoing}
-use Rattle.held_directories.specs.declared.posted.Posted.{Posted}
-use Rattle.held_directories.specs.declared.states.DirState.{DirState}
-use Rattle.held_directories.specs.declared.states.DirState.TheVariants as state
-use Rattle.held_directories.specs.declared.states.Held.{Held}
-use Rattle.held_directories.specs.Lawful.{IsLawfulHeld}
-use Rattle.clearinghouse.specs.Lawful.{IsLawful}
-use Rattle.held_directories.specs.Posting.{StandEach, posts_if}
-use Rattle.clearinghouse.specs.Posting.{posts_at, sender_of}
-use Rattle.held_directories.specs.Standing.{LooksSlot, StandsHeld, StandsSlot}
-use Rattle.clearinghouse.specs.Standing.{StandsHouse}
-use Rattle.clearinghouse.specs.Stepping.{IsCall, IsStep, IsTurn}
-use Rattle.held_directories.specs.Turns.{HeldStep, HeldTurn}
+use Rattle.house_directory.specs.declared.outgoing.Outgoing.{Outgoing}
+use Rattle.house_directory.specs.declared.posted.Posted.{Posted}
+use Rattle.house_directory.specs.declared.states.DirState.{DirState}
+use Rattle.house_directory.specs.declared.states.DirState.TheVariants as state
+use Rattle.house_directory.specs.declared.states.Held.{Held}
+use Rattle.house_directory.specs.LawfulDirectories.{IsLawfulHeld}
+use Rattle.clearinghouse.specs.LawfulHouses.{IsLawful}
+use Rattle.house_directory.specs.HouseMessages.{StandEach, posts_if}
+use Rattle.clearinghouse.specs.HouseLetters.{posts_at, sender_of}
+use Rattle.house_directory.specs.ModelReplicas.{LooksSlot, StandsHeld, StandsSlot}
+use Rattle.clearinghouse.specs.ModelHouses.{StandsHouse}
+use Rattle.clearinghouse.specs.HouseSteps.{IsCall, IsStep, IsTurn}
+use Rattle.house_directory.specs.DirectoryTurns.{HeldStep, HeldTurn}
 use Rattle.clearinghouse.specs.PrivateTurns.{Heeds, SameHouse}
-use Rattle.held_directories.specs.Taking.{held_in}
-use Rattle.held_directories.proofs.Lawfulness.{lawful_later}
-use Rattle.held_directories.proofs.Maps.{if_ok_map, unchanged}
-use Rattle.held_directories.proofs.Posts.{posts_none}
+use Rattle.house_directory.specs.DirectoryTakes.{held_in}
+use Rattle.house_directory.proofs.Lawfulness.{lawful_later}
+use Rattle.house_directory.proofs.Maps.{if_ok_map, unchanged}
+use Rattle.house_directory.proofs.Posts.{posts_none}
 
 -- ---- what stands for a slot
 
@@ -79,7 +79,7 @@ by_slot me floor (Some (state.Held x)) (model.Gone k) P h absent gone held = eli
 -- it stands for the house of the model that has the same
 pub house_holds : (c : Clearinghouse) (now : model.House) (dir : DirId) (floor : Floor) (s : DirState) (slot : model.Slot) → StandsHouse c now
     → c.floor.time ≤ floor.time → StandsSlot c.house.0 floor.time (Some s) slot
-    → StandsHouse (record c { floor = floor; dirs = insert c.dirs dir s }) (holding now dir.0 floor.time slot)
+    → StandsHouse (record c { floor = floor; dirs = insert c.dirs dir s }) (with_slot now dir.0 floor.time slot)
 house_holds c now dir floor s slot stands le here = record { node = stands.node; floor = refl; slots = λ e. at e (e == dir.0) refl }
   where
     read : (e : ℕ) → get (insert c.dirs dir s) (record { 0 = e }) ≡ cond (eq_by_cmp dir_cmp (record { 0 = e }) dir) (Some s) (get c.dirs (record { 0 = e }))
@@ -109,7 +109,7 @@ pub got_there : (m : FinMap dir_cmp DirState) (dir d : DirId) (s : DirState) →
 got_there m dir d s other = get-insert dir_total m dir s d ∙ by (eq_by_cmp dir_cmp d dir) refl
   where
     by : (b : Bool) → eq_by_cmp dir_cmp d dir ≡ b → cond b (Some s) (get m d) ≡ get m d
-    by true is = absurd (other (tied dir_exact d dir is))
+    by true is = absurd (other (ties_are_equal dir_exact d dir is))
     by false is = refl
 
 -- it is lawful where what it has is

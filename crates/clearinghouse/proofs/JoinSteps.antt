@@ -15,7 +15,7 @@ use Rattle.cds_messages.specs.declared.message.Message.{Message}
 use Rattle.cell_model.specs.Cells as model
 use Rattle.cell_model.specs.Commands as command
 use Rattle.cell_model.specs.Turns as turn
-use Rattle.cell_model.specs.Turns.{HouseStep, Stays, Turns, taken, copied, kept_at_join, joined, late_join, late_leave, unless_late, take_join}
+use Rattle.cell_model.specs.Turns.{HouseStep, Stays, Turns, take_and_answer, replica_of_copy, kept_at_join, join_replica, late_join, late_leave, unless_late, take_join}
 use Rattle.cell_model.specs.Turns.{take_leave, take_other}
 use Rattle.cell_model.specs.Turns.{take_in, take}
 use Rattle.cell_model.specs.Merges.{of_join}
@@ -25,26 +25,26 @@ use Rattle.cell_model.proofs.Rows.{le_from}
 use Rattle.cell_model.proofs.Views.{put_same}
 use Rattle.cell_model.proofs.Fine.{Fine, FineAfter, FineSlot, take_fine}
 use Rattle.clearinghouse.specs.declared.house.Clearinghouse.{Clearinghouse}
-use Rattle.held_directories.specs.declared.states.Held.{Held}
-use Rattle.held_directories.specs.declared.states.DirState.{DirState}
-use Rattle.held_directories.specs.declared.states.DirState.TheVariants as state
-use Rattle.held_directories.specs.declared.outgoing.Outgoing.{Outgoing}
-use Rattle.held_directories.specs.declared.taking.Taken.{Taken}
-use Rattle.held_directories.specs.declared.taking.Taken.TheVariants as answers
-use Rattle.held_directories.specs.Posting.{StandsBody, StandsMessage, LooksBody, LooksMessage, StandEach}
-use Rattle.clearinghouse.specs.Posting.{posts_at, sender_of}
-use Rattle.held_directories.specs.Standing.{LooksHeld, LooksSlot, StandsHeld, StandsSlot}
-use Rattle.clearinghouse.specs.Standing.{LooksHouse, StandsHouse}
-use Rattle.held_directories.specs.Stepping.{IsTakeAnswer, is_taken}
-use Rattle.clearinghouse.specs.Stepping.{IsStep, LooksStep}
-use Rattle.held_directories.specs.Times.{latest_in_message}
-use Rattle.held_directories.specs.Turns.{HeldStep, LooksAfter, floor_taken}
-use Rattle.held_directories.specs.Taking.{Answers, copy_of, held_in}
-use Rattle.clearinghouse.specs.Taking.{Copies, HasJoined, HasLeft, Merges, TakesAt, TakesJoin, TakesLeave, TakesOther}
-use Rattle.held_directories.specs.Taking.{join_foreign, join_passed, leave_passed}
+use Rattle.house_directory.specs.declared.states.Held.{Held}
+use Rattle.house_directory.specs.declared.states.DirState.{DirState}
+use Rattle.house_directory.specs.declared.states.DirState.TheVariants as state
+use Rattle.house_directory.specs.declared.outgoing.Outgoing.{Outgoing}
+use Rattle.house_directory.specs.declared.taking.Taken.{Taken}
+use Rattle.house_directory.specs.declared.taking.Taken.TheVariants as answers
+use Rattle.house_directory.specs.HouseMessages.{StandsBody, StandsMessage, LooksBody, LooksMessage, StandEach}
+use Rattle.clearinghouse.specs.HouseLetters.{posts_at, sender_of}
+use Rattle.house_directory.specs.ModelReplicas.{LooksHeld, LooksSlot, StandsHeld, StandsSlot}
+use Rattle.clearinghouse.specs.ModelHouses.{LooksHouse, StandsHouse}
+use Rattle.house_directory.specs.DirectorySteps.{IsTakeAnswer, is_taken}
+use Rattle.clearinghouse.specs.HouseSteps.{IsStep, LooksStep}
+use Rattle.house_directory.specs.Times.{latest_in_message}
+use Rattle.house_directory.specs.DirectoryTurns.{HeldStep, LooksAfter, floor_taken}
+use Rattle.house_directory.specs.DirectoryTakes.{Answers, copy_of, held_in}
+use Rattle.clearinghouse.specs.HouseTakes.{Copies, HasJoined, HasLeft, Merges, TakesAt, TakesJoin, TakesLeave, TakesOther}
+use Rattle.house_directory.specs.DirectoryTakes.{join_foreign, join_passed, leave_passed}
 use Rattle.clearinghouse.proofs.Houses.{house_holds, got_here, slot_looks, step_of}
-use Rattle.held_directories.proofs.Posts.{posts_none}
-use Rattle.held_directories.proofs.TakeSteps.{replica_taken, message_is, latest_is, other_step, other_looks}
+use Rattle.house_directory.proofs.Posts.{posts_none}
+use Rattle.house_directory.proofs.TakeSteps.{replica_taken, message_is, latest_is, other_step, other_looks}
 
 -- what a house has of a directory stands for a slot, where it looks like it, and its replica is the one of the history
 slot_stands : (me floor : ℕ) (s : DirState) (slot : model.Slot) → LooksSlot me (Some s) slot
@@ -74,7 +74,7 @@ module _ (msg : Message) (now : model.House) (old new : Clearinghouse) (a : Take
   -- what becomes of the house, in the model and in the program: nothing, or it has something else of the directory, and posts nothing
   data Comes (n : ℕ) (c : model.Body) (s : HouseStep) : Type 0 where
     stays : (answer : Taken) (says : command.Answer) → s ≡ Stays says → IsTakeAnswer answer says → Answers old new answer a o → Comes n c s
-    turns : (has : DirState) (slot : model.Slot) → s ≡ taken now (said c) slot [] → a ≡ answers.Taken → o ≡ None
+    turns : (has : DirState) (slot : model.Slot) → s ≡ take_and_answer now (said c) slot [] → a ≡ answers.Taken → o ≡ None
         → new ≡ record old { floor = record { time = max old.floor.time n }; dirs = insert old.dirs msg.dir has } → LooksSlot old.house.0 (Some has) slot
         → (StandsHouse old now → StandsBody msg.body c → CanTake now (said c) → (h : Held) (q : model.Replica) → has ≡ state.Held h → slot ≡ model.Held q
         → h.replica ≡ replica_of q.history q.all_up_to) → Comes n c s
@@ -90,19 +90,19 @@ module _ (msg : Message) (now : model.House) (old new : Clearinghouse) (a : Take
   step_from n c s (turns has slot is ans none after looks content) stands carries can low fine =
       let floor : Floor = record { time = max old.floor.time n } in
       let same : max old.floor.time n ≡ max now.floor msg.floor = ap (λ x. max x n) (sym stands.floor) ∙ ap (max now.floor) low in
-      let w : FineSlot (max now.floor msg.floor) ((turn.holding now msg.dir.0 (max now.floor msg.floor) slot).slots msg.dir.0) =
+      let w : FineSlot (max now.floor msg.floor) ((turn.with_slot now msg.dir.0 (max now.floor msg.floor) slot).slots msg.dir.0) =
       subst (FineAfter msg.dir.0) is fine in
       let f : FineSlot (max now.floor msg.floor) slot = subst (FineSlot (max now.floor msg.floor)) (put_same now.slots msg.dir.0 slot) w in
       let has_stands : StandsSlot old.house.0 (max old.floor.time n) (Some has) slot =
       subst (λ x. StandsSlot old.house.0 x (Some has) slot) (sym same)
       (slot_stands old.house.0 (max now.floor msg.floor) has slot looks (content stands carries can) f) in
-      let house : StandsHouse (record old { floor = floor; dirs = insert old.dirs msg.dir has }) (turn.holding now msg.dir.0 (max old.floor.time n) slot) =
+      let house : StandsHouse (record old { floor = floor; dirs = insert old.dirs msg.dir has }) (turn.with_slot now msg.dir.0 (max old.floor.time n) slot) =
       house_holds old now msg.dir floor has slot stands (omega arith) has_stands in
       subst (λ x. IsStep (IsTakeAnswer a) x old new (posts_at new msg.dir o)) (sym is) (
         (λ ns. subst (λ x. IsTakeAnswer x (command.Taken ns)) (sym ans) tt),
         record {
-          stands = subst (λ (x : Clearinghouse). StandsHouse x (turn.holding now msg.dir.0 (max now.floor msg.floor) slot)) (sym after)
-              (subst (λ x. StandsHouse (record old { floor = floor; dirs = insert old.dirs msg.dir has }) (turn.holding now msg.dir.0 x slot)) same house);
+          stands = subst (λ (x : Clearinghouse). StandsHouse x (turn.with_slot now msg.dir.0 (max now.floor msg.floor) slot)) (sym after)
+              (subst (λ x. StandsHouse (record old { floor = floor; dirs = insert old.dirs msg.dir has }) (turn.with_slot now msg.dir.0 x slot)) same house);
           each = subst (λ ps. StandEach ps []) (sym (posts_nothing none)) tt;
         },
       )
@@ -113,8 +113,8 @@ module _ (msg : Message) (now : model.House) (old new : Clearinghouse) (a : Take
   looks_from n c s (turns has slot is ans none after looks content) =
       subst (λ x. LooksStep (IsTakeAnswer a) x msg.dir new) (sym is) (
         (λ ns. subst (λ x. IsTakeAnswer x (command.Taken ns)) (sym ans) tt),
-        subst (λ (x : Clearinghouse). LooksHouse x msg.dir (turn.holding now msg.dir.0 (max now.floor msg.floor) slot)) (sym after)
-            (subst (λ x. LooksSlot old.house.0 x ((turn.holding now msg.dir.0 (max now.floor msg.floor) slot).slots msg.dir.0))
+        subst (λ (x : Clearinghouse). LooksHouse x msg.dir (turn.with_slot now msg.dir.0 (max now.floor msg.floor) slot)) (sym after)
+            (subst (λ x. LooksSlot old.house.0 x ((turn.with_slot now msg.dir.0 (max now.floor msg.floor) slot).slots msg.dir.0))
             (sym (got_here old.dirs msg.dir has))
             (subst (λ x. LooksSlot old.house.0 (Some has) x) (sym (put_same now.slots msg.dir.0 slot)) looks)),
       )
@@ -140,10 +140,10 @@ module _ (msg : Message) (now : model.House) (old new : Clearinghouse) (a : Take
       → Comes msg.floor model.Leave (take_leave now (said model.Leave) (now.slots msg.dir.0))
   leave_by (Some e) is z =
       stays (answers.Late msg.epoch e) (command.Late msg.epoch.0 e.0)
-      (ap (λ x. unless_late (said model.Leave) x (taken now (said model.Leave) (model.Gone msg.epoch.0) [])) (sym is)) (refl, refl) z
+      (ap (λ x. unless_late (said model.Leave) x (take_and_answer now (said model.Leave) (model.Gone msg.epoch.0) [])) (sym is)) (refl, refl) z
   leave_by None is z =
       turns (state.Gone msg.epoch) (model.Gone msg.epoch.0)
-      (ap (λ x. unless_late (said model.Leave) x (taken now (said model.Leave) (model.Gone msg.epoch.0) [])) (sym is))
+      (ap (λ x. unless_late (said model.Leave) x (take_and_answer now (said model.Leave) (model.Gone msg.epoch.0) [])) (sym is))
       z.answer z.posts z.after refl (λ stands carries can h q got. absurd (cc))
 
   leave_comes : LooksHouse old msg.dir now → TakesLeave msg old new a o → Comes msg.floor model.Leave (take_leave now (said model.Leave) (now.slots msg.dir.0))
@@ -179,19 +179,19 @@ module _ (msg : Message) (now : model.House) (old new : Clearinghouse) (a : Take
     carried w = (subst (λ x. StandsBody x (model.Join (members_of ms) c)) is_join w).1
 
     -- the house has the copy
-    has_copy : (between : Clearinghouse) (s : HouseStep) → s ≡ taken now this (model.Held (copied this list c)) [] → a ≡ answers.Taken → o ≡ None
+    has_copy : (between : Clearinghouse) (s : HouseStep) → s ≡ take_and_answer now this (model.Held (replica_of_copy this list c)) [] → a ≡ answers.Taken → o ≡ None
         → new ≡ record between { floor = record { time = max old.floor.time (latest_in_message msg) } } → Copies msg ms copy old between → Comes_so s
     has_copy between s is ans none after z =
-        turns (state.Held (copy_of msg.epoch ms copy)) (model.Held (copied this list c)) is ans none
+        turns (state.Held (copy_of msg.epoch ms copy)) (model.Held (replica_of_copy this list c)) is ans none
         (after ∙ ap (λ (x : Clearinghouse). record x { floor = record { time = max old.floor.time (latest_in_message msg) } }) z)
         (record { epoch = refl; members = refl; phase = tt })
         (λ stands carries can h q got at.
         let mine : copy_of msg.epoch ms copy ≡ h = cc in
-        let its : copied this list c ≡ q = cc in
+        let its : replica_of_copy this list c ≡ q = cc in
         ap (λ (x : Held). x.replica) (sym mine) ∙ carried carries ∙ ap (λ (x : model.Replica). replica_of x.history x.all_up_to) its)
 
     -- or it merges it in
-    has_merged : (between : Clearinghouse) (s : HouseStep) (x : Held) (r : model.Replica) → s ≡ taken now this (model.Held (kept_at_join this list c r)) []
+    has_merged : (between : Clearinghouse) (s : HouseStep) (x : Held) (r : model.Replica) → s ≡ take_and_answer now this (model.Held (kept_at_join this list c r)) []
         → a ≡ answers.Taken → o ≡ None → new ≡ record between { floor = record { time = max old.floor.time (latest_in_message msg) } }
         → get old.dirs msg.dir ≡ Some (state.Held x) → now.slots msg.dir.0 ≡ model.Held r → r.epoch ≤ msg.epoch.0 → since_in list old.house.0 0 ≤ r.epoch
         → Merges msg ms copy old between x → Comes_so s
@@ -212,20 +212,20 @@ module _ (msg : Message) (now : model.House) (old new : Clearinghouse) (a : Take
 
     by_term : (between : Clearinghouse) (s : HouseStep) (x : Held) (r : model.Replica) (b : Bool) → nat_le (since_in list old.house.0 0) x.epoch.0 ≡ b
         → LooksHeld old.house.0 x r
-        → s ≡ taken now this (model.Held (if nat_le (since_in list old.house.0 0) r.epoch then kept_at_join this list c r else copied this list c)) []
+        → s ≡ take_and_answer now this (model.Held (if nat_le (since_in list old.house.0 0) r.epoch then kept_at_join this list c r else replica_of_copy this list c)) []
         → a ≡ answers.Taken → o ≡ None → new ≡ record between { floor = record { time = max old.floor.time (latest_in_message msg) } }
         → get old.dirs msg.dir ≡ Some (state.Held x) → now.slots msg.dir.0 ≡ model.Held r → r.epoch ≤ msg.epoch.0
         → MatchBool b (Merges msg ms copy old between x) (Copies msg ms copy old between) → Comes_so s
     by_term between s x r true term looks is ans none after got held le z =
         let kept : nat_le (since_in list old.house.0 0) r.epoch ≡ true = ap (nat_le (since_in list old.house.0 0)) looks.epoch ∙ term in
-        has_merged between s x r (is ∙ ap (λ b. taken now this (model.Held (if b then kept_at_join this list c r else copied this list c)) []) kept)
+        has_merged between s x r (is ∙ ap (λ b. take_and_answer now this (model.Held (if b then kept_at_join this list c r else replica_of_copy this list c)) []) kept)
         ans none after got held le (le_from _ _ kept) z
     by_term between s x r false term looks is ans none after got held le z =
         let kept : nat_le (since_in list old.house.0 0) r.epoch ≡ false = ap (nat_le (since_in list old.house.0 0)) looks.epoch ∙ term in
-        has_copy between s (is ∙ ap (λ b. taken now this (model.Held (if b then kept_at_join this list c r else copied this list c)) []) kept) ans none after z
+        has_copy between s (is ∙ ap (λ b. take_and_answer now this (model.Held (if b then kept_at_join this list c r else replica_of_copy this list c)) []) kept) ans none after z
 
     by_slot : (between : Clearinghouse) (step : HouseStep) (s : Option DirState) (slot : model.Slot) → get old.dirs msg.dir ≡ s → now.slots msg.dir.0 ≡ slot
-        → LooksSlot old.house.0 s slot → late_join msg.epoch.0 slot ≡ None → step ≡ taken now this (model.Held (joined this list c slot)) []
+        → LooksSlot old.house.0 s slot → late_join msg.epoch.0 slot ≡ None → step ≡ take_and_answer now this (model.Held (join_replica this list c slot)) []
         → a ≡ answers.Taken → o ≡ None → new ≡ record between { floor = record { time = max old.floor.time (latest_in_message msg) } }
         → MatchOption (held_in s) (Copies msg ms copy old between)
         (λ h. MatchBool (nat_le (since_in list old.house.0 0) h.epoch.0) (Merges msg ms copy old between h) (Copies msg ms copy old between))
@@ -243,7 +243,7 @@ module _ (msg : Message) (now : model.House) (old new : Clearinghouse) (a : Take
     by_slot between step (Some (state.Held x)) (model.Gone k) got held looks late is ans none after z = elim looks [ ]
 
     abbrev listed_or : Bool → Bool → HouseStep
-    listed_or x y = if x && y then taken now this (model.Held (joined this list c (now.slots msg.dir.0))) [] else Stays command.Foreign
+    listed_or x y = if x && y then take_and_answer now this (model.Held (join_replica this list c (now.slots msg.dir.0))) [] else Stays command.Foreign
 
     by_listed : (step : HouseStep) (x y : Bool) → LooksHouse old msg.dir now → late_join msg.epoch.0 (now.slots msg.dir.0) ≡ None → step ≡ listed_or x y
         → MatchOption (if not x || not y then Some answers.Foreign else None) (HasJoined msg ms copy old new a o) (λ answer. Answers old new answer a o)

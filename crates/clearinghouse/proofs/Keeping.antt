@@ -13,22 +13,22 @@ use Rattle.cds_messages.specs.declared.message.Body.TheVariants as body
 use Rattle.cds_messages.specs.declared.message.Message.{Message}
 use Rattle.cds_messages.specs.Validity.{IsValidBody, IsValidMessage}
 use Rattle.clearinghouse.specs.declared.house.Clearinghouse.{Clearinghouse}
-use Rattle.held_directories.specs.declared.states.Held.{Held}
-use Rattle.held_directories.specs.declared.states.DirState.TheVariants as state
-use Rattle.held_directories.specs.declared.outgoing.Outgoing.{Outgoing}
-use Rattle.held_directories.specs.declared.taking.Taken.{Taken}
-use Rattle.held_directories.specs.declared.taking.Taken.TheVariants as answers
-use Rattle.held_directories.specs.Lawful.{IsLawfulHeld}
-use Rattle.clearinghouse.specs.Lawful.{IsLawful}
-use Rattle.held_directories.specs.Stepping.{is_taken}
-use Rattle.held_directories.specs.Times.{BodyUpTo, latest_in_message}
-use Rattle.held_directories.specs.Taking.{Answers, JoinsCopy}
-use Rattle.clearinghouse.specs.Taking.{Copies, HasCopy, HasJoined, HasLeft}
-use Rattle.clearinghouse.specs.Taking.{Merges, TakesAt, TakesJoin, TakesLeave, TakesOther}
-use Rattle.held_directories.specs.Taking.{copy_of, held_in, join_bar, leave_passed}
+use Rattle.house_directory.specs.declared.states.Held.{Held}
+use Rattle.house_directory.specs.declared.states.DirState.TheVariants as state
+use Rattle.house_directory.specs.declared.outgoing.Outgoing.{Outgoing}
+use Rattle.house_directory.specs.declared.taking.Taken.{Taken}
+use Rattle.house_directory.specs.declared.taking.Taken.TheVariants as answers
+use Rattle.house_directory.specs.LawfulDirectories.{IsLawfulHeld}
+use Rattle.clearinghouse.specs.LawfulHouses.{IsLawful}
+use Rattle.house_directory.specs.DirectorySteps.{is_taken}
+use Rattle.house_directory.specs.Times.{BodyUpTo, latest_in_message}
+use Rattle.house_directory.specs.DirectoryTakes.{Answers, JoinsCopy}
+use Rattle.clearinghouse.specs.HouseTakes.{Copies, HasCopy, HasJoined, HasLeft}
+use Rattle.clearinghouse.specs.HouseTakes.{Merges, TakesAt, TakesJoin, TakesLeave, TakesOther}
+use Rattle.house_directory.specs.DirectoryTakes.{copy_of, held_in, join_bar, leave_passed}
 use Rattle.clearinghouse.proofs.Houses.{house_lawful, kept_at}
-use Rattle.held_directories.proofs.Lawfulness.{lawful_later}
-use Rattle.held_directories.proofs.Keeping.{body_within, here_lawful}
+use Rattle.house_directory.proofs.Lawfulness.{lawful_later}
+use Rattle.house_directory.proofs.Keeping.{body_within, here_lawful}
 
 -- any message but a Join or a Leave
 pub other_kept : (msg : Message) (old new : Clearinghouse) (a : Taken) (o : Option Outgoing) → IsValidMessage msg → TakesOther msg old new a o → IsLawful old

@@ -17,10 +17,10 @@ use Rattle.cds_stamps.proofs.Masks.{same_place, other_place}
 use Rattle.purge_rule.proofs.MapValues.{each_entry}
 use Rattle.skulk_core.specs.declared.skulk.Skulk.{Skulk}
 use Rattle.skulk_core.specs.declared.skulk.Skulk.TheVariants as skulk
-use Rattle.skulk_core.specs.Rounds.{IsRound, running}
+use Rattle.skulk_core.specs.MasterRounds.{IsRound, running_stamp}
 use Rattle.cds_messages.specs.Dirs.{dir_total, dir_exact}
-use Rattle.cds_records.specs.Ranges.{FitsDir, FitsImage}
-use Rattle.record_fields.specs.Ranges.{ItemsFit}
+use Rattle.cds_records.specs.RecordRanges.{FitsDir, FitsImage}
+use Rattle.record_fields.specs.FieldRanges.{ItemsFit}
 use Rattle.cds_messages.specs.declared.message.Message.{Message}
 use Rattle.cds_messages.specs.declared.message.Body.{Body}
 use Rattle.cds_messages.specs.declared.message.Body.TheVariants as body
@@ -28,16 +28,16 @@ use Rattle.cell_model.specs.Cells as model
 use Rattle.cell_model.specs.Sets.{has}
 use Rattle.cell_model.proofs.Lists.{eq_from}
 use Rattle.clearinghouse.specs.declared.house.Clearinghouse.{Clearinghouse}
-use Rattle.held_directories.specs.declared.states.DirState.{DirState}
-use Rattle.held_directories.specs.declared.states.DirState.TheVariants as state
-use Rattle.held_directories.specs.declared.states.Held.{Held}
-use Rattle.clearinghouse.specs.Imaging.{image_of, kept_of}
-use Rattle.held_directories.specs.Lawful.{RunsSkulk}
-use Rattle.clearinghouse.specs.Lawful.{IsLawful}
-use Rattle.held_directories.specs.Posting.{LooksBody, LooksMessage}
-use Rattle.held_directories.specs.Standing.{LooksSlot, StandsPhase, StandsRound}
-use Rattle.clearinghouse.specs.Standing.{LooksHouse}
-use Rattle.held_directories.proofs.Phases.{above, at_place, ordered, placed, rest_ordered, rest_unlisted}
+use Rattle.house_directory.specs.declared.states.DirState.{DirState}
+use Rattle.house_directory.specs.declared.states.DirState.TheVariants as state
+use Rattle.house_directory.specs.declared.states.Held.{Held}
+use Rattle.clearinghouse.specs.HouseImages.{image_of, kept_of}
+use Rattle.house_directory.specs.LawfulDirectories.{RunsSkulk}
+use Rattle.clearinghouse.specs.LawfulHouses.{IsLawful}
+use Rattle.house_directory.specs.HouseMessages.{LooksBody, LooksMessage}
+use Rattle.house_directory.specs.ModelReplicas.{LooksSlot, StandsPhase, StandsRound}
+use Rattle.clearinghouse.specs.ModelHouses.{LooksHouse}
+use Rattle.house_directory.proofs.Phases.{above, at_place, ordered, placed, rest_ordered, rest_unlisted}
 use Rattle.clearinghouse.proofs.Starting.{got_kept}
 
 -- ---- who has answered
@@ -105,7 +105,7 @@ module _ (me floor : ℕ) (ms : List declared.Member) (lawful : members_fault (m
           ap (has_place mask) same ∙ round.master
       by p m got false is = sym (at_test 1 0 (members_of ms) (ordered me (members_of ms) lawful) (has_place mask) p m got)
 
-  phase_looks : (s : Skulk) → ((t : Stamp) → running s ≡ Some t → RunsSkulk me floor ms s t) → StandsPhase me (members_of ms) s (phase_of (members_of ms) s)
+  phase_looks : (s : Skulk) → ((t : Stamp) → running_stamp s ≡ Some t → RunsSkulk me floor ms s t) → StandsPhase me (members_of ms) s (phase_of (members_of ms) s)
   phase_looks skulk.Idle runs = tt
   phase_looks (skulk.Gathering t mask) runs = let w = runs t refl in round_looks t mask w.place w.member w.round
   phase_looks (skulk.Spreading t mask) runs = let w = runs t refl in round_looks t mask w.place w.member w.round

@@ -4,13 +4,13 @@ use Rattle.std.specs.FinMap.{get}
 use Rattle.cds_stamps.specs.declared.numbers.DirId.{DirId}
 use Rattle.cds_stamps.specs.declared.stamp.Stamp.{Stamp}
 use Rattle.directory.specs.declared.update.UpdateRefusal.{UpdateRefusal}
-use Rattle.held_directories.specs.declared.outgoing.Outgoing.{Outgoing}
+use Rattle.house_directory.specs.declared.outgoing.Outgoing.{Outgoing}
 use Rattle.clearinghouse.specs.declared.house.Clearinghouse.{Clearinghouse}
-use Rattle.held_directories.specs.declared.skulks.Begun.{Begun}
-use Rattle.held_directories.specs.declared.skulks.Begun.TheVariants as begun
-use Rattle.held_directories.specs.Stepping.{begun_outgoing}
-use Rattle.clearinghouse.specs.Posting.{posts_at, sender_of}
-use Rattle.held_directories.proofs.Posts.{posts_none}
+use Rattle.house_directory.specs.declared.skulks.Begun.{Begun}
+use Rattle.house_directory.specs.declared.skulks.Begun.TheVariants as begun
+use Rattle.house_directory.specs.DirectorySteps.{begun_outgoing}
+use Rattle.clearinghouse.specs.HouseLetters.{posts_at, sender_of}
+use Rattle.house_directory.proofs.Posts.{posts_none}
 
 -- nothing is posted where a skulk is complete at once
 pub completed_posts : (c : Clearinghouse) (dir : DirId) (a : Result Begun UpdateRefusal) (t : Stamp) (o : Option Outgoing) → a ≡ Ok (begun.Complete t)

@@ -12,18 +12,18 @@ use Rattle.purge_rule.proofs.MergeLaws.{purged-up_to}
 use Rattle.cds_messages.specs.Dirs.{dir_total, dir_exact}
 use Rattle.cds_messages.specs.declared.image.ImageDir.{ImageDir}
 use Rattle.cell_model.specs.Cells as model
-use Rattle.cell_model.specs.Turns.{crashed, crashed_house, started_house}
+use Rattle.cell_model.specs.Turns.{crash_slot, crashed_house, started_house}
 use Rattle.cell_model.proofs.Fine.{idle_below}
 use Rattle.clearinghouse.specs.declared.house.Clearinghouse.{Clearinghouse}
-use Rattle.held_directories.specs.declared.states.DirState.{DirState}
-use Rattle.held_directories.specs.declared.states.DirState.TheVariants as state
-use Rattle.held_directories.specs.declared.states.Held.{Held}
-use Rattle.clearinghouse.specs.Imaging.{image_of, kept_of, restarted, started_of}
-use Rattle.clearinghouse.specs.Lawful.{IsLawful}
-use Rattle.held_directories.specs.Standing.{StandsHeld, StandsSlot}
-use Rattle.clearinghouse.specs.Standing.{StandsHouse}
-use Rattle.held_directories.specs.Times.{latest_in_image, latest_in_kept}
-use Rattle.held_directories.proofs.Lawfulness.{each_mark}
+use Rattle.house_directory.specs.declared.states.DirState.{DirState}
+use Rattle.house_directory.specs.declared.states.DirState.TheVariants as state
+use Rattle.house_directory.specs.declared.states.Held.{Held}
+use Rattle.clearinghouse.specs.HouseImages.{image_of, kept_of, house_after_restart, started_of}
+use Rattle.clearinghouse.specs.LawfulHouses.{IsLawful}
+use Rattle.house_directory.specs.ModelReplicas.{StandsHeld, StandsSlot}
+use Rattle.clearinghouse.specs.ModelHouses.{StandsHouse}
+use Rattle.house_directory.specs.Times.{latest_in_image, latest_in_kept}
+use Rattle.house_directory.proofs.Lawfulness.{each_mark}
 use Rattle.clearinghouse.proofs.Starting.{got_kept, got_started, image_valid, started_lawful}
 
 -- ---- what it has
@@ -36,7 +36,7 @@ mapped_twice : (o : Option DirState) → option_map started_of (option_map kept_
 mapped_twice None = refl
 mapped_twice (Some s) = refl
 
-got_again : (c : Clearinghouse) (q : DirId) → get (restarted c).dirs q ≡ option_map again (get c.dirs q)
+got_again : (c : Clearinghouse) (q : DirId) → get (house_after_restart c).dirs q ≡ option_map again (get c.dirs q)
 got_again c q = got_started (image_of c) q ∙ ap (option_map started_of) (got_kept c q) ∙ mapped_twice (get c.dirs q)
 
 -- ---- its floor
@@ -63,11 +63,11 @@ floor_greatest c up =
     at q (Some (state.Held h)) is = (latest_time-≤ c.floor.time h.replica).1 (up q h is)
 
 -- the floor of a lawful clearinghouse stays over a crash and a start
-pub floor_stays : (c : Clearinghouse) → IsLawful c → (restarted c).floor ≡ c.floor
+pub floor_stays : (c : Clearinghouse) → IsLawful c → (house_after_restart c).floor ≡ c.floor
 floor_stays c lawful = let low = floor_greatest c (λ q h is. (lawful q h is).replica) in λ i. record { time = low i }
 
 -- it is lawful again
-pub restarted_lawful : (c : Clearinghouse) → IsLawful c → IsLawful (restarted c)
+pub restarted_lawful : (c : Clearinghouse) → IsLawful c → IsLawful (house_after_restart c)
 restarted_lawful c lawful = started_lawful (image_of c) (image_valid c lawful)
 
 -- ---- what it stands for
@@ -97,7 +97,7 @@ pub floor_of_image : (c : Clearinghouse) (now : model.House) → StandsHouse c n
 floor_of_image c now stands =
     floor_greatest c (λ q h is. slot_up_to c.house.0 c.floor.time (get c.dirs q) (now.slots q.0) h (stands.slots q.0) is)
 
-slot_again : (me n : ℕ) (o : Option DirState) (s : model.Slot) → StandsSlot me n o s → StandsSlot me n (option_map again o) (crashed s)
+slot_again : (me n : ℕ) (o : Option DirState) (s : model.Slot) → StandsSlot me n o s → StandsSlot me n (option_map again o) (crash_slot s)
 slot_again me n None model.Absent h = tt
 slot_again me n (Some (state.Gone e)) (model.Gone k) h = h
 slot_again me n (Some (state.Held x)) (model.Held r) h = record {
@@ -114,12 +114,12 @@ slot_again me n (Some (state.Held x)) model.Absent h = elim h [ ]
 slot_again me n (Some (state.Held x)) (model.Gone k) h = elim h [ ]
 
 -- a house that crashes: what starts of its image stands for the house that is down
-pub crash_stands : (c : Clearinghouse) (now : model.House) → StandsHouse c now → StandsHouse (restarted c) (crashed_house now)
+pub crash_stands : (c : Clearinghouse) (now : model.House) → StandsHouse c now → StandsHouse (house_after_restart c) (crashed_house now)
 crash_stands c now stands = record {
   node = stands.node;
   floor = stands.floor ∙ sym low;
-  slots = λ d. subst (λ n. StandsSlot c.house.0 n (get (restarted c).dirs (record { 0 = d })) (crashed (now.slots d))) (sym low)
-      (subst (λ o. StandsSlot c.house.0 c.floor.time o (crashed (now.slots d))) (sym (got_again c (record { 0 = d })))
+  slots = λ d. subst (λ n. StandsSlot c.house.0 n (get (house_after_restart c).dirs (record { 0 = d })) (crash_slot (now.slots d))) (sym low)
+      (subst (λ o. StandsSlot c.house.0 c.floor.time o (crash_slot (now.slots d))) (sym (got_again c (record { 0 = d })))
       (slot_again c.house.0 c.floor.time (get c.dirs (record { 0 = d })) (now.slots d) (stands.slots d)));
 }
   where

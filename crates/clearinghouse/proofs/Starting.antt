@@ -16,17 +16,17 @@ use Rattle.cds_messages.specs.declared.image.Image.{Image}
 use Rattle.cds_messages.specs.declared.image.ImageDir.{ImageDir}
 use Rattle.cds_messages.specs.declared.image.ImageDir.TheVariants as kept
 use Rattle.record_fields.proofs.Mapped.{entries_mapped}
-use Rattle.cds_records.specs.Octets.{image_octets}
-use Rattle.cds_records.specs.Ranges.{FitsImage}
+use Rattle.cds_records.specs.RecordOctets.{image_octets}
+use Rattle.cds_records.specs.RecordRanges.{FitsImage}
 use Rattle.cds_records.proofs.WholeDecoding.{whole_decoded, image_in_either}
 use Rattle.cds_records.proofs.WholeImages.{the_image_whole}
 use Rattle.clearinghouse.specs.declared.house.Clearinghouse.{Clearinghouse}
-use Rattle.held_directories.specs.declared.states.DirState.{DirState}
-use Rattle.held_directories.specs.declared.states.DirState.TheVariants as state
-use Rattle.clearinghouse.specs.Imaging.{image_of, kept_of, restarted, started, started_from, started_of, starting}
-use Rattle.held_directories.specs.Lawful.{IsLawfulHeld}
-use Rattle.clearinghouse.specs.Lawful.{IsLawful}
-use Rattle.held_directories.specs.Times.{latest_in_image, latest_in_kept}
+use Rattle.house_directory.specs.declared.states.DirState.{DirState}
+use Rattle.house_directory.specs.declared.states.DirState.TheVariants as state
+use Rattle.clearinghouse.specs.HouseImages.{image_of, kept_of, house_after_restart, start_of_octets, started_from, started_of, start_of_image}
+use Rattle.house_directory.specs.LawfulDirectories.{IsLawfulHeld}
+use Rattle.clearinghouse.specs.LawfulHouses.{IsLawful}
+use Rattle.house_directory.specs.Times.{latest_in_image, latest_in_kept}
 
 -- ---- what it has
 
@@ -92,8 +92,8 @@ started_lawful i valid dir h got = at (get i.dirs dir) refl
 -- ---- its own image
 
 -- octets that are the whole of an image start its house
-whole_starts : (i : Image) (octets : List ℕ) → IsWhole image i octets → started octets ≡ Ok (started_from i)
-whole_starts i octets whole = ap starting (whole_decoded either_image i octets (image_in_either i octets whole))
+whole_starts : (i : Image) (octets : List ℕ) → IsWhole image i octets → start_of_octets octets ≡ Ok (started_from i)
+whole_starts i octets whole = ap start_of_image (whole_decoded either_image i octets (image_in_either i octets whole))
 
 -- the image of a lawful house is valid
 pub image_valid : (c : Clearinghouse) → IsLawful c → IsValidImage (image_of c)
@@ -105,5 +105,5 @@ image_valid c lawful q = subst (λ o. IfSome o IsValidDir) (sym (got_kept c q)) 
     at (Some (state.Held h)) is = (lawful q h is).valid
 
 -- the octets of the image of a lawful house start it again, if its numbers fit
-pub image_starts : (c : Clearinghouse) → IsLawful c → FitsImage (image_of c) → started (image_octets (image_of c)) ≡ Ok (restarted c)
+pub image_starts : (c : Clearinghouse) → IsLawful c → FitsImage (image_of c) → start_of_octets (image_octets (image_of c)) ≡ Ok (house_after_restart c)
 image_starts c lawful fits = whole_starts (image_of c) (image_octets (image_of c)) (the_image_whole (image_of c) (image_valid c lawful) fits)

@@ -7,10 +7,10 @@ use Rattle.cds_stamps.specs.Members.{members_of, since_in}
 use Rattle.purge_rule.specs.declared.replica.Replica.{Replica}
 use Rattle.cds_messages.specs.declared.message.Message.{Message}
 use Rattle.clearinghouse.specs.declared.house.Clearinghouse.{Clearinghouse}
-use Rattle.held_directories.specs.declared.states.DirState.TheVariants as state
-use Rattle.held_directories.specs.declared.states.Held.{Held}
-use Rattle.held_directories.specs.Taking.{copy_of, held_in}
-use Rattle.clearinghouse.specs.Taking.{Copies, HasCopy, Merges}
+use Rattle.house_directory.specs.declared.states.DirState.TheVariants as state
+use Rattle.house_directory.specs.declared.states.Held.{Held}
+use Rattle.house_directory.specs.DirectoryTakes.{copy_of, held_in}
+use Rattle.clearinghouse.specs.HouseTakes.{Copies, HasCopy, Merges}
 
 -- what holds anyway holds after an error
 pub on_err_of : {T E : Type 0} (r : Result T E) (P : Type 0) → P → OnErr r P

@@ -1,8 +1,8 @@
-pub mod Posting
-pub mod Standing
-pub mod Stepping
-pub mod Taking
-pub mod Updating
-pub mod Lawful
+pub mod HouseLetters
+pub mod ModelHouses
+pub mod HouseSteps
+pub mod HouseTakes
+pub mod HouseUpdates
+pub mod LawfulHouses
 pub mod PrivateTurns
-pub mod Imaging
+pub mod HouseImages

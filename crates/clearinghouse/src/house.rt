@@ -7,23 +7,23 @@ ghost use Rattle.cds_stamps.specs.Members.{master_of, members_of};
 ghost use Rattle.cds_stamps.specs.Stamps.{next_stamp};
 ghost use Rattle.directory.specs.Updates.{change_of};
 ghost use Rattle.cell_model.specs.Cells as model;
-ghost use Rattle.cell_model.specs.Turns.{found, accept, skulk, new_epoch};
-ghost use Rattle.clearinghouse.specs.Lawful.{IsLawful};
-ghost use Rattle.held_directories.specs.Posting.{numbers_of};
-ghost use Rattle.clearinghouse.specs.Posting.{epoch_posts_at, posts_at, sender_of};
+ghost use Rattle.cell_model.specs.Turns.{found_directory, accept, skulk, new_epoch};
+ghost use Rattle.clearinghouse.specs.LawfulHouses.{IsLawful};
+ghost use Rattle.house_directory.specs.HouseMessages.{numbers_of};
+ghost use Rattle.clearinghouse.specs.HouseLetters.{epoch_posts_at, posts_at, sender_of};
 ghost use Rattle.clearinghouse.specs.PrivateTurns.{Heeds, SameHouse};
-ghost use Rattle.held_directories.specs.declared.outgoing.Outgoing.TheVariants as out;
-ghost use Rattle.held_directories.specs.declared.states.DirState.TheVariants as state;
-ghost use Rattle.held_directories.specs.Refusing.{accept_answer, skulk_answer, epoch_refused, IsLater};
-ghost use Rattle.clearinghouse.specs.Standing.{StandsHouse};
-ghost use Rattle.clearinghouse.specs.Updating.{BeginsSkulk, PostsUpdate, TakesUpdate};
-ghost use Rattle.held_directories.specs.Stepping.{IsStampAnswer, IsAcceptAnswer, IsBegunAnswer, IsSkulkAnswer, begun_outgoing, first_held};
-ghost use Rattle.clearinghouse.specs.Stepping.{IsCall, IsTurn, IsStep, Enters, founded};
-ghost use Rattle.held_directories.specs.Stepping.{IsEpochAnswer, accept_result, accept_posts, skulk_result, skulk_posts, epoch_result, epoch_posts};
+ghost use Rattle.house_directory.specs.declared.outgoing.Outgoing.TheVariants as out;
+ghost use Rattle.house_directory.specs.declared.states.DirState.TheVariants as state;
+ghost use Rattle.house_directory.specs.Refusing.{accept_answer, skulk_answer, epoch_refused, IsLater};
+ghost use Rattle.clearinghouse.specs.ModelHouses.{StandsHouse};
+ghost use Rattle.clearinghouse.specs.HouseUpdates.{BeginsSkulk, PostsUpdate, TakesUpdate};
+ghost use Rattle.house_directory.specs.DirectorySteps.{IsStampAnswer, IsAcceptAnswer, IsBegunAnswer, IsSkulkAnswer, begun_outgoing, first_held};
+ghost use Rattle.clearinghouse.specs.HouseSteps.{IsCall, IsTurn, IsStep, Enters, with_new_directory};
+ghost use Rattle.house_directory.specs.DirectorySteps.{IsEpochAnswer, accept_result, accept_posts, skulk_result, skulk_posts, epoch_result, epoch_posts};
 
 use cds_stamps::{DirId, EpochNo, Floor, HouseNo, Members, Node, Stamp};
 use directory::{Update, UpdateRefusal};
-use held_directories::{
+use house_directory::{
     Accepted, Begun, DirState, DirStates, EpochRefusal, EpochSet, Held, Issuer, Outgoing,
     PostedList, Sender, Skulked, Turn, post_leaves, refused,
 };
@@ -116,10 +116,10 @@ impl Clearinghouse {
         ensures call { IsCall self.old self.new result }
         ensures floor { self.new.floor ≡ self.old.floor }
         ensures kept { IsLawful self.old → IsLawful self.new }
-        ensures held { OnOk result (self.new ≡ founded self.old dir members.now) }
+        ensures held { OnOk result (self.new ≡ with_new_directory self.old dir members.now) }
         ensures posts { IfOk result (λ posted. posted ≡ posts_at self.new dir (Some out.Join)) }
         ensures step { (now : model.House) → StandsHouse self.old now
-            → IfOk result (λ posted. IsTurn (found self.old.house.0 now dir.0 (members_of members.now)) self.new posted) }
+            → IfOk result (λ posted. IsTurn (found_directory self.old.house.0 now dir.0 (members_of members.now)) self.new posted) }
     {
         let outgoing = self.found(alloc, dir, members)?;
         self.posted(alloc, dir, Some(&outgoing))
@@ -137,10 +137,10 @@ impl Clearinghouse {
         ensures call { IsCall self.old self.new result }
         ensures floor { self.new.floor ≡ self.old.floor }
         ensures kept { IsLawful self.old → IsLawful self.new }
-        ensures held { OnOk result (self.new ≡ founded self.old dir members.now) }
+        ensures held { OnOk result (self.new ≡ with_new_directory self.old dir members.now) }
         ensures posts { IfOk result (λ outgoing. outgoing ≡ out.Join) }
         ensures step { (now : model.House) → StandsHouse self.old now
-            → IfOk result (λ outgoing. IsTurn (found self.old.house.0 now dir.0 (members_of members.now)) self.new (posts_at self.new dir (Some outgoing))) }
+            → IfOk result (λ outgoing. IsTurn (found_directory self.old.house.0 now dir.0 (members_of members.now)) self.new (posts_at self.new dir (Some outgoing))) }
     {
         self.usable()?;
         let done = self.insert_first(alloc, dir, members);

@@ -3,20 +3,20 @@ ghost use Rattle.std.specs.Prelude.{◌≡◌, ◌++◌, ◌<◌, ◌^◌, false
 ghost use Rattle.std.specs.FinMap as map;
 ghost use Rattle.cds_stamps.specs.Outcomes.{Answers};
 ghost use Rattle.cds_stamps.specs.declared.numbers.DirId as number;
-ghost use Rattle.cds_records.specs.Octets.{dir_octets, image_octets, kept_octets};
-ghost use Rattle.record_fields.specs.Octets.{items_octets};
-ghost use Rattle.cds_records.specs.Ranges.{FitsDir, FitsImage};
-ghost use Rattle.record_fields.specs.Ranges.{ItemsFit};
-ghost use Rattle.record_fields.specs.Wanting.{IfWant};
-ghost use Rattle.cds_records.specs.Wanting.{WantsForImage};
-ghost use Rattle.clearinghouse.specs.Imaging.{image_of, kept_of, restarted, started, started_from, started_of};
-ghost use Rattle.clearinghouse.specs.Lawful.{IsLawful};
+ghost use Rattle.cds_records.specs.RecordOctets.{dir_octets, image_octets, kept_octets};
+ghost use Rattle.record_fields.specs.FieldOctets.{items_octets};
+ghost use Rattle.cds_records.specs.RecordRanges.{FitsDir, FitsImage};
+ghost use Rattle.record_fields.specs.FieldRanges.{ItemsFit};
+ghost use Rattle.record_fields.specs.MemoryFaults.{IfWant};
+ghost use Rattle.cds_records.specs.RecordMemory.{WantsForImage};
+ghost use Rattle.clearinghouse.specs.HouseImages.{image_of, kept_of, house_after_restart, start_of_octets, started_from, started_of};
+ghost use Rattle.clearinghouse.specs.LawfulHouses.{IsLawful};
 
 use crate::house::Clearinghouse;
 use cds_messages::{Image, ImageDir, ImageDirs};
 use cds_records::{ImageWriter, RecordFault, whole_image};
 use cds_stamps::{AllocOr, DirId, Floor};
-use held_directories::{DirState, DirStates, Held, latest_in_image};
+use house_directory::{DirState, DirStates, Held, latest_in_image};
 use skulk_core::Skulk;
 use std::alloc::{AllocError, Global};
 use thiserror::Error;
@@ -82,7 +82,7 @@ impl Clearinghouse {
         ensures usable { IfOk result (λ _. self.now.spent ≡ false) }
         ensures octets { IfOk result (λ v. v.items ≡ image_octets (image_of self.now)) }
         ensures fits { IfOk result (λ _. FitsImage (image_of self.now)) }
-        ensures starts { IfOk result (λ v. IsLawful self.now → started v.items ≡ Ok (restarted self.now)) }
+        ensures starts { IfOk result (λ v. IsLawful self.now → start_of_octets v.items ≡ Ok (house_after_restart self.now)) }
     {
         self.usable()?;
         let count = self.dirs.len() as u64;
@@ -94,7 +94,7 @@ impl Clearinghouse {
     /// The house that kept these octets, in either format, with no skulk that runs; its floor is raised to the greatest time in
     /// them. Memory is asked for only after a whole head of an image, so a fault in the head is never answered as out of memory.
     pub fn start(alloc: Global, octets: &[u8]) -> Result<Clearinghouse, AllocOr<StartFault>>
-        ensures answer { Answers result (started octets.now) }
+        ensures answer { Answers result (start_of_octets octets.now) }
         ensures wanting { IfWant (WantsForImage 1 2 octets.now) result }
         ensures lawful { IfOk result IsLawful }
     {

@@ -1,32 +1,32 @@
 //! Laws of the definitions: functions that do nothing, whose contracts are proved.
 ghost use Rattle.std.specs.Prelude.{◌≡◌, ℕ, Ok};
 ghost use Rattle.cds_stamps.specs.declared.numbers.DirId.{DirId};
-ghost use Rattle.cds_records.specs.Octets.{image_octets};
-ghost use Rattle.cds_records.specs.Ranges.{FitsImage};
+ghost use Rattle.cds_records.specs.RecordOctets.{image_octets};
+ghost use Rattle.cds_records.specs.RecordRanges.{FitsImage};
 ghost use Rattle.cds_messages.specs.Validity.{IsValidImage};
 ghost use Rattle.cds_messages.specs.declared.message.Message.{Message};
 ghost use Rattle.cell_model.specs.Cells as model;
 ghost use Rattle.cell_model.specs.Turns.{crashed_house, started_house};
-ghost use Rattle.clearinghouse.specs.Imaging.{image_of, restarted, started};
-ghost use Rattle.clearinghouse.specs.Lawful.{IsLawful};
-ghost use Rattle.held_directories.specs.Posting.{LooksMessage};
-ghost use Rattle.clearinghouse.specs.Standing.{LooksHouse, StandsHouse};
+ghost use Rattle.clearinghouse.specs.HouseImages.{image_of, house_after_restart, start_of_octets};
+ghost use Rattle.clearinghouse.specs.LawfulHouses.{IsLawful};
+ghost use Rattle.house_directory.specs.HouseMessages.{LooksMessage};
+ghost use Rattle.clearinghouse.specs.ModelHouses.{LooksHouse, StandsHouse};
 ghost use Rattle.clearinghouse.specs.declared.house.Clearinghouse.{Clearinghouse};
 
 /// A house starts of the octets that it kept, if its numbers fit their fields: no other fault is found than want of memory.
 pub fn a_house_starts_of_its_image()
-    ensures { (c : Clearinghouse) → IsLawful c → FitsImage (image_of c) → started (image_octets (image_of c)) ≡ Ok (restarted c) }
+    ensures { (c : Clearinghouse) → IsLawful c → FitsImage (image_of c) → start_of_octets (image_octets (image_of c)) ≡ Ok (house_after_restart c) }
 {}
 
 /// A clearinghouse that crashes and starts again stands for the house of the model that does so. It is lawful again, and who it
 /// was. Its floor stays, since no time in what it keeps is above it.
 pub fn a_crash_and_a_start_are_those_of_the_model()
-    ensures down { (c : Clearinghouse) (now : model.House) → StandsHouse c now → StandsHouse (restarted c) (crashed_house now) }
-    ensures up { (c : Clearinghouse) (now : model.House) → StandsHouse c now → StandsHouse (restarted c) (started_house (crashed_house now)) }
+    ensures down { (c : Clearinghouse) (now : model.House) → StandsHouse c now → StandsHouse (house_after_restart c) (crashed_house now) }
+    ensures up { (c : Clearinghouse) (now : model.House) → StandsHouse c now → StandsHouse (house_after_restart c) (started_house (crashed_house now)) }
     ensures image { (c : Clearinghouse) → IsLawful c → IsValidImage (image_of c) }
-    ensures lawful { (c : Clearinghouse) → IsLawful c → IsLawful (restarted c) }
-    ensures who { (c : Clearinghouse) → ((restarted c).house ≡ c.house) × ((restarted c).node ≡ c.node) }
-    ensures floor { (c : Clearinghouse) → IsLawful c → (restarted c).floor ≡ c.floor }
+    ensures lawful { (c : Clearinghouse) → IsLawful c → IsLawful (house_after_restart c) }
+    ensures who { (c : Clearinghouse) → ((house_after_restart c).house ≡ c.house) × ((house_after_restart c).node ≡ c.node) }
+    ensures floor { (c : Clearinghouse) → IsLawful c → (house_after_restart c).floor ≡ c.floor }
 {}
 
 /// Each lawful clearinghouse looks like some house of the model, in all directories at once, and each message like one of the

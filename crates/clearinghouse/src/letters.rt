@@ -1,18 +1,18 @@
 // Messages as octets, encoded from what a house holds. Nothing is copied for them but what a delta has of a replica.
 ghost use Rattle.std.specs.Prelude.{◌≡◌, ◌<◌, ◌≤◌, [], false, Some, IfOk, IfSome, MatchOption, length};
 ghost use Rattle.record_fields.specs.Decoding.{IsWhole};
-ghost use Rattle.cds_records.specs.Octets.{message_octets, message_with};
+ghost use Rattle.cds_records.specs.RecordOctets.{message_octets, message_with};
 ghost use Rattle.cds_records.specs.Records as records;
 ghost use Rattle.cds_messages.specs.Validity.{IsValidMessage};
 ghost use Rattle.cds_stamps.specs.Members.{most_members};
-ghost use Rattle.held_directories.specs.Posting.{body_of, leave_of, numbers_of, posts_of, posts_to};
-ghost use Rattle.clearinghouse.specs.Posting.{AreLetters, posts_at, sender_of};
+ghost use Rattle.house_directory.specs.HouseMessages.{body_of, leave_of, numbers_of, posts_of, posts_to};
+ghost use Rattle.clearinghouse.specs.HouseLetters.{AreLetters, posts_at, sender_of};
 
 use crate::house::Clearinghouse;
 use cds_messages::{Body, Head, Message};
 use cds_records::{encode, encode_gathered, encode_join, encode_spread, encode_update};
 use cds_stamps::{DirId, EpochNo, HouseNo};
-use held_directories::{Held, Outgoing, Sender};
+use house_directory::{Held, Outgoing, Sender};
 use std::alloc::{AllocError, Global};
 
 /// A message as octets, and the houses that it goes to, in ascending order: all get the same octets.

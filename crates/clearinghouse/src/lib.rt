@@ -7,7 +7,7 @@ pub mod laws;
 mod letters;
 mod taking;
 
-pub use held_directories::{
+pub use house_directory::{
     Accepted, Begun, DirState, DirStates, EpochRefusal, EpochSet, Held, Outgoing, Posted,
     PostedList, Skulked, Taken, Took, Turn,
 };

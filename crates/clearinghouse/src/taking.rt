@@ -7,21 +7,21 @@ ghost use Rattle.cds_messages.specs.Validity.{IsValidMessage};
 ghost use Rattle.cell_model.specs.Cells as model;
 ghost use Rattle.cell_model.specs.Taking.{CanTake};
 ghost use Rattle.cell_model.specs.Turns.{take};
-ghost use Rattle.clearinghouse.specs.Lawful.{IsLawful};
-ghost use Rattle.held_directories.specs.Posting.{LooksMessage, StandsMessage};
-ghost use Rattle.clearinghouse.specs.Posting.{posts_at};
-ghost use Rattle.clearinghouse.specs.Standing.{LooksHouse, StandsHouse};
-ghost use Rattle.held_directories.specs.Stepping.{IsTakeAnswer, UnlessTaken, IfTaken};
-ghost use Rattle.clearinghouse.specs.Stepping.{IsCall, IsStep, LooksStep};
-ghost use Rattle.held_directories.specs.Times.{latest_in_message};
-ghost use Rattle.clearinghouse.specs.Taking.{HasCopy, Takes, TakesJoin, TakesLeave, TakesOther, TakesPosting};
-ghost use Rattle.held_directories.specs.Taking.{copy_of, join_bar, join_passed, leave_passed};
-ghost use Rattle.held_directories.specs.declared.states.DirState.TheVariants as state;
+ghost use Rattle.clearinghouse.specs.LawfulHouses.{IsLawful};
+ghost use Rattle.house_directory.specs.HouseMessages.{LooksMessage, StandsMessage};
+ghost use Rattle.clearinghouse.specs.HouseLetters.{posts_at};
+ghost use Rattle.clearinghouse.specs.ModelHouses.{LooksHouse, StandsHouse};
+ghost use Rattle.house_directory.specs.DirectorySteps.{IsTakeAnswer, UnlessTaken, IfTaken};
+ghost use Rattle.clearinghouse.specs.HouseSteps.{IsCall, IsStep, LooksStep};
+ghost use Rattle.house_directory.specs.Times.{latest_in_message};
+ghost use Rattle.clearinghouse.specs.HouseTakes.{HasCopy, Takes, TakesJoin, TakesLeave, TakesOther, TakesPosting};
+ghost use Rattle.house_directory.specs.DirectoryTakes.{copy_of, join_bar, join_passed, leave_passed};
+ghost use Rattle.house_directory.specs.declared.states.DirState.TheVariants as state;
 
 use crate::house::Clearinghouse;
 use cds_messages::{Body, Message};
 use cds_stamps::{EpochNo, Members};
-use held_directories::{
+use house_directory::{
     DirState, Held, Taken, Took, Turn, latest_in_message, since_in, taken_with, time_taken,
     unchanged,
 };

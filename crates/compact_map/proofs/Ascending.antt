@@ -8,7 +8,7 @@ use Rattle.std.specs.List.Sorted.{IsStrictlySortedBy}
 use Rattle.std.specs.Map.{keys_of}
 use Rattle.std.specs.BTreeMap.{insert_entry}
 use Rattle.std_collections.proofs.Pairwise.{All-map}
-use Rattle.compact_map.specs.Entries.{IsOrdered}
+use Rattle.compact_map.specs.MapEntries.{IsOrdered}
 
 -- no entries are in order
 pub none_ordered : {K X : Type 0} (cmp : K → K → Ordering) (es : List (K × X)) → es ≡ [] → IsOrdered cmp es

@@ -15,7 +15,7 @@ use Rattle.std_collections.proofs.Entries.{set_value_none}
 use Rattle.std_collections.proofs.Pairwise.{Pairwise-remove, from_sorted, to_sorted}
 use Rattle.std_collections.proofs.Seek.{seek-Ok, seek_err, found_at, missing_at, insert_entry-Ok, insert_entry_err, sorted_insert}
 use Rattle.std_collections.proofs.TreeMap.Lookup.{updates_remove, writes_through, absent, Updates-insert}
-use Rattle.compact_map.specs.Entries.{get, IsOrdered, Updates, WritesThrough}
+use Rattle.compact_map.specs.MapEntries.{get, IsOrdered, Updates, WritesThrough}
 
 -- what holds in any case holds at an `Err`
 pub on_err : {A E P : Type 0} (r : Result A E) → P → OnErr r P

@@ -6,7 +6,7 @@ use Rattle.std.specs.declared.cmp.Ordering.TheVariants.{Less}
 use Rattle.std.specs.List.{remove}
 use Rattle.std.specs.Map.Calls.{CallableOnEachPair, RetainsPairs}
 use Rattle.std_collections.proofs.Pairwise.{Pairwise-retained, from_sorted, to_sorted}
-use Rattle.compact_map.specs.Entries.{IsOrdered}
+use Rattle.compact_map.specs.MapEntries.{IsOrdered}
 
 module _ {X : Type 0} where
   -- the first of those to come stands at the next place

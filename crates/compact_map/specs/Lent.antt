@@ -3,7 +3,7 @@ use Rattle.std.specs.Prelude.{◌≡◌, List, Option}
 use Rattle.std.specs.Borrow.{Fml, RattleType, MutBor, LendsSo}
 use Rattle.std.specs.declared.cmp.Ordering.{Ordering}
 use Rattle.std.specs.BTreeMap.Lent.{OrdMembers}
-use Rattle.compact_map.specs.Entries.{WritesThrough}
+use Rattle.compact_map.specs.MapEntries.{WritesThrough}
 use Rattle.compact_map.specs.contracts.map.CompactMap.{the_row}
 
 -- it has the last value that is written through r, at the key that the query finds, and at `None` stays as it is (own)

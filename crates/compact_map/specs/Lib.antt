@@ -1,4 +1,4 @@
-pub mod Entries
+pub mod MapEntries
 pub mod Lefts
 pub mod Tables
 pub mod VecLent

@@ -3,7 +3,7 @@ use Rattle.std.specs.Prelude.{◌≡◌, Option}
 use Rattle.std.specs.Borrow.{Fml, RattleType, MutBor, LendsSo}
 use Rattle.std.specs.declared.cmp.Ordering.{Ordering}
 use Rattle.std.specs.BTreeMap.Lent.{OrdMembers}
-use Rattle.compact_map.specs.Entries.{WritesThrough}
+use Rattle.compact_map.specs.MapEntries.{WritesThrough}
 use Rattle.compact_map.specs.Tables.{entries_of}
 use Rattle.compact_map.specs.declared.table.Table.{Table}
 use Rattle.compact_map.specs.contracts.table.Table.{the_row}

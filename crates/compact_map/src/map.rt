@@ -6,7 +6,7 @@ ghost use Rattle.std.specs.Borrow.{sem};
 ghost use Rattle.std.specs.Map.{remove_entry};
 ghost use Rattle.std.specs.BTreeMap.{is_at, insert_entry};
 ghost use Rattle.std.specs.Map.Calls.{CalledAtPair, TakesPair, CallableOnEachPair, RetainsPairs};
-ghost use Rattle.compact_map.specs.Entries.{get, IsOrdered, Updates, IsClone};
+ghost use Rattle.compact_map.specs.MapEntries.{get, IsOrdered, Updates, IsClone};
 
 use crate::iter::Iter;
 use crate::sorted_vec::SortedVec;

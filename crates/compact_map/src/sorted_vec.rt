@@ -6,7 +6,7 @@ ghost use Rattle.std.specs.Borrow.{sem};
 ghost use Rattle.std.specs.Map.{remove_entry};
 ghost use Rattle.std.specs.BTreeMap.{is_at, insert_entry};
 ghost use Rattle.std.specs.Map.Calls.{CalledAtPair, TakesPair, CallableOnEachPair, RetainsPairs};
-ghost use Rattle.compact_map.specs.Entries.{get, IsOrdered, Updates, IsClone};
+ghost use Rattle.compact_map.specs.MapEntries.{get, IsOrdered, Updates, IsClone};
 ghost use Rattle.std_collections.specs.Layout.BTreeMap.{seek};
 
 use std::alloc::{AllocError, AllocFailed, Global};
@@ -23,7 +23,7 @@ pub(crate) struct SortedVec<K: Ord, V> {
 
 impl<K: Ord, V> Model for SortedVec<K, V> {
     ghost use Rattle.std.specs.Prelude.{List};
-    ghost use Rattle.compact_map.specs.Entries.{IsOrdered};
+    ghost use Rattle.compact_map.specs.MapEntries.{IsOrdered};
 
     ghost Value = { List (K × V) };
 

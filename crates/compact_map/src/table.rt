@@ -2,7 +2,7 @@
 ghost use Rattle.std.specs.Prelude.{◌≡◌};
 ghost use Rattle.std.specs.Borrow.{sem};
 ghost use Rattle.std.specs.Option.{option_copied_mut};
-ghost use Rattle.compact_map.specs.Entries.{get, IsOrdered};
+ghost use Rattle.compact_map.specs.MapEntries.{get, IsOrdered};
 
 use crate::sorted_vec::SortedVec;
 use std::collections::BTreeMap;

@@ -8,14 +8,14 @@ use Rattle.std.specs.Ordering.{flip_args}
 use Rattle.std.specs.Cmp.Lexicographic.{nat_list_cmp_total}
 use Rattle.cds_stamps.specs.declared.stamp.Stamp.{Stamp}
 use Rattle.cds_stamps.specs.Semilattice.{maybe}
-use Rattle.cds_stamps.specs.Keyed.{tied, map_some, get-map_some}
+use Rattle.cds_stamps.specs.Keyed.{ties_are_equal, map_some, get-map_some}
 use Rattle.cds_stamps.specs.Stamps.{stamp_cmp, is_earlier, is_stamp, is_up_to}
 use Rattle.cds_stamps.specs.Octets.{octets_exact, is_octets}
 use Rattle.cds_stamps.specs.Undos.{RaisesAt}
 use Rattle.cds_stamps.proofs.ListMembers.{filter-Contains}
 use Rattle.attr_sets.specs.declared.mark.ValueMark.{ValueMark}
-use Rattle.attr_sets.specs.Marks.{mark_cmp, kept}
-use Rattle.attr_sets.specs.Cells.{AttrMark, Cleared, Marked, attr_stamp, clear_in, mark_in, cell_of, greatest_clear, greatest_mark}
+use Rattle.attr_sets.specs.Marks.{mark_cmp, mark_after_clear}
+use Rattle.attr_sets.specs.AttributeCells.{AttrMark, Cleared, Marked, attr_stamp, clear_in, mark_in, cell_of, greatest_clear, greatest_mark}
 use Rattle.attr_sets.specs.CellLawProofs.{same_cell, get-cell_of}
 use Rattle.attr_sets.specs.CellPurges.{mark_after, clear_left, after_cell, some_cell, cell_after}
 use Rattle.attr_sets.proofs.CellPurgeLaws.{get-after_cell}
@@ -26,8 +26,8 @@ use Rattle.directory.specs.Applied.{TakesIn}
 use Rattle.directory.specs.Entries.{Entries, join_entries, IsValidEntry}
 use Rattle.directory.specs.Histories.{Mark, Birth, Born, stamp_in, death_in, attr_mark_in, birth_of, death_of, attr_history, cell_of_some}
 use Rattle.directory.specs.Histories.{attrs_of, entry_at, entry_of, up_to, IsHistory, IsBefore, CanMerge}
-use Rattle.directory.specs.Purges.{purged, entry_left, after_entry, holds, is_passed, take_entry}
-use Rattle.directory.specs.Shown.{Shown, leads, face_of, shown_entry, shown, shown_in, refusal_of, marks_of}
+use Rattle.directory.specs.Purges.{purged_entries, entry_left, after_entry, holds, is_passed, take_entry}
+use Rattle.directory.specs.Shown.{Shown, leads, face_of, shown_entry, shown_of_name, shown_in, refusal_of, marks_of}
 use Rattle.directory.specs.Updates.{Change, changed_name}
 use Rattle.directory.proofs.FragmentLaws.{same_stamp}
 use Rattle.directory.proofs.HistoryLaws.{get-attrs_of}
@@ -76,7 +76,7 @@ module _ (t : Stamp) (x : List AttrMark) (late : AreLater t x) where
           let m = join_of-among mark_cmp (mark_in v) x y is in
           ap (λ b. if b then None else Some y) (ap (is_up_to t) (sym (stamped m.0 y m.2)) ∙ late m.0 m.1)
 
-  kept_late : (c : Option Stamp) (m : Option ValueMark) → option_and_then (mark_after t) m ≡ m → option_and_then (mark_after t) (kept c m) ≡ kept c m
+  kept_late : (c : Option Stamp) (m : Option ValueMark) → option_and_then (mark_after t) m ≡ m → option_and_then (mark_after t) (mark_after_clear c m) ≡ mark_after_clear c m
   kept_late c None is = refl
   kept_late None (Some m) is = is
   kept_late (Some c) (Some m) is = at (is_earlier m.stamp c)
@@ -106,7 +106,7 @@ holds_shown (Some o) x is = at (is_none o.death && leads o.kind (face_of o).valu
 
 -- ---- the marks of an update
 
-module _ (h : List Mark) (n : List ℕ) (s : Stamp) (ms : List Mark) (known : IsHistory h) (before : IsBefore h s) (u : IsUpdate (shown h n) n s ms)
+module _ (h : List Mark) (n : List ℕ) (s : Stamp) (ms : List Mark) (known : IsHistory h) (before : IsBefore h s) (u : IsUpdate (shown_of_name h n) n s ms)
     (t : Stamp) (above : is_earlier t s ≡ true) where
   abbrev all : List Mark
   all = Birth n u.kind u.birth ∷ u.rest
@@ -156,7 +156,7 @@ module _ (h : List Mark) (n : List ℕ) (s : Stamp) (ms : List Mark) (known : Is
       (Contains-cases (Birth n u.kind u.birth) u.rest m found.0)
     where
       by_source : (m : Mark) → Birth n u.kind u.birth ≡ m → is_up_to t (stamp_in m) ≡ true
-          → (u.birth ≡ s) ⊎ ((x : Shown) × (shown h n ≡ Some x) × (x.birth ≡ u.birth) × (x.kind ≡ u.kind)) → Contains h m
+          → (u.birth ≡ s) ⊎ ((x : Shown) × (shown_of_name h n ≡ Some x) × (x.birth ≡ u.birth) × (x.kind ≡ u.kind)) → Contains h m
       by_source m first early (inl new) =
           absurd (not_both (is_up_to t (stamp_in m)) early (ap (λ m. is_up_to t (stamp_in m)) (sym first) ∙ ap (is_up_to t) new ∙ late))
       by_source m first early (inr old) = subst (Contains h) first (old_birth h n s ms known before u old.0 old.1 old.2 old.3)
@@ -169,11 +169,11 @@ module _ (h : List Mark) (n : List ℕ) (s : Stamp) (ms : List Mark) (known : Is
     both = both_history h n s ms known before u;
   }
 
-  not_passed : (b : Born) → birth_of all n ≡ Some b → is_passed t (get (purged h (Some t)) n) (entry_at all n b) ≡ false
+  not_passed : (b : Born) → birth_of all n ≡ Some b → is_passed t (get (purged_entries h (Some t)) n) (entry_at all n b) ≡ false
   not_passed b born = by_source u.source
     where
       own : Option EntryCell
-      own = get (purged h (Some t)) n
+      own = get (purged_entries h (Some t)) n
 
       same : u.birth ≡ b.at
       same = (one_birth_of h n s ms known before u n b.kind b.at (birth_among all n b born)).2
@@ -182,7 +182,7 @@ module _ (h : List Mark) (n : List ℕ) (s : Stamp) (ms : List Mark) (known : Is
       and_false true = refl
       and_false false = refl
 
-      by_source : (u.birth ≡ s) ⊎ ((x : Shown) × (shown h n ≡ Some x) × (x.birth ≡ u.birth) × (x.kind ≡ u.kind))
+      by_source : (u.birth ≡ s) ⊎ ((x : Shown) × (shown_of_name h n ≡ Some x) × (x.birth ≡ u.birth) × (x.kind ≡ u.kind))
           → (is_up_to t b.at && not (holds own b.at)) ≡ false
       by_source (inl new) = ap (λ x. x && not (holds own b.at)) (ap (is_up_to t) (sym same ∙ new) ∙ late)
       by_source (inr old) =
@@ -190,33 +190,33 @@ module _ (h : List Mark) (n : List ℕ) (s : Stamp) (ms : List Mark) (known : Is
           ap (λ x. is_up_to t b.at && not x) held ∙ and_false (is_up_to t b.at)
 
   -- the entry of the update, joined into a purged table
-  pub applied_late : (old new : Entries) (e : EntryCell) → old ≡ purged h (Some t) → entry_of all n ≡ Some e → RaisesAt join_entries old new n e
-      → new ≡ purged (h ++ all) (Some t)
+  pub applied_late : (old new : Entries) (e : EntryCell) → old ≡ purged_entries h (Some t) → entry_of all n ≡ Some e → RaisesAt join_entries old new n e
+      → new ≡ purged_entries (h ++ all) (Some t)
   applied_late old new e stands made raises = by_birth (birth_of all n) refl
     where
       at_name : (b : Born) → birth_of all n ≡ Some b → entry_at all n b ≡ e → (q : List ℕ) (named : Bool) → is_octets q n ≡ named
-          → maybe join_entries (get (purged h (Some t)) q) (if named then Some e else None) ≡ take_entry t (get (purged h (Some t)) q) (entry_of all q)
+          → maybe join_entries (get (purged_entries h (Some t)) q) (if named then Some e else None) ≡ take_entry t (get (purged_entries h (Some t)) q) (entry_of all q)
       at_name b born is q false apart =
-          ap (take_entry t (get (purged h (Some t)) q))
+          ap (take_entry t (get (purged_entries h (Some t)) q))
           (sym (ap (option_map (entry_at all q)) (birth_of-other all n q (names_of_all h n s ms known before u) apart)))
       at_name b born is q true same =
-          let own : Option EntryCell = get (purged h (Some t)) q in
-          let here : q ≡ n = tied octets_exact q n same in
+          let own : Option EntryCell = get (purged_entries h (Some t)) q in
+          let here : q ≡ n = ties_are_equal octets_exact q n same in
           let stays : is_passed t own e ≡ false =
-          ap (λ k. is_passed t (get (purged h (Some t)) k) e) here ∙ ap (is_passed t (get (purged h (Some t)) n)) (sym is) ∙ not_passed b born in
+          ap (λ k. is_passed t (get (purged_entries h (Some t)) k) e) here ∙ ap (is_passed t (get (purged_entries h (Some t)) n)) (sym is) ∙ not_passed b born in
           let whole : after_entry t e ≡ e = ap (after_entry t) (sym is) ∙ entry_late b ∙ is in
           ap (λ x. maybe join_entries own (Some x)) (sym whole)
           ∙ ap (λ b. maybe join_entries own (if b then None else Some (after_entry t e))) (sym stays)
           ∙ ap (take_entry t own) (sym (ap (entry_of all) here ∙ made))
 
-      by_birth : (x : Option Born) → birth_of all n ≡ x → new ≡ purged (h ++ all) (Some t)
+      by_birth : (x : Option Born) → birth_of all n ≡ x → new ≡ purged_entries (h ++ all) (Some t)
       by_birth None born = absurd (no_entry (sym (ap (option_map (entry_at all n)) born) ∙ made))
         where
           no_entry : None ≡ Some e → ⊥
           no_entry p = cc (p)
       by_birth (Some b) born =
           let is : entry_at all n b ≡ e = same_inside (entry_at all n b) e (sym (ap (option_map (entry_at all n)) born) ∙ made) in
-          same_map nat_list_cmp_total octets_exact new (purged (h ++ all) (Some t)) (λ q.
+          same_map nat_list_cmp_total octets_exact new (purged_entries (h ++ all) (Some t)) (λ q.
           raises q ∙ ap (λ m. maybe join_entries (get m q) (if is_octets q n then Some e else None)) stands
           ∙ at_name b born is q (is_octets q n) refl
           ∙ ap (λ x. take_entry t x (entry_of all q)) (get-purged h (Some t) q)
@@ -224,27 +224,27 @@ module _ (h : List Mark) (n : List ℕ) (s : Stamp) (ms : List Mark) (known : Is
           ∙ entry_taken t h all can q None refl ∙ sym (get-purged (h ++ all) (Some t) q))
 
 -- an accepted update that is applied to the purged table of a history, and is stamped later than what was dropped
-pub applied-purged : (h : List Mark) (u : Change) (s : Stamp) → IsHistory h → IsBefore h s → refusal_of (shown h (changed_name u)) u ≡ None
-    → (a : Option Stamp) → IfSome a (λ t. is_earlier t s ≡ true) → (old new : Entries) → old ≡ purged h a
+pub applied-purged : (h : List Mark) (u : Change) (s : Stamp) → IsHistory h → IsBefore h s → refusal_of (shown_of_name h (changed_name u)) u ≡ None
+    → (a : Option Stamp) → IfSome a (λ t. is_earlier t s ≡ true) → (old new : Entries) → old ≡ purged_entries h a
     → TakesIn old new (changed_name u) (marks_of (shown_in old (changed_name u)) u s)
-    → new ≡ purged (h ++ marks_of (shown h (changed_name u)) u s) a
+    → new ≡ purged_entries (h ++ marks_of (shown_of_name h (changed_name u)) u s) a
 applied-purged h u s known before accepted None above old new stands takes = applied-table_of h u s known before accepted old new stands takes
 applied-purged h u s known before accepted (Some t) above old new stands takes =
-    let seen_there : shown_in old (changed_name u) ≡ shown h (changed_name u) = ap (λ m. shown_in m (changed_name u)) stands
+    let seen_there : shown_in old (changed_name u) ≡ shown_of_name h (changed_name u) = ap (λ m. shown_in m (changed_name u)) stands
     ∙ shown_in-purged h (Some t) (changed_name u) in
-    subst (λ ms. new ≡ purged (h ++ ms) (Some t)) (sym update.marks)
+    subst (λ ms. new ≡ purged_entries (h ++ ms) (Some t)) (sym update.marks)
     (by_entry (entry_of all (changed_name u)) refl
     (subst (TakesIn old new (changed_name u)) (ap (λ x. marks_of x u s) seen_there ∙ update.marks) takes))
   where
-    update : IsUpdate (shown h (changed_name u)) (changed_name u) s (marks_of (shown h (changed_name u)) u s)
-    update = marks_are (shown h (changed_name u)) u s accepted
+    update : IsUpdate (shown_of_name h (changed_name u)) (changed_name u) s (marks_of (shown_of_name h (changed_name u)) u s)
+    update = marks_are (shown_of_name h (changed_name u)) u s accepted
 
     all : List Mark
     all = Birth (changed_name u) update.kind update.birth ∷ update.rest
 
     by_entry : (x : Option EntryCell) → entry_of all (changed_name u) ≡ x
         → IsSomeAnd x (λ e. IfSome (get old (changed_name u)) IsValidEntry → RaisesAt join_entries old new (changed_name u) e)
-        → new ≡ purged (h ++ all) (Some t)
+        → new ≡ purged_entries (h ++ all) (Some t)
     by_entry None is joins = absurd joins
     by_entry (Some e) is joins =
         applied_late h (changed_name u) s _ known before update t above old new e stands is

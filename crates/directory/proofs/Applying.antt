@@ -19,7 +19,7 @@ use Rattle.cds_stamps.specs.Undos.{RaisesAt}
 use Rattle.cds_stamps.proofs.TreeViews.{get-view}
 use Rattle.cds_stamps.proofs.Undoing.{joined_here, joined_new}
 use Rattle.attr_sets.specs.declared.cell.AttrCell.{AttrCell}
-use Rattle.attr_sets.specs.Cells.{AttrMark, cell_of, join_cells}
+use Rattle.attr_sets.specs.AttributeCells.{AttrMark, cell_of, join_cells}
 use Rattle.directory.specs.declared.entry.EntryCell.{EntryCell}
 use Rattle.directory.specs.declared.entry.Fragment.{Fragment}
 use Rattle.directory.specs.Entries.{Entries, join_tied, join_entries, IsValidEntry}

@@ -12,16 +12,16 @@ use Rattle.std.specs.Cmp.Lexicographic.{nat_list_cmp_total}
 use Rattle.std.proofs.lemmas.List.Elements.{filter_map-append}
 use Rattle.cds_stamps.specs.declared.stamp.Stamp.{Stamp}
 use Rattle.cds_stamps.specs.Semilattice.{maybe, greater, join_of-append}
-use Rattle.cds_stamps.specs.Keyed.{tied}
+use Rattle.cds_stamps.specs.Keyed.{ties_are_equal}
 use Rattle.cds_stamps.specs.Stamps.{is_earlier, is_stamp, earlier_stamp}
 use Rattle.cds_stamps.specs.Octets.{octets_cmp, octets_exact, is_octets}
-use Rattle.cell_names.specs.FullNames.{is_full_name, spelling, IsComponentList}
+use Rattle.cell_names.specs.FullNames.{is_full_name, full_name_octets, IsComponentList}
 use Rattle.cell_names.specs.Houses.{IsHouses}
 use Rattle.cell_names.specs.ChildPointers.{Pointer, is_child_pointer, pointer_octets}
 use Rattle.cell_names.proofs.FullNameLaws.{name_fault-spelling}
 use Rattle.cell_names.proofs.PointerLaws.{written_read}
 use Rattle.attr_sets.proofs.ShownLaws.{shown_values-ascending}
-use Rattle.attr_sets.specs.Cells.{AttrMark, Cleared, Marked, attr_stamp, shown_values}
+use Rattle.attr_sets.specs.AttributeCells.{AttrMark, Cleared, Marked, attr_stamp, shown_values}
 use Rattle.attr_sets.specs.ShownValues as attr
 use Rattle.attr_sets.proofs.Greatest.{Contains-head, Contains-tail, Contains-none, Contains-cases}
 use Rattle.attr_sets.proofs.UpdateLaws.{shown_values-added, shown_values-removed, shown_values-put, shown_values-cleared}
@@ -32,7 +32,7 @@ use Rattle.directory.specs.Updates.{Change, Create, MakeLink, MakeChild, Delete,
 use Rattle.directory.specs.Histories.{Mark, Birth, Death, Attr, Born, name_in, birth_in}
 use Rattle.directory.specs.Histories.{birth_cmp, attr_mark_in, birth_of, death_of, attr_history, IsHistory, IsBefore}
 use Rattle.directory.specs.Shown.{Shown, leads, targets, pointers, only_one, lead_of, value_mark, shown_dir}
-use Rattle.directory.specs.Shown.{shown_if_live, shown_born, shown, is_reserved, live_refusal, refusal_of, marks_of, ChangesValues}
+use Rattle.directory.specs.Shown.{shown_if_live, shown_born, shown_of_name, is_reserved, live_refusal, refusal_of, marks_of, ChangesValues}
 use Rattle.directory.proofs.HistoryLaws.{births, death_joined, before, no_birth, no_death, no_attrs}
 use Rattle.directory.proofs.FragmentLaws.{same_octets, one_birth, one_death, changes, birth_of-changes, death_of-changes, attr_history-changes}
 use Rattle.directory.proofs.ShownLaws.{shown_values-nil}
@@ -68,11 +68,11 @@ octets_apart : (q n : List ℕ) → q ≢ n → is_octets q n ≡ false
 octets_apart q n differs = at (is_octets q n) refl
   where
     at : (t : Bool) → is_octets q n ≡ t → t ≡ false
-    at true same = absurd (differs (tied octets_exact q n same))
+    at true same = absurd (differs (ties_are_equal octets_exact q n same))
     at false same = refl
 
 -- marks of one name change no other
-pub shown-other : (h ms : List Mark) (n q : List ℕ) → AllByRecursion (λ m. name_in m ≡ n) ms → q ≢ n → shown (h ++ ms) q ≡ shown h q
+pub shown-other : (h ms : List Mark) (n q : List ℕ) → AllByRecursion (λ m. name_in m ≡ n) ms → q ≢ n → shown_of_name (h ++ ms) q ≡ shown_of_name h q
 shown-other h ms n q named differs = ap (option_and_then (shown_born (h ++ ms) q)) birth ∙ by_birth (birth_of h q)
   where
     apart : is_octets q n ≡ false
@@ -140,7 +140,7 @@ module _ (h : List Mark) (n : List ℕ) (s : Stamp) (known : IsHistory h) (earli
       ∙ attr_history-changes n s a d (is_octets d a) refl xs
 
   -- a new entry shows, where it leads on
-  pub shown-born : leads k new_values ≡ true → shown (h ++ new_marks) n ≡ Some (record { birth = s; kind = k; values = new_values })
+  pub shown-born : leads k new_values ≡ true → shown_of_name (h ++ new_marks) n ≡ Some (record { birth = s; kind = k; values = new_values })
   shown-born leading =
       ap (option_and_then (shown_born (h ++ new_marks) n)) birth_new
       ∙ (λ i. shown_if_live (death_new i) (record { birth = s; kind = k; values = λ d. shown_values (history_new d i) }))
@@ -148,7 +148,7 @@ module _ (h : List Mark) (n : List ℕ) (s : Stamp) (known : IsHistory h) (earli
 
 -- a created object shows, with no values
 pub shown-created : (h : List Mark) (n : List ℕ) (s : Stamp) → IsHistory h → IsBefore h s
-    → shown (h ++ Birth n Object s ∷ []) n ≡ Some (record { birth = s; kind = Object; values = λ _. [] })
+    → shown_of_name (h ++ Birth n Object s ∷ []) n ≡ Some (record { birth = s; kind = Object; values = λ _. [] })
 shown-created h n s known earlier = shown-born h n s known earlier Object [] [] refl
     ∙ (λ i. Some (record { birth = s; kind = Object; values = λ d. nothing (is_octets d []) i }))
   where
@@ -194,7 +194,7 @@ module _ (h : List Mark) (n : List ℕ) (s : Stamp) (known : IsHistory h) (earli
       at false = shown_values-nil
 
   pub shown-led : leads k only_value ≡ true
-      → shown (h ++ Birth n k s ∷ value_mark n s a v true s ∷ []) n ≡ Some (record { birth = s; kind = k; values = only_value })
+      → shown_of_name (h ++ Birth n k s ∷ value_mark n s a v true s ∷ []) n ≡ Some (record { birth = s; kind = k; values = only_value })
   shown-led leading =
       let values : new_values h n s known earlier k a (Marked v (record { present = true; stamp = s }) ∷ []) ≡ only_value = λ i d. first_values d i in
       shown-born h n s known earlier k a (Marked v (record { present = true; stamp = s }) ∷ []) (ap (leads k) values ∙ leading)
@@ -216,8 +216,8 @@ alone_at a v = ap (λ t. if t then v ∷ [] else []) (same_octets a)
 
 -- the one value by which a new link and a new child lead
 one_target : (target : List (List ℕ)) → IsComponentList target
-    → targets (if is_octets link_target link_target then spelling target ∷ [] else []) ≡ spelling target ∷ []
-one_target target lawful = one_reads is_full_name (spelling target) _ (alone_at link_target (spelling target)) (ap is_none (name_fault-spelling target lawful))
+    → targets (if is_octets link_target link_target then full_name_octets target ∷ [] else []) ≡ full_name_octets target ∷ []
+one_target target lawful = one_reads is_full_name (full_name_octets target) _ (alone_at link_target (full_name_octets target)) (ap is_none (name_fault-spelling target lawful))
 
 one_pointer : (p : Pointer) → IsHouses (record { master = p.master; others = p.others })
     → pointers (if is_octets replicas replicas then pointer_octets p ∷ [] else []) ≡ pointer_octets p ∷ []
@@ -229,23 +229,23 @@ counts_one vs v is = ap (λ (ws : List (List ℕ)). length ws == 1) is
 module _ (h : List Mark) (n : List ℕ) (target : List
     (List ℕ)) (s : Stamp) (known : IsHistory h) (earlier : IsBefore h s) (lawful : IsComponentList target) where
   -- a new link shows
-  pub shown-linked : shown (h ++ marks_of (shown h n) (MakeLink n target) s) n
-      ≡ Some (record { birth = s; kind = Link; values = λ a. if is_octets a link_target then spelling target ∷ [] else [] })
-  shown-linked = shown-led h n s known earlier Link link_target (spelling target) (counts_one _ (spelling target) (one_target target lawful))
+  pub shown-linked : shown_of_name (h ++ marks_of (shown_of_name h n) (MakeLink n target) s) n
+      ≡ Some (record { birth = s; kind = Link; values = λ a. if is_octets a link_target then full_name_octets target ∷ [] else [] })
+  shown-linked = shown-led h n s known earlier Link link_target (full_name_octets target) (counts_one _ (full_name_octets target) (one_target target lawful))
 
   -- and leads to its target
-  pub lead-linked : IsSomeAnd (shown (h ++ marks_of (shown h n) (MakeLink n target) s) n) (λ e. lead_of e ≡ Some (spelling target))
-  lead-linked = subst (λ x. IsSomeAnd x (λ e. lead_of e ≡ Some (spelling target))) (sym shown-linked) (ap only_one (one_target target lawful))
+  pub lead-linked : IsSomeAnd (shown_of_name (h ++ marks_of (shown_of_name h n) (MakeLink n target) s) n) (λ e. lead_of e ≡ Some (full_name_octets target))
+  lead-linked = subst (λ x. IsSomeAnd x (λ e. lead_of e ≡ Some (full_name_octets target))) (sym shown-linked) (ap only_one (one_target target lawful))
 
 module _ (h : List Mark) (n : List ℕ) (p : Pointer) (s : Stamp) (known : IsHistory h) (earlier : IsBefore h s) (lawful : IsHouses
     (record { master = p.master; others = p.others })) where
   -- a new child shows
-  pub shown-child : shown (h ++ marks_of (shown h n) (MakeChild n p) s) n
+  pub shown-child : shown_of_name (h ++ marks_of (shown_of_name h n) (MakeChild n p) s) n
       ≡ Some (record { birth = s; kind = Child; values = λ a. if is_octets a replicas then pointer_octets p ∷ [] else [] })
   shown-child = shown-led h n s known earlier Child replicas (pointer_octets p) (counts_one _ (pointer_octets p) (one_pointer p lawful))
 
   -- and leads by its pointer
-  pub lead-child : IsSomeAnd (shown (h ++ marks_of (shown h n) (MakeChild n p) s) n) (λ e. lead_of e ≡ Some (pointer_octets p))
+  pub lead-child : IsSomeAnd (shown_of_name (h ++ marks_of (shown_of_name h n) (MakeChild n p) s) n) (λ e. lead_of e ≡ Some (pointer_octets p))
   lead-child = subst (λ x. IsSomeAnd x (λ e. lead_of e ≡ Some (pointer_octets p))) (sym shown-child) (ap only_one (one_pointer p lawful))
 
 -- ---- a change of one attribute of an entry that shows
@@ -298,13 +298,13 @@ module _ (h : List Mark) (n : List ℕ) (e : Shown) (s : IsSeen h n e) (a : List
       ∙ ap shown_values (append-nil (attr_history h n e.birth d)) ∙ sym (s.values d)
 
   -- it still shows, where it still leads on
-  pub shown-if_led : leads e.kind values_after ≡ true → shown (h ++ marks) n ≡ Some (record { birth = e.birth; kind = e.kind; values = values_after })
+  pub shown-if_led : leads e.kind values_after ≡ true → shown_of_name (h ++ marks) n ≡ Some (record { birth = e.birth; kind = e.kind; values = values_after })
   shown-if_led leading =
       ap (option_and_then (shown_born (h ++ marks) n)) birth_stays
       ∙ (λ i. shown_if_live (death_stays i) (record { birth = e.birth; kind = e.kind; values = λ d. shown_values (history_after d i) }))
       ∙ ap (λ t. if t then Some (record { birth = e.birth; kind = e.kind; values = values_after }) else None) leading
 
-  pub shown-changed : is_reserved a ≡ false → shown (h ++ marks) n ≡ Some (record { birth = e.birth; kind = e.kind; values = values_after })
+  pub shown-changed : is_reserved a ≡ false → shown_of_name (h ++ marks) n ≡ Some (record { birth = e.birth; kind = e.kind; values = values_after })
   shown-changed free =
       shown-if_led (leads-same e.kind values_after e.values (values_stay link_target
       (not_reserved a free).0) (values_stay replicas (not_reserved a free).1) ∙ s.leading)
@@ -383,7 +383,7 @@ module _ (h : List Mark) (n : List ℕ) (e : Shown) (s : IsSeen h n e) (a v : Li
       ∙ one_value (known_marks ++ Cleared t ∷ mark true ∷ []) v (λ w. shown_values-put known_marks v t (attrs_before h n e.birth a t earlier) w)
 
 -- a deleted entry no longer shows
-pub shown-deleted : (h : List Mark) (n : List ℕ) (e : Shown) (t : Stamp) → IsSeen h n e → shown (h ++ Birth n e.kind e.birth ∷ Death n e.birth t ∷ []) n ≡ None
+pub shown-deleted : (h : List Mark) (n : List ℕ) (e : Shown) (t : Stamp) → IsSeen h n e → shown_of_name (h ++ Birth n e.kind e.birth ∷ Death n e.birth t ∷ []) n ≡ None
 shown-deleted h n e t s =
     let ms : List Mark = Birth n e.kind e.birth ∷ Death n e.birth t ∷ [] in
     let b : Born = record { at = e.birth; kind = e.kind } in
@@ -405,41 +405,41 @@ accepted_free a = at (is_reserved a)
     at true e = cc (e)
     at false e = refl
 
-module _ (h : List Mark) (n : List ℕ) (e : Shown) (is : shown h n ≡ Some e) (t : Stamp) where
+module _ (h : List Mark) (n : List ℕ) (e : Shown) (is : shown_of_name h n ≡ Some e) (t : Stamp) where
   -- what shows after the marks of an update, if they are what it makes of e
-  after : (u : Change) (P : Shown → Type 0) (f : Shown) → shown (h ++ marks_of (Some e) u t) n ≡ Some f → P f
-      → IsSomeAnd (shown (h ++ marks_of (shown h n) u t) n) P
-  after u P f now holds = subst (λ x. IsSomeAnd (shown (h ++ marks_of x u t) n) P) (sym is) (subst (λ x. IsSomeAnd x P) (sym now) holds)
+  after : (u : Change) (P : Shown → Type 0) (f : Shown) → shown_of_name (h ++ marks_of (Some e) u t) n ≡ Some f → P f
+      → IsSomeAnd (shown_of_name (h ++ marks_of (shown_of_name h n) u t) n) P
+  after u P f now holds = subst (λ x. IsSomeAnd (shown_of_name (h ++ marks_of x u t) n) P) (sym is) (subst (λ x. IsSomeAnd x P) (sym now) holds)
 
   module _ (a v : List ℕ) (earlier : IsBefore h t) (accepted : live_refusal (is_reserved a) ≡ None) where
     abbrev mark_is : Bool → AttrMark
     mark_is present = Marked v (record { present = present; stamp = t })
 
     -- an addition shows
-    pub shown-add : IsSomeAnd (shown (h ++ marks_of (shown h n) (Add n a v) t) n) (ChangesValues e a (λ w. (w ≡ v) ⊎ Contains (e.values a) w))
+    pub shown-add : IsSomeAnd (shown_of_name (h ++ marks_of (shown_of_name h n) (Add n a v) t) n) (ChangesValues e a (λ w. (w ≡ v) ⊎ Contains (e.values a) w))
     shown-add =
         after (Add n a v) _ _ (shown-changed h n e (seen h n e is) a (mark_is true ∷ []) (accepted_free a accepted)) (added h n e (seen h n e is) a v t earlier)
 
     -- a removal shows
-    pub shown-remove : IsSomeAnd (shown (h ++ marks_of (shown h n) (Remove n a v) t) n) (ChangesValues e a (λ w. (w ≢ v) × Contains (e.values a) w))
+    pub shown-remove : IsSomeAnd (shown_of_name (h ++ marks_of (shown_of_name h n) (Remove n a v) t) n) (ChangesValues e a (λ w. (w ≢ v) × Contains (e.values a) w))
     shown-remove =
         after (Remove n a v) _ _ (shown-changed h n e
         (seen h n e is) a (mark_is false ∷ []) (accepted_free a accepted)) (removed h n e (seen h n e is) a v t earlier)
 
     -- a put shows
-    pub shown-put : IsSomeAnd (shown (h ++ marks_of (shown h n) (Put n a v) t) n) (ChangesValues e a (λ w. w ≡ v))
+    pub shown-put : IsSomeAnd (shown_of_name (h ++ marks_of (shown_of_name h n) (Put n a v) t) n) (ChangesValues e a (λ w. w ≡ v))
     shown-put =
         after (Put n a v) _ _ (shown-changed h n e
         (seen h n e is) a (Cleared t ∷ mark_is true ∷ []) (accepted_free a accepted)) (replaced h n e (seen h n e is) a v t earlier)
 
     -- a clear shows
-    pub shown-clear : IsSomeAnd (shown (h ++ marks_of (shown h n) (Clear n a) t) n) (ChangesValues e a (λ _. ⊥))
+    pub shown-clear : IsSomeAnd (shown_of_name (h ++ marks_of (shown_of_name h n) (Clear n a) t) n) (ChangesValues e a (λ _. ⊥))
     shown-clear =
         after (Clear n a) _ _ (shown-changed h n e (seen h n e is) a (Cleared t ∷ []) (accepted_free a accepted)) (cleared h n e (seen h n e is) a v t earlier)
 
   -- a deleted entry does not show
-  pub shown-delete : shown (h ++ marks_of (shown h n) (Delete n) t) n ≡ None
-  shown-delete = ap (λ x. shown (h ++ marks_of x (Delete n) t) n) is ∙ shown-deleted h n e t (seen h n e is)
+  pub shown-delete : shown_of_name (h ++ marks_of (shown_of_name h n) (Delete n) t) n ≡ None
+  shown-delete = ap (λ x. shown_of_name (h ++ marks_of x (Delete n) t) n) is ∙ shown-deleted h n e t (seen h n e is)
 
 -- only a child is repointed
 repointed_kind : (k : Kind) → live_refusal (not (is_child k)) ≡ None → k ≡ Child
@@ -452,7 +452,7 @@ lead-by_kind e is = ap (λ k. lead_of (record { birth = e.birth; kind = k; value
 
 module _
     (h : List Mark)
-    (n : List ℕ) (e : Shown) (is : shown h n ≡ Some e) (s : Stamp) (master : ℕ) (others : List ℕ) (earlier : IsBefore h s) (accepted : live_refusal
+    (n : List ℕ) (e : Shown) (is : shown_of_name h n ≡ Some e) (s : Stamp) (master : ℕ) (others : List ℕ) (earlier : IsBefore h s) (accepted : live_refusal
     (not (is_child e.kind)) ≡ None)
     (lawful : IsHouses (record { master = master; others = others })) where
   abbrev new_pointer : List ℕ
@@ -469,33 +469,33 @@ module _
       one_reads is_child_pointer new_pointer (repointed_values replicas) (replaced_value h n e is_seen replicas new_pointer s earlier)
       (pointer_reads (record { dir = shown_dir e; master = master; others = others }) lawful)
 
-  repointed : shown (h ++ marks_of (Some e) (Repoint n master others) s) n ≡ Some (record { birth = e.birth; kind = e.kind; values = repointed_values })
+  repointed : shown_of_name (h ++ marks_of (Some e) (Repoint n master others) s) n ≡ Some (record { birth = e.birth; kind = e.kind; values = repointed_values })
   repointed =
       shown-if_led h n e is_seen replicas (Cleared s ∷ Marked new_pointer (record { present = true; stamp = s }) ∷ [])
       (ap (λ k. leads k repointed_values) (repointed_kind e.kind accepted) ∙ counts_one _ new_pointer repointed_alone)
 
   -- a repointed child shows
-  pub shown-repoint : IsSomeAnd (shown (h ++ marks_of (shown h n) (Repoint n master others) s) n) (ChangesValues e replicas (λ w. w ≡ new_pointer))
+  pub shown-repoint : IsSomeAnd (shown_of_name (h ++ marks_of (shown_of_name h n) (Repoint n master others) s) n) (ChangesValues e replicas (λ w. w ≡ new_pointer))
   shown-repoint = after h n e is s (Repoint n master others) _ _ repointed (replaced h n e is_seen replicas new_pointer s earlier)
 
   -- and leads by its new pointer
-  pub lead-repoint : IsSomeAnd (shown (h ++ marks_of (shown h n) (Repoint n master others) s) n) (λ f. lead_of f ≡ Some new_pointer)
+  pub lead-repoint : IsSomeAnd (shown_of_name (h ++ marks_of (shown_of_name h n) (Repoint n master others) s) n) (λ f. lead_of f ≡ Some new_pointer)
   lead-repoint =
       after h n e is s (Repoint n master others) (λ f. lead_of f ≡ Some new_pointer) _ repointed
       (lead-by_kind (record { birth = e.birth; kind = e.kind; values = repointed_values }) (repointed_kind e.kind accepted) ∙ ap only_one repointed_alone)
 
 -- what shows leads somewhere
-pub shown-leads : (h : List Mark) (n : List ℕ) (e : Shown) → shown h n ≡ Some e → e.kind ≢ Object → IsSome (lead_of e)
+pub shown-leads : (h : List Mark) (n : List ℕ) (e : Shown) → shown_of_name h n ≡ Some e → e.kind ≢ Object → IsSome (lead_of e)
 shown-leads h n e is = leads_somewhere e (seen h n e is).leading
 
 -- a created object shows
 pub shown-create : (h : List Mark) (n : List ℕ) (s : Stamp) → IsHistory h → IsBefore h s
-    → shown (h ++ marks_of (shown h n) (Create n) s) n ≡ Some (record { birth = s; kind = Object; values = λ _. [] })
+    → shown_of_name (h ++ marks_of (shown_of_name h n) (Create n) s) n ≡ Some (record { birth = s; kind = Object; values = λ _. [] })
 shown-create = shown-created
 
 -- other names show what they did
-pub shown-others : (h : List Mark) (u : Change) (s : Stamp) → IsHistory h → IsBefore h s → refusal_of (shown h (changed_name u)) u ≡ None
+pub shown-others : (h : List Mark) (u : Change) (s : Stamp) → IsHistory h → IsBefore h s → refusal_of (shown_of_name h (changed_name u)) u ≡ None
     → (q : List ℕ) → q ≢ changed_name u
-    → shown (h ++ marks_of (shown h (changed_name u)) u s) q ≡ shown h q
+    → shown_of_name (h ++ marks_of (shown_of_name h (changed_name u)) u s) q ≡ shown_of_name h q
 shown-others h u s known earlier accepted q differs =
-    shown-other h (marks_of (shown h (changed_name u)) u s) (changed_name u) q (marks_of-names h u s known earlier accepted) differs
+    shown-other h (marks_of (shown_of_name h (changed_name u)) u s) (changed_name u) q (marks_of-names h u s known earlier accepted) differs

@@ -16,7 +16,7 @@ use Rattle.std.proofs.lemmas.List.Sums.{sum_by-cons, sum_by-le-sum_by}
 use Rattle.std.proofs.lemmas.Map.Keys.{IsDistinct-from_sorted}
 use Rattle.std.proofs.lemmas.Map.Steps.{length-le_from_keys}
 use Rattle.cds_stamps.specs.declared.stamp.Stamp.{Stamp}
-use Rattle.cds_stamps.specs.Keyed.{tied}
+use Rattle.cds_stamps.specs.Keyed.{ties_are_equal}
 use Rattle.cds_stamps.specs.Stamps.{stamp_exact}
 use Rattle.cds_stamps.proofs.ListMembers.{Contains-none, Contains-cases}
 use Rattle.attr_sets.specs.declared.mark.ValueMark.{ValueMark}
@@ -120,7 +120,7 @@ stamp_listed : (n : List ℕ) (w : What) (x : Option Stamp) (s : Stamp) → is_a
     → list_any (is_deletion (deleted n w s)) (listed (deleted n w) x) ≡ true
 stamp_listed n w None s h = cc (h)
 stamp_listed n w (Some x) s h =
-    or_left _ _ (ap (λ x. is_deletion (deleted n w s) (deleted n w x)) (tied stamp_exact x s h) ∙ itself (deleted n w s))
+    or_left _ _ (ap (λ x. is_deletion (deleted n w s) (deleted n w x)) (ties_are_equal stamp_exact x s h) ∙ itself (deleted n w s))
 
 mark_listed : (n a v : List ℕ) (m : ValueMark) (s : Stamp) → is_absent (Some m) s ≡ true
     → list_any (is_deletion (deleted n (Absent a v) s)) (of_mark n a (v, m)) ≡ true

@@ -9,17 +9,17 @@ use Rattle.std.specs.Ordering.{is_lt, flip_args}
 use Rattle.std.specs.Cmp.Lexicographic.{nat_list_cmp_total}
 use Rattle.cds_stamps.specs.declared.stamp.Stamp.{Stamp}
 use Rattle.cds_stamps.specs.Semilattice.{maybe, maybe_join, greater}
-use Rattle.cds_stamps.specs.Keyed.{tied, map_some, get-map_some}
+use Rattle.cds_stamps.specs.Keyed.{ties_are_equal, map_some, get-map_some}
 use Rattle.cds_stamps.specs.Stamps.{stamp_cmp, stamp_exact, is_stamp, is_earlier, is_up_to}
 use Rattle.cds_stamps.specs.Octets.{octets_cmp, octets_exact, is_octets}
 use Rattle.cds_stamps.specs.Joins.{EachValue, get-join_maps}
 use Rattle.cds_stamps.specs.Undos.{RaisesAt}
-use Rattle.cell_names.specs.FullNames.{spelling}
+use Rattle.cell_names.specs.FullNames.{full_name_octets}
 use Rattle.cell_names.specs.ChildPointers.{pointer_octets}
 use Rattle.attr_sets.specs.declared.mark.ValueMark.{ValueMark}
 use Rattle.attr_sets.specs.declared.cell.AttrCell.{AttrCell}
-use Rattle.attr_sets.specs.Marks.{mark_cmp, later, kept, present_at, absent_at}
-use Rattle.attr_sets.specs.Cells.{AttrMark, Cleared, Marked, cell_of, join_cells}
+use Rattle.attr_sets.specs.Marks.{mark_cmp, later, mark_after_clear, present_at, absent_at}
+use Rattle.attr_sets.specs.AttributeCells.{AttrMark, Cleared, Marked, cell_of, join_cells}
 use Rattle.attr_sets.specs.CellPurges.{is_empty_cell, some_cell, mark_left, cell_left, purged_cell}
 use Rattle.attr_sets.specs.CellLawProofs.{get-join_cells, get-cell_of, same_cell}
 use Rattle.attr_sets.proofs.MarkPurgeLaws.{left, clear_after}
@@ -64,7 +64,7 @@ abbrev mark_of : List ℕ → Option AttrCell → Option ValueMark
 mark_of v = option_and_then (λ c. get c.values v)
 
 -- a mark that is kept is absent where it was
-absent_kept : (c : Option Stamp) (m : Option ValueMark) (s : Stamp) → is_absent (kept c m) s ≡ true → is_absent m s ≡ true
+absent_kept : (c : Option Stamp) (m : Option ValueMark) (s : Stamp) → is_absent (mark_after_clear c m) s ≡ true → is_absent m s ≡ true
 absent_kept c None s h = h
 absent_kept None (Some m) s h = h
 absent_kept (Some c) (Some m) s h = at (is_earlier m.stamp c) h
@@ -128,7 +128,7 @@ raised_deletion m n k e raised d h =
     (ap (λ e. is_lost e d.stamp d.what) (sym (raised d.name)) ∙ h))
   where
     at : (b : Bool) → is_octets d.name k ≡ b → is_lost (if b then Some e else None) d.stamp d.what ≡ true → (d.name ≡ k) × (has_lost e d.stamp d.what ≡ true)
-    at true same h = (tied octets_exact d.name k same, h)
+    at true same h = (ties_are_equal octets_exact d.name k same, h)
     at false same h = cc (h)
 
 -- where the other names have what they had, they have the deletions that they had
@@ -160,7 +160,7 @@ in_one p a x q none h = at (is_octets q a) refl
     (ap p (ap (cond (is_octets q a) (Some x)) (sym (get-empty octets_cmp q)) ∙ sym (get-insert nat_list_cmp_total empty a x q)) ∙ h)
   where
     at : (b : Bool) → is_octets q a ≡ b → p (cond b (Some x) None) ≡ true → (q ≡ a) × (p (Some x) ≡ true)
-    at true same h = (tied octets_exact q a same, h)
+    at true same h = (ties_are_equal octets_exact q a same, h)
     at false same h = cc (none, h)
 
 one_lost : (birth : Stamp) (kind : Kind) (a : List ℕ) (c : AttrCell) (s : Stamp) (w : What)
@@ -176,7 +176,7 @@ none_lost birth kind s (Clear b) h = cc (h, ap (λ c. is_at (clear_of c) s) (get
 none_lost birth kind s (Absent b v) h = cc (h, ap (λ c. is_absent (mark_of v c) s) (get-empty octets_cmp b))
 
 -- a present value is not absent
-not_absent : (c : Option Stamp) (b : Bool) (s r : Stamp) → is_absent (kept c (maybe later (if b then Some (present_at s) else None) None)) r ≡ false
+not_absent : (c : Option Stamp) (b : Bool) (s r : Stamp) → is_absent (mark_after_clear c (maybe later (if b then Some (present_at s) else None) None)) r ≡ false
 not_absent c false s r = refl
 not_absent None true s r = refl
 not_absent (Some c) true s r = at (is_earlier s c)
@@ -199,12 +199,12 @@ value_lost a v s r (Absent b x) h =
 -- that of a clear, and of one with a present value
 clear_lost : (a : List ℕ) (s r : Stamp) (w : What) → CellLost a (cell_of (Cleared s ∷ [])) r w → (w ≡ Clear a) × (s ≡ r)
 clear_lost a s r Death h = absurd h
-clear_lost a s r (Clear b) h = (ap Clear h.0, tied stamp_exact s r h.1)
+clear_lost a s r (Clear b) h = (ap Clear h.0, ties_are_equal stamp_exact s r h.1)
 clear_lost a s r (Absent b x) h = cc (h.1, ap (λ m. is_absent m r) (get-cell_of (Cleared s ∷ []) x))
 
 put_lost : (a v : List ℕ) (s r : Stamp) (w : What) → CellLost a (cell_of (Cleared s ∷ Marked v (present_at s) ∷ [])) r w → (w ≡ Clear a) × (s ≡ r)
 put_lost a v s r Death h = absurd h
-put_lost a v s r (Clear b) h = (ap Clear h.0, tied stamp_exact s r h.1)
+put_lost a v s r (Clear b) h = (ap Clear h.0, ties_are_equal stamp_exact s r h.1)
 put_lost a v s r (Absent b x) h =
     cc (h.1, ap (λ m. is_absent m r) (get-cell_of (Cleared s ∷ Marked v (present_at s) ∷ []) x), not_absent (Some s) (is_octets x v) s r)
 
@@ -214,15 +214,15 @@ removed_lost a v s r Death h = absurd h
 removed_lost a v s r (Clear b) h = cc (h.1)
 removed_lost a v s r (Absent b x) h = at (is_octets x v) refl (ap (λ m. is_absent m r) (sym (get-cell_of (Marked v (absent_at s) ∷ []) x)) ∙ h.1)
   where
-    at : (t : Bool) → is_octets x v ≡ t → is_absent (kept None (maybe later (if t then Some (absent_at s) else None) None)) r ≡ true
+    at : (t : Bool) → is_octets x v ≡ t → is_absent (mark_after_clear None (maybe later (if t then Some (absent_at s) else None) None)) r ≡ true
         → (Absent b x ≡ Absent a v) × (s ≡ r)
-    at true same p = ((λ i. Absent (h.0 i) (tied octets_exact x v same i)), tied stamp_exact s r p)
+    at true same p = ((λ i. Absent (h.0 i) (ties_are_equal octets_exact x v same i)), ties_are_equal stamp_exact s r p)
     at false same p = cc (p)
 
 -- that of a death
 died_lost : (n : List ℕ) (k : Kind) (c s r : Stamp) (w : What) → has_lost (record { birth = c; kind = k; death = Some s; attrs = empty }) r w ≡ true
     → deleted_by (Delete n) s ≡ Some (record { stamp = r; name = n; what = w })
-died_lost n k c s r Death h = ap (λ s. Some (record { stamp = s; name = n; what = Death })) (tied stamp_exact s r h)
+died_lost n k c s r Death h = ap (λ s. Some (record { stamp = s; name = n; what = Death })) (ties_are_equal stamp_exact s r h)
 died_lost n k c s r (Clear b) h = absurd (none_lost c k r (Clear b) h)
 died_lost n k c s r (Absent b v) h = absurd (none_lost c k r (Absent b v) h)
 
@@ -244,8 +244,8 @@ pub update_lost : (e : Option Shown) (u : Change) (s : Stamp) → IfSome (entry_
 update_lost e (Create n) s =
     subst (λ e. IfSome e (Deletes (Create n) s)) (sym (entry_of-born n Object s)) (λ r w h. absurd (none_lost s Object r w h))
 update_lost e (MakeLink n target) s =
-    changed_some (Deletes (MakeLink n target) s) n Link s link_target (Marked (spelling target) (present_at s)) [] (λ r w h.
-    absurd (value_lost link_target (spelling target) s r w (one_lost s Link link_target _ r w h)))
+    changed_some (Deletes (MakeLink n target) s) n Link s link_target (Marked (full_name_octets target) (present_at s)) [] (λ r w h.
+    absurd (value_lost link_target (full_name_octets target) s r w (one_lost s Link link_target _ r w h)))
 update_lost e (MakeChild n pointer) s =
     changed_some (Deletes (MakeChild n pointer) s) n Child s replicas (Marked (pointer_octets pointer) (present_at s)) [] (λ r w h.
     absurd (value_lost replicas (pointer_octets pointer) s r w (one_lost s Child replicas _ r w h)))
@@ -287,7 +287,7 @@ set_by : {X : Type 0} (m : FinMap octets_cmp X) (k : List ℕ) (x : Option X) (P
 set_by m k x P here there q = subst (P q) (sym (get-set_at m k x q)) (at (is_octets q k) refl)
   where
     at : (b : Bool) → is_octets q k ≡ b → P q (cond b x (get m q))
-    at true same = subst (λ q. P q x) (sym (tied octets_exact q k same)) here
+    at true same = subst (λ q. P q x) (sym (ties_are_equal octets_exact q k same)) here
     at false apart = there q
 
 -- what a changed map has at the key itself
@@ -390,7 +390,7 @@ pub without_has : (m : Entries) (d e : Deletion) → has_deletion (without m d) 
 without_has m d e h = (without_fewer m d e h, at (is_deletion e d) refl)
   where
     at : (b : Bool) → is_deletion e d ≡ b → is_deletion e d ≡ false
-    at true same = cc (h, without_gone m d, tied deletion_exact e d same)
+    at true same = cc (h, without_gone m d, ties_are_equal deletion_exact e d same)
     at false apart = apart
 
 -- ---- what is purged
@@ -410,11 +410,11 @@ map_some-set f m k x alike =
 -- what is stamped at most t is purged
 early_clear : (t s : Stamp) (c : Option Stamp) → is_at c s ≡ true → is_up_to t s ≡ true → clear_after t c ≡ None
 early_clear t s None had early = refl
-early_clear t s (Some x) had early = ap (λ b. if b then None else Some x) (ap (is_up_to t) (tied stamp_exact x s had) ∙ early)
+early_clear t s (Some x) had early = ap (λ b. if b then None else Some x) (ap (is_up_to t) (ties_are_equal stamp_exact x s had) ∙ early)
 
 early_death : (t s : Stamp) (x : Option Stamp) → is_at x s ≡ true → is_up_to t s ≡ true → is_dead_up_to t x ≡ true
 early_death t s None had early = cc (had)
-early_death t s (Some x) had early = ap (is_up_to t) (tied stamp_exact x s had) ∙ early
+early_death t s (Some x) had early = ap (is_up_to t) (ties_are_equal stamp_exact x s had) ∙ early
 
 early_mark : (t s : Stamp) (m : Option ValueMark) → is_absent m s ≡ true → is_up_to t s ≡ true → left t m ≡ None
 early_mark t s None had early = refl
@@ -424,7 +424,7 @@ early_mark t s (Some m) had early = at m.present refl had
     at true is had = cc (had)
     at false is had =
         ap (λ b. if b || not (is_up_to t m.stamp) then Some m else None) is
-        ∙ ap (λ b. if not b then Some m else None) (ap (is_up_to t) (tied stamp_exact m.stamp s had) ∙ early)
+        ∙ ap (λ b. if not b then Some m else None) (ap (is_up_to t) (ties_are_equal stamp_exact m.stamp s had) ∙ early)
 
 -- a cell is purged alike without an early deletion
 cell_clear-left : (t s : Stamp) (a : List ℕ) (c : Option AttrCell) → is_at (clear_of c) s ≡ true → is_up_to t s ≡ true
@@ -525,12 +525,12 @@ cell_without-held w None held = tt
 cell_without-held Death (Some c) held = held
 cell_without-held (Clear a) (Some c) held = some_cell-held (record c { cleared = None }) (λ v. at (get c.values v))
   where
-    at : (m : Option ValueMark) → kept None m ≡ m
+    at : (m : Option ValueMark) → mark_after_clear None m ≡ m
     at None = refl
     at (Some m) = refl
 cell_without-held (Absent a v) (Some c) held =
     some_cell-held (record c { values = remove c.values v })
-    (set_by c.values v None (λ q m. kept c.cleared m ≡ m) refl held.0)
+    (set_by c.values v None (λ q m. mark_after_clear c.cleared m ≡ m) refl held.0)
 
 entry_without-valid : (w : What) (e : Option EntryCell) → IfSome e IsValidEntry → IfSome (option_and_then (entry_without w) e) IsValidEntry
 entry_without-valid w None valid = tt

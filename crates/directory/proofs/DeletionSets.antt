@@ -14,7 +14,7 @@ use Rattle.std.specs.FinMap.{FinMap, IsAntisymmetric, get, entries, get-entries,
 use Rattle.cds_stamps.specs.declared.stamp.Stamp.{Stamp}
 use Rattle.cds_stamps.specs.Stamps.{stamp_cmp, stamp_total, stamp_exact, is_up_to}
 use Rattle.cds_stamps.specs.Octets.{octets_cmp}
-use Rattle.cds_stamps.specs.Keyed.{tied}
+use Rattle.cds_stamps.specs.Keyed.{ties_are_equal}
 use Rattle.attr_sets.specs.declared.mark.ValueMark.{ValueMark}
 use Rattle.attr_sets.specs.declared.cell.AttrCell.{AttrCell}
 use Rattle.directory.specs.declared.deletions.What.{What}
@@ -27,7 +27,7 @@ use Rattle.directory.proofs.DeletionOrder.{derived, derived_cmp, deletion_total,
 
 -- deletions that are one are equal
 pub one_deletion : (d e : Deletion) → is_deletion d e ≡ true → d ≡ e
-one_deletion = tied deletion_exact
+one_deletion = ties_are_equal deletion_exact
 
 -- what a set has where d was put in or taken out
 pub updated : (s n : BTreeSet Deletion) (d : Deletion) (b : Bool) → Updates derived s n d b → (e : Deletion)
@@ -145,7 +145,7 @@ adds_still o x y same = (λ d has. same d ∙ has, λ d apart. same d)
 pub known_at : (x : Deletions) (n : List ℕ) (v w : What) (o : Option Stamp) (t : Stamp) → o ≡ Some t → v ≡ w
     → is_indexed x (record { stamp = t; name = n; what = v }) ≡ true → KnowsAt x n w o
 known_at x n v w o t some same known s at =
-    let is = tied stamp_exact t s (ap (λ o. stamped o s) (sym some) ∙ at) in
+    let is = ties_are_equal stamp_exact t s (ap (λ o. stamped o s) (sym some) ∙ at) in
     subst (λ d. is_indexed x d ≡ true) (λ i. record { stamp = is i; name = n; what = same i }) known
 
 -- and where there is none
@@ -252,5 +252,5 @@ module _ {K X : Type 0} {R : K → K → Ordering} where
 
       at : (q : K) (b : Bool) → eq_by_cmp R q k ≡ b → find R q ((k, x) ∷ rest) ≡ get m q → (find R q rest ≡ get m q) ⊎ IfSome (get m q) (Q q)
       at q true is found =
-          inr (subst (λ o. IfSome o (Q q)) (ap (λ b. cond b (Some x) (find R q rest)) (sym is) ∙ found) (subst (λ j. Q j x) (sym (tied same q k is)) met))
+          inr (subst (λ o. IfSome o (Q q)) (ap (λ b. cond b (Some x) (find R q rest)) (sym is) ∙ found) (subst (λ j. Q j x) (sym (ties_are_equal same q k is)) met))
       at q false is found = inl (ap (λ b. cond b (Some x) (find R q rest)) (sym is) ∙ found)

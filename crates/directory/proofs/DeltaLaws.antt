@@ -11,11 +11,11 @@ use Rattle.std.specs.Cmp.Lexicographic.{nat_list_cmp_total}
 use Rattle.cds_stamps.specs.declared.stamp.Stamp.{Stamp}
 use Rattle.cds_stamps.specs.Semilattice.{maybe, greater}
 use Rattle.cds_stamps.specs.Joins.{EachValue, join_maps, get-join_maps}
-use Rattle.cds_stamps.specs.Keyed.{tied, map_some, get-map_some, get-merge}
+use Rattle.cds_stamps.specs.Keyed.{ties_are_equal, map_some, get-map_some, get-merge}
 use Rattle.cds_stamps.specs.Octets.{octets_cmp, octets_exact}
 use Rattle.cds_stamps.specs.Stamps.{stamp_cmp, stamp_total, stamp_exact, is_earlier, is_stamp, is_up_to, later_stamp, earlier_stamp}
 use Rattle.attr_sets.specs.declared.cell.AttrCell.{AttrCell}
-use Rattle.attr_sets.specs.Cells.{join_cells}
+use Rattle.attr_sets.specs.AttributeCells.{join_cells}
 use Rattle.attr_sets.specs.CellPurges.{clear_left, cell_after, is_above, IsAboveCell}
 use Rattle.attr_sets.proofs.MarkPurgeLaws.{clear_after-twice}
 use Rattle.attr_sets.proofs.SomeCellLaws.{cell_after-twice, not_later, each_left, if_any, clear_after-above, cell_after-above, any_cell-above}
@@ -25,7 +25,7 @@ use Rattle.directory.specs.EntryLawProofs.{kinds}
 use Rattle.directory.specs.Kinds.{kind_cmp}
 use Rattle.directory.specs.Histories.{Mark, Birth, Born, birth_of, entry_at, entry_of, CanMerge}
 use Rattle.directory.specs.Purges.{purged_entry, entry_left, after_entry, is_passed, take_entry, is_bare, delta_entry, delta_table}
-use Rattle.directory.specs.Purges.{purged_table, purged, take_table, is_dead_up_to, IsAboveEntry}
+use Rattle.directory.specs.Purges.{purged_table, purged_entries, take_table, is_dead_up_to, IsAboveEntry}
 use Rattle.directory.proofs.KnownLaws.{known}
 use Rattle.directory.proofs.PurgeLaws.{map_some-both, early_early, each_some, after_entry-valid, purged-again, purged-valid}
 use Rattle.directory.proofs.SeenLaws.{birth_among}
@@ -115,7 +115,7 @@ module _ (s t : Stamp) (is : maybe later_stamp (Some s) (Some t) ≡ Some t) whe
           by_birth false p = ap (λ b. maybe join_entries (Some o) (if b then None else Some (after_entry t e)))
               (sym (ap (λ a. a && not (is_stamp o.birth e.birth)) early ∙ ap not p))
           by_birth true p =
-              let same : o.birth ≡ e.birth = tied stamp_exact o.birth e.birth p in
+              let same : o.birth ≡ e.birth = ties_are_equal stamp_exact o.birth e.birth p in
               let none = bare_later s t e later bare in
               sym (ap Some (bare_joined o (after_entry t e) same (kind early same) none.0 none.1))
               ∙ ap (λ b. maybe join_entries (Some o) (if b then None else Some (after_entry t e)))
@@ -208,37 +208,37 @@ delta_table-above (Some t) m n =
 -- ---- tables
 
 get-delta : (g : List Mark) (s : Stamp) (n : List ℕ)
-    → get (delta_table (Some s) (purged g (Some s))) n ≡ option_and_then (delta_entry s) (option_and_then (entry_left s) (entry_of g n))
+    → get (delta_table (Some s) (purged_entries g (Some s))) n ≡ option_and_then (delta_entry s) (option_and_then (entry_left s) (entry_of g n))
 get-delta g s n =
-    get-map_some nat_list_cmp_total octets_exact (delta_entry s) (purged g (Some s)) n ∙ ap (option_and_then (delta_entry s)) (get-purged g (Some s) n)
+    get-map_some nat_list_cmp_total octets_exact (delta_entry s) (purged_entries g (Some s)) n ∙ ap (option_and_then (delta_entry s)) (get-purged g (Some s) n)
 
 -- of two histories that can be merged, the same is taken of the other's delta as of its table
 pub delta_table_taken : (h g : List Mark) (s t : Stamp) → maybe later_stamp (Some s) (Some t) ≡ Some t → CanMerge h g (Some t)
-    → take_table t (purged h (Some t)) (delta_table (Some s) (purged g (Some s))) ≡ take_table t (purged h (Some t)) (purged g (Some s))
+    → take_table t (purged_entries h (Some t)) (delta_table (Some s) (purged_entries g (Some s))) ≡ take_table t (purged_entries h (Some t)) (purged_entries g (Some s))
 delta_table_taken h g s t is can =
-    let own = purged h (Some t) in
-    let delta = delta_table (Some s) (purged g (Some s)) in
-    same_map nat_list_cmp_total octets_exact (take_table t own delta) (take_table t own (purged g (Some s))) (λ n.
+    let own = purged_entries h (Some t) in
+    let delta = delta_table (Some s) (purged_entries g (Some s)) in
+    same_map nat_list_cmp_total octets_exact (take_table t own delta) (take_table t own (purged_entries g (Some s))) (λ n.
     get-merge nat_list_cmp_total octets_exact (take_entry t) refl own delta n
     ∙ ap (λ x. take_entry t x (get delta n)) (get-purged h (Some t) n)
     ∙ ap (take_entry t (option_and_then (entry_left t) (entry_of h n))) (get-delta g s n)
     ∙ delta_taken h g t can n s is
-    ∙ sym (get-merge nat_list_cmp_total octets_exact (take_entry t) refl own (purged g (Some s)) n
-    ∙ ap (λ x. take_entry t x (get (purged g (Some s)) n)) (get-purged h (Some t) n)
+    ∙ sym (get-merge nat_list_cmp_total octets_exact (take_entry t) refl own (purged_entries g (Some s)) n
+    ∙ ap (λ x. take_entry t x (get (purged_entries g (Some s)) n)) (get-purged h (Some t) n)
     ∙ ap (take_entry t (option_and_then (entry_left t) (entry_of h n))) (get-purged g (Some s) n)))
 
 -- what is left of a history, with what is taken of the delta of another that can be merged, is what is left of both
 pub taken-delta : (h g : List Mark) (b : Option Stamp) (t : Stamp) → maybe later_stamp b (Some t) ≡ Some t → CanMerge h g (Some t)
-    → take_table t (purged h (Some t)) (delta_table b (purged g b)) ≡ purged (h ++ g) (Some t)
+    → take_table t (purged_entries h (Some t)) (delta_table b (purged_entries g b)) ≡ purged_entries (h ++ g) (Some t)
 taken-delta h g None t later can = taken_table h g None t later can
 taken-delta h g (Some s) t later can = delta_table_taken h g s t later can ∙ taken_table h g (Some s) t later can
 
 -- deletions may be dropped after the delta is taken
 pub dropped-delta : (h g : List Mark) (a b : Option Stamp) (t : Stamp) → maybe later_stamp a (Some t) ≡ Some t
     → maybe later_stamp b (Some t) ≡ Some t → CanMerge h g (Some t)
-    → purged_table t (take_table t (purged h a) (delta_table b (purged g b))) ≡ purged (h ++ g) (Some t)
+    → purged_table t (take_table t (purged_entries h a) (delta_table b (purged_entries g b))) ≡ purged_entries (h ++ g) (Some t)
 dropped-delta h g a b t mine theirs can =
-    let delta = delta_table b (purged g b) in
-    dropped_table t (purged h a) delta (purged-valid h a) (delta_table-valid b (purged g b) (purged-valid g b))
+    let delta = delta_table b (purged_entries g b) in
+    dropped_table t (purged_entries h a) delta (purged-valid h a) (delta_table-valid b (purged_entries g b) (purged-valid g b))
     (purged-ordered t h a can.mine.ordered)
     ∙ ap (λ m. take_table t m delta) (purged-again h a t mine) ∙ taken-delta h g b t theirs can

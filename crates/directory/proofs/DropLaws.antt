@@ -10,18 +10,18 @@ use Rattle.std.specs.Cmp.{IsTotalOrder, tied_itself}
 use Rattle.std.specs.Cmp.Lexicographic.{nat_list_cmp_total}
 use Rattle.cds_stamps.specs.declared.stamp.Stamp.{Stamp}
 use Rattle.cds_stamps.specs.Semilattice.{maybe}
-use Rattle.cds_stamps.specs.Keyed.{tied, map_some, get-map_some, get-merge}
+use Rattle.cds_stamps.specs.Keyed.{ties_are_equal, map_some, get-map_some, get-merge}
 use Rattle.cds_stamps.specs.Joins.{EachValue, join_maps, get-join_maps}
 use Rattle.cds_stamps.specs.Stamps.{stamp_cmp, stamp_total, stamp_exact, is_stamp, is_up_to, later_stamp}
 use Rattle.cds_stamps.specs.Octets.{octets_cmp, octets_exact}
 use Rattle.attr_sets.specs.declared.cell.AttrCell.{AttrCell}
-use Rattle.attr_sets.specs.Cells.{join_cells, IsValidCell}
+use Rattle.attr_sets.specs.AttributeCells.{join_cells, IsValidCell}
 use Rattle.attr_sets.specs.CellPurges.{cell_left, cell_after}
 use Rattle.attr_sets.proofs.SomeCellLaws.{cell_left-joined}
 use Rattle.directory.specs.declared.entry.EntryCell.{EntryCell}
 use Rattle.directory.specs.Entries.{Entries, join_tied, join_entries, IsHeldCell, IsValidEntry, IsValidTable}
 use Rattle.directory.specs.Histories.{Mark, Born, birth_of, entry_at, CanMerge, IsAfterBirth}
-use Rattle.directory.specs.Purges.{purged_entry, is_dead_up_to, entry_left, purged_table, purged, after_entry}
+use Rattle.directory.specs.Purges.{purged_entry, is_dead_up_to, entry_left, purged_table, purged_entries, after_entry}
 use Rattle.directory.specs.Purges.{take_entry, take_table}
 use Rattle.directory.proofs.KnownLaws.{dead_after_birth}
 use Rattle.directory.proofs.PurgeLaws.{entry_left-after, not_dead, purged-again, purged-valid}
@@ -86,7 +86,7 @@ module _ (t : Stamp) (o e : EntryCell) where
       ≡ (if (early && true) then None else Some later)
   dead_dropped p ordered true early false q = ap (λ b. if b then None else Some own) p
   dead_dropped p ordered true early true q =
-      ap (entry_left t) (joined_equal o later (ap (λ c. stamp_cmp o.birth c) (sym (tied stamp_exact o.birth e.birth q)) ∙ itself))
+      ap (entry_left t) (joined_equal o later (ap (λ c. stamp_cmp o.birth c) (sym (ties_are_equal stamp_exact o.birth e.birth q)) ∙ itself))
       ∙ ap (λ b. if b then None else Some (purged_entry t (join_tied o later))) (dead_joined t o.death later.death
       ∙ ap (λ a. a || is_dead_up_to t later.death) p)
     where
@@ -144,7 +144,7 @@ dropped_table t m n v w ordered =
     ∙ ap (λ x. take_entry t x (get n q)) (get-map_some nat_list_cmp_total octets_exact (entry_left t) m q)))
 
 -- the purged table of a history is in order
-pub purged-ordered : (t : Stamp) (h : List Mark) (a : Option Stamp) → IsAfterBirth h → IsOrderedTable t (purged h a)
+pub purged-ordered : (t : Stamp) (h : List Mark) (a : Option Stamp) → IsAfterBirth h → IsOrderedTable t (purged_entries h a)
 purged-ordered t h a after n = subst (λ x. IfSome x (IsOrdered t)) (sym (get-purged h a n)) (by_birth (birth_of h n))
   where
     left : (a : Option Stamp) (e : EntryCell) → IsOrdered t e → IfSome (entry_left_by a e) (IsOrdered t)
@@ -161,7 +161,7 @@ purged-ordered t h a after n = subst (λ x. IfSome x (IsOrdered t)) (sym (get-pu
 
 -- the purged table of a history, with what is taken of another that can be merged, is after the drop the purged table of both
 pub dropped-taken : (h g : List Mark) (a s : Option Stamp) (t : Stamp) → maybe later_stamp a (Some t) ≡ Some t → maybe later_stamp s (Some t) ≡ Some t
-    → CanMerge h g (Some t) → purged_table t (take_table t (purged h a) (purged g s)) ≡ purged (h ++ g) (Some t)
+    → CanMerge h g (Some t) → purged_table t (take_table t (purged_entries h a) (purged_entries g s)) ≡ purged_entries (h ++ g) (Some t)
 dropped-taken h g a s t mine theirs can =
-    dropped_table t (purged h a) (purged g s) (purged-valid h a) (purged-valid g s) (purged-ordered t h a can.mine.ordered)
-    ∙ ap (λ m. take_table t m (purged g s)) (purged-again h a t mine) ∙ taken_table h g s t theirs can
+    dropped_table t (purged_entries h a) (purged_entries g s) (purged-valid h a) (purged-valid g s) (purged-ordered t h a can.mine.ordered)
+    ∙ ap (λ m. take_table t m (purged_entries g s)) (purged-again h a t mine) ∙ taken_table h g s t theirs can

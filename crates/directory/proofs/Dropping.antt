@@ -8,7 +8,7 @@ use Rattle.std.specs.Cmp.Lexicographic.{nat_list_cmp_total}
 use Rattle.std.specs.FinMap.{FinMap, get, insert, remove, from_entries, get-remove, same_map}
 use Rattle.std.proofs.lemmas.Map.Steps.{set_value_same}
 use Rattle.cds_stamps.specs.declared.stamp.Stamp.{Stamp}
-use Rattle.cds_stamps.specs.Keyed.{tied}
+use Rattle.cds_stamps.specs.Keyed.{ties_are_equal}
 use Rattle.cds_stamps.specs.Octets.{octets_cmp, octets_exact, is_octets}
 use Rattle.cds_stamps.proofs.TreeViews.{get-view, view-insert}
 use Rattle.cds_stamps.proofs.TreeViews.{view-remove}
@@ -23,7 +23,7 @@ pub remove-none : {X : Type 0} (m : FinMap octets_cmp X) (k : List ℕ) → get 
 remove-none {X} m k none = same_map nat_list_cmp_total octets_exact (remove m k) m (λ q. get-remove nat_list_cmp_total m k q ∙ by_case q (is_octets q k) refl)
   where
     by_case : (q : List ℕ) (b : Bool) → is_octets q k ≡ b → cond b None (get m q) ≡ get m q
-    by_case q true e = sym none ∙ ap (get m) (sym (tied octets_exact q k e))
+    by_case q true e = sym none ∙ ap (get m) (sym (ties_are_equal octets_exact q k e))
     by_case q false e = refl
 
 module _ {X : Type 0} (m : FinMap octets_cmp X) (es : List (List ℕ × X)) (k : List ℕ) (f : X → Option X) (view : from_entries {R = octets_cmp} es ≡ m) where

@@ -3,7 +3,7 @@ use Rattle.std.proofs.Common.{◌≡◌}
 use Rattle.cds_stamps.specs.Semilattice.{maybe, greater}
 use Rattle.cds_stamps.specs.Stamps.{earlier_stamp}
 use Rattle.cds_stamps.specs.Joins.{join_maps}
-use Rattle.attr_sets.specs.Cells.{join_cells}
+use Rattle.attr_sets.specs.AttributeCells.{join_cells}
 use Rattle.directory.specs.declared.entry.EntryCell.{EntryCell}
 use Rattle.directory.specs.Kinds.{kind_cmp}
 use Rattle.directory.specs.Entries.{join_tied}

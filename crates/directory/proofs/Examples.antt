@@ -5,7 +5,7 @@ use Rattle.std.specs.FinMap.{empty, len-empty}
 use Rattle.cds_stamps.specs.declared.stamp.Stamp.{Stamp}
 use Rattle.cds_stamps.specs.Octets.{octets_cmp}
 use Rattle.attr_sets.specs.declared.cell.AttrCell.{AttrCell}
-use Rattle.attr_sets.specs.Cells.{Cleared}
+use Rattle.attr_sets.specs.AttributeCells.{Cleared}
 use Rattle.directory.specs.declared.entry.Kind.{Kind}
 use Rattle.directory.specs.declared.entry.Kind.TheVariants.{Object, Link, Child}
 use Rattle.directory.specs.declared.entry.EntryCell.{EntryCell}

@@ -12,7 +12,7 @@ use Rattle.cds_stamps.specs.Semilattice.{maybe, greater}
 use Rattle.cds_stamps.specs.Stamps.{stamp_total, is_stamp, earlier_stamp}
 use Rattle.cds_stamps.specs.Octets.{octets_cmp, octets_exact, is_octets}
 use Rattle.attr_sets.specs.declared.cell.AttrCell.{AttrCell}
-use Rattle.attr_sets.specs.Cells.{AttrMark, cell_of}
+use Rattle.attr_sets.specs.AttributeCells.{AttrMark, cell_of}
 use Rattle.directory.specs.declared.entry.Kind.{Kind}
 use Rattle.directory.specs.declared.entry.Fragment.{Fragment}
 use Rattle.directory.specs.declared.entry.EntryCell.{EntryCell}

@@ -12,11 +12,11 @@ use Rattle.std.specs.FinMap.{same_map, len-insert, len-empty}
 use Rattle.std.specs.FinMap.Entries.{by_order}
 use Rattle.std.proofs.lemmas.List.Sums.{sum_by-cons}
 use Rattle.cds_stamps.specs.declared.stamp.Stamp.{Stamp}
-use Rattle.cds_stamps.specs.Keyed.{tied}
+use Rattle.cds_stamps.specs.Keyed.{ties_are_equal}
 use Rattle.cds_stamps.specs.Octets.{octets_cmp, octets_exact}
 use Rattle.attr_sets.specs.declared.mark.ValueMark.{ValueMark}
 use Rattle.attr_sets.specs.declared.cell.AttrCell.{AttrCell}
-use Rattle.attr_sets.specs.Cells.{empty_cell}
+use Rattle.attr_sets.specs.AttributeCells.{empty_cell}
 use Rattle.attr_sets.specs.CellPurges.{is_empty_cell, some_cell}
 use Rattle.attr_sets.proofs.CellUndoing.{is_empty_cell-is}
 use Rattle.directory.specs.declared.entry.EntryCell.{EntryCell}
@@ -40,7 +40,7 @@ module _ {K X : Type 0} {R : K → K → Ordering} (o : IsTotalOrder R) (same : 
       get-insert o (remove m k) k x q ∙ ap (cond (eq_by_cmp R q k) (Some x)) (get-remove o m k q) ∙ at q (eq_by_cmp R q k) refl)
     where
       at : (q : K) (b : Bool) → eq_by_cmp R q k ≡ b → cond b (Some x) (cond b None (get m q)) ≡ get m q
-      at q true e = sym (ap (get m) (tied same q k e) ∙ is)
+      at q true e = sym (ap (get m) (ties_are_equal same q k e) ∙ is)
       at q false e = refl
 
   -- what is put in, removed

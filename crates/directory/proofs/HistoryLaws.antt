@@ -14,11 +14,11 @@ use Rattle.std.proofs.lemmas.Map.Lookups.{exact_pairs}
 use Rattle.std.proofs.lemmas.List.Elements.{filter_map-append}
 use Rattle.cds_stamps.specs.declared.stamp.Stamp.{Stamp}
 use Rattle.cds_stamps.specs.Semilattice.{IsSemilattice, maybe, join_of-append, greater, greater_semilattice}
-use Rattle.cds_stamps.specs.Keyed.{tied, get-of_all_keys}
+use Rattle.cds_stamps.specs.Keyed.{ties_are_equal, get-of_all_keys}
 use Rattle.cds_stamps.specs.Stamps.{stamp_cmp, stamp_total, stamp_exact, is_earlier, is_stamp, earlier_stamp, earlier_stamp_laws}
 use Rattle.cds_stamps.specs.Octets.{octets_exact, is_octets}
 use Rattle.cds_stamps.specs.Joins.{join_maps, get-join_maps}
-use Rattle.attr_sets.specs.Cells.{AttrMark, join_cells}
+use Rattle.attr_sets.specs.AttributeCells.{AttrMark, join_cells}
 use Rattle.attr_sets.specs.CellLawProofs.{join_cells-cell_of}
 use Rattle.directory.specs.declared.entry.Kind.{Kind}
 use Rattle.directory.specs.Kinds.{rank, kind_cmp}
@@ -94,7 +94,7 @@ pub about : (n m : List ℕ) (c d : Stamp) → (is_octets n m && is_stamp c d) �
 about n m c d e = parts (is_octets n m) (is_stamp c d) refl refl e
   where
     parts : (s t : Bool) → is_octets n m ≡ s → is_stamp c d ≡ t → (s && t) ≡ true → (n ≡ m) × (c ≡ d)
-    parts true true p q e = (tied octets_exact n m p, tied stamp_exact c d q)
+    parts true true p q e = (ties_are_equal octets_exact n m p, ties_are_equal stamp_exact c d q)
     parts true false p q e = cc
     parts false t p q e = cc
 

@@ -10,7 +10,7 @@ use Rattle.std.proofs.lemmas.Bool.{false≢true}
 use Rattle.cds_stamps.specs.Octets.{octets_cmp, octets_exact, is_octets}
 use Rattle.cds_stamps.specs.Stamps.{is_up_to}
 use Rattle.cds_stamps.specs.declared.stamp.Stamp.{Stamp}
-use Rattle.cds_stamps.specs.Keyed.{tied}
+use Rattle.cds_stamps.specs.Keyed.{ties_are_equal}
 use Rattle.cds_stamps.specs.Undos.{RaisesAt}
 use Rattle.directory.specs.Purges.{purged_table}
 use Rattle.directory.specs.declared.entry.EntryCell.{EntryCell}
@@ -22,7 +22,7 @@ use Rattle.directory.specs.Deletions.{has_lost, is_lost, has_deletion, without, 
 use Rattle.directory.specs.Entries.{Entries, join_entries, join_tables, IsValidEntry, IsValidTable}
 use Rattle.directory.specs.EntryLawProofs.{table_join}
 use Rattle.directory.specs.Histories.{entry_of}
-use Rattle.directory.specs.IndexWords.{is_indexed, kept, Keeps, AddsAt, KnowsAll, BeginsWell, BeginsWellElsewhere, IsSettled, IsIndexed}
+use Rattle.directory.specs.IndexWords.{is_indexed, deletion_count, Keeps, AddsAt, KnowsAll, BeginsWell, BeginsWellElsewhere, IsSettled, IsIndexed}
 use Rattle.directory.specs.Shown.{Shown, marks_of}
 use Rattle.directory.specs.Updates.{Change, changed_name}
 use Rattle.directory.proofs.DeletionLaws.{others_stay, raised_deletion, raised_valid, joined_deletion, update_lost, without_has, without_valid, purged_without}
@@ -31,7 +31,7 @@ use Rattle.directory.proofs.DeletionSets.{one_deletion}
 use Rattle.directory.proofs.TableLaws.{entry_of-valid}
 
 -- an index that knows of the same
-pub index_same : (x y : Deletions) (m : Entries) → ((d : Deletion) → is_indexed y d ≡ is_indexed x d) → kept y ≡ kept x → y.most ≡ x.most
+pub index_same : (x y : Deletions) (m : Entries) → ((d : Deletion) → is_indexed y d ≡ is_indexed x d) → deletion_count y ≡ deletion_count x → y.most ≡ x.most
     → IsIndexed x m → IsIndexed y m
 index_same x y m same as_many room i = record {
   valid = i.valid;
@@ -141,7 +141,7 @@ purged_dropped m n d t early dropped = at (has_deletion m d) refl dropped
     at false has is = ap (purged_table t) is
 
 -- an empty table, and an index that knows of nothing
-pub empty_index : (x : Deletions) (m : Entries) → m ≡ empty → ((d : Deletion) → is_indexed x d ≡ false) → kept x ≡ 0 → IsIndexed x m
+pub empty_index : (x : Deletions) (m : Entries) → m ≡ empty → ((d : Deletion) → is_indexed x d ≡ false) → deletion_count x ≡ 0 → IsIndexed x m
 empty_index x m none nothing zero = record {
   valid = λ q. subst (λ e. IfSome e IsValidEntry) (sym (gone q)) tt;
   all = λ d h. absurd (false≢true (sym (ap (λ e. is_lost e d.stamp d.what) (gone d.name)) ∙ h));
@@ -160,7 +160,7 @@ known_inserted x y m n k e keeps adds put known d h =
     at (is_octets d.name k) refl (ap (λ e. is_lost e d.stamp d.what) (sym (ap (λ n. get n d.name) put ∙ get-insert nat_list_cmp_total m k e d.name)) ∙ h)
   where
     at : (b : Bool) → is_octets d.name k ≡ b → is_lost (cond b (Some e) (get m d.name)) d.stamp d.what ≡ true → is_indexed y d ≡ true
-    at true same lost = subst (λ k. is_indexed y (record { stamp = d.stamp; name = k; what = d.what }) ≡ true) (sym (tied octets_exact d.name k same))
+    at true same lost = subst (λ k. is_indexed y (record { stamp = d.stamp; name = k; what = d.what }) ≡ true) (sym (ties_are_equal octets_exact d.name k same))
         (adds d.stamp d.what lost)
     at false other lost = keeps d (known d lost)
 

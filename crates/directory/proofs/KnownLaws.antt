@@ -11,7 +11,7 @@ use Rattle.cds_stamps.specs.Semilattice.{greater, maybe}
 use Rattle.cds_stamps.specs.Stamps.{stamp_cmp, stamp_total, is_up_to, is_stamp, earlier_stamp, earlier_stamp_laws}
 use Rattle.cds_stamps.specs.Octets.{is_octets}
 use Rattle.cds_stamps.proofs.ListMembers.{Contains-filter}
-use Rattle.attr_sets.specs.Cells.{AttrMark, attr_stamp}
+use Rattle.attr_sets.specs.AttributeCells.{AttrMark, attr_stamp}
 use Rattle.attr_sets.proofs.Greatest.{Contains-none, Contains-cases, same_inside, join_of-member, join_of-among}
 use Rattle.directory.specs.declared.entry.Kind.{Kind}
 use Rattle.directory.specs.Histories.{Mark, Birth, Death, Attr, Born, born_in, stamp_in, death_in, attr_mark_in}

@@ -19,15 +19,15 @@ use Rattle.std.proofs.lemmas.Map.Keys.{sorted_tail, IsDistinct-from_sorted}
 use Rattle.std.proofs.lemmas.Map.Entries.{none_past_head}
 use Rattle.cds_stamps.specs.declared.stamp.Stamp.{Stamp}
 use Rattle.cds_stamps.specs.Semilattice.{maybe}
-use Rattle.cds_stamps.specs.Keyed.{tied, map_some, get-map_some, get-merge}
+use Rattle.cds_stamps.specs.Keyed.{ties_are_equal, map_some, get-map_some, get-merge}
 use Rattle.cds_stamps.specs.Joins.{EachValue, join_maps, get-join_maps}
 use Rattle.cds_stamps.specs.Stamps.{stamp_total, is_up_to, later_stamp, later_stamp_laws, earlier_stamp, earlier_stamp_laws}
 use Rattle.cds_stamps.specs.Octets.{octets_cmp, octets_exact}
 use Rattle.cds_stamps.proofs.TreeViews.{get-view}
 use Rattle.attr_sets.specs.declared.mark.ValueMark.{ValueMark}
 use Rattle.attr_sets.specs.declared.cell.AttrCell.{AttrCell}
-use Rattle.attr_sets.specs.Marks.{later, later_laws, kept}
-use Rattle.attr_sets.specs.Cells.{join_cells, IsValidCell}
+use Rattle.attr_sets.specs.Marks.{later, later_laws, mark_after_clear}
+use Rattle.attr_sets.specs.AttributeCells.{join_cells, IsValidCell}
 use Rattle.attr_sets.specs.CellLawProofs.{same_cell, get-join_cells}
 use Rattle.attr_sets.specs.CellPurges.{clear_left, mark_after, is_empty_cell, after_cell, cell_after}
 use Rattle.attr_sets.proofs.CellPurgeLaws.{get-after_cell}
@@ -39,7 +39,7 @@ use Rattle.directory.specs.declared.deletions.What.{What}
 use Rattle.directory.specs.Deletions.{has_lost, is_lost, has_deletion}
 use Rattle.directory.specs.Entries.{Entries, join_entries, join_tables, IsHeldCell, IsValidEntry, IsValidTable}
 use Rattle.directory.specs.EntryLawProofs.{kinds, entry_join, table_join}
-use Rattle.directory.specs.IndexWords.{is_indexed, IsIndexed, Keeps, KnowsAll, inserted}
+use Rattle.directory.specs.IndexWords.{is_indexed, IsIndexed, Keeps, KnowsAll, insert_each}
 use Rattle.directory.specs.Purges.{after_entry, is_passed, taken_entry, take_entry, take_table, delta_entry, delta_table}
 use Rattle.directory.proofs.DeletionLaws.{joined_deletion}
 use Rattle.directory.proofs.TakeLaws.{joined_equal, none_right}
@@ -66,9 +66,9 @@ mark_joined t (Some m) = part_joined later later_laws.idem m (is_up_to t m.stamp
 cell_joined : (t : Stamp) (c : AttrCell) → IsValidCell c → join_cells c (after_cell t c) ≡ c
 cell_joined t c valid = same_cell (join_cells c (after_cell t c)) c (clear_joined t c.cleared) (λ v.
     get-join_cells c (after_cell t c) v
-    ∙ ap (λ x. kept (maybe later_stamp c.cleared (option_and_then (clear_left t) c.cleared)) (maybe later (get c.values v) x)) (get-after_cell t c v)
-    ∙ ap (λ x. kept (maybe later_stamp c.cleared (option_and_then (clear_left t) c.cleared)) x) (mark_joined t (get c.values v))
-    ∙ ap (λ x. kept x (get c.values v)) (clear_joined t c.cleared) ∙ valid v)
+    ∙ ap (λ x. mark_after_clear (maybe later_stamp c.cleared (option_and_then (clear_left t) c.cleared)) (maybe later (get c.values v) x)) (get-after_cell t c v)
+    ∙ ap (λ x. mark_after_clear (maybe later_stamp c.cleared (option_and_then (clear_left t) c.cleared)) x) (mark_joined t (get c.values v))
+    ∙ ap (λ x. mark_after_clear x (get c.values v)) (clear_joined t c.cleared) ∙ valid v)
 
 some_joined : (t : Stamp) (c : Option AttrCell) → IfSome c IsHeldCell → maybe join_cells c (option_and_then (cell_after t) c) ≡ c
 some_joined t None valid = refl
@@ -128,13 +128,13 @@ put_elsewhere old new k l y put name q other =
     ap (λ m. get m q) put ∙ get-insert nat_list_cmp_total old l y q ∙ at (eq_by_cmp octets_cmp q l) refl
   where
     at : (b : Bool) → eq_by_cmp octets_cmp q l ≡ b → cond b (Some y) (get old q) ≡ get old q
-    at true same = absurd (other (tied octets_exact q l same ∙ name))
+    at true same = absurd (other (ties_are_equal octets_exact q l same ∙ name))
     at false same = refl
 
 -- a pair behind others is inserted into their table
 pub inserted_last : (old new : List (List ℕ × EntryCell)) (k : List ℕ) (x : EntryCell) → new ≡ old ++ (k, x) ∷ []
-    → inserted new ≡ insert (inserted old) k x
-inserted_last old new k x is = ap inserted is ∙ fold-append (λ m p. insert m p.0 p.1) empty old ((k, x) ∷ [])
+    → insert_each new ≡ insert (insert_each old) k x
+inserted_last old new k x is = ap insert_each is ∙ fold-append (λ m p. insert m p.0 p.1) empty old ((k, x) ∷ [])
 
 -- ---- the entries of a map are in order
 
@@ -189,7 +189,7 @@ module _ {K X Y : Type 0} {R : K → K → Ordering} (o : IsTotalOrder R) (same 
           (λ done. absurd (let e : Some x ≡ None = sym found ∙ done.0 in cc)) (stands k)
 
       by_case : (q : K) (b : Bool) → eq_by_cmp R q k ≡ b → Stands m new rest q
-      by_case q true at = subst (Stands m new rest) (sym (tied same q k at)) at_key
+      by_case q true at = subst (Stands m new rest) (sym (ties_are_equal same q k at)) at_key
       by_case q false at =
           let skips : lookup (is_at (R q)) ((k, x) ∷ rest) ≡ lookup (is_at (R q)) rest = ap (λ b. cond b (Some x) (lookup (is_at (R q)) rest)) at in
           let stays = others q (λ is. apart (ap (λ k. eq_by_cmp R q k) (sym is) ∙ ap is_eq (tied_itself o q)) at) in
@@ -260,7 +260,7 @@ rest_step x y m k e es rest first keeps adds before d has =
         → (is_lost (lookup (is_at (octets_cmp d.name)) rest) d.stamp d.what ≡ true) ⊎ (is_indexed y d ≡ true)
     at true is lost =
         let own : has_lost e d.stamp d.what ≡ true = ap (λ b. is_lost (cond b (Some e) (lookup (is_at (octets_cmp d.name)) rest)) d.stamp d.what) (sym is) ∙ lost in
-        inr (ap (λ n. is_indexed y (record { stamp = d.stamp; name = n; what = d.what })) (tied octets_exact d.name k is) ∙ adds d.stamp d.what own)
+        inr (ap (λ n. is_indexed y (record { stamp = d.stamp; name = n; what = d.what })) (ties_are_equal octets_exact d.name k is) ∙ adds d.stamp d.what own)
     at false is lost = inl (ap (λ b. is_lost (cond b (Some e) (lookup (is_at (octets_cmp d.name)) rest)) d.stamp d.what) (sym is) ∙ lost)
 
 -- once no entry is still to come, the index knows of each deletion of the table

@@ -8,8 +8,8 @@ use Rattle.cds_stamps.specs.declared.stamp.Stamp.{Stamp}
 use Rattle.cds_stamps.specs.Semilattice.{IsSemilattice, maybe, maybe_semilattice, join_of}
 use Rattle.cds_stamps.specs.Stamps.{later_stamp_laws, earlier_stamp_laws}
 use Rattle.cds_stamps.specs.Octets.{octets_exact}
-use Rattle.attr_sets.specs.Marks.{later_laws, kept}
-use Rattle.attr_sets.specs.Cells.{AttrMark, clear_in, mark_in, cell_of, greatest_clear, greatest_mark}
+use Rattle.attr_sets.specs.Marks.{later_laws, mark_after_clear}
+use Rattle.attr_sets.specs.AttributeCells.{AttrMark, clear_in, mark_in, cell_of, greatest_clear, greatest_mark}
 use Rattle.attr_sets.specs.CellLawProofs.{same_cell, get-cell_of}
 use Rattle.attr_sets.proofs.Greatest.{Contains-head, Contains-tail, Contains-none, Contains-cases, join_of-member}
 use Rattle.directory.specs.Histories.{Mark, Born, birth_in, death_in, attr_mark_in, birth_of, death_of}
@@ -67,7 +67,7 @@ cell_of-same g h there back =
     let clear : greatest_clear g ≡ greatest_clear h = join_of-same later_stamp_laws clear_in g h there back in
     same_cell (cell_of g) (cell_of h) clear (λ v.
     let mark : greatest_mark g v ≡ greatest_mark h v = join_of-same later_laws (mark_in v) g h there back in
-    get-cell_of g v ∙ ap (λ c. kept c (greatest_mark g v)) clear ∙ ap (kept (greatest_clear h)) mark ∙ sym (get-cell_of h v))
+    get-cell_of g v ∙ ap (λ c. mark_after_clear c (greatest_mark g v)) clear ∙ ap (mark_after_clear (greatest_clear h)) mark ∙ sym (get-cell_of h v))
 
 cell_of_some-same : (g h : List AttrMark) → IsIncluded g h → IsIncluded h g → cell_of_some g ≡ cell_of_some h
 cell_of_some-same [] [] there back = refl

@@ -13,7 +13,7 @@ use Rattle.cds_stamps.specs.Keyed.{map_some, get-map_some}
 use Rattle.cds_stamps.specs.Stamps.{stamp_total, is_earlier, is_up_to, later_stamp}
 use Rattle.cds_stamps.specs.Octets.{octets_cmp, octets_exact}
 use Rattle.attr_sets.specs.declared.cell.AttrCell.{AttrCell}
-use Rattle.attr_sets.specs.Cells.{cell_values, present_in}
+use Rattle.attr_sets.specs.AttributeCells.{cell_values, present_in}
 use Rattle.attr_sets.specs.CellPurges.{clear_left, purged_cell, after_cell, is_empty_cell, cell_left, some_cell, cell_after}
 use Rattle.attr_sets.proofs.CellUndoing.{is_empty_cell-is}
 use Rattle.attr_sets.proofs.PartLoops.{PutsPart, part_put, part_passed}
@@ -22,8 +22,8 @@ use Rattle.attr_sets.proofs.SomeCellLaws.{cell_left-held, cell_after-held, cell_
 use Rattle.directory.specs.declared.entry.EntryCell.{EntryCell}
 use Rattle.directory.specs.Entries.{Entries, IsHeldCell, IsValidEntry, IsValidTable}
 use Rattle.directory.specs.Histories.{Mark, table_of}
-use Rattle.directory.specs.Shown.{shown, shown_if_live, face_of, entry_values, shown_entry, shown_in}
-use Rattle.directory.specs.Purges.{purged_entry, is_dead_up_to, entry_left, purged_table, purged, after_entry}
+use Rattle.directory.specs.Shown.{shown_of_name, shown_if_live, face_of, entry_values, shown_entry, shown_in}
+use Rattle.directory.specs.Purges.{purged_entry, is_dead_up_to, entry_left, purged_table, purged_entries, after_entry}
 use Rattle.directory.proofs.ShownLaws.{no_entries, shown_in-table_of}
 use Rattle.directory.proofs.TableLaws.{table_of-valid}
 
@@ -70,7 +70,7 @@ purged_table-twice s t m later =
     map_some-both nat_list_cmp_total octets_exact (entry_left t) (entry_left s) (entry_left t) (λ e. entry_left-twice s t e later) m
 
 -- the purged table of a history, purged up to a later stamp
-pub purged-again : (h : List Mark) (a : Option Stamp) (t : Stamp) → maybe later_stamp a (Some t) ≡ Some t → purged_table t (purged h a) ≡ purged h (Some t)
+pub purged-again : (h : List Mark) (a : Option Stamp) (t : Stamp) → maybe later_stamp a (Some t) ≡ Some t → purged_table t (purged_entries h a) ≡ purged_entries h (Some t)
 purged-again h None t e = refl
 purged-again h (Some s) t e = purged_table-twice s t (table_of h) (not_later s t e)
 
@@ -149,13 +149,13 @@ pub purged_table-valid : (t : Stamp) (m : Entries) → IsValidTable m → IsVali
 purged_table-valid t m v = each_some nat_list_cmp_total octets_exact IsValidEntry (entry_left t) (entry_left-valid t) m v
 
 -- the purged table of a history is valid
-pub purged-valid : (h : List Mark) (t : Option Stamp) → IsValidTable (purged h t)
+pub purged-valid : (h : List Mark) (t : Option Stamp) → IsValidTable (purged_entries h t)
 purged-valid h None = table_of-valid h
 purged-valid h (Some t) = purged_table-valid t (table_of h) (table_of-valid h)
 
 -- a table of a history that was purged, and then up to a later stamp
 pub dropped-again : (h : List Mark) (a : Option Stamp) (t : Stamp) (old new : Entries) → new ≡ purged_table t old
-    → maybe later_stamp a (Some t) ≡ Some t → old ≡ purged h a → new ≡ purged h (Some t)
+    → maybe later_stamp a (Some t) ≡ Some t → old ≡ purged_entries h a → new ≡ purged_entries h (Some t)
 dropped-again h a t old new drops later is = drops ∙ ap (purged_table t) is ∙ purged-again h a t later
 
 -- ---- what shows
@@ -199,6 +199,6 @@ shown_in-purged_table t m n = ap (option_and_then shown_entry) (get-map_some nat
     at (Some e) = shown_entry-left t e
 
 -- the purged table of a history shows what the history shows
-pub shown_in-purged : (h : List Mark) (t : Option Stamp) (n : List ℕ) → shown_in (purged h t) n ≡ shown h n
+pub shown_in-purged : (h : List Mark) (t : Option Stamp) (n : List ℕ) → shown_in (purged_entries h t) n ≡ shown_of_name h n
 shown_in-purged h None n = shown_in-table_of h n
 shown_in-purged h (Some t) n = shown_in-purged_table t (table_of h) n ∙ shown_in-table_of h n

@@ -7,12 +7,12 @@ use Rattle.std.specs.declared.cmp.Ordering.{Ordering}
 use Rattle.std.specs.Ordering.{is_lt}
 use Rattle.cds_stamps.specs.declared.stamp.Stamp.{Stamp}
 use Rattle.cds_stamps.specs.Semilattice.{maybe, greater}
-use Rattle.cds_stamps.specs.Keyed.{tied}
+use Rattle.cds_stamps.specs.Keyed.{ties_are_equal}
 use Rattle.cds_stamps.specs.Octets.{octets_exact, is_octets}
-use Rattle.attr_sets.specs.Cells.{shown_values}
+use Rattle.attr_sets.specs.AttributeCells.{shown_values}
 use Rattle.attr_sets.proofs.Greatest.{Contains-head, Contains-tail, same_inside}
 use Rattle.directory.specs.Histories.{Mark, Birth, Death, Attr, Born, birth_cmp, birth_of, death_of, attr_history}
-use Rattle.directory.specs.Shown.{Shown, leads, shown_born, shown}
+use Rattle.directory.specs.Shown.{Shown, leads, shown_born, shown_of_name}
 
 -- the greater of two is one of them
 one_of : {K : Type 0} (R : K → K → Ordering) (x y : K) → (greater R x y ≡ x) ⊎ (greater R x y ≡ y)
@@ -37,10 +37,10 @@ birth_among (Birth m k c ∷ h) n b e = at (is_octets n m) refl (birth_of h n) r
         → maybe (greater birth_cmp) (if t then Some (record { at = c; kind = k }) else None) y ≡ Some b
         → (birth_of h n ≡ Some b → Contains h (Birth n b.kind b.at)) → Contains (Birth m k c ∷ h) (Birth n b.kind b.at)
     at false p y q e rec = later (rec (q ∙ e))
-    at true p None q e rec = here (tied octets_exact n m p) (same_inside (record { at = c; kind = k }) b e)
+    at true p None q e rec = here (ties_are_equal octets_exact n m p) (same_inside (record { at = c; kind = k }) b e)
     at true p (Some y) q e rec =
         let is : greater birth_cmp (record { at = c; kind = k }) y ≡ b = same_inside (greater birth_cmp (record { at = c; kind = k }) y) b e in
-        ⊎_elim (λ first. here (tied octets_exact n m p) (sym first ∙ is)) (λ second. later (rec (q ∙ ap Some
+        ⊎_elim (λ first. here (ties_are_equal octets_exact n m p) (sym first ∙ is)) (λ second. later (rec (q ∙ ap Some
         (sym second ∙ is)))) (one_of birth_cmp (record { at = c; kind = k }) y)
 birth_among (Death m c s ∷ h) n b e = Contains-tail (Death m c s) h (Birth n b.kind b.at) (birth_among h n b e)
 birth_among (Attr m c a x ∷ h) n b e = Contains-tail (Attr m c a x) h (Birth n b.kind b.at) (birth_among h n b e)
@@ -53,7 +53,7 @@ pub record IsSeen (h : List Mark) (n : List ℕ) (e : Shown) : Type 0 where
   pub values : (a : List ℕ) → e.values a ≡ shown_values (attr_history h n e.birth a)
 
 -- an entry that shows has its birth in the history
-pub seen : (h : List Mark) (n : List ℕ) (e : Shown) → shown h n ≡ Some e → IsSeen h n e
+pub seen : (h : List Mark) (n : List ℕ) (e : Shown) → shown_of_name h n ≡ Some e → IsSeen h n e
 seen h n e is = by_birth (birth_of h n) refl is
   where
     live : (b : Born) → birth_of h n ≡ Some b → (d : Option Stamp) → death_of h n b.at ≡ d → (t : Bool)

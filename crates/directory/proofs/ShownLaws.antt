@@ -8,9 +8,9 @@ use Rattle.cds_stamps.specs.Keyed.{get-of_keys}
 use Rattle.cds_stamps.specs.Octets.{octets_cmp, octets_exact}
 use Rattle.cds_stamps.proofs.TreeViews.{entries-view}
 use Rattle.attr_sets.specs.declared.mark.ValueMark.{ValueMark}
-use Rattle.attr_sets.specs.Cells.{AttrMark, cell_values, shown_values, present_in, marks_kept}
+use Rattle.attr_sets.specs.AttributeCells.{AttrMark, cell_values, shown_values, present_in, marks_kept}
 use Rattle.directory.specs.Histories.{Mark, Born, birth_of, death_of, attr_history, cell_of_some, entry_at, table_of}
-use Rattle.directory.specs.Shown.{shown_if_live, shown_born, shown, entry_values, face_of, shown_entry, shown_in}
+use Rattle.directory.specs.Shown.{shown_if_live, shown_born, shown_of_name, entry_values, face_of, shown_entry, shown_in}
 use Rattle.directory.proofs.HistoryLaws.{get-table_of, get-attrs_of}
 
 no_marks : marks_kept [] ≡ empty
@@ -40,7 +40,7 @@ face_of-entry_at : (h : List Mark) (n : List ℕ) (b : Born)
 face_of-entry_at h n b = λ i. record { birth = b.at; kind = b.kind; values = λ a. entry_values-entry_at h n b a i }
 
 -- a table shows what its history shows
-pub shown_in-table_of : (h : List Mark) (n : List ℕ) → shown_in (table_of h) n ≡ shown h n
+pub shown_in-table_of : (h : List Mark) (n : List ℕ) → shown_in (table_of h) n ≡ shown_of_name h n
 shown_in-table_of h n = ap (option_and_then shown_entry) (get-table_of h n) ∙ by_birth (birth_of h n)
   where
     by_birth : (b : Option Born) → option_and_then shown_entry (option_map (entry_at h n) b) ≡ option_and_then (shown_born h n) b

@@ -6,11 +6,11 @@ use Rattle.std.specs.List.{AllByRecursion}
 use Rattle.std.specs.Option.{option_map}
 use Rattle.std.specs.Cmp.Lexicographic.{nat_list_cmp_total}
 use Rattle.cds_stamps.specs.Semilattice.{maybe, greater}
-use Rattle.cds_stamps.specs.Keyed.{tied}
+use Rattle.cds_stamps.specs.Keyed.{ties_are_equal}
 use Rattle.cds_stamps.specs.Octets.{octets_cmp, octets_exact, is_octets}
 use Rattle.cds_stamps.specs.Joins.{get-join_maps}
 use Rattle.cds_stamps.specs.Undos.{RaisesAt}
-use Rattle.attr_sets.specs.Cells.{AttrMark}
+use Rattle.attr_sets.specs.AttributeCells.{AttrMark}
 use Rattle.attr_sets.specs.CellLawProofs.{cell_of-valid}
 use Rattle.attr_sets.proofs.SomeCellLaws.{has_some}
 use Rattle.directory.specs.declared.entry.EntryCell.{EntryCell}
@@ -58,7 +58,7 @@ table_of-marks h ms n e p q about made k =
     ∙ ap (maybe join_entries (get (table_of h) k)) (get-table_of ms k ∙ by_name (is_octets k n) refl)
   where
     by_name : (t : Bool) → is_octets k n ≡ t → entry_of ms k ≡ (if t then Some e else None)
-    by_name true same = ap (entry_of ms) (tied octets_exact k n same) ∙ made
+    by_name true same = ap (entry_of ms) (ties_are_equal octets_exact k n same) ∙ made
     by_name false apart = ap (option_map (entry_at ms k)) (birth_of-other ms n k about apart)
 
 -- of no mark there is no entry

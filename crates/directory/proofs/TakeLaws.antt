@@ -16,7 +16,7 @@ use Rattle.cds_stamps.specs.Keyed.{map_some, get-map_some, get-merge}
 use Rattle.cds_stamps.specs.Joins.{join_maps, get-join_maps}
 use Rattle.cds_stamps.specs.Stamps.{stamp_cmp, stamp_total, stamp_exact, is_earlier, is_stamp, is_up_to, later_stamp, earlier_stamp}
 use Rattle.cds_stamps.specs.Octets.{octets_exact}
-use Rattle.attr_sets.specs.Cells.{AttrMark, cell_of, join_cells}
+use Rattle.attr_sets.specs.AttributeCells.{AttrMark, cell_of, join_cells}
 use Rattle.attr_sets.specs.CellPurges.{clear_left, cell_left, some_cell, cell_after}
 use Rattle.attr_sets.proofs.CellPurgeLaws.{KnowsUpTo, knows_up_to}
 use Rattle.attr_sets.proofs.SomeCellLaws.{some_cell-of_some, some_cell-of_none, merged_some, not_later}
@@ -25,7 +25,7 @@ use Rattle.directory.specs.Entries.{join_tied, join_entries}
 use Rattle.directory.specs.Kinds.{kind_cmp}
 use Rattle.directory.specs.Histories.{Mark, Born, birth_in, attr_mark_in, birth_cmp, birth_of, death_of, attr_history, cell_of_some, attrs_of}
 use Rattle.directory.specs.Histories.{entry_at, entry_of, table_of, CanMerge}
-use Rattle.directory.specs.Purges.{purged_entry, is_dead_up_to, entry_left, purged, after_entry, holds, is_passed, taken_entry}
+use Rattle.directory.specs.Purges.{purged_entry, is_dead_up_to, entry_left, purged_entries, after_entry, holds, is_passed, taken_entry}
 use Rattle.directory.specs.Purges.{take_entry, take_table}
 use Rattle.directory.proofs.FragmentLaws.{same_stamp}
 use Rattle.directory.proofs.HistoryLaws.{births, before, no_birth, no_death, no_attrs, get-table_of, get-attrs_of, attrs_joined, entries_tied}
@@ -341,16 +341,16 @@ some_same None = refl
 some_same (Some x) = refl
 
 -- what the purged table of a history has of a name
-pub get-purged : (h : List Mark) (s : Option Stamp) (n : List ℕ) → get (purged h s) n ≡ option_and_then (entry_left_by s) (entry_of h n)
+pub get-purged : (h : List Mark) (s : Option Stamp) (n : List ℕ) → get (purged_entries h s) n ≡ option_and_then (entry_left_by s) (entry_of h n)
 get-purged h None n = get-table_of h n ∙ some_same (entry_of h n)
 get-purged h (Some s) n = get-map_some nat_list_cmp_total octets_exact (entry_left s) (table_of h) n ∙ ap (option_and_then (entry_left s)) (get-table_of h n)
 
 -- a purged table, with what is taken of another that can be merged, is the purged table of both
 pub taken_table : (h g : List Mark) (s : Option Stamp) (t : Stamp) → maybe later_stamp s (Some t) ≡ Some t → CanMerge h g (Some t)
-    → take_table t (purged h (Some t)) (purged g s) ≡ purged (h ++ g) (Some t)
+    → take_table t (purged_entries h (Some t)) (purged_entries g s) ≡ purged_entries (h ++ g) (Some t)
 taken_table h g s t is can =
-    same_map nat_list_cmp_total octets_exact (take_table t (purged h (Some t)) (purged g s)) (purged (h ++ g) (Some t)) (λ n.
-    get-merge nat_list_cmp_total octets_exact (take_entry t) refl (purged h (Some t)) (purged g s) n
-    ∙ ap (λ x. take_entry t x (get (purged g s) n)) (get-purged h (Some t) n)
+    same_map nat_list_cmp_total octets_exact (take_table t (purged_entries h (Some t)) (purged_entries g s)) (purged_entries (h ++ g) (Some t)) (λ n.
+    get-merge nat_list_cmp_total octets_exact (take_entry t) refl (purged_entries h (Some t)) (purged_entries g s) n
+    ∙ ap (λ x. take_entry t x (get (purged_entries g s) n)) (get-purged h (Some t) n)
     ∙ ap (take_entry t (option_and_then (entry_left t) (entry_of h n))) (get-purged g s n)
     ∙ entry_taken t h g can n s is ∙ sym (get-purged (h ++ g) (Some t) n))

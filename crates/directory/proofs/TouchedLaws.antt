@@ -7,14 +7,14 @@ use Rattle.std.specs.Cmp.Lexicographic.{nat_list_cmp_total}
 use Rattle.std.proofs.lemmas.Bool.{false≢true}
 use Rattle.cds_stamps.specs.declared.stamp.Stamp.{Stamp}
 use Rattle.cds_stamps.specs.Semilattice.{maybe}
-use Rattle.cds_stamps.specs.Keyed.{tied}
+use Rattle.cds_stamps.specs.Keyed.{ties_are_equal}
 use Rattle.cds_stamps.specs.Octets.{octets_cmp, octets_exact, is_octets}
 use Rattle.cds_stamps.specs.Joins.{get-join_maps}
 use Rattle.cds_stamps.specs.Undos.{RaisesAt}
 use Rattle.attr_sets.specs.declared.mark.ValueMark.{ValueMark}
 use Rattle.attr_sets.specs.declared.cell.AttrCell.{AttrCell}
-use Rattle.attr_sets.specs.Marks.{kept, later, present_at, absent_at}
-use Rattle.attr_sets.specs.Cells.{Marked, cell_of, join_cells, IsValidCell}
+use Rattle.attr_sets.specs.Marks.{mark_after_clear, later, present_at, absent_at}
+use Rattle.attr_sets.specs.AttributeCells.{Marked, cell_of, join_cells, IsValidCell}
 use Rattle.attr_sets.specs.CellLawProofs.{get-join_cells, get-cell_of}
 use Rattle.directory.specs.declared.entry.EntryCell.{EntryCell}
 use Rattle.directory.specs.declared.deletions.What.{What}
@@ -49,10 +49,10 @@ module _ (a v : List ℕ) (mark : ValueMark) where
   other_mark : (c : AttrCell) (w : List ℕ) → IsValidCell c → is_octets w v ≡ false → get (join_cells c cell).values w ≡ get c.values w
   other_mark c w valid apart =
       let clear : (join_cells c cell).cleared ≡ c.cleared = alone _ c.cleared in
-      let none : get cell.values w ≡ None = get-cell_of (Marked v mark ∷ []) w ∙ ap (λ b. kept None (maybe later (if b then Some mark else None) None)) apart in
+      let none : get cell.values w ≡ None = get-cell_of (Marked v mark ∷ []) w ∙ ap (λ b. mark_after_clear None (maybe later (if b then Some mark else None) None)) apart in
       get-join_cells c cell w
-      ∙ (λ i. kept (clear i) (maybe later (get c.values w) (none i)))
-      ∙ ap (kept c.cleared) (alone later (get c.values w))
+      ∙ (λ i. mark_after_clear (clear i) (maybe later (get c.values w) (none i)))
+      ∙ ap (mark_after_clear c.cleared) (alone later (get c.values w))
       ∙ valid w
 
   joined_at : (own : EntryCell) (b : List ℕ)
@@ -133,7 +133,7 @@ update_spares m n u r valid leaves takes d apart h = at (is_octets d.name (chang
   where
     at : (b : Bool) → is_octets d.name (changed_name u) ≡ b → (b && may_undo u d.what) ≡ false → has_deletion n d ≡ true
     at true same apart =
-        let own : d.name ≡ changed_name u = tied octets_exact d.name (changed_name u) same in
+        let own : d.name ≡ changed_name u = ties_are_equal octets_exact d.name (changed_name u) same in
         subst (λ q. is_lost (get n q) d.stamp d.what ≡ true) (sym own)
         (own_still m n u r d.stamp d.what valid takes apart (subst (λ q. is_lost (get m q) d.stamp d.what ≡ true) own h))
     at false other apart =

@@ -7,7 +7,7 @@ use Rattle.std.specs.Map.{lookup}
 use Rattle.std.specs.BTreeMap.{is_at}
 use Rattle.std.specs.Cmp.{IsTotalOrder}
 use Rattle.std.specs.FinMap.{FinMap, IsAntisymmetric, get, insert, from_entries, get-insert}
-use Rattle.cds_stamps.specs.Keyed.{tied}
+use Rattle.cds_stamps.specs.Keyed.{ties_are_equal}
 use Rattle.cds_stamps.proofs.TreeViews.{view-insert}
 
 module _ {K X : Type 0} {R : K → K → Ordering} (o : IsTotalOrder R) (same : IsAntisymmetric R) where
@@ -16,7 +16,7 @@ module _ {K X : Type 0} {R : K → K → Ordering} (o : IsTotalOrder R) (same : 
   inserted_apart m n k x inserted q apart = ap (λ n. get n q) inserted ∙ get-insert o m k x q ∙ by_case (eq_by_cmp R q k) refl
     where
       by_case : (b : Bool) → eq_by_cmp R q k ≡ b → cond b (Some x) (get m q) ≡ get m q
-      by_case true e = absurd (apart (tied same q k e))
+      by_case true e = absurd (apart (ties_are_equal same q k e))
       by_case false e = refl
 
   -- a value set in place leaves the other keys

@@ -11,9 +11,9 @@ use Rattle.std.proofs.lemmas.List.Elements.{Contains-append_cases}
 use Rattle.cds_stamps.specs.declared.stamp.Stamp.{Stamp}
 use Rattle.cds_stamps.specs.Stamps.{stamp_total, is_earlier, is_stamp, is_up_to}
 use Rattle.cds_stamps.specs.Undos.{RaisesAt}
-use Rattle.cell_names.specs.FullNames.{spelling}
+use Rattle.cell_names.specs.FullNames.{full_name_octets}
 use Rattle.cell_names.specs.ChildPointers.{pointer_octets}
-use Rattle.attr_sets.specs.Cells.{Cleared}
+use Rattle.attr_sets.specs.AttributeCells.{Cleared}
 use Rattle.attr_sets.proofs.Greatest.{Contains-none, Contains-cases}
 use Rattle.directory.specs.declared.entry.Kind.{Kind}
 use Rattle.directory.specs.declared.entry.Kind.TheVariants.{Object, Link, Child}
@@ -25,7 +25,7 @@ use Rattle.directory.specs.Entries.{Entries, join_entries, IsValidEntry}
 use Rattle.directory.specs.Updates.{Change, Create, MakeLink, MakeChild, Delete, Add, Remove, Put, Clear, Repoint, changed_name}
 use Rattle.directory.specs.Histories.{Mark, Birth, Death, Attr, Born, name_in, born_in, stamp_in}
 use Rattle.directory.specs.Histories.{birth_in, is_birth, entry_of, table_of, HasBirths, IsAfterBirth, HasOneKind, IsHistory, IsBefore}
-use Rattle.directory.specs.Shown.{Shown, shown, shown_in, refusal_of, value_mark, put_marks, shown_dir, marks_of}
+use Rattle.directory.specs.Shown.{Shown, shown_of_name, shown_in, refusal_of, value_mark, put_marks, shown_dir, marks_of}
 use Rattle.directory.proofs.FragmentLaws.{same_octets, same_stamp}
 use Rattle.directory.proofs.ShownLaws.{shown_in-table_of}
 use Rattle.directory.proofs.TableLaws.{joined-table_of}
@@ -108,9 +108,9 @@ marks_are e (Create n) s ok = record { kind = Object; birth = s; rest = []; mark
 marks_are e (MakeLink n target) s ok = record {
   kind = Link;
   birth = s;
-  rest = value_mark n s link_target (spelling target) true s ∷ [];
+  rest = value_mark n s link_target (full_name_octets target) true s ∷ [];
   marks = refl;
-  about = (value_about n s link_target (spelling target) true s, tt);
+  about = (value_about n s link_target (full_name_octets target) true s, tt);
   source = inl refl;
 }
 marks_are e (MakeChild n pointer) s ok = record {
@@ -180,9 +180,9 @@ marks_are (Some e) (Repoint n master others) s ok =
 
 -- ---- the marks of an update are a history, also together with the one before
 
-module _ (h : List Mark) (n : List ℕ) (s : Stamp) (ms : List Mark) (known : IsHistory h) (before : IsBefore h s) (u : IsUpdate (shown h n) n s ms) where
+module _ (h : List Mark) (n : List ℕ) (s : Stamp) (ms : List Mark) (known : IsHistory h) (before : IsBefore h s) (u : IsUpdate (shown_of_name h n) n s ms) where
   -- the birth of an entry that shows is a mark of the history
-  pub old_birth : (x : Shown) → shown h n ≡ Some x → x.birth ≡ u.birth → x.kind ≡ u.kind → Contains h (Birth n u.kind u.birth)
+  pub old_birth : (x : Shown) → shown_of_name h n ≡ Some x → x.birth ≡ u.birth → x.kind ≡ u.kind → Contains h (Birth n u.kind u.birth)
   old_birth x is birth kind =
       subst (λ
       (b : Born). Contains h
@@ -262,45 +262,45 @@ module _ (h : List Mark) (n : List ℕ) (s : Stamp) (ms : List Mark) (known : Is
   names_of_all = (refl, all_map (IsAbout n u.birth s) (λ m. name_in m ≡ n) (λ m a. a.0) u.rest u.about)
 
 -- the marks of an accepted update that is later than the history
-module _ (h : List Mark) (u : Change) (s : Stamp) (known : IsHistory h) (before : IsBefore h s) (accepted : refusal_of (shown h
+module _ (h : List Mark) (u : Change) (s : Stamp) (known : IsHistory h) (before : IsBefore h s) (accepted : refusal_of (shown_of_name h
     (changed_name u)) u ≡ None) where
-  abbrev update : IsUpdate (shown h (changed_name u)) (changed_name u) s (marks_of (shown h (changed_name u)) u s)
-  update = marks_are (shown h (changed_name u)) u s accepted
+  abbrev update : IsUpdate (shown_of_name h (changed_name u)) (changed_name u) s (marks_of (shown_of_name h (changed_name u)) u s)
+  update = marks_are (shown_of_name h (changed_name u)) u s accepted
 
   -- the marks of an accepted update are a history
-  pub marks_of-history : IsHistory (marks_of (shown h (changed_name u)) u s)
+  pub marks_of-history : IsHistory (marks_of (shown_of_name h (changed_name u)) u s)
   marks_of-history = subst IsHistory (sym update.marks) (all_history h (changed_name u) s _ known before update)
 
   -- also together with the history that it is accepted in
-  pub marks_of-together : IsHistory (h ++ marks_of (shown h (changed_name u)) u s)
+  pub marks_of-together : IsHistory (h ++ marks_of (shown_of_name h (changed_name u)) u s)
   marks_of-together = subst (λ ms. IsHistory (h ++ ms)) (sym update.marks) (both_history h (changed_name u) s _ known before update)
 
   -- and are about its name
-  pub marks_of-names : AllByRecursion (λ m. name_in m ≡ changed_name u) (marks_of (shown h (changed_name u)) u s)
+  pub marks_of-names : AllByRecursion (λ m. name_in m ≡ changed_name u) (marks_of (shown_of_name h (changed_name u)) u s)
   marks_of-names = subst (AllByRecursion (λ m. name_in m ≡ changed_name u)) (sym update.marks) (names_of_all h (changed_name u) s _ known before update)
 
   -- the table of a house that accepts it: its fragment is joined in, and the table is that of the history with the marks
   pub accepted-table_of : (old new : Entries) (f : Fragment) → old ≡ table_of h → f.name ≡ changed_name u
       → entry_of (marks_of (shown_in old (changed_name u)) u s) f.name ≡ Some f.entry
       → (IfSome (get old f.name) IsValidEntry → IsValidEntry f.entry → RaisesAt join_entries old new f.name f.entry)
-      → new ≡ table_of (h ++ marks_of (shown h (changed_name u)) u s)
+      → new ≡ table_of (h ++ marks_of (shown_of_name h (changed_name u)) u s)
   accepted-table_of old new f stands named made joins =
-      let seen_there : shown_in old (changed_name u) ≡ shown h (changed_name u) = ap (λ t. shown_in t (changed_name u)) stands
+      let seen_there : shown_in old (changed_name u) ≡ shown_of_name h (changed_name u) = ap (λ t. shown_in t (changed_name u)) stands
       ∙ shown_in-table_of h (changed_name u) in
-      let now : entry_of (marks_of (shown h (changed_name u)) u s) f.name ≡ Some f.entry = ap (λ x. entry_of (marks_of x u s) f.name) (sym seen_there) ∙ made in
-      joined-table_of h (marks_of (shown h (changed_name u)) u s) f.name f.entry old new known.births marks_of-history.births
-      (subst (λ n. AllByRecursion (λ m. name_in m ≡ n) (marks_of (shown h (changed_name u)) u s)) (sym named) marks_of-names) now stands joins
+      let now : entry_of (marks_of (shown_of_name h (changed_name u)) u s) f.name ≡ Some f.entry = ap (λ x. entry_of (marks_of x u s) f.name) (sym seen_there) ∙ made in
+      joined-table_of h (marks_of (shown_of_name h (changed_name u)) u s) f.name f.entry old new known.births marks_of-history.births
+      (subst (λ n. AllByRecursion (λ m. name_in m ≡ n) (marks_of (shown_of_name h (changed_name u)) u s)) (sym named) marks_of-names) now stands joins
 
   -- or the update is applied in place
   pub applied-table_of : (old new : Entries) → old ≡ table_of h → TakesIn old new (changed_name u) (marks_of (shown_in old (changed_name u)) u s)
-      → new ≡ table_of (h ++ marks_of (shown h (changed_name u)) u s)
+      → new ≡ table_of (h ++ marks_of (shown_of_name h (changed_name u)) u s)
   applied-table_of old new stands takes =
-      let seen_there : shown_in old (changed_name u) ≡ shown h (changed_name u) = ap (λ t. shown_in t (changed_name u)) stands
+      let seen_there : shown_in old (changed_name u) ≡ shown_of_name h (changed_name u) = ap (λ t. shown_in t (changed_name u)) stands
       ∙ shown_in-table_of h (changed_name u) in
       by_entry (entry_of marks (changed_name u)) refl (subst (λ x. TakesIn old new (changed_name u) (marks_of x u s)) seen_there takes)
     where
       marks : List Mark
-      marks = marks_of (shown h (changed_name u)) u s
+      marks = marks_of (shown_of_name h (changed_name u)) u s
 
       by_entry : (x : Option EntryCell) → entry_of marks (changed_name u) ≡ x
           → IsSomeAnd x (λ e. IfSome (get old (changed_name u)) IsValidEntry → RaisesAt join_entries old new (changed_name u) e)

@@ -6,7 +6,7 @@ use Rattle.cds_stamps.specs.declared.stamp.Stamp.{Stamp}
 use Rattle.cds_stamps.specs.Octets.{octets_cmp}
 use Rattle.cds_stamps.specs.Undos.{RaisesAt}
 use Rattle.attr_sets.specs.declared.cell.AttrCell.{AttrCell}
-use Rattle.attr_sets.specs.Cells.{AttrMark, cell_of, join_cells}
+use Rattle.attr_sets.specs.AttributeCells.{AttrMark, cell_of, join_cells}
 use Rattle.directory.specs.declared.entry.EntryCell.{EntryCell}
 use Rattle.directory.specs.Entries.{Entries, join_entries, IsHeldCell, IsValidEntry}
 use Rattle.directory.specs.Histories.{Mark, entry_of}

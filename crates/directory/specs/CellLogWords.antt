@@ -8,7 +8,7 @@ use Rattle.attr_sets.specs.declared.cell.AttrCell.{AttrCell}
 use Rattle.attr_sets.specs.declared.undo.CellUndo.{CellUndo}
 use Rattle.attr_sets.specs.declared.undo.CellUndo.TheVariants.{Whole, Marks}
 use Rattle.attr_sets.specs.Marks.{mark_code}
-use Rattle.attr_sets.specs.Cells.{cell_code}
+use Rattle.attr_sets.specs.AttributeCells.{cell_code}
 
 -- a way back is a cell or a log of marks
 abbrev pub parts : CellUndo → AttrCell ⊎ List (List ℕ × Option ValueMark)

@@ -8,7 +8,7 @@ use Rattle.cds_stamps.specs.Stamps.{stamp_cmp, earlier_stamp, stamp_code}
 use Rattle.cds_stamps.specs.Octets.{octets_cmp, octets_code}
 use Rattle.cds_stamps.specs.Joins.{by_key, join_maps, EachValue}
 use Rattle.attr_sets.specs.declared.cell.AttrCell.{AttrCell}
-use Rattle.attr_sets.specs.Cells.{empty_cell, join_cells, IsValidCell, cell_code}
+use Rattle.attr_sets.specs.AttributeCells.{empty_cell, join_cells, IsValidCell, cell_code}
 use Rattle.directory.specs.declared.entry.Kind.{Kind}
 use Rattle.directory.specs.declared.entry.EntryCell.{EntryCell}
 use Rattle.directory.specs.Kinds.{kind_cmp, kind_code}

@@ -4,7 +4,7 @@ use Rattle.cds_stamps.specs.declared.stamp.Stamp.{Stamp}
 use Rattle.directory.specs.declared.update.Update.{Update}
 use Rattle.directory.specs.Updates.{Change, Create, Add, Remove, change_of, changed_name}
 use Rattle.directory.specs.Histories.{Mark, IsBefore}
-use Rattle.directory.specs.Shown.{shown, is_reserved, refusal_of, marks_of}
+use Rattle.directory.specs.Shown.{shown_of_name, is_reserved, refusal_of, marks_of}
 
 -- what a list of updates changes (own)
 abbrev pub changes : List Update → List Change
@@ -25,5 +25,5 @@ ChangesValue n _ = ⊥
 abbrev pub AreAccepted : List Mark → List Change → Type 0
 AreAccepted h [] = Unit {0}
 AreAccepted h (u ∷ us) =
-    (refusal_of (shown h (changed_name u)) u ≡ None)
-    × ((s : Stamp) → IsBefore h s → AreAccepted (h ++ marks_of (shown h (changed_name u)) u s) us)
+    (refusal_of (shown_of_name h (changed_name u)) u ≡ None)
+    × ((s : Stamp) → IsBefore h s → AreAccepted (h ++ marks_of (shown_of_name h (changed_name u)) u s) us)

@@ -10,7 +10,7 @@ use Rattle.directory.specs.declared.entry.EntryCell.{EntryCell}
 use Rattle.cds_stamps.specs.Semilattice.{IsJoin, IsSemilattice, maybe, maybe_semilattice, greater, greater_semilattice}
 use Rattle.cds_stamps.specs.Stamps.{stamp_total, stamp_exact, earlier_stamp, earlier_stamp_laws}
 use Rattle.cds_stamps.specs.Octets.{octets_cmp, octets_exact}
-use Rattle.attr_sets.specs.Cells.{join_cells}
+use Rattle.attr_sets.specs.AttributeCells.{join_cells}
 use Rattle.attr_sets.specs.CellLawProofs.{join_cells-comm, join_cells-assoc, join_cells-idem, join_cells-valid, join_held}
 use Rattle.cds_stamps.specs.Joins.{JoinsTied, join_maps, map_join, key_join, EachValue}
 use Rattle.directory.specs.Kinds.{rank, kind_of_rank, rank_back, kind_cmp}

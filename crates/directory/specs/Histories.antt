@@ -12,7 +12,7 @@ use Rattle.cds_stamps.specs.Keyed.{of_keys}
 use Rattle.cds_stamps.specs.Stamps.{stamp_cmp, is_stamp, is_earlier, is_up_to, earlier_stamp}
 use Rattle.cds_stamps.specs.Octets.{octets_cmp, is_octets}
 use Rattle.attr_sets.specs.declared.cell.AttrCell.{AttrCell}
-use Rattle.attr_sets.specs.Cells.{AttrMark, attr_stamp, cell_of}
+use Rattle.attr_sets.specs.AttributeCells.{AttrMark, attr_stamp, cell_of}
 use Rattle.directory.specs.declared.entry.Kind.{Kind}
 use Rattle.directory.specs.declared.entry.EntryCell.{EntryCell}
 use Rattle.directory.specs.Entries.{Entries}

@@ -82,8 +82,8 @@ BeginsWellBeside u x m =
     → has_deletion m d ≡ true
 
 -- how many deletions the index keeps, those that the table has no more among them
-abbrev pub kept : Deletions → ℕ
-kept x = btree_set_len x.known
+abbrev pub deletion_count : Deletions → ℕ
+deletion_count x = btree_set_len x.known
 
 -- how many it may keep at least
 abbrev pub few : ℕ
@@ -92,17 +92,17 @@ few = 64
 -- the settled index y of a table keeps no more than it may. How many that is changes only where the index x, from which it comes, kept
 -- more: then it is at most twice what the table holds, or few
 pub record IsSettled (x y : Deletions) (m : Entries) : Type 0 where
-  pub within : kept y ≤ y.most
-  pub spared : kept x ≤ x.most → y.most ≡ x.most
-  pub swept : x.most < kept x → y.most ≤ max few (2 * held_in m)
+  pub within : deletion_count y ≤ y.most
+  pub spared : deletion_count x ≤ x.most → y.most ≡ x.most
+  pub swept : x.most < deletion_count x → y.most ≤ max few (2 * held_in m)
 
 -- the index is that of the table, whose entries are valid, and keeps no more than it may (own)
 pub record IsIndexed (x : Deletions) (m : Entries) : Type 0 where
   pub valid : IsValidTable m
   pub all : KnowsAll x m
   pub first : BeginsWell x m
-  pub within : kept x ≤ x.most
+  pub within : deletion_count x ≤ x.most
 
 -- the table of these entries, inserted in turn (own)
-abbrev pub inserted : List (List ℕ × EntryCell) → Entries
-inserted = fold (λ m p. insert m p.0 p.1) empty
+abbrev pub insert_each : List (List ℕ × EntryCell) → Entries
+insert_each = fold (λ m p. insert m p.0 p.1) empty

@@ -31,9 +31,9 @@ abbrev pub purged_table : Stamp → Entries → Entries
 purged_table t = map_some (entry_left t)
 
 -- the table of a history, without the deletions stamped at most t (own)
-abbrev pub purged : List Mark → Option Stamp → Entries
-purged h None = table_of h
-purged h (Some t) = purged_table t (table_of h)
+abbrev pub purged_entries : List Mark → Option Stamp → Entries
+purged_entries h None = table_of h
+purged_entries h (Some t) = purged_table t (table_of h)
 
 -- what is later than t of an entry, whatever its birth: its death and the marks of its attributes (own)
 abbrev pub after_entry : Stamp → EntryCell → EntryCell

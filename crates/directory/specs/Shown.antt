@@ -6,9 +6,9 @@ use Rattle.std.specs.List.{Contains}
 use Rattle.std.specs.Option.{option_and_then, option_map_or}
 use Rattle.cds_stamps.specs.declared.stamp.Stamp.{Stamp}
 use Rattle.cds_stamps.specs.Octets.{is_octets}
-use Rattle.cell_names.specs.FullNames.{is_full_name, spelling}
+use Rattle.cell_names.specs.FullNames.{is_full_name, full_name_octets}
 use Rattle.cell_names.specs.ChildPointers.{is_child_pointer, pointer_of, pointer_octets}
-use Rattle.attr_sets.specs.Cells.{Cleared, Marked, shown_values, cell_values}
+use Rattle.attr_sets.specs.AttributeCells.{Cleared, Marked, shown_values, cell_values}
 use Rattle.directory.specs.declared.entry.Kind.{Kind}
 use Rattle.directory.specs.declared.entry.Kind.TheVariants.{Object, Link, Child}
 use Rattle.directory.specs.declared.entry.EntryCell.{EntryCell}
@@ -69,8 +69,8 @@ abbrev pub shown_born : List Mark → List ℕ → Born → Option Shown
 shown_born h n b = shown_if_live (death_of h n b.at) (record { birth = b.at; kind = b.kind; values = λ a. shown_values (attr_history h n b.at a) })
 
 -- what a history shows of a name (own)
-abbrev pub shown : List Mark → List ℕ → Option Shown
-shown h n = option_and_then (shown_born h n) (birth_of h n)
+abbrev pub shown_of_name : List Mark → List ℕ → Option Shown
+shown_of_name h n = option_and_then (shown_born h n) (birth_of h n)
 
 -- the values of an attribute in an entry of a table (own)
 abbrev pub entry_values : EntryCell → List ℕ → List (List ℕ)
@@ -145,7 +145,7 @@ shown_dir e = option_map_or (λ p. p.dir) (option_and_then pointer_of (lead_of e
 -- the marks of an update with stamp s, by what shows of its name (own)
 abbrev pub marks_of : Option Shown → Change → Stamp → List Mark
 marks_of e (Create n) s = Birth n Object s ∷ []
-marks_of e (MakeLink n target) s = Birth n Link s ∷ value_mark n s link_target (spelling target) true s ∷ []
+marks_of e (MakeLink n target) s = Birth n Link s ∷ value_mark n s link_target (full_name_octets target) true s ∷ []
 marks_of e (MakeChild n pointer) s = Birth n Child s ∷ value_mark n s replicas (pointer_octets pointer) true s ∷ []
 marks_of e (Delete n) s = with_birth n e (λ x. Death n x.birth s ∷ [])
 marks_of e (Add n a v) s = with_birth n e (λ x. value_mark n x.birth a v true s ∷ [])

@@ -8,7 +8,7 @@ ghost use Rattle.cds_stamps.specs.Keyed.{map_some};
 ghost use Rattle.cds_stamps.specs.Octets.{octets_cmp};
 ghost use Rattle.cds_stamps.specs.Joins.{join_maps, EachValue};
 ghost use Rattle.cds_stamps.specs.Undos.{RaisesAt, TakesBack, LogsChange, MendsAt, back_at};
-ghost use Rattle.attr_sets.specs.Cells.{cell_of, join_cells};
+ghost use Rattle.attr_sets.specs.AttributeCells.{cell_of, join_cells};
 ghost use Rattle.attr_sets.specs.CellChanges.{change_marks};
 ghost use Rattle.attr_sets.specs.CellPurges.{is_empty_cell, cell_after};
 ghost use Rattle.attr_sets.specs.CellUndoWords.{undo_cell};
@@ -37,7 +37,7 @@ impl Drop for AttrMap {
 impl Model for AttrMap {
     ghost use Rattle.std.specs.FinMap as map;
     ghost use Rattle.cds_stamps.specs.Octets.{octets_cmp, octets_code};
-    ghost use Rattle.attr_sets.specs.Cells.{cell_code};
+    ghost use Rattle.attr_sets.specs.AttributeCells.{cell_code};
     ghost use Rattle.attr_sets.specs.declared.cell.AttrCell.{AttrCell};
 
     ghost Value = { map.FinMap octets_cmp AttrCell };

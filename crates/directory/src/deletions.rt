@@ -7,7 +7,7 @@ ghost use Rattle.cds_stamps.specs.Stamps.{is_up_to};
 ghost use Rattle.directory.specs.Deletions.{has_lost, has_deletion, is_before, is_deletion, deleted_by};
 ghost use Rattle.directory.specs.Held.{held_in};
 ghost use Rattle.directory.specs.IndexWords.{is_indexed, Keeps, AddsAt, AddsOnly, KnowsMark, KnowsCell, KnowsAll};
-ghost use Rattle.directory.specs.IndexWords.{few, kept, IsSettled};
+ghost use Rattle.directory.specs.IndexWords.{few, deletion_count, IsSettled};
 ghost use Rattle.directory.specs.IndexWords.{BeginsWell, BeginsWellElsewhere, is_absence, may_undo, touches, BeginsWellBeside};
 ghost use Rattle.directory.specs.Updates.{change_of, changed_name};
 
@@ -119,7 +119,7 @@ impl Clone for Deletions {
 impl Deletions {
     pub(crate) fn new(alloc: Global) -> Self
         ensures none { (d : Deletion) → is_indexed result d ≡ false }
-        ensures empty { kept result ≡ 0 }
+        ensures empty { deletion_count result ≡ 0 }
         ensures room { result.most ≡ few }
     {
         Deletions {
@@ -149,7 +149,7 @@ impl Deletions {
     /// Takes the first deletion out, if it is stamped at most t.
     pub(crate) fn pop_up_to(&mut self, t: Stamp) -> Option<Deletion>
         ensures first { IfSome result (λ d. (is_indexed self.old d ≡ true) × (is_up_to t d.stamp ≡ true)) }
-        ensures shorter { IfSome result (λ _. kept self.new < kept self.old) }
+        ensures shorter { IfSome result (λ _. deletion_count self.new < deletion_count self.old) }
         ensures rest { IfSome result (λ d. (e : Deletion) → is_indexed self.new e ≡ (if is_deletion e d then false else is_indexed self.old e)) }
         ensures none { IfNone result ((self.new ≡ self.old) × ((d : Deletion) → is_indexed self.old d ≡ true → is_up_to t d.stamp ≡ false)) }
         ensures room { self.new.most ≡ self.old.most }
@@ -164,7 +164,7 @@ impl Deletions {
     pub(crate) fn add(&mut self, deletion: Deletion) -> Result<(), AllocError>
         ensures ok { OnOk result ((e : Deletion) → is_indexed self.new e ≡ (if is_deletion e deletion then true else is_indexed self.old e)) }
         ensures err { OnErr result ((e : Deletion) → is_indexed self.new e ≡ is_indexed self.old e) }
-        ensures same { OnErr result (kept self.new ≡ kept self.old) }
+        ensures same { OnErr result (deletion_count self.new ≡ deletion_count self.old) }
         ensures room { self.new.most ≡ self.old.most }
     {
         self.known.insert(deletion)?;
@@ -181,7 +181,7 @@ impl Deletions {
         ensures adds { AddsOnly (deleted_by (change_of update.now) stamp) self.old self.new }
         ensures ok { OnOk result (IfSome (deleted_by (change_of update.now) stamp) (λ d. is_indexed self.new d ≡ true)) }
         ensures err { OnErr result ((e : Deletion) → is_indexed self.new e ≡ is_indexed self.old e) }
-        ensures same { OnErr result (kept self.new ≡ kept self.old) }
+        ensures same { OnErr result (deletion_count self.new ≡ deletion_count self.old) }
         ensures room { self.new.most ≡ self.old.most }
     {
         match deletion_of(alloc, update, stamp)? {
@@ -341,8 +341,8 @@ impl Deletions {
     fn pop_outdated(&mut self, entries: &EntryMap) -> bool
         ensures all { KnowsAll self.old entries.now → KnowsAll self.new entries.now }
         ensures fewer { Keeps self.new self.old }
-        ensures first { MatchBool result (kept self.new < kept self.old)
-            ((kept self.new ≡ kept self.old) × BeginsWell self.new entries.now) }
+        ensures first { MatchBool result (deletion_count self.new < deletion_count self.old)
+            ((deletion_count self.new ≡ deletion_count self.old) × BeginsWell self.new entries.now) }
         ensures room { self.new.most ≡ self.old.most }
     {
         match self.known.first() {
@@ -357,7 +357,7 @@ impl Deletions {
     /// Throws away all that is no deletion of the entries any more. From then on it may keep twice as many as are left.
     fn sweep(&mut self, entries: &EntryMap)
         ensures left { (d : Deletion) → is_indexed self.new d ≡ (is_indexed self.old d && has_deletion entries.now d) }
-        ensures within { kept self.new ≤ self.new.most }
+        ensures within { deletion_count self.new ≤ self.new.most }
         ensures room { self.new.most ≤ max few (2 * held_in entries.now) }
     {
         self.known.retain(|deletion| entries.has(deletion));

@@ -9,7 +9,7 @@ ghost use Rattle.directory.specs.Kinds.{kind_cmp, is_child};
 ghost use Rattle.directory.specs.Entries.{join_tied, join_entries, IsValidEntry};
 ghost use Rattle.directory.specs.EntryLawProofs.{entry_join};
 ghost use Rattle.directory.specs.EntryUndoWords.{undo_entry};
-ghost use Rattle.attr_sets.specs.Cells.{cell_values};
+ghost use Rattle.attr_sets.specs.AttributeCells.{cell_values};
 ghost use Rattle.attr_sets.specs.CellChanges.{change_marks};
 ghost use Rattle.attr_sets.specs.CellPurges.{clear_left};
 ghost use Rattle.directory.specs.Purges.{is_dead_up_to, after_entry, is_bare};

@@ -2,9 +2,9 @@
 ghost use Rattle.std.specs.Prelude.{◌≡◌, [], ◌∷◌, None, true, IfOk};
 ghost use Rattle.std.specs.FinMap as map;
 ghost use Rattle.cds_stamps.specs.Names.{attr_fault};
-ghost use Rattle.cell_names.specs.FullNames.{spelling};
+ghost use Rattle.cell_names.specs.FullNames.{full_name_octets};
 ghost use Rattle.cell_names.specs.ChildPointers.{pointer_in, pointer_octets};
-ghost use Rattle.attr_sets.specs.Cells.{Marked, cell_of};
+ghost use Rattle.attr_sets.specs.AttributeCells.{Marked, cell_of};
 
 use crate::attr_map::AttrMap;
 use crate::entry::{EntryCell, Fragment, Kind};
@@ -58,7 +58,7 @@ pub(crate) fn born_with(
 
 /// The value that spells the target of a link.
 pub(crate) fn target_value(alloc: Global, target: &FullName) -> Result<Value, AllocError>
-    ensures { IfOk result (λ v. v ≡ spelling target.now) }
+    ensures { IfOk result (λ v. v ≡ full_name_octets target.now) }
 {
     let octets = target.print(alloc)?;
     Value::known(alloc, &octets)

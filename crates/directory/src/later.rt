@@ -5,7 +5,7 @@ ghost use Rattle.cds_stamps.specs.Semilattice.{maybe};
 ghost use Rattle.cds_stamps.specs.Stamps.{is_up_to};
 ghost use Rattle.directory.specs.Applied.{LeavesOthers};
 ghost use Rattle.directory.specs.Entries.{join_entries, join_tables, IsValidEntry, IsValidTable};
-ghost use Rattle.directory.specs.IndexWords.{IsIndexed, Keeps, KnowsAll, inserted};
+ghost use Rattle.directory.specs.IndexWords.{IsIndexed, Keeps, KnowsAll, insert_each};
 ghost use Rattle.directory.specs.Purges.{delta_entry, delta_table, holds, is_bare, is_passed, take_entry, take_table};
 
 use crate::deletions::Deletions;
@@ -92,10 +92,10 @@ fn put_delta(
     entry: &EntryCell,
     t: Stamp,
 ) -> Result<(), AllocError>
-    ensures here { OnOk result (map.get (inserted later.old.items) name.now ≡ None →
-        map.get (inserted later.new.items) name.now ≡ delta_entry t entry.now) }
+    ensures here { OnOk result (map.get (insert_each later.old.items) name.now ≡ None →
+        map.get (insert_each later.new.items) name.now ≡ delta_entry t entry.now) }
     ensures others { OnOk result (
-        LeavesOthers (inserted later.old.items) (inserted later.new.items) name.now) }
+        LeavesOthers (insert_each later.old.items) (insert_each later.new.items) name.now) }
 {
     let t = &t;
     let after = entry.after(alloc, *t)?;
@@ -121,12 +121,12 @@ fn put_later(
     entry: &EntryCell,
     t: Stamp,
 ) -> Result<(), AllocError>
-    ensures valid { OnOk result (map.get (inserted later.old.items) name.now ≡ None → IsValidEntry entry.now →
-        IfSome (map.get (inserted later.new.items) name.now) IsValidEntry) }
+    ensures valid { OnOk result (map.get (insert_each later.old.items) name.now ≡ None → IsValidEntry entry.now →
+        IfSome (map.get (insert_each later.new.items) name.now) IsValidEntry) }
     ensures joined { let own = map.get own.now name.now in
-        OnOk result (map.get (inserted later.old.items) name.now ≡ None → IfSome own IsValidEntry → IsValidEntry entry.now →
-        maybe join_entries own (map.get (inserted later.new.items) name.now) ≡ take_entry t own (Some entry.now)) }
-    ensures others { LeavesOthers (inserted later.old.items) (inserted later.new.items) name.now }
+        OnOk result (map.get (insert_each later.old.items) name.now ≡ None → IfSome own IsValidEntry → IsValidEntry entry.now →
+        maybe join_entries own (map.get (insert_each later.new.items) name.now) ≡ take_entry t own (Some entry.now)) }
+    ensures others { LeavesOthers (insert_each later.old.items) (insert_each later.new.items) name.now }
 {
     let t = &t;
     if !is_known(own.get(name), entry, *t) {

@@ -17,7 +17,7 @@ ghost use Rattle.directory.specs.EntryLawProofs.{table_join};
 ghost use Rattle.directory.specs.Held.{held_in, most_held};
 ghost use Rattle.directory.specs.Histories.{Mark, entry_of};
 ghost use Rattle.directory.specs.IndexWords.{IsIndexed};
-ghost use Rattle.directory.specs.Purges.{delta_table, purged_table, purged, take_table};
+ghost use Rattle.directory.specs.Purges.{delta_table, purged_table, purged_entries, take_table};
 ghost use Rattle.directory.specs.Shown.{face_of, shown_in, live_count, refusal_of, marks_of};
 ghost use Rattle.directory.specs.ToldWords.{AcceptsUpdate, TellsUpdate};
 ghost use Rattle.directory.specs.Updates.{change_of, changed_name};
@@ -293,7 +293,7 @@ impl Table {
     pub fn drop_up_to(&mut self, t: Stamp)
         ensures dropped { self.new ≡ purged_table t self.old }
         ensures histories { (h : List Mark) (a : Option Stamp) → maybe later_stamp a (Some t) ≡ Some t →
-            self.old ≡ purged h a → self.new ≡ purged h (Some t) }
+            self.old ≡ purged_entries h a → self.new ≡ purged_entries h (Some t) }
         ensures valid { IsValidTable self.old → IsValidTable self.new }
     {
         drop_deletions_up_to(&mut self.entries, &mut self.deletions, t);

@@ -6,7 +6,7 @@ use Rattle.std.proofs.lemmas.Bool.{and_from, and_left, and_right, le-leb, lt-leb
 use Rattle.std.proofs.lemmas.List.{length-take-le, length-map, ext_get_or}
 use Rattle.std.proofs.lemmas.List.FromFn.{length-range_with_len, get_or-map-range_with_len}
 use Rattle.house_journal.specs.declared.step.Step.{Step}
-use Rattle.house_journal.specs.Disks.{Change, Wrote, CutTo, Torn, CutBack, written}
+use Rattle.house_journal.specs.Disks.{Change, Wrote, CutTo, Torn, CutBack, with_piece}
 use Rattle.house_journal.specs.MemoryDisks.{FitsStep, Fits, Tears, before_step, change_of, left_now, synced_in, changes_in}
 use Rattle.house_journal.specs.CrashSets.{size_after, least_size, most_size, Spares, Untouched, IsLeft}
 use Rattle.house_journal.specs.Restarts.{done_by}
@@ -257,7 +257,7 @@ tears_whole s file fits = subst (Tears s (before_step s file)) (redone s file fi
         → (let c = done_by (if b then CutTo s.at else Wrote s.at (take s.len (drop s.at file))) old in MatchBool b (CutBack s.at old c) (Torn s.at s.len old c))
     by_cuts true on = cut_whole s.at old
     by_cuts false off =
-        subst (λ (n : ℕ). Torn s.at n old (written old s.at (take s.len (drop s.at file)))) (piece_size s file fits)
+        subst (λ (n : ℕ). Torn s.at n old (with_piece old s.at (take s.len (drop s.at file)))) (piece_size s file fits)
         (torn_whole s.at (take s.len (drop s.at file)) old (omega (arith, old_size s file fits)))
 
 -- a step further, and back

@@ -5,8 +5,8 @@ use Rattle.std.proofs.Common.{refl, sym, ◌∙◌, ap, subst, arith, append_ass
 use Rattle.std.proofs.lemmas.List.{drop_all, get_or_append_left, get_or_at, nil_from_length, length-take, take_min}
 use Rattle.std.proofs.lemmas.List.Prefix.{front_from_reads}
 use Rattle.std.proofs.lemmas.Bool.{cases_eq, cases_Bool, and_parts, leb-true}
-use Rattle.house_journal.specs.Disks.{CutBack, Torn, written}
-use Rattle.house_journal.specs.Records.{length_at, is_open, images, gate_of, HasImagesOf, IsClean, IsOpenable, IsAtRest}
+use Rattle.house_journal.specs.Disks.{CutBack, Torn, with_piece}
+use Rattle.house_journal.specs.JournalRecords.{length_at, is_open, images, gate_of, HasImagesOf, IsClean, IsOpenable, IsAtRest}
 use Rattle.house_journal.proofs.Records.{AreRecords, joined, images_of, Parts, parts, parts_images, parts_gate, closed, uncounted, ends_images, ends_gate, closed_images, closed_clean, at_rest}
 
 -- at most one octet is no record
@@ -166,7 +166,7 @@ module _ (file : List ℕ) (place : ℕ) (gate : place ≡ gate_of file) (last :
       ∙ ap (λ (l : List ℕ). get_or l i 0) q.split ∙ get_or_append_left (joined q.records) q.rest 0 i lt))
       (omega (arith, torn.within, last, room))
 
-  pub gate_written : written file place (0 ∷ []) ≡ take place file ++ 0 ∷ []
+  pub gate_written : with_piece file place (0 ∷ []) ≡ take place file ++ 0 ∷ []
   gate_written = ap (λ (l : List ℕ). take place file ++ 0 ∷ l) (drop_all (place + 1) file (omega (arith, last)))
 
 -- an octet of a front

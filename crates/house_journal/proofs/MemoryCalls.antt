@@ -8,9 +8,9 @@ use Rattle.house_journal.specs.declared.disk.DiskError.TheVariants.{Failed, OutO
 use Rattle.cds_base.specs.Counts.{HasCause, next_count}
 use Rattle.house_journal.specs.declared.step.Stop.{Stop}
 use Rattle.house_journal.specs.declared.step.Stop.TheVariants.{Never, After, Stopped}
-use Rattle.house_journal.specs.Disks.{Torn, CutBack, Follows, Elapses, Wrote, told_change, HasDiskCause, written}
+use Rattle.house_journal.specs.Disks.{Torn, CutBack, Follows, Elapses, Wrote, told_change, HasDiskCause, with_piece}
 use Rattle.house_journal.specs.MemoryDisks.{MemState, FitsStep, write_of, cut_of, before_step, change_of, left_now, left_from, moment_of}
-use Rattle.house_journal.specs.MemoryDisks.{noted_write, noted_cut, counted, has_stopped, fails, told_of, synced_in, changes_in}
+use Rattle.house_journal.specs.MemoryDisks.{noted_write, noted_cut, after_write_call, has_stopped, fails, told_of, synced_in, changes_in}
 use Rattle.house_journal.specs.ClockProofs.{reads_left_lem}
 use Rattle.house_journal.proofs.WholeSteps.{torn_whole, cut_whole}
 use Rattle.house_journal.proofs.Ticking.{before_write, before_cut, elapses_step, elapses_none}
@@ -34,9 +34,9 @@ cut_none n c = record { kept = omega arith; within = omega arith; stays = λ i l
 -- a write
 module _ (m : MemState) (at : ℕ) (piece : List ℕ) (start : at ≤ length m.octets) where
   abbrev after : MemState
-  after = record m { octets = written m.octets at piece; steps = write_of at piece m.octets ∷ m.steps }
+  after = record m { octets = with_piece m.octets at piece; steps = write_of at piece m.octets ∷ m.steps }
 
-  back : before_step (write_of at piece m.octets) (written m.octets at piece) ≡ m.octets
+  back : before_step (write_of at piece m.octets) (with_piece m.octets at piece) ≡ m.octets
   back = before_write at piece m.octets start
 
   pub write_crash : Follows (Torn at (length piece)) (Leaves m) (Leaves (noted_write at piece m))
@@ -55,17 +55,17 @@ module _ (m : MemState) (at : ℕ) (piece : List ℕ) (start : at ≤ length m.o
     where
       by_stop : (b : Bool) → Ticks m (if b then m else after)
       by_stop true = elapses_none m.steps m.octets
-      by_stop false = elapses_step (write_of at piece m.octets) m.steps m.octets (written m.octets at piece) refl back
+      by_stop false = elapses_step (write_of at piece m.octets) m.steps m.octets (with_piece m.octets at piece) refl back
 
-  change : change_of (write_of at piece m.octets) (written m.octets at piece) ≡ Wrote at piece
+  change : change_of (write_of at piece m.octets) (with_piece m.octets at piece) ≡ Wrote at piece
   change = ap (Wrote at) (ap (take (length piece)) (drop_at (take at m.octets) (piece ++ drop (at + length piece) m.octets) at (length-take-le at m.octets start))
       ∙ take_at piece (drop (at + length piece) m.octets) (length piece) refl)
 
-  pub write_told : told_of (counted (noted_write at piece m)) ≡ told_change (Wrote at piece) (fails m.stop) (told_of m)
+  pub write_told : told_of (after_write_call (noted_write at piece m)) ≡ told_change (Wrote at piece) (fails m.stop) (told_of m)
   write_told = by_stop m.stop
     where
       by_stop : (p : Stop) → (let n : MemState = record m { stop = p } in
-          told_of (counted (noted_write at piece n)) ≡ told_change (Wrote at piece) (fails p) (told_of n))
+          told_of (after_write_call (noted_write at piece n)) ≡ told_change (Wrote at piece) (fails p) (told_of n))
       by_stop Never = λ i. record {
         synced = synced_in m.steps (back i);
         changes = changes_in m.steps (back i) ++ change i ∷ [];
@@ -127,7 +127,7 @@ module _ (m : MemState) (size : ℕ) where
       by_stop false = refl
 
 -- a write fits the octets after it
-pub fits_write : (at : ℕ) (piece file : List ℕ) → at ≤ length file → FitsStep (write_of at piece file) (written file at piece)
+pub fits_write : (at : ℕ) (piece file : List ℕ) → at ≤ length file → FitsStep (write_of at piece file) (with_piece file at piece)
 fits_write at piece file within =
     let front = length-take-le at file within in
     let rest = length-drop (at + length piece) file in

@@ -8,7 +8,7 @@ use Rattle.house_journal.specs.declared.disk.Disk.{Ghosts}
 use Rattle.house_journal.specs.Disks.{OnlyReads}
 use Rattle.std.specs.Prelude.{Option, Some}
 use Rattle.std.specs.List.{last_or}
-use Rattle.house_journal.specs.Records.{is_open, length_at, gate_of, images, last_image}
+use Rattle.house_journal.specs.JournalRecords.{is_open, length_at, gate_of, images, last_image}
 use Rattle.house_journal.proofs.Records.{opened, counted, closed, uncounted}
 
 module _ {D : Type 0} (g : Ghosts D) where

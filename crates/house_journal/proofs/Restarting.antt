@@ -7,11 +7,11 @@ use Rattle.house_journal.specs.declared.step.Step.{Step}
 use Rattle.house_journal.specs.declared.leave.Leave.{Leave}
 use Rattle.house_journal.specs.declared.leave.Leave.TheVariants.{Keep, Drop, Torn}
 use Rattle.house_journal.specs.declared.step.Tear.{Tear}
-use Rattle.house_journal.specs.Disks.{Change, Wrote, CutTo, written}
+use Rattle.house_journal.specs.Disks.{Change, Wrote, CutTo, with_piece}
 use Rattle.house_journal.specs.Disks as disks
 use Rattle.house_journal.specs.MemoryDisks.{MemState, FitsStep, Fits, Tears, before_step, change_of, left_now, synced_in, changes_in}
 use Rattle.std.specs.Prelude.{Result, Ok, Err, OnOk, OnErr}
-use Rattle.house_journal.specs.Records.{IsOpenable}
+use Rattle.house_journal.specs.JournalRecords.{IsOpenable}
 use Rattle.house_journal.specs.Restarts.{CanBeOpened, begun_with, after_all, done_by, torn_by, filled_to, left_by}
 use Rattle.house_journal.specs.Unwindings.{all_torn, torn_onto, torn_in}
 use Rattle.house_journal.specs.ClockProofs.{reads_left_lem}
@@ -63,7 +63,7 @@ module _ (s : Step) (file : List ℕ) (fits : FitsStep s file) where
       same_or_less : length s.gone ≤ s.len → (length s.gone ≡ s.len) ⊎ (length s.gone < s.len)
       same_or_less le = ⊎_elim (λ is. inl is) (λ other. inr (omega (arith, le, other))) (cases_eq (length s.gone) s.len)
 
-  rewritten : s.cuts ≡ false → written was s.at (take s.len (drop s.at file)) ≡ file
+  rewritten : s.cuts ≡ false → with_piece was s.at (take s.len (drop s.at file)) ≡ file
   rewritten write =
       let piece = take s.len (drop s.at file) in
       let size : length piece ≡ s.len = length-take-le s.len (drop s.at file) (omega (arith, length-drop s.at file, fits.within)) in
@@ -108,7 +108,7 @@ tears_none s c = by_cuts s.cuts
 
 -- the first half of a write
 torn_half : (at n : ℕ) (piece d : List ℕ) → length piece ≤ n
-    → disks.Torn at n d (written (filled_to (at + length piece) d) at (take (length piece / 2) piece))
+    → disks.Torn at n d (with_piece (filled_to (at + length piece) d) at (take (length piece / 2) piece))
 torn_half at n piece d few =
     let k = at + length piece - length d in
     let f = filled_to (at + length piece) d in
@@ -191,9 +191,9 @@ pub tear_is : (s : Step) (octets file : List ℕ) (t : Tear) → s.cuts ≡ fals
     → t.half ≡ take (s.len / 2) (drop s.at octets) → torn_onto t file ≡ torn_by (change_of s octets) file
 tear_is s octets file t write within at end half =
     let size : length (take s.len (drop s.at octets)) ≡ s.len = length-take-le s.len (drop s.at octets) (omega (arith, length-drop s.at octets, within)) in
-    (λ i. written (filled_to (end i) file) (at i) (half i))
-    ∙ ap (λ (l : List ℕ). written (filled_to (s.at + s.len) file) s.at l) (sym (take-take (s.len / 2) s.len (drop s.at octets) (omega arith)))
-    ∙ (λ i. written (filled_to (s.at + sym size i) file) s.at (take (sym size i / 2) (take s.len (drop s.at octets))))
+    (λ i. with_piece (filled_to (end i) file) (at i) (half i))
+    ∙ ap (λ (l : List ℕ). with_piece (filled_to (s.at + s.len) file) s.at l) (sym (take-take (s.len / 2) s.len (drop s.at octets) (omega arith)))
+    ∙ (λ i. with_piece (filled_to (s.at + sym size i) file) s.at (take (sym size i / 2) (take s.len (drop s.at octets))))
     ∙ ap (λ (b : Bool). torn_by (if b then CutTo s.at else Wrote s.at (take s.len (drop s.at octets))) file) (sym write)
 
 -- so many steps are left, and these are the octets after them; the tears are those of the others

@@ -2,9 +2,9 @@
 use Rattle.std.proofs.Common.{◌≡◌, ⊎_elim, ℕ, ◌+◌, ◌-◌, ◌≤◌, List, ◌++◌, length, take, drop, get_or}
 use Rattle.std.proofs.Common.{refl, ◌∙◌, ap, arith, length-append, length-drop}
 use Rattle.std.proofs.lemmas.List.{length-take, length-take-le, get_or_append_left, get_or-append_right, get_or-take, get_or-drop}
-use Rattle.house_journal.specs.Disks.{Torn, CutBack, written}
+use Rattle.house_journal.specs.Disks.{Torn, CutBack, with_piece}
 
-pub torn_whole : (at : ℕ) (piece old : List ℕ) → at ≤ length old → Torn at (length piece) old (written old at piece)
+pub torn_whole : (at : ℕ) (piece old : List ℕ) → at ≤ length old → Torn at (length piece) old (with_piece old at piece)
 torn_whole at piece old within =
     let front = length-take-le at old within in
     let end = drop (at + length piece) old in

@@ -9,8 +9,8 @@ use Rattle.house_journal.specs.declared.disk.DiskError.TheVariants.{Failed, OutO
 -- ---- octets
 
 -- a file with a piece at a place (own)
-abbrev pub written : List ℕ → (at : ℕ) → List ℕ → List ℕ
-written file at piece = take at file ++ (piece ++ drop (at + length piece) file)
+abbrev pub with_piece : List ℕ → (at : ℕ) → List ℕ → List ℕ
+with_piece file at piece = take at file ++ (piece ++ drop (at + length piece) file)
 
 -- what a crash may make of a write of n octets at a place: any octets there and past the old end, the same elsewhere (own)
 pub record Torn (at n : ℕ) (old new : List ℕ) : Type 0 where

@@ -1,5 +1,5 @@
 pub mod Disks
-pub mod Records
+pub mod JournalRecords
 pub mod ListEnds
 pub mod Journals
 pub mod Faults

@@ -1,8 +1,8 @@
 -- What a disk in memory reads as after a stop (own).
 use Rattle.std.specs.Prelude.{ℕ, ◌+◌, ◌-◌, ◌/◌, List, [], ◌∷◌, ◌++◌, length, take, replicate}
-use Rattle.house_journal.specs.Disks.{Change, Wrote, CutTo, written}
+use Rattle.house_journal.specs.Disks.{Change, Wrote, CutTo, with_piece}
 use Rattle.house_journal.specs.MemoryDisks.{MemState, left_now, synced_in, changes_in}
-use Rattle.house_journal.specs.Records.{IsOpenable}
+use Rattle.house_journal.specs.JournalRecords.{IsOpenable}
 use Rattle.house_journal.specs.declared.leave.Leave.{Leave}
 use Rattle.house_journal.specs.declared.leave.Leave.TheVariants.{Keep, Drop, Torn}
 use Rattle.house_journal.specs.declared.step.Stop.{Stop}
@@ -10,7 +10,7 @@ use Rattle.house_journal.specs.declared.step.Stop.TheVariants.{Never, After, Sto
 
 -- the octets after a write or a cut (own)
 abbrev pub done_by : Change → List ℕ → List ℕ
-done_by (Wrote at piece) file = written file at piece
+done_by (Wrote at piece) file = with_piece file at piece
 done_by (CutTo size) file = take size file
 
 -- these octets, and 255 from their end up to a place (own)
@@ -19,7 +19,7 @@ filled_to end file = file ++ replicate (end - length file) 255
 
 -- the octets after a write of which the first half, rounded down, is kept; no cut is (own)
 abbrev pub torn_by : Change → List ℕ → List ℕ
-torn_by (Wrote at piece) file = written (filled_to (at + length piece) file) at (take (length piece / 2) piece)
+torn_by (Wrote at piece) file = with_piece (filled_to (at + length piece) file) at (take (length piece / 2) piece)
 torn_by (CutTo size) file = file
 
 -- the octets after several, the oldest first (own)
@@ -48,8 +48,8 @@ restarted_by (After left leave) m = begun_with (left_of leave m) m
 restarted_by (Stopped leave) m = begun_with (left_of leave m) m
 
 -- a disk after a restart (own)
-abbrev pub restarted : MemState → MemState
-restarted m = restarted_by m.stop m
+abbrev pub disk_after_restart : MemState → MemState
+disk_after_restart m = restarted_by m.stop m
 
 -- a journal can be opened, whatever a crash leaves of the disk (own)
 abbrev pub CanBeOpened : MemState → Type 0

@@ -2,7 +2,7 @@
 use Rattle.std.specs.Prelude.{◌≡◌, ℕ, zero, suc, ◌+◌, ◌<◌, Bool, true, false, List, [], ◌∷◌, take, drop, Option, Some, Result, Ok, Err}
 use Rattle.house_journal.specs.declared.disk.DiskError.{DiskError}
 use Rattle.house_journal.specs.declared.disk.DiskError.TheVariants as error
-use Rattle.house_journal.specs.Disks.{Told, Change, Wrote, Plan, plan_after, may_fail, may_answer, told_change, told_sync, written}
+use Rattle.house_journal.specs.Disks.{Told, Change, Wrote, Plan, plan_after, may_fail, may_answer, told_change, told_sync, with_piece}
 
 -- a call that writes, or syncs (own)
 pub data Call : Type 0 where
@@ -11,7 +11,7 @@ pub data Call : Type 0 where
 
 -- what is read after it (own)
 abbrev pub read_by : Call → List ℕ → List ℕ
-read_by (Writes at piece) file = written file at piece
+read_by (Writes at piece) file = with_piece file at piece
 read_by Syncs file = file
 
 -- what is told after it (own)

@@ -1,6 +1,6 @@
 -- How a disk in memory goes back over its steps (own).
 use Rattle.std.specs.Prelude.{ℕ, if◌then◌else◌, List, [], ◌∷◌}
-use Rattle.house_journal.specs.Disks.{written}
+use Rattle.house_journal.specs.Disks.{with_piece}
 use Rattle.house_journal.specs.MemoryDisks.{before_step, change_of}
 use Rattle.house_journal.specs.Restarts.{filled_to, torn_by}
 use Rattle.house_journal.specs.declared.step.Step.{Step}
@@ -8,7 +8,7 @@ use Rattle.house_journal.specs.declared.step.Tear.{Tear}
 
 -- the octets after the first half of a write, with 255 in the rest of what lay past the end (own)
 abbrev pub torn_onto : Tear → List ℕ → List ℕ
-torn_onto t file = written (filled_to t.end file) t.at t.half
+torn_onto t file = with_piece (filled_to t.end file) t.at t.half
 
 -- the octets after several, the newest first (own)
 abbrev pub all_torn : List Tear → List ℕ → List ℕ

@@ -4,7 +4,7 @@ ghost use Rattle.std.specs.Prelude.{Some, Err, length, IfOk, OnOk};
 ghost use Rattle.house_journal.specs.Disks.{HasDiskCause, Told};
 ghost use Rattle.house_journal.specs.Tellings.{TellsPut, put_calls};
 ghost use Rattle.house_journal.specs.Journals.{IsCalm, IsReady, LeavesOnly};
-ghost use Rattle.house_journal.specs.Records.{IsBeforeOrAfter, IsRecordOf, images};
+ghost use Rattle.house_journal.specs.JournalRecords.{IsBeforeOrAfter, IsRecordOf, images};
 
 use crate::{Disk, DiskError};
 use std::alloc::{AllocError, Global};

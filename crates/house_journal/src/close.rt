@@ -3,7 +3,7 @@ ghost use Rattle.std.specs.Prelude.{◌≡◌, ◌≢◌, ◌+◌, ◌^◌, ◌�
 ghost use Rattle.std.specs.Prelude.{Err, IfOk, OnOk};
 ghost use Rattle.house_journal.specs.Disks.{HasDiskCause, Only, OnlyReads};
 ghost use Rattle.house_journal.specs.Journals.{IsCalm, IsListed, LeavesOnly};
-ghost use Rattle.house_journal.specs.Records.{HasImagesOf, IsOpenable, gate_of};
+ghost use Rattle.house_journal.specs.JournalRecords.{HasImagesOf, IsOpenable, gate_of};
 
 use crate::{Disk, DiskError};
 

@@ -6,7 +6,7 @@ ghost use Rattle.cds_base.specs.Counts.{HasCause};
 ghost use Rattle.house_journal.specs.declared.disk.DiskError.TheVariants as why;
 ghost use Rattle.house_journal.specs.Disks.{Told, Wrote, CutTo, told_change, told_sync};
 ghost use Rattle.house_journal.specs.Disks.{PlanAllows, StopsReads, HasDiskCause, IsDone};
-ghost use Rattle.house_journal.specs.Disks.{written, Torn, CutBack, Follows, Only, Elapses, OnlyReads};
+ghost use Rattle.house_journal.specs.Disks.{with_piece, Torn, CutBack, Follows, Only, Elapses, OnlyReads};
 
 use cds_base::Failed;
 use std::alloc::{AllocError, AllocFailed};
@@ -85,7 +85,7 @@ pub trait Disk {
     fn write_at(&mut self, at: u64, piece: &[u8]) -> Result<(), DiskError>
         requires start { at ≤ length (reads self.old) }
         requires end { at + length piece.now ≤ 2 ^ 40 }
-        ensures written { OnOk result (reads self.new ≡ written (reads self.old) at piece.now) }
+        ensures written { OnOk result (reads self.new ≡ with_piece (reads self.old) at piece.now) }
         ensures crash { Follows (Torn at (length piece.now)) (may_leave self.old)
             (may_leave self.new) }
         ensures time { Elapses (moment self.old) (moment self.new) (left_since self.old)

@@ -9,8 +9,8 @@ ghost use Rattle.house_journal.specs.Faults.{IsUntried, TellsTried, fault_of};
 ghost use Rattle.house_journal.specs.Tellings.{put_calls};
 ghost use Rattle.house_journal.specs.Journals.{IsCalm, IsKept, IsKeptSince, IsListed, IsReady};
 ghost use Rattle.house_journal.specs.Journals.{LeavesOnly, Settles};
-ghost use Rattle.house_journal.specs.Records.{HasImagesOf, IsBeforeOrAfter, IsRecordOf};
-ghost use Rattle.house_journal.specs.Records.{gate_of, images, last_image};
+ghost use Rattle.house_journal.specs.JournalRecords.{HasImagesOf, IsBeforeOrAfter, IsRecordOf};
+ghost use Rattle.house_journal.specs.JournalRecords.{gate_of, images, last_image};
 
 use crate::append::{append, record_of};
 use crate::settle::settle;

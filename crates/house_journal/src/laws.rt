@@ -1,6 +1,6 @@
 //! Laws of the definitions: functions that do nothing, whose contracts are proved.
 ghost use Rattle.std.specs.Prelude.{◌≡◌, ◌+◌, ◌<◌, ◌≤◌, ℕ, List, [], true, false, take, drop};
-ghost use Rattle.house_journal.specs.Disks.{Told, Wrote, Stops, may_fail, written};
+ghost use Rattle.house_journal.specs.Disks.{Told, Wrote, Stops, may_fail, with_piece};
 ghost use Rattle.house_journal.specs.Tellings.{MayAnswer, TellsOne, plan_after_calls, put_calls, told_after, told_failed};
 ghost use Rattle.house_journal.specs.declared.leave.Leave.{Leave};
 
@@ -13,7 +13,7 @@ pub fn a_put_is_told_by_its_calls()
         → TellsOne t.synced (Wrote (place + 1) (drop 1 octets))
         (told_failed k (put_calls place octets) file t) }
     ensures second { (place : ℕ) (octets file : List ℕ) (t : Told) (k : ℕ) → 2 ≤ k → k < 4
-        → TellsOne (written file (place + 1) (drop 1 octets)) (Wrote place (take 1 octets))
+        → TellsOne (with_piece file (place + 1) (drop 1 octets)) (Wrote place (take 1 octets))
         (told_failed k (put_calls place octets) file t) }
     ensures done { (place : ℕ) (octets file : List ℕ) (t : Told)
         → ((told_after 4 (put_calls place octets) file t).changes ≡ [])

@@ -4,7 +4,7 @@ ghost use Rattle.std.specs.Prelude.{length, take, drop, IfOk, IfSome, MatchOptio
 ghost use Rattle.std.specs.Option.{option_map};
 ghost use Rattle.house_journal.specs.Disks.{HasDiskCause, OnlyReads};
 ghost use Rattle.house_journal.specs.Journals.{IsCalm};
-ghost use Rattle.house_journal.specs.Records.{gate_of, is_open, last_image, length_at};
+ghost use Rattle.house_journal.specs.JournalRecords.{gate_of, is_open, last_image, length_at};
 ghost use Rattle.house_journal.specs.ListEnds.{IsWithin, octets_of};
 
 use crate::{Disk, DiskError};

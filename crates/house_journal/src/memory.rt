@@ -1,11 +1,11 @@
 // A disk in memory, which can be stopped at each of its writing calls and started again.
 ghost use Rattle.std.specs.Prelude.{◌≡◌, ◌≤◌, ◌↔◌, ℕ, List, [], true, false, Some, length, OnOk, OnErr};
 ghost use Rattle.cds_base.specs.Counts.{HasCause};
-ghost use Rattle.house_journal.specs.Disks.{written};
-ghost use Rattle.house_journal.specs.MemoryDisks.{counted, missed, fails, has_stopped, noted_write, noted_cut, noted_sync};
+ghost use Rattle.house_journal.specs.Disks.{with_piece};
+ghost use Rattle.house_journal.specs.MemoryDisks.{after_write_call, after_read_call, fails, has_stopped, noted_write, noted_cut, noted_sync};
 ghost use Rattle.house_journal.specs.MemoryDisks.{left_now, left_from, moment_of, told_of, stop_with};
 ghost use Rattle.house_journal.specs.CrashSets.{IsLeft};
-ghost use Rattle.house_journal.specs.Restarts.{CanBeOpened, begun_with, left_of, restarted};
+ghost use Rattle.house_journal.specs.Restarts.{CanBeOpened, begun_with, left_of, disk_after_restart};
 ghost use Rattle.house_journal.specs.declared.leave.Leave.TheVariants.{Keep};
 ghost use Rattle.house_journal.specs.ClockProofs.{reads_left_lem, counts_now_lem, only_now_lem};
 ghost use Rattle.house_journal.specs.declared.step.Stop.TheVariants.{Never};
@@ -51,7 +51,7 @@ impl Model for MemDisk {
 /// Writes a piece over octets, and past their end.
 pub(crate) fn overwrite(octets: &mut Vec<u8>, at: usize, piece: &[u8]) -> Result<(), AllocError>
     requires { at ≤ length octets.old.items }
-    ensures ok { OnOk result (octets.new.items ≡ written octets.old.items at piece.now) }
+    ensures ok { OnOk result (octets.new.items ≡ with_piece octets.old.items at piece.now) }
     ensures err { OnErr result (octets.new.items ≡ octets.old.items) }
 {
     let over = piece.len().min(octets.len() - at);
@@ -94,7 +94,7 @@ impl MemDisk {
     /// each write since then the first half, rounded down, with 255 in the rest of what lay past the end. A disk that
     /// was not told to stop stays as it is; after `OutOfMemory` it is as before.
     pub fn restart(&mut self) -> Result<(), AllocError>
-        ensures ok { OnOk result (self.new ≡ restarted self.old) }
+        ensures ok { OnOk result (self.new ≡ disk_after_restart self.old) }
         ensures lawful { OnOk result (left_now self.old.steps self.old.octets self.new.octets) }
         ensures kept { CanBeOpened self.old → CanBeOpened self.new }
         ensures err { OnErr result (self.new ≡ self.old) }
@@ -159,7 +159,7 @@ impl MemDisk {
 
     // Counts a call that reads, which fails where the disk has stopped.
     fn count_read(&mut self) -> Result<(), Failed>
-        ensures counted { self.new ≡ missed self.old }
+        ensures counted { self.new ≡ after_read_call self.old }
         ensures cause { HasCause self.old.faults self.new.faults result }
         ensures ok { OnOk result (has_stopped self.old.stop ≡ false) }
         ensures err { OnErr result (has_stopped self.old.stop ≡ true) }
@@ -173,7 +173,7 @@ impl MemDisk {
 
     // Counts a call that writes, cuts or syncs, which fails where the disk has stopped or stops by it.
     fn count_call(&mut self) -> Result<(), Failed>
-        ensures counted { self.new ≡ counted self.old }
+        ensures counted { self.new ≡ after_write_call self.old }
         ensures cause { HasCause self.old.faults self.new.faults result }
         ensures ok { OnOk result (fails self.old.stop ≡ false) }
         ensures err { OnErr result (fails self.old.stop ≡ true) }

@@ -3,7 +3,7 @@ ghost use Rattle.std.specs.Prelude.{◌≡◌, ◌≢◌, ◌+◌, ◌^◌, ◌�
 ghost use Rattle.std.specs.Option.{option_map};
 ghost use Rattle.house_journal.specs.Disks.{HasDiskCause, Only};
 ghost use Rattle.house_journal.specs.Journals.{IsCalm, IsKept, IsListed, LeavesOnly, Settles};
-ghost use Rattle.house_journal.specs.Records.{HasImagesOf, gate_of, last_image};
+ghost use Rattle.house_journal.specs.JournalRecords.{HasImagesOf, gate_of, last_image};
 
 use crate::close::close;
 use crate::list_end::{find_end, read_image};

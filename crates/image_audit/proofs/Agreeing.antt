@@ -8,14 +8,14 @@ use Rattle.std.specs.declared.cmp.Ordering.{Ordering}
 use Rattle.std.specs.Ordering.{is_lt, flip_args}
 use Rattle.std.specs.Cmp.{IsTotalOrder, tied_itself}
 use Rattle.cds_stamps.specs.declared.stamp.Stamp.{Stamp}
-use Rattle.cds_stamps.specs.Keyed.{tied}
+use Rattle.cds_stamps.specs.Keyed.{ties_are_equal}
 use Rattle.cds_stamps.specs.Octets.{is_octets}
 use Rattle.cds_stamps.specs.Stamps.{stamp_total, stamp_exact, is_earlier, is_up_to, is_stamp, earlier_stamp, earlier_stamp_laws}
 use Rattle.cds_stamps.specs.Semilattice.{greater}
 use Rattle.cds_stamps.proofs.ListMembers.{Contains-none, filter-Contains}
 use Rattle.attr_sets.specs.declared.cell.AttrCell.{AttrCell}
 use Rattle.attr_sets.specs.Marks.{present_at}
-use Rattle.attr_sets.specs.Cells.{AttrMark, attr_stamp, cell_of, empty_cell}
+use Rattle.attr_sets.specs.AttributeCells.{AttrMark, attr_stamp, cell_of, empty_cell}
 use Rattle.attr_sets.specs.CellPurges.{cell_left, purged_cell, is_empty_cell}
 use Rattle.attr_sets.proofs.SomeCellLaws.{some_of-other}
 use Rattle.directory.specs.declared.entry.Kind.{Kind}
@@ -24,7 +24,7 @@ use Rattle.directory.specs.declared.entry.EntryCell.{EntryCell}
 use Rattle.directory.specs.Kinds.{is_kind}
 use Rattle.directory.specs.Histories.{Mark, Birth, Death, Attr, Born, name_in, born_in, stamp_in, attr_mark_in, is_birth, birth_of, death_of, attr_history}
 use Rattle.directory.specs.Histories.{cell_of_some, entry_at, up_to, IsHistory, SameMarks}
-use Rattle.directory.specs.Purges.{purged_entry, is_dead_up_to, purged}
+use Rattle.directory.specs.Purges.{purged_entry, is_dead_up_to, purged_entries}
 use Rattle.directory.proofs.FragmentLaws.{same_stamp}
 use Rattle.directory.proofs.HistoryLaws.{before, no_birth, about}
 use Rattle.directory.proofs.KnownLaws.{Covers, known, known_birth, known_death, known_attr, attr_mark, dead_after_birth}
@@ -41,7 +41,7 @@ use Rattle.image_audit.specs.Facts.{answers_cell, answers_fact, is_open, fact_na
 use Rattle.image_audit.specs.Facts.{facts}
 use Rattle.image_audit.specs.declared.verdict.Verdict.TheVariants.{Agree}
 use Rattle.image_audit.specs.LawWords.{HasReplica}
-use Rattle.image_audit.specs.Verdicts.{smaller, is_up_to_same, open_of, first_of, first_open, replica_in, told, verdict_of, verdict}
+use Rattle.image_audit.specs.Verdicts.{smaller, is_up_to_same, open_of, first_of, first_open, replica_in, tell_verdict, verdict_of, verdict}
 use Rattle.cds_messages.specs.declared.image.Image.{Image}
 use Rattle.cds_stamps.specs.declared.numbers.DirId.{DirId}
 use Rattle.image_audit.proofs.Looked.{HasBirth, HasValue, HasFact, looked, none-find}
@@ -57,7 +57,7 @@ pub record IsLeft (a : Stamp) (h : List Mark) (n : List ℕ) (e : EntryCell) : T
   pub entry : e ≡ purged_entry a (entry_at h n born)
 
 -- each entry of a purged table is such a one
-pub entry-left : (a : Stamp) (h : List Mark) (n : List ℕ) (e : EntryCell) → get (purged h (Some a)) n ≡ Some e → IsLeft a h n e
+pub entry-left : (a : Stamp) (h : List Mark) (n : List ℕ) (e : EntryCell) → get (purged_entries h (Some a)) n ≡ Some e → IsLeft a h n e
 entry-left a h n e has = by_birth (birth_of h n) refl (sym (get-purged h (Some a) n) ∙ has)
   where
     alive : (b : Born) → birth_of h n ≡ Some b → (t : Bool) → is_dead_up_to a (death_of h n b.at) ≡ t
@@ -74,7 +74,7 @@ entry-left a h n e has = by_birth (birth_of h n) refl (sym (get-purged h (Some a
 
 -- and where one is left it is looked up
 pub left-entry : (t : Stamp) (g : List Mark) (n : List ℕ) (b : Born) → birth_of g n ≡ Some b → is_dead_up_to t (death_of g n b.at) ≡ false
-    → get (purged g (Some t)) n ≡ Some (purged_entry t (entry_at g n b))
+    → get (purged_entries g (Some t)) n ≡ Some (purged_entry t (entry_at g n b))
 left-entry t g n b born alive =
     get-purged g (Some t) n ∙ ap (λ b. option_and_then (entry_left_by (Some t)) (option_map (entry_at g n) b)) born
     ∙ ap (λ d. if d then None else Some (purged_entry t (entry_at g n b))) alive
@@ -147,7 +147,7 @@ module _ (t a : Stamp) (not_before : is_earlier a t ≡ false) (h g : List Mark)
           → is_dead_up_to t (death_of g n b.at) ≡ true → ⊥
       not_dead b of not_earlier true same dead =
           let in_mine : is_dead_up_to t (death_of h n c) ≡ true =
-          ap (λ s. is_dead_up_to t (death_of h n s)) (sym (tied stamp_exact b.at c same)) ∙ known_death t h g back n b.at dead in
+          ap (λ s. is_dead_up_to t (death_of h n s)) (sym (ties_are_equal stamp_exact b.at c same)) ∙ known_death t h g back n b.at dead in
           not_both (is_dead_up_to a (death_of h n c)) (dead_later (death_of h n c) in_mine) left.alive
       not_dead b of not_earlier false apart dead =
           let early : is_up_to t b.at ≡ true = dead_after_birth t g theirs.ordered n b.at dead in
@@ -169,9 +169,9 @@ module _ (t a : Stamp) (not_before : is_earlier a t ≡ false) (h g : List Mark)
 
   -- a fact of an entry is answered, if the entry that is met answers
   answered_by : (n : List ℕ) (c : Stamp) (m : IsMet n c) (f : Fact) → fact_name f ≡ n
-      → answers_fact f (purged_entry t (entry_at g n m.born)) ≡ true → is_open (purged g (Some t)) f ≡ false
+      → answers_fact f (purged_entry t (entry_at g n m.born)) ≡ true → is_open (purged_entries g (Some t)) f ≡ false
   answered_by n c m f named answers =
-      ap (λ n. not (option_map_or (answers_fact f) (get (purged g (Some t)) n) false)) named
+      ap (λ n. not (option_map_or (answers_fact f) (get (purged_entries g (Some t)) n) false)) named
       ∙ ap (λ e. not (option_map_or (answers_fact f) e false)) (left-entry t g n m.born m.of m.alive)
       ∙ ap not answers
 
@@ -180,17 +180,17 @@ module _ (t a : Stamp) (not_before : is_earlier a t ≡ false) (h g : List Mark)
   later_or_same n c m P later same = at (is_stamp m.born.at c) refl
     where
       at : (b : Bool) → is_stamp m.born.at c ≡ b → P
-      at true is = same (tied stamp_exact m.born.at c is)
+      at true is = same (ties_are_equal stamp_exact m.born.at c is)
       at false apart = later (must_be_later stamp_total m.born.at c m.not_earlier apart)
 
-  birth_answered : (n : List ℕ) (k : Kind) (c : Stamp) → HasBirth t (purged h (Some a)) n k c → is_open (purged g (Some t)) (BirthFact n k c) ≡ false
+  birth_answered : (n : List ℕ) (k : Kind) (c : Stamp) → HasBirth t (purged_entries h (Some a)) n k c → is_open (purged_entries g (Some t)) (BirthFact n k c) ≡ false
   birth_answered n k c fact =
       let left = entry-left a h n fact.entry fact.has in
       let birth : left.born.at ≡ c = ap (λ (e : EntryCell). e.birth) (sym left.entry) ∙ fact.birth in
       let kind : left.born.kind ≡ k = ap (λ (e : EntryCell). e.kind) (sym left.entry) ∙ fact.kind in
       let early : is_up_to t left.born.at ≡ true = ap (is_up_to t) birth ∙ fact.early in
       let m = met n fact.entry left (known_birth t g h there n left.born left.of early) in
-      later_or_same n left.born.at m (is_open (purged g (Some t)) (BirthFact n k c) ≡ false)
+      later_or_same n left.born.at m (is_open (purged_entries g (Some t)) (BirthFact n k c) ≡ false)
       (λ later. answered_by n left.born.at m (BirthFact n k c) refl
       (ap (λ b. b || (is_stamp m.born.at c && is_kind m.born.kind k)) (ap (λ s. is_earlier s m.born.at) (sym birth) ∙ later)))
       (λ same.
@@ -203,8 +203,8 @@ module _ (t a : Stamp) (not_before : is_earlier a t ≡ false) (h g : List Mark)
       (ap (λ s. is_stamp s c && is_kind m.born.kind k) (same ∙ birth) ∙ ap (λ b. b && is_kind m.born.kind k) (same_stamp c)
       ∙ ap (λ j. is_kind j k) one ∙ kind_itself k)))
 
-  value_answered : (n : List ℕ) (c : Stamp) (attr v : List ℕ) (s : Stamp) → HasValue t (purged h (Some a)) n c attr v s
-      → is_open (purged g (Some t)) (ValueFact n c attr v s) ≡ false
+  value_answered : (n : List ℕ) (c : Stamp) (attr v : List ℕ) (s : Stamp) → HasValue t (purged_entries h (Some a)) n c attr v s
+      → is_open (purged_entries g (Some t)) (ValueFact n c attr v s) ≡ false
   value_answered n c attr v s fact =
       let left = entry-left a h n fact.of.entry fact.of.has in
       let b : Stamp = left.born.at in
@@ -224,7 +224,7 @@ module _ (t a : Stamp) (not_before : is_earlier a t ≡ false) (h g : List Mark)
       ap (λ n. list_any (is_birth n b) g) is_about.0 ∙ ap (λ c. list_any (is_birth (name_in mark.0) c) g) is_about.1
       ∙ all_at (λ m. list_any (is_birth (name_in m) (born_in m)) g ≡ true) g mark.0 theirs.births has in
       let m = met n fact.of.entry left (born_by g n b any) in
-      later_or_same n b m (is_open (purged g (Some t)) (ValueFact n c attr v s) ≡ false)
+      later_or_same n b m (is_open (purged_entries g (Some t)) (ValueFact n c attr v s) ≡ false)
       (λ later. answered_by n b m (ValueFact n c attr v s) refl
       (ap (λ e. e || (is_stamp m.born.at c && option_map_or (answers_cell v s) (get (purged_entry t (entry_at g n m.born)).attrs attr) false))
       (ap (λ s. is_earlier s m.born.at) (sym birth) ∙ later)))
@@ -242,7 +242,7 @@ module _ (t a : Stamp) (not_before : is_earlier a t ≡ false) (h g : List Mark)
       ∙ ap (λ d. option_map_or (answers_cell v s) d false) stays ∙ answers.answers)))
 
   -- each fact of the first up to t is answered
-  pub fact_answered : (f : Fact) → HasFact t (purged h (Some a)) f → is_open (purged g (Some t)) f ≡ false
+  pub fact_answered : (f : Fact) → HasFact t (purged_entries h (Some a)) f → is_open (purged_entries g (Some t)) f ≡ false
   fact_answered (BirthFact n k c) fact = birth_answered n k c fact
   fact_answered (ValueFact n c attr v s) fact = value_answered n c attr v s fact
 
@@ -272,12 +272,12 @@ none_open : (h g : List Mark) (x y t : Stamp) → is_earlier x t ≡ false → I
 none_open h g x y t not_before mine theirs same = at (is_stamp t y) refl
   where
     at : (b : Bool) → is_stamp t y ≡ b
-        → (if b then find (is_open (purged g (Some y))) (facts (Some t) (purged h (Some x))) else None) ≡ None
+        → (if b then find (is_open (purged_entries g (Some y))) (facts (Some t) (purged_entries h (Some x))) else None) ≡ None
     at true is =
-        none-find (is_open (purged g (Some y))) (facts (Some t) (purged h (Some x))) (λ f c.
-        subst (λ u. is_open (purged g (Some u)) f ≡ false) (tied stamp_exact t y is)
+        none-find (is_open (purged_entries g (Some y))) (facts (Some t) (purged_entries h (Some x))) (λ f c.
+        subst (λ u. is_open (purged_entries g (Some u)) f ≡ false) (ties_are_equal stamp_exact t y is)
         (fact_answered t x not_before h g mine theirs (covered t g h (swapped h g (Some t) same)) (covered t h g same) f
-        (looked t (purged h (Some x)) f c)))
+        (looked t (purged_entries h (Some x)) f c)))
     at false apart = refl
 
 -- where there is no AllUpTo nothing is open
@@ -304,4 +304,4 @@ pub images_agree : (first second : Image) (dir : DirId) (h g : List Mark) (a b :
     → IsHistory h → IsHistory g → SameMarks (up_to h (smaller a b)) (up_to g (smaller a b)) → verdict first second dir ≡ Agree (smaller a b)
 images_agree first second dir h g a b one two mine theirs same =
     ap (λ r. verdict_of r (replica_in second dir)) one ∙ ap (verdict_of (Some (replica_of h a))) two
-    ∙ ap (told (smaller a b)) (none_differ h g a b mine theirs same)
+    ∙ ap (tell_verdict (smaller a b)) (none_differ h g a b mine theirs same)

@@ -11,7 +11,7 @@ use Rattle.directory.specs.declared.entry.EntryCell.{EntryCell}
 use Rattle.image_audit.specs.declared.fact.Fact.TheVariants.{Birth, Value}
 use Rattle.image_audit.specs.declared.verdict.Verdict.TheVariants.{NoReplica, Agree, Differ}
 use Rattle.image_audit.specs.Facts.{birth_fact, value_fact, answers_birth, answers_mark, fact_cmp}
-use Rattle.image_audit.specs.Verdicts.{smaller, is_up_to_same, first_of, told, verdict_of}
+use Rattle.image_audit.specs.Verdicts.{smaller, is_up_to_same, first_of, tell_verdict, verdict_of}
 
 -- the stamp of this time at one node
 abbrev at : ℕ → Stamp
@@ -113,10 +113,10 @@ first_image = refl
 lesser_fact : first_of (Some (Birth f Object (at 1))) (Some (Birth e Object (at 2))) ≡ Some (2, Birth e Object (at 2))
 lesser_fact = refl
 
-one_alone : told (Some (at 5)) (first_of None (Some (Birth e Object (at 3)))) ≡ Differ 2 (Birth e Object (at 3))
+one_alone : tell_verdict (Some (at 5)) (first_of None (Some (Birth e Object (at 3)))) ≡ Differ 2 (Birth e Object (at 3))
 one_alone = refl
 
-none_open : told None (first_of None None) ≡ Agree None
+none_open : tell_verdict None (first_of None None) ≡ Agree None
 none_open = refl
 
 none_held : verdict_of None None ≡ NoReplica 1

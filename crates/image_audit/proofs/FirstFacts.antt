@@ -15,7 +15,7 @@ use Rattle.cds_messages.specs.declared.image.Image.{Image}
 use Rattle.image_audit.specs.declared.fact.Fact.{Fact}
 use Rattle.image_audit.specs.declared.verdict.Verdict.TheVariants.{Agree, Differ}
 use Rattle.image_audit.specs.Facts.{facts, is_open, fact_cmp}
-use Rattle.image_audit.specs.Verdicts.{smaller, is_up_to_same, open_of, first_of, first_open, replica_in, told, verdict_of, verdict}
+use Rattle.image_audit.specs.Verdicts.{smaller, is_up_to_same, open_of, first_of, first_open, replica_in, tell_verdict, verdict_of, verdict}
 use Rattle.image_audit.specs.LawWords.{IsOpenFact, OpenIn, told_cmp, IsFirstOpen}
 use Rattle.image_audit.proofs.Looked.{find-none}
 use Rattle.image_audit.proofs.FactOrder.{fact_total, first_is_least}
@@ -138,14 +138,14 @@ module _ (one two : Replica) where
 -- ---- images
 
 module _ (first second : Image) (dir : DirId) (one two : Replica) (mine : replica_in first dir ≡ Some one) (theirs : replica_in second dir ≡ Some two) where
-  told_is : verdict first second dir ≡ told (smaller one.all_up_to two.all_up_to) (first_open one two)
+  told_is : verdict first second dir ≡ tell_verdict (smaller one.all_up_to two.all_up_to) (first_open one two)
   told_is = ap (λ r. verdict_of r (replica_in second dir)) mine ∙ ap (verdict_of (Some one)) theirs
 
   -- the fact that is told is the first open one
   pub differ_first : (image : ℕ) (f : Fact) → verdict first second dir ≡ Differ image f → IsFirstOpen one two image f
   differ_first image f is = by_told (first_open one two) (sym told_is ∙ is) (both_told one two)
     where
-      by_told : (x : Option (ℕ × Fact)) → told (smaller one.all_up_to two.all_up_to) x ≡ Differ image f → IsFirst one two x → IsFirstOpen one two image f
+      by_told : (x : Option (ℕ × Fact)) → tell_verdict (smaller one.all_up_to two.all_up_to) x ≡ Differ image f → IsFirst one two x → IsFirstOpen one two image f
       by_told None h first = absurd (cc (h))
       by_told (Some x) h first =
           let same : x.0 ≡ image = cc (h) in
@@ -156,7 +156,7 @@ module _ (first second : Image) (dir : DirId) (one two : Replica) (mine : replic
   pub agree_none : (t : Option Stamp) → verdict first second dir ≡ Agree t → (image : ℕ) (f : Fact) → OpenIn one two image f → ⊥
   agree_none t is = by_told (first_open one two) (sym told_is ∙ is) (both_told one two)
     where
-      by_told : (x : Option (ℕ × Fact)) → told (smaller one.all_up_to two.all_up_to) x ≡ Agree t → IsFirst one two x
+      by_told : (x : Option (ℕ × Fact)) → tell_verdict (smaller one.all_up_to two.all_up_to) x ≡ Agree t → IsFirst one two x
           → (image : ℕ) (f : Fact) → OpenIn one two image f → ⊥
       by_told None h first = first
       by_told (Some x) h first = absurd (cc (h))

@@ -10,19 +10,19 @@ use Rattle.record_fields.specs.declared.fault.Rule.TheVariants.{Short, BadTag}
 use Rattle.record_fields.specs.declared.fault.RecordFault.{RecordFault}
 use Rattle.record_fields.specs.declared.fault.RecordFault.TheVariants as fault
 use Rattle.record_fields.specs.Fields.{outside, octet}
-use Rattle.record_fields.specs.Decoding.{Decodes, decoding, with_memory}
+use Rattle.record_fields.specs.Decoding.{Decodes, decode_by, with_memory}
 use Rattle.record_fields.specs.Layouts.{Stands}
-use Rattle.record_fields.specs.Wanting.{IfWant}
+use Rattle.record_fields.specs.MemoryFaults.{IfWant}
 use Rattle.record_fields.proofs.LayoutLaws.{front_stands}
 use Rattle.record_fields.proofs.OneDecoding.{answers_decoding, decoding_decodes}
 use Rattle.cds_messages.specs.declared.image.Image.{Image}
 use Rattle.cds_records.specs.Images.{image_in, image, image_1, either_image}
-use Rattle.cds_records.specs.Wanting.{image_head, WantsForImage}
+use Rattle.cds_records.specs.RecordMemory.{image_head, WantsForImage}
 use Rattle.cds_records.proofs.WholeDecoding.{fault_is, format_former, format_present, format_unknown, format_missing, whole_decoded, image_has_head}
 use Rattle.image_audit.proofs.Looked.{both_pass}
 
 -- behind no octet there is no image of format 2
-present_missing : decoding image [] ≡ Err (fault.Short 1)
+present_missing : decode_by image [] ≡ Err (fault.Short 1)
 unfolding image image_in octet
 present_missing = fault_is image [] (fault.Short 1) (record {
   rule = Short;
@@ -34,7 +34,7 @@ present_missing = fault_is image [] (fault.Short 1) (record {
 })
 
 -- nor behind a first octet that is not 2
-present_unknown : (n : ℕ) (rest : List ℕ) → outside BadTag 2 2 n ≡ Some BadTag → decoding image (n ∷ rest) ≡ Err (fault.BadTag 1)
+present_unknown : (n : ℕ) (rest : List ℕ) → outside BadTag 2 2 n ≡ Some BadTag → decode_by image (n ∷ rest) ≡ Err (fault.BadTag 1)
 unfolding image image_in octet
 present_unknown n rest is = fault_is image (n ∷ rest) (fault.BadTag 1) (record {
   rule = BadTag;
@@ -50,7 +50,7 @@ abbrev is_former : List ℕ → Bool
 is_former octets = starts_with nat_eq octets (1 ∷ [])
 
 -- what does not is read by format 2
-read_by_present : (octets : List ℕ) → is_former octets ≡ false → decoding either_image octets ≡ decoding image octets
+read_by_present : (octets : List ℕ) → is_former octets ≡ false → decode_by either_image octets ≡ decode_by image octets
 read_by_present [] other = format_missing ∙ sym present_missing
 read_by_present (zero ∷ rest) other = format_unknown 0 rest (λ e. absurd (omega arith)) (λ e. absurd (omega arith)) ∙ sym (present_unknown 0 rest refl)
 read_by_present (suc zero ∷ rest) other = absurd (cc (other))
@@ -66,20 +66,20 @@ first_is : (m : ℕ) (rest : List ℕ) → is_former (m ∷ rest) ≡ true → m
 first_is m rest former = sym (eqb-true 1 m (both_pass (nat_eq 1 m) true former).0)
 
 -- and what does by format 1
-read_by_former : (octets : List ℕ) → is_former octets ≡ true → decoding either_image octets ≡ decoding image_1 octets
+read_by_former : (octets : List ℕ) → is_former octets ≡ true → decode_by either_image octets ≡ decode_by image_1 octets
 read_by_former [] former = absurd (cc (former))
 read_by_former (m ∷ rest) former =
     let is : m ∷ rest ≡ 1 ∷ rest = ap (λ m. m ∷ rest) (first_is m rest former) in
-    ap (decoding either_image) is ∙ format_former rest ∙ ap (decoding image_1) (sym is)
+    ap (decode_by either_image) is ∙ format_former rest ∙ ap (decode_by image_1) (sym is)
 
 -- behind a first octet 1 an image of format 1 was read
 pub front_former : (octets : List ℕ) (r : Result (Image × ℕ) (AllocOr RecordFault)) → is_former octets ≡ true → Decodes image_1 octets r
-    → Answers r (decoding either_image octets)
+    → Answers r (decode_by either_image octets)
 front_former octets r former decodes = subst (Answers r) (sym (read_by_former octets former)) (answers_decoding image_1 octets r decodes)
 
 -- and else one of format 2
 pub front_present : (octets : List ℕ) (r : Result (Image × ℕ) (AllocOr RecordFault)) → is_former octets ≡ false → Decodes image octets r
-    → Answers r (decoding either_image octets)
+    → Answers r (decode_by either_image octets)
 front_present octets r other decodes = subst (Answers r) (sym (read_by_present octets other)) (answers_decoding image octets r decodes)
 
 -- ---- memory
@@ -110,7 +110,7 @@ wants_present octets (Err (Fault f)) w = tt
 wants_present octets (Err OutOfMemory) w = wider 2 refl octets w
 
 -- octets that begin with an image begin with a whole head
-pub has_head : (octets : List ℕ) (i : Image) (n : ℕ) → decoding either_image octets ≡ Ok (i, n) → WantsForImage 1 2 octets
+pub has_head : (octets : List ℕ) (i : Image) (n : ℕ) → decode_by either_image octets ≡ Ok (i, n) → WantsForImage 1 2 octets
 has_head octets i n is =
     let decodes : Decodes either_image octets (Ok (i, n)) =
     subst (λ d. Decodes either_image octets (with_memory d)) is (decoding_decodes either_image octets) in

@@ -9,14 +9,14 @@ use Rattle.std.specs.declared.cmp.Ordering.TheVariants.{Equal}
 use Rattle.std.specs.Ordering.{is_lt, eq_by_cmp, ordering_then, bool_cmp}
 use Rattle.std.specs.Cmp.{IsTotalOrder, tied_itself}
 use Rattle.cds_stamps.specs.declared.stamp.Stamp.{Stamp}
-use Rattle.cds_stamps.specs.Keyed.{tied}
+use Rattle.cds_stamps.specs.Keyed.{ties_are_equal}
 use Rattle.cds_stamps.specs.Octets.{octets_cmp, is_octets}
 use Rattle.cds_stamps.specs.Semilattice.{maybe}
 use Rattle.cds_stamps.specs.Stamps.{stamp_cmp, stamp_total, stamp_exact, is_earlier, is_up_to, is_stamp, later_stamp, later_stamp_laws}
 use Rattle.attr_sets.specs.declared.mark.ValueMark.{ValueMark}
 use Rattle.attr_sets.specs.declared.cell.AttrCell.{AttrCell}
-use Rattle.attr_sets.specs.Marks.{mark_cmp, mark_total, mark_exact, kept, later, later_laws, present_at}
-use Rattle.attr_sets.specs.Cells.{AttrMark, Cleared, Marked, attr_stamp, clear_in, mark_in, greatest_clear, greatest_mark, cell_of, empty_cell}
+use Rattle.attr_sets.specs.Marks.{mark_cmp, mark_total, mark_exact, mark_after_clear, later, later_laws, present_at}
+use Rattle.attr_sets.specs.AttributeCells.{AttrMark, Cleared, Marked, attr_stamp, clear_in, mark_in, greatest_clear, greatest_mark, cell_of, empty_cell}
 use Rattle.attr_sets.specs.CellPurges.{clear_left, purged_cell}
 use Rattle.attr_sets.specs.CellLawProofs.{get-cell_of}
 use Rattle.attr_sets.proofs.CellPurgeLaws.{get-purged_cell}
@@ -46,7 +46,7 @@ module _ {K : Type 0} {R : K → K → Ordering} (o : IsTotalOrder R) where
 
 -- ---- what is kept
 
-kept_of : (c : Option Stamp) (x : Option ValueMark) (m : ValueMark) → kept c x ≡ Some m → x ≡ Some m
+kept_of : (c : Option Stamp) (x : Option ValueMark) (m : ValueMark) → mark_after_clear c x ≡ Some m → x ≡ Some m
 kept_of c None m e = absurd (cc (e))
 kept_of None (Some n) m e = e
 kept_of (Some c) (Some n) m e = by_case (is_earlier n.stamp c) e
@@ -56,7 +56,7 @@ kept_of (Some c) (Some n) m e = by_case (is_earlier n.stamp c) e
     by_case false is = is
 
 -- what is kept is not earlier than the clear
-kept_not_earlier : (c : Stamp) (m : ValueMark) → kept (Some c) (Some m) ≡ Some m → is_earlier m.stamp c ≡ false
+kept_not_earlier : (c : Stamp) (m : ValueMark) → mark_after_clear (Some c) (Some m) ≡ Some m → is_earlier m.stamp c ≡ false
 kept_not_earlier c m e = by_case (is_earlier m.stamp c) e
   where
     by_case : (b : Bool) → (if b then None else Some m) ≡ Some m → b ≡ false
@@ -100,7 +100,7 @@ not_empty-mark c v m is e =
 
 -- a value is present at s in a history of which deletions up to a are dropped
 module _ (a : Stamp) (x : List AttrMark) (v : List ℕ) (s : Stamp) (present : get (purged_cell a (cell_of x)).values v ≡ Some (present_at s)) where
-  kept_present : kept (greatest_clear x) (greatest_mark x v) ≡ Some (present_at s)
+  kept_present : mark_after_clear (greatest_clear x) (greatest_mark x v) ≡ Some (present_at s)
   kept_present =
       sym (get-cell_of x v) ∙ left_of a (get (cell_of x).values v) (present_at s) (sym (get-purged_cell a (cell_of x) v) ∙ present)
 
@@ -120,7 +120,7 @@ module _ (t a : Stamp) (x y : List AttrMark) (v : List ℕ) (s : Stamp) (early :
   abbrev p : ValueMark
   p = present_at s
 
-  abbrev is_kept : kept (greatest_clear x) (greatest_mark x v) ≡ Some p
+  abbrev is_kept : mark_after_clear (greatest_clear x) (greatest_mark x v) ≡ Some p
   is_kept = kept_present a x v s present
 
   abbrev is_greatest : greatest_mark x v ≡ Some p
@@ -144,7 +144,7 @@ module _ (t a : Stamp) (x y : List AttrMark) (v : List ℕ) (s : Stamp) (early :
       at (Some c) some =
           by_case (is_earlier s z) refl
           (join_of-greatest stamp_cmp clear_in stamp_total stamp_exact x c some e z has is)
-          (kept_not_earlier c p (ap (λ u. kept u (Some p)) (sym some) ∙ ap (kept (greatest_clear x)) (sym is_greatest) ∙ is_kept))
+          (kept_not_earlier c p (ap (λ u. mark_after_clear u (Some p)) (sym some) ∙ ap (mark_after_clear (greatest_clear x)) (sym is_greatest) ∙ is_kept))
         where
           by_case : (b : Bool) → is_earlier s z ≡ b → is_earlier c z ≡ false → is_earlier s c ≡ false → b ≡ false
           by_case true h q r = absurd (no (is_earlier s c) (not_later-through stamp_total s z c h q) r)
@@ -190,11 +190,11 @@ module _ (t a : Stamp) (x y : List AttrMark) (v : List ℕ) (s : Stamp) (early :
       ap (option_and_then (clear_left t)) is ∙ ap (λ b. if b then None else Some z) (late_clear z is later)
 
   -- a mark that no clear is later than, and that is not dropped, stays
-  mark_stays : (m : ValueMark) → kept (greatest_clear y) (Some m) ≡ Some m → greatest_mark y v ≡ Some m
+  mark_stays : (m : ValueMark) → mark_after_clear (greatest_clear y) (Some m) ≡ Some m → greatest_mark y v ≡ Some m
       → (m.present || not (is_up_to t m.stamp)) ≡ true → get theirs.values v ≡ Some m
   mark_stays m keeps is stays =
       get-purged_cell t (cell_of y) v
-      ∙ ap (left t) (get-cell_of y v ∙ ap (kept (greatest_clear y)) is ∙ keeps)
+      ∙ ap (left t) (get-cell_of y v ∙ ap (mark_after_clear (greatest_clear y)) is ∙ keeps)
       ∙ ap (λ b. if b then Some m else None) stays
 
   -- what answers
@@ -228,7 +228,7 @@ module _ (t a : Stamp) (x y : List AttrMark) (v : List ℕ) (s : Stamp) (early :
   abbrev NotLater : Option Stamp → Type 0
   NotLater z = (c : Stamp) → z ≡ Some c → is_earlier s c ≡ false
 
-  kept_by : (z : Option Stamp) (m : ValueMark) → ((c : Stamp) → z ≡ Some c → is_earlier m.stamp c ≡ false) → kept z (Some m) ≡ Some m
+  kept_by : (z : Option Stamp) (m : ValueMark) → ((c : Stamp) → z ≡ Some c → is_earlier m.stamp c ≡ false) → mark_after_clear z (Some m) ≡ Some m
   kept_by None m free = refl
   kept_by (Some c) m free = ap (λ b. if b then None else Some m) (free c refl)
 
@@ -252,7 +252,7 @@ module _ (t a : Stamp) (x y : List AttrMark) (v : List ℕ) (s : Stamp) (early :
           up false h = refl
       at false not_later =
           let same : is_stamp m.stamp s ≡ true = same_key stamp_total m.stamp s (bool_cmp true m.present) not_below not_later in
-          let one : m.stamp ≡ s = tied stamp_exact m.stamp s same in
+          let one : m.stamp ≡ s = ties_are_equal stamp_exact m.stamp s same in
           let shows : m.present ≡ true = by_flag m.present refl one in
           by_mark m
           (mark_stays m (kept_by (greatest_clear y) m (λ c h. ap (λ r. is_earlier r c) one ∙ free c h)) is

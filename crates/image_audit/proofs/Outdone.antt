@@ -10,12 +10,12 @@ use Rattle.std.specs.Ordering.{is_lt, eq_by_cmp}
 use Rattle.std.specs.Cmp.{IsTotalOrder}
 use Rattle.std.specs.Cmp.Lexicographic.{nat_list_cmp_total}
 use Rattle.cds_stamps.specs.declared.stamp.Stamp.{Stamp}
-use Rattle.cds_stamps.specs.Keyed.{tied, get-map_some}
+use Rattle.cds_stamps.specs.Keyed.{ties_are_equal, get-map_some}
 use Rattle.cds_stamps.specs.Octets.{octets_exact}
 use Rattle.cds_stamps.specs.Stamps.{stamp_total, stamp_exact, is_earlier, is_up_to, is_stamp, earlier_stamp_laws}
 use Rattle.attr_sets.specs.declared.mark.ValueMark.{ValueMark}
 use Rattle.attr_sets.specs.declared.cell.AttrCell.{AttrCell}
-use Rattle.attr_sets.specs.Marks.{kept, present_at}
+use Rattle.attr_sets.specs.Marks.{mark_after_clear, present_at}
 use Rattle.attr_sets.specs.CellPurges.{clear_left, cell_left, purged_cell, is_empty_cell}
 use Rattle.attr_sets.proofs.CellPurgeLaws.{get-purged_cell}
 use Rattle.attr_sets.proofs.Greatest.{same_inside}
@@ -27,7 +27,7 @@ use Rattle.directory.specs.Entries.{Entries, IsValidEntry, IsHeldCell, IsValidTa
 use Rattle.directory.specs.Kinds.{is_kind}
 use Rattle.directory.specs.Purges.{purged_entry, is_dead_up_to, entry_left, purged_table}
 use Rattle.directory.specs.Histories.{Mark, table_of}
-use Rattle.directory.specs.Purges.{purged}
+use Rattle.directory.specs.Purges.{purged_entries}
 use Rattle.directory.proofs.FragmentLaws.{same_stamp}
 use Rattle.directory.proofs.PurgeLaws.{purged-valid}
 use Rattle.directory.proofs.UpdateLaws.{not_both}
@@ -39,7 +39,7 @@ use Rattle.image_audit.specs.declared.fact.Fact.TheVariants.{Birth, Value}
 use Rattle.image_audit.specs.Facts.{facts, fact_cmp, answers_birth, answers_mark, answers_cell, answers_value, is_open}
 use Rattle.image_audit.specs.LawWords.{LaterBirth, HasCell, LaterClear, LaterMark, Outdoes, HasReplica, HoldsUpTo}
 use Rattle.image_audit.specs.declared.verdict.Verdict.TheVariants.{Agree}
-use Rattle.image_audit.specs.Verdicts.{smaller, is_up_to_same, open_of, first_of, first_open, replica_in, told, verdict_of, verdict}
+use Rattle.image_audit.specs.Verdicts.{smaller, is_up_to_same, open_of, first_of, first_open, replica_in, tell_verdict, verdict_of, verdict}
 use Rattle.image_audit.proofs.Looked.{HasBirth, HasValue, HasFact, looked, listed, both_pass, find-none}
 use Rattle.image_audit.proofs.KnownCells.{later-than}
 
@@ -84,8 +84,8 @@ module _ (t : Stamp) (table : Entries) where
           inl (record {
             entry = e;
             has = has;
-            kind = tied kind_exact e.kind k both.1;
-            birth = tied stamp_exact e.birth c both.0;
+            kind = ties_are_equal kind_exact e.kind k both.1;
+            birth = ties_are_equal stamp_exact e.birth c both.0;
             early = early;
           })
 
@@ -102,7 +102,7 @@ module _ (t : Stamp) (table : Entries) where
           inr (m.stamp, inr (inr (record { cell = cell; of = of; mark = m; marked = marked; stamp = refl; later = later })))
       by_mark cell of m marked (inr same) =
           let both = both_pass m.present (is_stamp m.stamp s) same in
-          let one : m.stamp ≡ s = tied stamp_exact m.stamp s both.1 in
+          let one : m.stamp ≡ s = ties_are_equal stamp_exact m.stamp s both.1 in
           let is : m ≡ present_at s = λ i. record { present = both.0 i; stamp = one i } in
           inl (record { cell = cell; of = of; marked = marked ∙ ap Some is; early = early })
 
@@ -123,7 +123,7 @@ module _ (t : Stamp) (table : Entries) where
       by_answer e has (inr same) =
           let both = both_pass (is_stamp e.birth c) (option_map_or (answers_cell v s) (get e.attrs a) false) same in
           let cell = answering (answers_cell v s) (get e.attrs a) both.1 in
-          by_cell cell.0 (record { entry = e; has = has; birth = tied stamp_exact e.birth c both.0; has_cell = cell.1 })
+          by_cell cell.0 (record { entry = e; has = has; birth = ties_are_equal stamp_exact e.birth c both.0; has_cell = cell.1 })
           (either_passes (option_map_or (is_earlier s) cell.0.cleared false) (option_map_or (answers_mark s) (get cell.0.values v) false) cell.2)
 
   -- a table that answers for a fact up to t has it, or what outdoes it
@@ -229,9 +229,9 @@ module _ (t : Stamp) (whole own : Entries) (valid : IsValidTable own)
 
       -- no own clear is later
       clear_silent : option_map_or (is_earlier s) mine.cell.cleared false ≡ false
-      clear_silent = by_clear mine.cell.cleared (ap (kept mine.cell.cleared) (sym mine.marked) ∙ held.0 v ∙ mine.marked)
+      clear_silent = by_clear mine.cell.cleared (ap (mark_after_clear mine.cell.cleared) (sym mine.marked) ∙ held.0 v ∙ mine.marked)
         where
-          by_clear : (z : Option Stamp) → kept z (Some (present_at r)) ≡ Some (present_at r) → option_map_or (is_earlier s) z false ≡ false
+          by_clear : (z : Option Stamp) → mark_after_clear z (Some (present_at r)) ≡ Some (present_at r) → option_map_or (is_earlier s) z false ≡ false
           by_clear None h = refl
           by_clear (Some z) h = later-than stamp_total z r s (not_earlier (is_earlier r z) h) mark.later
             where
@@ -309,7 +309,7 @@ no_fact (Some f) (Some g) e = at (is_lt (fact_cmp g f)) (2, g) (1, f) e
     at true x y h = absurd (cc (h))
     at false x y h = absurd (cc (h))
 
-agrees : (t u : Option Stamp) (x : Option (ℕ × Fact)) → told t x ≡ Agree u → x ≡ None
+agrees : (t u : Option Stamp) (x : Option (ℕ × Fact)) → tell_verdict t x ≡ Agree u → x ≡ None
 agrees t u None e = refl
 agrees t u (Some x) e = absurd (cc (e))
 
@@ -335,28 +335,28 @@ module _ (first second : Image) (dir : DirId) (h g : List Mark) (t : Stamp) (min
 
   -- each fact of the one is answered by the other
   closed_by : (x y : List Mark) → open_of (Some t) (replica_of x (Some t)) (replica_of y (Some t)) ≡ None
-      → (f : Fact) → HasFact t (purged x (Some t)) f → is_open (purged y (Some t)) f ≡ false
+      → (f : Fact) → HasFact t (purged_entries x (Some t)) f → is_open (purged_entries y (Some t)) f ≡ false
   closed_by x y none f fact =
-      find-none (is_open (purged y (Some t))) (facts (Some t) (purged x (Some t)))
-      (ap (λ b. if b then find (is_open (purged y (Some t))) (facts (Some t) (purged x (Some t))) else None) (sym (itself_asked t)) ∙ none)
-      f (listed t (purged x (Some t)) f fact)
+      find-none (is_open (purged_entries y (Some t))) (facts (Some t) (purged_entries x (Some t)))
+      (ap (λ b. if b then find (is_open (purged_entries y (Some t))) (facts (Some t) (purged_entries x (Some t))) else None) (sym (itself_asked t)) ∙ none)
+      f (listed t (purged_entries x (Some t)) f fact)
 
   holds : (x y : List Mark) → open_of (Some t) (replica_of x (Some t)) (replica_of y (Some t)) ≡ None
       → open_of (Some t) (replica_of y (Some t)) (replica_of x (Some t)) ≡ None
-      → (f : Fact) → Contains (facts (Some t) (purged x (Some t))) f → HoldsUpTo t (purged y (Some t)) f
+      → (f : Fact) → Contains (facts (Some t) (purged_entries x (Some t))) f → HoldsUpTo t (purged_entries y (Some t)) f
   holds x y none back f among =
-      let fact = looked t (purged x (Some t)) f among in
+      let fact = looked t (purged_entries x (Some t)) f among in
       record {
         held =
-            ⊎_elim (λ has. inl (listed t (purged y (Some t)) f has)) inr
-            (held_or_outdone t (purged y (Some t)) f (purged x (Some t)) fact (closed_by x y none f fact));
-        later = outdone_later t (table_of y) (purged x (Some t)) (purged-valid x (Some t)) (closed_by y x back) f fact;
+            ⊎_elim (λ has. inl (listed t (purged_entries y (Some t)) f has)) inr
+            (held_or_outdone t (purged_entries y (Some t)) f (purged_entries x (Some t)) fact (closed_by x y none f fact));
+        later = outdone_later t (table_of y) (purged_entries x (Some t)) (purged-valid x (Some t)) (closed_by y x back) f fact;
       }
 
   -- each fact of the first is held by the second, or outdone by what is later
-  pub first_held : (f : Fact) → Contains (facts (Some t) (purged h (Some t))) f → HoldsUpTo t (purged g (Some t)) f
+  pub first_held : (f : Fact) → Contains (facts (Some t) (purged_entries h (Some t))) f → HoldsUpTo t (purged_entries g (Some t)) f
   first_held = holds h g both.0 both.1
 
   -- and each of the second by the first
-  pub second_held : (f : Fact) → Contains (facts (Some t) (purged g (Some t))) f → HoldsUpTo t (purged h (Some t)) f
+  pub second_held : (f : Fact) → Contains (facts (Some t) (purged_entries g (Some t))) f → HoldsUpTo t (purged_entries h (Some t)) f
   second_held = holds g h both.1 both.0

@@ -2,7 +2,7 @@
 use Rattle.std.specs.Prelude.{ℕ, List, drop, Result, Ok, Err}
 use Rattle.std.specs.Result.{result_map_both}
 use Rattle.record_fields.specs.declared.fault.RecordFault.{RecordFault}
-use Rattle.record_fields.specs.Decoding.{decoding}
+use Rattle.record_fields.specs.Decoding.{decode_by}
 use Rattle.cds_stamps.specs.declared.numbers.DirId.{DirId}
 use Rattle.cds_messages.specs.declared.image.Image.{Image}
 use Rattle.cds_records.specs.Images.{either_image}
@@ -22,8 +22,8 @@ then_second octets (Err fault) = Err (fault_in 1 fault)
 
 -- the two images of either format that the octets are, or the first fault of the first of them that has one (own)
 abbrev pub pair_of : List ℕ → Result (Image × Image) PairFault
-pair_of octets = then_second octets (decoding either_image octets)
+pair_of octets = then_second octets (decode_by either_image octets)
 
 -- what an audit of a directory in them tells (own)
-abbrev pub audited : List ℕ → DirId → Result Verdict PairFault
-audited octets dir = result_map_both (λ (p : Image × Image). verdict p.0 p.1 dir) (λ fault. fault) (pair_of octets)
+abbrev pub audit_verdict : List ℕ → DirId → Result Verdict PairFault
+audit_verdict octets dir = result_map_both (λ (p : Image × Image). verdict p.0 p.1 dir) (λ fault. fault) (pair_of octets)

@@ -55,15 +55,15 @@ abbrev pub replica_in : Image → DirId → Option Replica
 replica_in image dir = option_and_then replica_held (get image.dirs dir)
 
 -- two replicas differ by their first open fact, or agree up to t (own)
-abbrev pub told : Option Stamp → Option (ℕ × Fact) → Verdict
-told t None = Agree t
-told t (Some f) = Differ f.0 f.1
+abbrev pub tell_verdict : Option Stamp → Option (ℕ × Fact) → Verdict
+tell_verdict t None = Agree t
+tell_verdict t (Some f) = Differ f.0 f.1
 
 -- of two replicas that may be missing, the first that is, or what the replicas tell (own)
 abbrev pub verdict_of : Option Replica → Option Replica → Verdict
 verdict_of None two = NoReplica 1
 verdict_of (Some one) None = NoReplica 2
-verdict_of (Some one) (Some two) = told (smaller one.all_up_to two.all_up_to) (first_open one two)
+verdict_of (Some one) (Some two) = tell_verdict (smaller one.all_up_to two.all_up_to) (first_open one two)
 
 -- what an audit of a directory in two images tells (own)
 abbrev pub verdict : Image → Image → DirId → Verdict

@@ -2,7 +2,7 @@
 ghost use Rattle.std.specs.Prelude.{◌≡◌, false, IsOk, IfOk, option_copied};
 ghost use Rattle.std.specs.Option.{option_map};
 ghost use Rattle.image_audit.specs.PrivateOpen.{fact_of};
-ghost use Rattle.image_audit.specs.Verdicts.{smaller, open_of, first_of, replica_in, told, verdict, is_differ};
+ghost use Rattle.image_audit.specs.Verdicts.{smaller, open_of, first_of, replica_in, tell_verdict, verdict, is_differ};
 ghost use Rattle.image_audit.specs.declared.verdict.Verdict.TheVariants.{Differ};
 
 use crate::fact::OpenFact;
@@ -52,8 +52,8 @@ fn tell(
     one: &Option<OpenFact<'_>>,
     two: &Option<OpenFact<'_>>,
 ) -> Result<Verdict, AllocError>
-    ensures verdict { IfOk result (λ v. v ≡ told t (first_of (option_map fact_of one.now) (option_map fact_of two.now))) }
-    ensures no_memory { is_differ (told t (first_of (option_map fact_of one.now) (option_map fact_of two.now))) ≡ false → IsOk result }
+    ensures verdict { IfOk result (λ v. v ≡ tell_verdict t (first_of (option_map fact_of one.now) (option_map fact_of two.now))) }
+    ensures no_memory { is_differ (tell_verdict t (first_of (option_map fact_of one.now) (option_map fact_of two.now))) ≡ false → IsOk result }
 {
     match (one, two) {
         (Some(one), Some(two)) if two.is_before(one) => differ(alloc, 2, two),

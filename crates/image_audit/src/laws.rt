@@ -4,7 +4,7 @@ ghost use Rattle.std.specs.List.{Contains};
 ghost use Rattle.cds_stamps.specs.declared.stamp.Stamp.{Stamp};
 ghost use Rattle.cds_stamps.specs.declared.numbers.DirId.{DirId};
 ghost use Rattle.directory.specs.Histories.{Mark, IsHistory, SameMarks, up_to};
-ghost use Rattle.directory.specs.Purges.{purged};
+ghost use Rattle.directory.specs.Purges.{purged_entries};
 ghost use Rattle.purge_rule.specs.declared.replica.Replica.{Replica};
 ghost use Rattle.cds_messages.specs.declared.image.Image.{Image};
 ghost use Rattle.image_audit.specs.declared.fact.Fact.{Fact};
@@ -25,10 +25,10 @@ pub fn agreeing_replicas_are_never_told_to_differ()
 pub fn replicas_that_agree_hold_each_fact()
     ensures first { (first second : Image) (dir : DirId) (h g : List Mark) (t : Stamp) →
         HasReplica first dir h (Some t) → HasReplica second dir g (Some t) → verdict first second dir ≡ Agree (Some t) →
-        (f : Fact) → Contains (facts (Some t) (purged h (Some t))) f → HoldsUpTo t (purged g (Some t)) f }
+        (f : Fact) → Contains (facts (Some t) (purged_entries h (Some t))) f → HoldsUpTo t (purged_entries g (Some t)) f }
     ensures second { (first second : Image) (dir : DirId) (h g : List Mark) (t : Stamp) →
         HasReplica first dir h (Some t) → HasReplica second dir g (Some t) → verdict first second dir ≡ Agree (Some t) →
-        (f : Fact) → Contains (facts (Some t) (purged g (Some t))) f → HoldsUpTo t (purged h (Some t)) f }
+        (f : Fact) → Contains (facts (Some t) (purged_entries g (Some t))) f → HoldsUpTo t (purged_entries h (Some t)) f }
 {}
 
 /// Of two replicas that are told to differ the fact that is told is open, and comes before every other open one: by name, the birth before

@@ -1,11 +1,11 @@
 // Two images, one after the other.
 ghost use Rattle.std.specs.Prelude.{◌≡◌, ◌≤◌, length, IfOk};
 ghost use Rattle.cds_stamps.specs.Outcomes.{Answers};
-ghost use Rattle.record_fields.specs.Decoding.{decoding};
-ghost use Rattle.record_fields.specs.Wanting.{IfWant};
+ghost use Rattle.record_fields.specs.Decoding.{decode_by};
+ghost use Rattle.record_fields.specs.MemoryFaults.{IfWant};
 ghost use Rattle.cds_records.specs.Images.{either_image};
-ghost use Rattle.cds_records.specs.Wanting.{WantsForImage};
-ghost use Rattle.image_audit.specs.Pairs.{audited};
+ghost use Rattle.cds_records.specs.RecordMemory.{WantsForImage};
+ghost use Rattle.image_audit.specs.Pairs.{audit_verdict};
 ghost use Rattle.image_audit.specs.PrivatePairs.{error_in};
 
 use crate::auditor::audit;
@@ -31,7 +31,7 @@ const FORMER_FORMAT: &[u8] = b"\x01";
 
 // The image of either format at the front of the octets, and how many octets it has. Else the first fault.
 fn front_image(alloc: Global, octets: &[u8]) -> Result<(Image, usize), AllocOr<RecordFault>>
-    ensures answer { Answers result (decoding either_image octets.now) }
+    ensures answer { Answers result (decode_by either_image octets.now) }
     ensures within { IfOk result (λ r. r.1 ≤ length octets.now) }
     ensures wanting { IfWant (WantsForImage 1 2 octets.now) result }
 {
@@ -55,7 +55,7 @@ fn of_image(image: u8, error: AllocOr<RecordFault>) -> AllocOr<PairFault>
 /// Audits a directory in the two images that the octets are, one after the other, each of either format. Else the first fault of the
 /// first image that has one; where octets follow the second it is Trailing.
 pub fn audit_octets(alloc: Global, octets: &[u8], dir: DirId) -> Result<Verdict, AllocOr<PairFault>>
-    ensures answer { Answers result (audited octets.now dir) }
+    ensures answer { Answers result (audit_verdict octets.now dir) }
     ensures wanting { IfWant (WantsForImage 1 2 octets.now) result }
 {
     let (first, used) = match front_image(alloc, octets) {

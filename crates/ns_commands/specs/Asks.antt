@@ -13,10 +13,10 @@ use Rattle.resolver.specs.declared.refusal.Refusal.TheVariants as refusal
 use Rattle.resolver.specs.declared.seen.Found.{Found}
 use Rattle.resolver.specs.declared.seen.Place.{Place}
 use Rattle.resolver.specs.Readers.{Reader}
-use Rattle.resolver.specs.WalkEnds.{walked, placed}
+use Rattle.resolver.specs.WalkEnds.{walk_end, place_of_walk}
 use Rattle.server_entries.specs.declared.exports.ExportFault.{ExportFault}
 use Rattle.server_entries.specs.declared.exports.ExportFault.TheVariants as servers
-use Rattle.server_entries.specs.Exports.{tower_attribute, object_attribute, exported, export_fault, unexported, unexport_fault}
+use Rattle.server_entries.specs.Exports.{tower_attribute, object_attribute, export_changes, export_fault, unexport_changes, unexport_fault}
 use Rattle.ns_groups.specs.declared.member.GroupFault.{GroupFault}
 use Rattle.ns_groups.specs.declared.member.GroupFault.TheVariants as groups
 use Rattle.ns_groups.specs.Groups as groups_of
@@ -119,8 +119,8 @@ changes_unless fault entry list = unless fault (Ok (record { house = entry.house
 abbrev pub export : Reader → List (List ℕ) → Interface → List StringBinding → (objects : List (List ℕ)) → Asks
 export reader name interface bindings objects =
     unless (option_map refusal_of_export (export_fault bindings objects))
-    (of_entry (place_to_fill (placed reader name)) (λ place.
-    fills place (exported place.name (is_none place.kind) interface bindings objects)))
+    (of_entry (place_to_fill (place_of_walk reader name)) (λ place.
+    fills place (export_changes place.name (is_none place.kind) interface bindings objects)))
 
 -- an entry loses these towers and objects, if it has any of them (own)
 abbrev pub unless_none : Found → List Change → Asks
@@ -129,34 +129,34 @@ unless_none entry gone = changes_unless (option_map refusal_of_export (unexport_
 -- a server is unexported: the entry loses the towers of the interface, if one is given, and the objects (own, after C706,
 -- unexporting a server)
 abbrev pub unexport : Reader → List (List ℕ) → Option Interface → (objects : List (List ℕ)) → Asks
-unexport reader name interface objects = of_entry (object_in (walked reader true name)) (λ entry.
-    unless_none entry (unexported entry.name (reader.values entry tower_attribute) (reader.values entry object_attribute) interface objects))
+unexport reader name interface objects = of_entry (object_in (walk_end reader true name)) (λ entry.
+    unless_none entry (unexport_changes entry.name (reader.values entry tower_attribute) (reader.values entry object_attribute) interface objects))
 
 -- a member is added to a group (own, after C706, groups)
 abbrev pub add_member : Reader → List (List ℕ) → (member : List (List ℕ)) → Asks
-add_member reader name member = of_entry (place_to_fill (placed reader name)) (λ place.
-    fills place (groups_of.added place.name (is_none place.kind) member))
+add_member reader name member = of_entry (place_to_fill (place_of_walk reader name)) (λ place.
+    fills place (groups_of.member_addition place.name (is_none place.kind) member))
 
 -- a member is deleted from a group (own, after C706, groups)
 abbrev pub delete_member : Reader → List (List ℕ) → (member : List (List ℕ)) → Asks
-delete_member reader name member = of_entry (object_in (walked reader true name)) (λ entry.
+delete_member reader name member = of_entry (object_in (walk_end reader true name)) (λ entry.
     changes_unless (option_map refusal_of_group (groups_of.delete_fault (reader.values entry groups_of.group) member)) entry
-    (groups_of.deleted entry.name member))
+    (groups_of.member_deletion entry.name member))
 
 -- an element is added to a profile; where no interface is given it is a default element (own, after C706, profiles)
 abbrev pub add_element : Reader → List (List ℕ) → Option Interface → (member : List (List ℕ)) → (priority : ℕ) → (annotation : List ℕ) → Asks
 add_element reader name interface member priority annotation =
     unless (option_map refusal_of_profile (profiles_of.add_fault interface member priority annotation))
-    (of_entry (place_to_fill (placed reader name)) (λ place.
-    fills place (profiles_of.added place.name (is_none place.kind) (profiles_of.new_element interface member priority annotation))))
+    (of_entry (place_to_fill (place_of_walk reader name)) (λ place.
+    fills place (profiles_of.element_addition place.name (is_none place.kind) (profiles_of.new_element interface member priority annotation))))
 
 -- the elements for an interface, or the default ones, with this member are deleted from a profile (own, after C706, profiles)
 abbrev pub deleted_from : Option Interface → (member : List (List ℕ)) → Found → (values : List (List ℕ)) → Asks
 deleted_from interface member entry values =
     changes_unless (option_map refusal_of_profile (profiles_of.delete_fault interface member values)) entry
-    (profiles_of.deleted entry.name interface member values)
+    (profiles_of.element_deletion entry.name interface member values)
 
 -- a profile loses its elements for an interface, or the default ones, with this member (own, after C706, profiles)
 abbrev pub delete_element : Reader → List (List ℕ) → Option Interface → (member : List (List ℕ)) → Asks
-delete_element reader name interface member = of_entry (object_in (walked reader true name)) (λ entry.
+delete_element reader name interface member = of_entry (object_in (walk_end reader true name)) (λ entry.
     deleted_from interface member entry (reader.values entry profiles_of.profile))

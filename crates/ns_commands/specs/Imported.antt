@@ -6,7 +6,7 @@ use Rattle.resolver.specs.Readers.{Reader}
 use Rattle.server_entries.specs.declared.client.Wanted.{Wanted}
 use Rattle.ns_import.specs.declared.fault.ImportFault.{ImportFault}
 use Rattle.ns_import.specs.declared.fault.ImportFault.TheVariants as fault
-use Rattle.ns_import.specs.Imports.{imported}
+use Rattle.ns_import.specs.Imports.{import_list}
 use Rattle.script_answers.specs.declared.answer.Answer.{Answer}
 use Rattle.script_answers.specs.declared.answer.Answer.TheVariants as answer
 use Rattle.script_answers.specs.declared.answer.ScriptRefusal.TheVariants as why
@@ -20,4 +20,4 @@ bindings_told (Err fault.NotObject) = answer.Refused why.NotObject
 
 -- the answer to an import, over a list that has each object which the reader shows (own)
 abbrev pub import_answer : Reader → (objects : List Found) → Wanted → List (List ℕ) → Answer
-import_answer reader objects wanted name = bindings_told (imported reader objects wanted name)
+import_answer reader objects wanted name = bindings_told (import_list reader objects wanted name)

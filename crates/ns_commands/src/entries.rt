@@ -2,7 +2,7 @@
 ghost use Rattle.std.specs.Prelude.{◌≡◌, true, None, IfOk};
 ghost use Rattle.cds_stamps.specs.Names.{attr_fault};
 ghost use Rattle.cds_stamps.specs.Outcomes.{Answers};
-ghost use Rattle.resolver.specs.WalkEnds.{placed, walked};
+ghost use Rattle.resolver.specs.WalkEnds.{place_of_walk, walk_end};
 ghost use Rattle.ns_commands.specs.Asks.{object_in, place_to_fill};
 
 use crate::refusals::refusal_of_walk;
@@ -20,7 +20,7 @@ pub(crate) fn place_to_fill<R: EntryReader>(
     reader: &R,
     name: &FullName,
 ) -> Result<Place, AllocOr<ScriptRefusal>>
-    ensures { Answers result (place_to_fill (placed (R.tells reader.now) name.now)) }
+    ensures { Answers result (place_to_fill (place_of_walk (R.tells reader.now) name.now)) }
 {
     match place(alloc, reader, name) {
         Ok(place) => match place.kind {
@@ -39,7 +39,7 @@ pub fn object<R: EntryReader>(
     reader: &R,
     name: &FullName,
 ) -> Result<Found, AllocOr<ScriptRefusal>>
-    ensures { Answers result (object_in (walked (R.tells reader.now) true name.now)) }
+    ensures { Answers result (object_in (walk_end (R.tells reader.now) true name.now)) }
 {
     match resolve(alloc, reader, name, true) {
         Ok(entry) => match entry.kind {

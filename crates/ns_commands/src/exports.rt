@@ -3,7 +3,7 @@ ghost use Rattle.std.specs.Prelude.{◌≡◌, IfSome, option_copied};
 ghost use Rattle.std.specs.Result.{result_map_both};
 ghost use Rattle.cds_stamps.specs.Outcomes.{Answers};
 ghost use Rattle.cds_stamps.specs.declared.alloc_or.AllocOr.TheVariants.{Fault};
-ghost use Rattle.server_entries.specs.Exports.{export_fault, unexported};
+ghost use Rattle.server_entries.specs.Exports.{export_fault, unexport_changes};
 ghost use Rattle.ns_commands.specs.Asks.{changes_in, export, refusal_of_export as refusal, unexport, unless_none};
 
 use crate::entries::{object, place_to_fill, values_of};
@@ -71,7 +71,7 @@ fn losses(
     objects: &[Uuid],
 ) -> Result<Updates, AllocOr<ScriptRefusal>>
     ensures { Answers (result_map_both changes_in (λ e. e) result)
-        (unless_none entry.now (unexported entry.now.name towers.now held.now (option_copied interface.entry) objects.now)) }
+        (unless_none entry.now (unexport_changes entry.now.name towers.now held.now (option_copied interface.entry) objects.now)) }
 {
     match server_entries::unexport(alloc, &entry.name, towers, held, interface, objects) {
         Ok(list) => Ok(Updates::of_found(entry, list)),

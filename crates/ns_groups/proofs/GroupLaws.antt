@@ -12,15 +12,15 @@ use Rattle.std.proofs.lemmas.List.Elements.{All-weaker, All-contains_itself, All
 use Rattle.std.proofs.lemmas.Map.Views.{list_any-from_Contains, Contains-from_any}
 use Rattle.cds_stamps.proofs.ListMembers.{Contains-head, Contains-tail, Contains-map, map-Contains, Contains-filter, filter-Contains}
 use Rattle.cds_stamps.proofs.AscendingLaws.{one_order, ascending-rises, ascending-has, ascending-had, ascending-kept}
-use Rattle.cds_stamps.specs.Keyed.{tied}
+use Rattle.cds_stamps.specs.Keyed.{ties_are_equal}
 use Rattle.cds_stamps.specs.Octets.{octets_cmp, octets_exact, is_octets}
-use Rattle.cds_stamps.specs.Ascending.{ascending}
+use Rattle.cds_stamps.specs.Ascending.{in_ascending_order}
 use Rattle.cds_stamps.specs.declared.stamp.Stamp.{Stamp}
-use Rattle.cell_names.specs.FullNames.{spelling, components_of, name_fault, is_full_name, IsComponentList, IsFullName}
+use Rattle.cell_names.specs.FullNames.{full_name_octets, components_of, name_fault, is_full_name, IsComponentList, IsFullName}
 use Rattle.cell_names.proofs.FullNameLaws.{name_fault-none, name_fault-spelling, components_of-spelling, spelling-components}
 use Rattle.directory.specs.Histories.{Mark, IsBefore}
 use Rattle.directory.specs.Updates.{Add, Remove}
-use Rattle.directory.specs.Shown.{Shown, shown, marks_of, ChangesValues}
+use Rattle.directory.specs.Shown.{Shown, shown_of_name, marks_of, ChangesValues}
 use Rattle.directory.proofs.ChangeLaws.{shown-add, shown-remove}
 use Rattle.ns_groups.specs.Groups.{group, member_fault, members_of, IsMembers, delete_fault}
 use Rattle.ns_groups.specs.declared.member.GroupFault.{GroupFault}
@@ -53,27 +53,27 @@ has_from : (o : List ℕ) (all : List (List ℕ)) → Contains all o → has o a
 has_from o all c = list_any-from_Contains (eq_by_cmp_equiv nat_list_cmp_total) o all c
 
 among : (o : List ℕ) (all : List (List ℕ)) → has o all ≡ true → Contains all o
-among o all e = Contains-from_any (tied octets_exact) o all e
+among o all e = Contains-from_any (ties_are_equal octets_exact) o all e
 
 -- ---- names and their octets
 
-spelled_back : (octets : List ℕ) → is_full_name octets ≡ true → IsComponentList (components_of octets) × (octets ≡ spelling (components_of octets))
+spelled_back : (octets : List ℕ) → is_full_name octets ≡ true → IsComponentList (components_of octets) × (octets ≡ full_name_octets (components_of octets))
 spelled_back octets full = spelling-components octets ((none_if (name_fault octets)).0 full)
 
-is_full : (member : List (List ℕ)) → IsComponentList member → is_full_name (spelling member) ≡ true
+is_full : (member : List (List ℕ)) → IsComponentList member → is_full_name (full_name_octets member) ≡ true
 is_full member lawful = ap is_none (name_fault-spelling member lawful)
 
-one_spelling : (a b : List (List ℕ)) → IsComponentList a → IsComponentList b → spelling a ≡ spelling b → a ≡ b
+one_spelling : (a b : List (List ℕ)) → IsComponentList a → IsComponentList b → full_name_octets a ≡ full_name_octets b → a ≡ b
 one_spelling a b p q e = sym (components_of-spelling a p) ∙ ap components_of e ∙ components_of-spelling b q
 
-names_back : (octets : List (List ℕ)) → ((o : List ℕ) → Contains octets o → is_full_name o ≡ true) → map spelling (map components_of octets) ≡ octets
+names_back : (octets : List (List ℕ)) → ((o : List ℕ) → Contains octets o → is_full_name o ≡ true) → map full_name_octets (map components_of octets) ≡ octets
 names_back [] full = refl
 names_back (o ∷ os) full =
     let first = sym (spelled_back o (full o (Contains-head o os))).1 in
     let later = names_back os (λ p c. full p (Contains-tail o os p c)) in
     cc (first, later)
 
-octets_back : (names : List (List (List ℕ))) → ((m : List (List ℕ)) → Contains names m → IsComponentList m) → map components_of (map spelling names) ≡ names
+octets_back : (names : List (List (List ℕ))) → ((m : List (List ℕ)) → Contains names m → IsComponentList m) → map components_of (map full_name_octets names) ≡ names
 octets_back [] lawful = refl
 octets_back (m ∷ ms) lawful =
     let first = components_of-spelling m (lawful m (Contains-head m ms)) in
@@ -83,32 +83,32 @@ octets_back (m ∷ ms) lawful =
 -- ---- the members
 
 module _ (values : List (List ℕ)) where
-  once_from : (o : List ℕ) → Contains (ascending (filter is_full_name values)) o → (is_full_name o ≡ true) × Contains values o
+  once_from : (o : List ℕ) → Contains (in_ascending_order (filter is_full_name values)) o → (is_full_name o ≡ true) × Contains values o
   once_from o c = let p = filter-Contains is_full_name values o (ascending-had (filter is_full_name values) o c) in (p.1, p.0)
 
-  once_to : (o : List ℕ) → is_full_name o ≡ true → Contains values o → Contains (ascending (filter is_full_name values)) o
+  once_to : (o : List ℕ) → is_full_name o ≡ true → Contains values o → Contains (in_ascending_order (filter is_full_name values)) o
   once_to o full c = ascending-has (filter is_full_name values) o (Contains-filter is_full_name values o c full)
 
-  spelled_once : map spelling (members_of values) ≡ ascending (filter is_full_name values)
-  spelled_once = names_back (ascending (filter is_full_name values)) (λ o c. (once_from o c).0)
+  spelled_once : map full_name_octets (members_of values) ≡ in_ascending_order (filter is_full_name values)
+  spelled_once = names_back (in_ascending_order (filter is_full_name values)) (λ o c. (once_from o c).0)
 
   member_lawful : (m : List (List ℕ)) → Contains (members_of values) m → IsComponentList m
   member_lawful m c =
-      let from = map-Contains components_of (ascending (filter is_full_name values)) m c in
+      let from = map-Contains components_of (in_ascending_order (filter is_full_name values)) m c in
       subst IsComponentList from.2 (spelled_back from.0 (once_from from.0 from.1).0).0
 
   -- a member is a full name whose octets are a value
-  pub member_from : (m : List (List ℕ)) → Contains (members_of values) m → IsComponentList m × Contains values (spelling m)
+  pub member_from : (m : List (List ℕ)) → Contains (members_of values) m → IsComponentList m × Contains values (full_name_octets m)
   member_from m c =
-      let at : Contains (ascending (filter is_full_name values)) (spelling m) =
-      subst (λ (os : List (List ℕ)). Contains os (spelling m)) spelled_once (Contains-map spelling (members_of values) m c) in
-      (member_lawful m c, (once_from (spelling m) at).1)
+      let at : Contains (in_ascending_order (filter is_full_name values)) (full_name_octets m) =
+      subst (λ (os : List (List ℕ)). Contains os (full_name_octets m)) spelled_once (Contains-map full_name_octets (members_of values) m c) in
+      (member_lawful m c, (once_from (full_name_octets m) at).1)
 
   -- and such a name is a member
-  pub member_to : (m : List (List ℕ)) → IsComponentList m → Contains values (spelling m) → Contains (members_of values) m
+  pub member_to : (m : List (List ℕ)) → IsComponentList m → Contains values (full_name_octets m) → Contains (members_of values) m
   member_to m lawful c =
       subst (Contains (members_of values)) (components_of-spelling m lawful)
-      (Contains-map components_of (ascending (filter is_full_name values)) (spelling m) (once_to (spelling m) (is_full m lawful) c))
+      (Contains-map components_of (in_ascending_order (filter is_full_name values)) (full_name_octets m) (once_to (full_name_octets m) (is_full m lawful) c))
 
   members : IsMembers values (members_of values)
   members = record {
@@ -121,23 +121,23 @@ module _ (values : List (List ℕ)) where
     each_lawful : (m : List (List ℕ)) → Contains names m → IsComponentList m
     each_lawful m c = All-contains IsComponentList names m are.lawful c
 
-    spelled_from : (o : List ℕ) → Contains (map spelling names) o → Contains (ascending (filter is_full_name values)) o
+    spelled_from : (o : List ℕ) → Contains (map full_name_octets names) o → Contains (in_ascending_order (filter is_full_name values)) o
     spelled_from o c =
-        let from = map-Contains spelling names o c in
+        let from = map-Contains full_name_octets names o c in
         let lawful = each_lawful from.0 from.1 in
-        subst (Contains (ascending (filter is_full_name values))) from.2
-        (once_to (spelling from.0) (is_full from.0 lawful) ((are.exactly from.0 lawful).0 from.1))
+        subst (Contains (in_ascending_order (filter is_full_name values))) from.2
+        (once_to (full_name_octets from.0) (is_full from.0 lawful) ((are.exactly from.0 lawful).0 from.1))
 
-    spelled_to : (o : List ℕ) → Contains (ascending (filter is_full_name values)) o → Contains (map spelling names) o
+    spelled_to : (o : List ℕ) → Contains (in_ascending_order (filter is_full_name values)) o → Contains (map full_name_octets names) o
     spelled_to o c =
         let from = once_from o c in
         let back = spelled_back o from.0 in
         let there = (are.exactly (components_of o) back.0).1 (subst (Contains values) back.1 from.1) in
-        subst (Contains (map spelling names)) (sym back.1) (Contains-map spelling names (components_of o) there)
+        subst (Contains (map full_name_octets names)) (sym back.1) (Contains-map full_name_octets names (components_of o) there)
 
-    same_spelled : map spelling names ≡ ascending (filter is_full_name values)
+    same_spelled : map full_name_octets names ≡ in_ascending_order (filter is_full_name values)
     same_spelled =
-        one_order (map spelling names) (ascending (filter is_full_name values)) are.rising (ascending-rises (filter is_full_name values))
+        one_order (map full_name_octets names) (in_ascending_order (filter is_full_name values)) are.rising (ascending-rises (filter is_full_name values))
         spelled_from spelled_to
 
     only_list : names ≡ members_of values
@@ -154,8 +154,8 @@ module _ (values : List (List ℕ)) where
   -- exactly the members can be deleted
   pub delete_fault-none : (m : List (List ℕ)) → IsComponentList m → (delete_fault values m ≡ None) ↔ Contains (members_of values) m
   delete_fault-none m lawful =
-      let test = no_fault_if {E = GroupFault} (has (spelling m) values) _ in
-      (λ e. member_to m lawful (among (spelling m) values (test.0 e)), λ c. test.1 (has_from (spelling m) values (member_from m c).1))
+      let test = no_fault_if {E = GroupFault} (has (full_name_octets m) values) _ in
+      (λ e. member_to m lawful (among (full_name_octets m) values (test.0 e)), λ c. test.1 (has_from (full_name_octets m) values (member_from m c).1))
 
 -- ---- accepted updates
 
@@ -164,48 +164,48 @@ if_some_and P Q more None h = h
 if_some_and P Q more (Some x) h = more x h
 
 -- where the values are changed by one that is added or removed, so are the members
-member_added : (old new : List (List ℕ)) (m : List (List ℕ)) → IsComponentList m → ((w : List ℕ) → Contains new w ↔ ((w ≡ spelling m) ⊎ Contains old w))
+member_added : (old new : List (List ℕ)) (m : List (List ℕ)) → IsComponentList m → ((w : List ℕ) → Contains new w ↔ ((w ≡ full_name_octets m) ⊎ Contains old w))
     → (other : List (List ℕ)) → Contains (members_of new) other ↔ ((other ≡ m) ⊎ Contains (members_of old) other)
 member_added old new m lawful changed other = (from, to)
   where
     from : Contains (members_of new) other → (other ≡ m) ⊎ Contains (members_of old) other
     from c =
         let is = member_from new other c in
-        ⊎_elim (λ e. inl (one_spelling other m is.0 lawful e)) (λ there. inr (member_to old other is.0 there)) ((changed (spelling other)).0 is.1)
+        ⊎_elim (λ e. inl (one_spelling other m is.0 lawful e)) (λ there. inr (member_to old other is.0 there)) ((changed (full_name_octets other)).0 is.1)
 
     to : (other ≡ m) ⊎ Contains (members_of old) other → Contains (members_of new) other
-    to = ⊎_elim (λ e. subst (Contains (members_of new)) (sym e) (member_to new m lawful ((changed (spelling m)).1 (inl refl))))
-        (λ c. let is = member_from old other c in member_to new other is.0 ((changed (spelling other)).1 (inr is.1)))
+    to = ⊎_elim (λ e. subst (Contains (members_of new)) (sym e) (member_to new m lawful ((changed (full_name_octets m)).1 (inl refl))))
+        (λ c. let is = member_from old other c in member_to new other is.0 ((changed (full_name_octets other)).1 (inr is.1)))
 
-member_removed : (old new : List (List ℕ)) (m : List (List ℕ)) → IsComponentList m → ((w : List ℕ) → Contains new w ↔ ((w ≢ spelling m) × Contains old w))
+member_removed : (old new : List (List ℕ)) (m : List (List ℕ)) → IsComponentList m → ((w : List ℕ) → Contains new w ↔ ((w ≢ full_name_octets m) × Contains old w))
     → (other : List (List ℕ)) → Contains (members_of new) other ↔ ((other ≢ m) × Contains (members_of old) other)
 member_removed old new m lawful changed other = (from, to)
   where
     from : Contains (members_of new) other → (other ≢ m) × Contains (members_of old) other
     from c =
         let is = member_from new other c in
-        let left = (changed (spelling other)).0 is.1 in
-        (λ e. left.0 (ap spelling e), member_to old other is.0 left.1)
+        let left = (changed (full_name_octets other)).0 is.1 in
+        (λ e. left.0 (ap full_name_octets e), member_to old other is.0 left.1)
 
     to : (other ≢ m) × Contains (members_of old) other → Contains (members_of new) other
     to left =
         let is = member_from old other left.1 in
-        member_to new other is.0 ((changed (spelling other)).1 (λ e. left.0 (one_spelling other m is.0 lawful e), is.1))
+        member_to new other is.0 ((changed (full_name_octets other)).1 (λ e. left.0 (one_spelling other m is.0 lawful e), is.1))
 
 -- an accepted addition leaves the members that were there and the new one
-pub members-added : (h : List Mark) (n : List ℕ) (e : Shown) (s : Stamp) (member : List (List ℕ)) → shown h n ≡ Some e → IsBefore h s → IsComponentList member
-    → IsSomeAnd (shown (h ++ marks_of (shown h n) (Add n group (spelling member)) s) n)
+pub members-added : (h : List Mark) (n : List ℕ) (e : Shown) (s : Stamp) (member : List (List ℕ)) → shown_of_name h n ≡ Some e → IsBefore h s → IsComponentList member
+    → IsSomeAnd (shown_of_name (h ++ marks_of (shown_of_name h n) (Add n group (full_name_octets member)) s) n)
     (λ f. (other : List (List ℕ)) → Contains (members_of (f.values group)) other ↔ ((other ≡ member) ⊎ Contains (members_of (e.values group)) other))
 members-added h n e s member is before lawful =
-    if_some_and (ChangesValues e group (λ w. (w ≡ spelling member) ⊎ Contains (e.values group) w)) _
+    if_some_and (ChangesValues e group (λ w. (w ≡ full_name_octets member) ⊎ Contains (e.values group) w)) _
     (λ f changes. member_added (e.values group) (f.values group) member lawful changes.changed) _
-    (shown-add h n e is s group (spelling member) before refl)
+    (shown-add h n e is s group (full_name_octets member) before refl)
 
 -- an accepted removal leaves the others
-pub members-removed : (h : List Mark) (n : List ℕ) (e : Shown) (s : Stamp) (member : List (List ℕ)) → shown h n ≡ Some e → IsBefore h s → IsComponentList member
-    → IsSomeAnd (shown (h ++ marks_of (shown h n) (Remove n group (spelling member)) s) n)
+pub members-removed : (h : List Mark) (n : List ℕ) (e : Shown) (s : Stamp) (member : List (List ℕ)) → shown_of_name h n ≡ Some e → IsBefore h s → IsComponentList member
+    → IsSomeAnd (shown_of_name (h ++ marks_of (shown_of_name h n) (Remove n group (full_name_octets member)) s) n)
     (λ f. (other : List (List ℕ)) → Contains (members_of (f.values group)) other ↔ ((other ≢ member) × Contains (members_of (e.values group)) other))
 members-removed h n e s member is before lawful =
-    if_some_and (ChangesValues e group (λ w. (w ≢ spelling member) × Contains (e.values group) w)) _
+    if_some_and (ChangesValues e group (λ w. (w ≢ full_name_octets member) × Contains (e.values group) w)) _
     (λ f changes. member_removed (e.values group) (f.values group) member lawful changes.changed) _
-    (shown-remove h n e is s group (spelling member) before refl)
+    (shown-remove h n e is s group (full_name_octets member) before refl)

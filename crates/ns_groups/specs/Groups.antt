@@ -3,8 +3,8 @@ use Rattle.std.specs.Prelude.{◌↔◌, ℕ, Bool, List, [], ◌∷◌, ◌++�
 use Rattle.std.specs.List.{All, Contains, list_any}
 use Rattle.std.specs.List.Sorted.{IsStrictlySortedBy}
 use Rattle.cds_stamps.specs.Octets.{octets_cmp, is_octets}
-use Rattle.cds_stamps.specs.Ascending.{ascending}
-use Rattle.cell_names.specs.FullNames.{spelling, components_of, is_full_name, IsComponentList}
+use Rattle.cds_stamps.specs.Ascending.{in_ascending_order}
+use Rattle.cell_names.specs.FullNames.{full_name_octets, components_of, is_full_name, IsComponentList}
 use Rattle.directory.specs.Updates.{Change, Add, Remove}
 use Rattle.directory.specs.EntryChanges.{creation}
 use Rattle.ns_groups.specs.declared.member.GroupFault.{GroupFault}
@@ -20,23 +20,23 @@ member_fault octets = if is_full_name octets then None else Some BadMemberValue
 
 -- the members of a group with these values: those that are full names, each once, in ascending order of their octets (own)
 abbrev pub members_of : List (List ℕ) → List (List (List ℕ))
-members_of values = map components_of (ascending (filter is_full_name values))
+members_of values = map components_of (in_ascending_order (filter is_full_name values))
 
 -- these names are the members of a group with these values: they ascend by their octets, so that none stands twice, and
 -- they are the full names whose octets are a value (own)
 pub record IsMembers (values : List (List ℕ)) (names : List (List (List ℕ))) : Type 0 where
   pub lawful : All IsComponentList names
-  pub rising : IsStrictlySortedBy octets_cmp (map spelling names)
-  pub exactly : (member : List (List ℕ)) → IsComponentList member → Contains names member ↔ Contains values (spelling member)
+  pub rising : IsStrictlySortedBy octets_cmp (map full_name_octets names)
+  pub exactly : (member : List (List ℕ)) → IsComponentList member → Contains names member ↔ Contains values (full_name_octets member)
 
 -- a member whose octets are no value can't be deleted (own)
 abbrev pub delete_fault : (values : List (List ℕ)) → (member : List (List ℕ)) → Option GroupFault
-delete_fault values member = if list_any (is_octets (spelling member)) values then None else Some NoSuchMember
+delete_fault values member = if list_any (is_octets (full_name_octets member)) values then None else Some NoSuchMember
 
 -- to add a member to the entry n: the entry is created if it is absent, and then the member's octets become a value (own)
-abbrev pub added : (n : List ℕ) → (absent : Bool) → (member : List (List ℕ)) → List Change
-added n absent member = creation n absent ++ Add n group (spelling member) ∷ []
+abbrev pub member_addition : (n : List ℕ) → (absent : Bool) → (member : List (List ℕ)) → List Change
+member_addition n absent member = creation n absent ++ Add n group (full_name_octets member) ∷ []
 
 -- to delete a member of the entry n: the member's octets are no value any more (own)
-abbrev pub deleted : (n : List ℕ) → (member : List (List ℕ)) → List Change
-deleted n member = Remove n group (spelling member) ∷ []
+abbrev pub member_deletion : (n : List ℕ) → (member : List (List ℕ)) → List Change
+member_deletion n member = Remove n group (full_name_octets member) ∷ []

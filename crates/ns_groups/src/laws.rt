@@ -5,12 +5,12 @@ ghost use Rattle.std.specs.List.Sorted.{IsStrictlySortedBy};
 ghost use Rattle.std.specs.Option.{IsSomeAnd};
 ghost use Rattle.cds_stamps.specs.Octets.{octets_cmp};
 ghost use Rattle.cds_stamps.specs.declared.stamp.Stamp.{Stamp};
-ghost use Rattle.cell_names.specs.FullNames.{spelling, components_of, is_full_name, IsComponentList, IsFullName};
+ghost use Rattle.cell_names.specs.FullNames.{full_name_octets, components_of, is_full_name, IsComponentList, IsFullName};
 ghost use Rattle.directory.specs.Histories.{Mark, IsHistory, IsBefore};
 ghost use Rattle.directory.specs.Updates.{Create, Add, Remove};
-ghost use Rattle.directory.specs.Shown.{Shown, shown, refusal_of, marks_of};
+ghost use Rattle.directory.specs.Shown.{Shown, shown_of_name, refusal_of, marks_of};
 ghost use Rattle.directory.specs.EntryChanges.{AreAccepted};
-ghost use Rattle.ns_groups.specs.Groups.{group, member_fault, members_of, IsMembers, delete_fault, added, deleted};
+ghost use Rattle.ns_groups.specs.Groups.{group, member_fault, members_of, IsMembers, delete_fault, member_addition, member_deletion};
 
 /// No fault is found exactly in values that are full names.
 pub fn member_values_have_no_fault()
@@ -40,21 +40,21 @@ pub fn only_members_are_deleted()
 /// so are those that delete one of an entry that shows.
 pub fn group_updates_are_accepted()
     ensures additions { (h : List Mark) (n : List ℕ) (member : List (List ℕ)) → IsHistory h
-        → AreAccepted h (added n (is_none (shown h n)) member) }
-    ensures deletions { (h : List Mark) (n : List ℕ) (e : Shown) (member : List (List ℕ)) → shown h n ≡ Some e
-        → AreAccepted h (deleted n member) }
+        → AreAccepted h (member_addition n (is_none (shown_of_name h n)) member) }
+    ensures deletions { (h : List Mark) (n : List ℕ) (e : Shown) (member : List (List ℕ)) → shown_of_name h n ≡ Some e
+        → AreAccepted h (member_deletion n member) }
     ensures created { (n : List ℕ) → refusal_of None (Create n) ≡ None }
-    ensures added { (e : Shown) (n : List ℕ) (member : List (List ℕ)) → refusal_of (Some e) (Add n group (spelling member)) ≡ None }
-    ensures removed { (e : Shown) (n : List ℕ) (member : List (List ℕ)) → refusal_of (Some e) (Remove n group (spelling member)) ≡ None }
+    ensures added { (e : Shown) (n : List ℕ) (member : List (List ℕ)) → refusal_of (Some e) (Add n group (full_name_octets member)) ≡ None }
+    ensures removed { (e : Shown) (n : List ℕ) (member : List (List ℕ)) → refusal_of (Some e) (Remove n group (full_name_octets member)) ≡ None }
 {}
 
 /// An update that adds a member to an entry that shows leaves the members that were there and this one, and one that
 /// removes it leaves the others.
 pub fn group_updates_change_members()
-    ensures added { (h : List Mark) (n : List ℕ) (e : Shown) (s : Stamp) (member : List (List ℕ)) → shown h n ≡ Some e → IsBefore h s
-        → IsComponentList member → IsSomeAnd (shown (h ++ marks_of (shown h n) (Add n group (spelling member)) s) n)
+    ensures added { (h : List Mark) (n : List ℕ) (e : Shown) (s : Stamp) (member : List (List ℕ)) → shown_of_name h n ≡ Some e → IsBefore h s
+        → IsComponentList member → IsSomeAnd (shown_of_name (h ++ marks_of (shown_of_name h n) (Add n group (full_name_octets member)) s) n)
         (λ f. (other : List (List ℕ)) → Contains (members_of (f.values group)) other ↔ ((other ≡ member) ⊎ Contains (members_of (e.values group)) other)) }
-    ensures removed { (h : List Mark) (n : List ℕ) (e : Shown) (s : Stamp) (member : List (List ℕ)) → shown h n ≡ Some e → IsBefore h s
-        → IsComponentList member → IsSomeAnd (shown (h ++ marks_of (shown h n) (Remove n group (spelling member)) s) n)
+    ensures removed { (h : List Mark) (n : List ℕ) (e : Shown) (s : Stamp) (member : List (List ℕ)) → shown_of_name h n ≡ Some e → IsBefore h s
+        → IsComponentList member → IsSomeAnd (shown_of_name (h ++ marks_of (shown_of_name h n) (Remove n group (full_name_octets member)) s) n)
         (λ f. (other : List (List ℕ)) → Contains (members_of (f.values group)) other ↔ ((other ≢ member) × Contains (members_of (e.values group)) other)) }
 {}

@@ -5,10 +5,10 @@ ghost use Rattle.std.specs.Result.{result_map_both};
 ghost use Rattle.cds_stamps.specs.Octets.{is_octets};
 ghost use Rattle.cds_stamps.specs.Outcomes.{Answers, ok_unless};
 ghost use Rattle.cds_stamps.specs.declared.alloc_or.AllocOr.TheVariants.{Fault};
-ghost use Rattle.cell_names.specs.FullNames.{spelling};
+ghost use Rattle.cell_names.specs.FullNames.{full_name_octets};
 ghost use Rattle.directory.specs.Updates.{Add, Remove, change_of};
 ghost use Rattle.directory.specs.EntryChanges.{changes};
-ghost use Rattle.ns_groups.specs.Groups.{group, added, delete_fault, deleted};
+ghost use Rattle.ns_groups.specs.Groups.{group, member_addition, delete_fault, member_deletion};
 
 use crate::member::GroupFault;
 use attr_sets::Value;
@@ -27,7 +27,7 @@ pub fn add(
     absent: bool,
     member: &FullName,
 ) -> Result<Vec<Update>, AllocError>
-    ensures { IfOk result (λ v. changes v.items ≡ added name.now absent member.now) }
+    ensures { IfOk result (λ v. changes v.items ≡ member_addition name.now absent member.now) }
 {
     let mut updates = creation(alloc, name, absent)?;
     updates.push(addition(alloc, name, member)?)?;
@@ -43,7 +43,7 @@ pub fn delete(
     member: &FullName,
 ) -> Result<Vec<Update>, AllocOr<GroupFault>>
     ensures answer { Answers (result_map_both (λ v. changes v.items) (λ e. e) result)
-        (ok_unless (delete_fault values.now member.now) (deleted name.now member.now)) }
+        (ok_unless (delete_fault values.now member.now) (member_deletion name.now member.now)) }
     ensures faulty { IfSome (delete_fault values.now member.now) (λ fault. result ≡ Err (Fault fault)) }
 {
     match value_of(values, member) {
@@ -54,7 +54,7 @@ pub fn delete(
 
 // The update that adds a member.
 fn addition(alloc: Global, name: &SimpleName, member: &FullName) -> Result<Update, AllocError>
-    ensures { IfOk result (λ u. change_of u ≡ Add name.now group (spelling member.now)) }
+    ensures { IfOk result (λ u. change_of u ≡ Add name.now group (full_name_octets member.now)) }
 {
     let value = spelled(alloc, member)?;
     Ok(Update::Add(name.copy(alloc)?, AttrName::known(alloc, GROUP)?, value))
@@ -72,7 +72,7 @@ fn removal(alloc: Global, name: &SimpleName, value: &Value) -> Result<Vec<Update
 
 // The value that spells a full name: only memory can be wanting.
 fn spelled(alloc: Global, name: &FullName) -> Result<Value, AllocError>
-    ensures { IfOk result (λ v. v ≡ spelling name.now) }
+    ensures { IfOk result (λ v. v ≡ full_name_octets name.now) }
 {
     let octets = name.print(alloc)?;
     Value::known(alloc, &octets)
@@ -80,8 +80,8 @@ fn spelled(alloc: Global, name: &FullName) -> Result<Value, AllocError>
 
 // The first of these values that spells a full name.
 fn value_of<'a>(values: &'a [Value], name: &FullName) -> Option<&'a Value>
-    ensures { MatchOption result (list_any (is_octets (spelling name.now)) values.now ≡ false)
-        (λ value. (list_any (is_octets (spelling name.now)) values.now ≡ true) × (value.now ≡ spelling name.now)) }
+    ensures { MatchOption result (list_any (is_octets (full_name_octets name.now)) values.now ≡ false)
+        (λ value. (list_any (is_octets (full_name_octets name.now)) values.now ≡ true) × (value.now ≡ full_name_octets name.now)) }
 {
     for value in values {
         if name.is_spelled(value.octets()) {

@@ -9,7 +9,7 @@ use Rattle.resolver.specs.declared.seen.Found.{Found}
 use Rattle.resolver.specs.Readers.{Reader}
 use Rattle.server_entries.specs.declared.client.Wanted.{Wanted}
 use Rattle.ns_import.specs.DepthFirst.{depth_first}
-use Rattle.ns_import.specs.Imports.{same_entry, object_at, object_of, edges, names_of, bindings_at, order_from, imports_from, imported, begun}
+use Rattle.ns_import.specs.Imports.{same_entry, object_at, object_of, edges, names_of, bindings_at, order_from, imports_from, import_list, begin_import}
 use Rattle.ns_import.specs.Coming.{to_come}
 use Rattle.ns_import.proofs.Firsts.{Within, has_from}
 use Rattle.ns_import.proofs.Steps.{depth_first-new, order_of_one_list}
@@ -51,11 +51,11 @@ module _ (reader : Reader) (objects : List Found) (leads : Leads reader objects)
   pub begins_with : (others : List Found) → Leads reader others → (wanted : Wanted) (name : List (List ℕ)) (start : Found) → object_at reader name ≡ Ok start
       → (client : Wanted) → client ≡ wanted → (ready : List StringBinding) (searched : List Found) (names : List (List (List ℕ)))
       → ready ≡ bindings_at reader client start → searched ≡ start ∷ [] → names ≡ names_of reader client.interface start ++ []
-      → begun (imported reader others wanted name) ≡ Ok (Some (ready ++ to_come reader objects client searched names))
+      → begin_import (import_list reader others wanted name) ≡ Ok (Some (ready ++ to_come reader objects client searched names))
   begins_with others leads_too wanted name start at client same ready searched names r s n =
       let found : object_of reader name ≡ Some start = ap result_ok at in
       let among = leads name start found in
-      ap (λ o. begun (result_map_both (imports_from reader others wanted) (λ fault. fault) o)) at
+      ap (λ o. begin_import (result_map_both (imports_from reader others wanted) (λ fault. fault) o)) at
       ∙ ap (λ (es : List Found). Ok (Some (flat_map (bindings_at reader wanted) es)))
       (one_order others leads_too wanted.interface start among (leads_too name start found))
       ∙ ap (λ (w : Wanted). Ok (Some (imports_from reader objects w start))) (sym same)

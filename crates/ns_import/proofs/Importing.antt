@@ -10,7 +10,7 @@ use Rattle.resolver.specs.Readers.{Reader}
 use Rattle.server_entries.specs.declared.client.Wanted.{Wanted}
 use Rattle.ns_import.specs.declared.fault.ImportFault.{ImportFault}
 use Rattle.ns_import.specs.Orders.{order, Reaches}
-use Rattle.ns_import.specs.Imports.{same_entry, object_at, edges, order_from, imports_from, imported, IsImport}
+use Rattle.ns_import.specs.Imports.{same_entry, object_at, edges, order_from, imports_from, import_list, IsImport}
 use Rattle.ns_import.proofs.Firsts.{has_from}
 use Rattle.ns_import.proofs.Steps.{more_steps_change_nothing}
 use Rattle.ns_import.proofs.Reached.{order_once, order_reaches}
@@ -37,7 +37,7 @@ module _ (reader : Reader) (objects : List Found) (leads : Leads reader objects)
 
 -- what an import lists are the bindings of what is reached
 pub import_is : (reader : Reader) (objects : List Found) → Leads reader objects → (wanted : Wanted) (name : List (List ℕ)) (bindings : List StringBinding)
-    → imported reader objects wanted name ≡ Ok bindings → IsImport reader wanted name bindings
+    → import_list reader objects wanted name ≡ Ok bindings → IsImport reader wanted name bindings
 import_is reader objects leads wanted name bindings is = by_object (object_at reader name) refl is
   where
     begun_at : (start : Found) → object_at reader name ≡ Ok start → imports_from reader objects wanted start ≡ bindings → IsImport reader wanted name bindings

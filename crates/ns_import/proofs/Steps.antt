@@ -5,7 +5,7 @@ use Rattle.std.proofs.lemmas.List.Sums.{sum_by-cons, sum_by-le-sum_by, count_by-
 use Rattle.std.proofs.lemmas.Bool.{cases_lt}
 use Rattle.cds_stamps.specs.Firsts.{has, firsts}
 use Rattle.ns_import.specs.DepthFirst.{behind_seen, enter_first, depth_first}
-use Rattle.ns_import.specs.Orders.{unfolded, order}
+use Rattle.ns_import.specs.Orders.{unfold_paths, order}
 use Rattle.ns_import.proofs.Scans.{behind_seen-new, behind_seen-none, front_is_new, front_within, depth_first_ends, depth_first-behind_seen}
 use Rattle.ns_import.proofs.Firsts.{or_cases, or_right, by_test, not_both, Within, has_front, has_head, has_last, within_both, within_rest, left_out}
 
@@ -137,13 +137,13 @@ module _ {A : Type 0} (same : A → A → Bool) (exact : (x y : A) → same x y 
     (objects : List A) (lands : (e : A) → Within same objects (edges e)) where
   -- with as many steps as objects are not on the path, or more, the paths come to the same
   unfolded_enough : (k m : ℕ) (path : List A) (e : A) → has same e objects ≡ true → has same e path ≡ false
-      → unseen same objects path ≤ k → unseen same objects path ≤ m → unfolded same edges k path e ≡ unfolded same edges m path e
+      → unseen same objects path ≤ k → unseen same objects path ≤ m → unfold_paths same edges k path e ≡ unfold_paths same edges m path e
   unfolded_enough zero m path e there new few some = absurd (needs_step same exact itself objects path e there new few)
   unfolded_enough (suc k) zero path e there new few some = absurd (needs_step same exact itself objects path e there new some)
   unfolded_enough (suc k) (suc m) path e there new few some =
       let falls = unseen_falls same exact itself objects path e there new in
       ap (λ (l : List A). e ∷ l)
-      (flat_map_same same itself (λ f. unfolded same edges k (path ++ e ∷ []) f) (λ f. unfolded same edges m (path ++ e ∷ []) f)
+      (flat_map_same same itself (λ f. unfold_paths same edges k (path ++ e ∷ []) f) (λ f. unfold_paths same edges m (path ++ e ∷ []) f)
       (filter (λ f. not (has same f (path ++ e ∷ []))) (edges e))
       (λ f kept. let out = left_out same exact (path ++ e ∷ []) (edges e) f kept in
       unfolded_enough k m (path ++ e ∷ []) f (lands e f out.0) out.1 (omega arith) (omega arith)))

@@ -3,7 +3,7 @@ use Rattle.std.proofs.Common.{◌≡◌, ℕ, zero, suc, ◌≤◌, Bool, true, 
 use Rattle.std.proofs.Common.{refl, sym, ap, ◌∙◌, subst, ⊎_elim, append_assoc, append-nil, arith}
 use Rattle.cds_stamps.specs.Firsts.{has, firsts}
 use Rattle.ns_import.specs.DepthFirst.{depth_first}
-use Rattle.ns_import.specs.Orders.{unfolded, order}
+use Rattle.ns_import.specs.Orders.{unfold_paths, order}
 use Rattle.ns_import.proofs.Firsts.{or_cases, or_none, by_test, not_both, Within, has_front, has_rest, has_head, has_last, has_before_last, has_neither}
 use Rattle.ns_import.proofs.Firsts.{within_longer, within_both, within_rest, flat_map_has, left_out, filter_old, filter_new}
 use Rattle.ns_import.proofs.Firsts.{firsts_new, firsts_parts, firsts_passed}
@@ -13,7 +13,7 @@ use Rattle.ns_import.proofs.Steps.{unseen, unseen_falls, unseen_at_most, needs_s
 module _ {A : Type 0} (same : A → A → Bool) (edges : A → List A) where
   -- what the paths come to that go on from a path along these edges
   abbrev pub branches : (steps : ℕ) → (path fs : List A) → List A
-  branches k path fs = flat_map (λ f. unfolded same edges k path f) (filter (λ f. not (has same f path)) fs)
+  branches k path fs = flat_map (λ f. unfold_paths same edges k path f) (filter (λ f. not (has same f path)) fs)
 
   -- each item of the path was seen, and each other that was seen is finished: its edges lead to items that were seen
   pub record Closed (seen path : List A) : Type 0 where
@@ -23,16 +23,16 @@ module _ {A : Type 0} (same : A → A → Bool) (edges : A → List A) where
 module _ {A : Type 0} (same : A → A → Bool) (exact : (x y : A) → same x y ≡ true → x ≡ y) (itself : (x : A) → same x x ≡ true) (edges : A → List A) where
   -- from items that were seen, along a longer path, the paths come to none that is new
   branches_inside : (k : ℕ) (seen path longer fs : List A) → Within same longer path → Within same seen fs
-      → ((f : A) → has same f seen ≡ true → has same f longer ≡ false → Within same seen (unfolded same edges k longer f))
+      → ((f : A) → has same f seen ≡ true → has same f longer ≡ false → Within same seen (unfold_paths same edges k longer f))
       → Within same seen (branches same edges k longer fs)
   branches_inside k seen path longer fs long w each x h =
-      let from = flat_map_has same itself (λ f. unfolded same edges k longer f) (filter (λ f. not (has same f longer)) fs) x h in
+      let from = flat_map_has same itself (λ f. unfold_paths same edges k longer f) (filter (λ f. not (has same f longer)) fs) x h in
       let out = left_out same exact longer fs from.0 from.1 in
       each from.0 (w from.0 out.0) out.1 x from.2
 
   -- from an item that was seen and is on no such path likewise
   inside : (k : ℕ) (seen path longer : List A) (f : A) → Closed same edges seen path → Within same longer path
-      → has same f seen ≡ true → has same f longer ≡ false → Within same seen (unfolded same edges k longer f)
+      → has same f seen ≡ true → has same f longer ≡ false → Within same seen (unfold_paths same edges k longer f)
   inside zero seen path longer f closed long old off x h = absurd cc
   inside (suc k) seen path longer f closed long old off x h =
       ⊎_elim (λ is. subst (λ z. has same z seen ≡ true) (sym (exact x f is)) old)
@@ -118,7 +118,7 @@ module _ {A : Type 0} (same : A → A → Bool) (exact : (x y : A) → same x y 
   -- along these edges the search comes to the first places of what the paths come to, where it does so from each item
   branches_searched : (k : ℕ)
       → ((seen path : List A) (f : A) (rest : List A) → unseen same objects path ≤ k → Closed same edges seen path → has same f seen ≡ false
-      → has same f objects ≡ true → Within same objects rest → Searched seen path (firsts same seen (unfolded same edges k path f)) (f ∷ []) rest)
+      → has same f objects ≡ true → Within same objects rest → Searched seen path (firsts same seen (unfold_paths same edges k path f)) (f ∷ []) rest)
       → (seen path fs rest : List A) → unseen same objects path ≤ k → Closed same edges seen path → Within same objects fs → Within same objects rest
       → Searched seen path (firsts same seen (branches same edges k path fs)) fs rest
   branches_searched k each seen path [] rest few closed w v = searched_none seen path rest closed
@@ -128,7 +128,7 @@ module _ {A : Type 0} (same : A → A → Bool) (exact : (x y : A) → same x y 
       both fresh first (branches_searched k each (seen ++ one) path fs rest few first.closed (within_rest same objects f fs w) v))
     where
       one : List A
-      one = firsts same seen (unfolded same edges k path f)
+      one = firsts same seen (unfold_paths same edges k path f)
 
       more : List A
       more = firsts same (seen ++ one) (branches same edges k path fs)
@@ -137,22 +137,22 @@ module _ {A : Type 0} (same : A → A → Bool) (exact : (x y : A) → same x y 
       entered fresh = each seen path f (fs ++ rest) few closed fresh (w f (has_head same itself f fs))
           (within_both same objects fs rest (within_rest same objects f fs w) v)
 
-      new_branch : has same f path ≡ false → branches same edges k path (f ∷ fs) ≡ unfolded same edges k path f ++ branches same edges k path fs
-      new_branch off = ap (flat_map (λ g. unfolded same edges k path g)) (filter_new same exact path f fs off)
+      new_branch : has same f path ≡ false → branches same edges k path (f ∷ fs) ≡ unfold_paths same edges k path f ++ branches same edges k path fs
+      new_branch off = ap (flat_map (λ g. unfold_paths same edges k path g)) (filter_new same exact path f fs off)
 
       both : has same f seen ≡ false → Searched seen path one (f ∷ []) (fs ++ rest) → Searched (seen ++ one) path more fs rest
           → Searched seen path (firsts same seen (branches same edges k path (f ∷ fs))) (f ∷ fs) rest
       both fresh first others =
           subst (λ new. Searched seen path new (f ∷ fs) rest)
           (sym (ap (firsts same seen) (new_branch (off_path seen path f closed fresh))
-          ∙ firsts_parts same seen (unfolded same edges k path f) (branches same edges k path fs)))
+          ∙ firsts_parts same seen (unfold_paths same edges k path f) (branches same edges k path fs)))
           (searched_both seen path one more f fs rest first others)
 
       old_branch : has same f seen ≡ true → firsts same seen (branches same edges k path (f ∷ fs)) ≡ firsts same seen (branches same edges k path fs)
       old_branch old =
-          by_test (has same f path) (λ on. ap (λ l. firsts same seen (flat_map (λ g. unfolded same edges k path g) l)) (filter_old same exact path f fs on))
+          by_test (has same f path) (λ on. ap (λ l. firsts same seen (flat_map (λ g. unfold_paths same edges k path g) l)) (filter_old same exact path f fs on))
           (λ off. ap (firsts same seen) (new_branch off)
-          ∙ firsts_passed same itself seen (unfolded same edges k path f) (branches same edges k path fs)
+          ∙ firsts_passed same itself seen (unfold_paths same edges k path f) (branches same edges k path fs)
           (inside same exact itself edges k seen path path f closed (λ x h. h) old off))
 
       passed : has same f seen ≡ true → Searched seen path (firsts same seen (branches same edges k path fs)) fs rest
@@ -164,7 +164,7 @@ module _ {A : Type 0} (same : A → A → Bool) (exact : (x y : A) → same x y 
   -- from an item that was not seen the search comes to the first places of what the paths from it come to
   unfolded_searched : (k : ℕ) (seen path : List A) (f : A) (rest : List A) → unseen same objects path ≤ k → Closed same edges seen path
       → has same f seen ≡ false → has same f objects ≡ true → Within same objects rest
-      → Searched seen path (firsts same seen (unfolded same edges k path f)) (f ∷ []) rest
+      → Searched seen path (firsts same seen (unfold_paths same edges k path f)) (f ∷ []) rest
   unfolded_searched zero seen path f rest few closed fresh there w =
       absurd (needs_step same exact itself objects path f there (off_path seen path f closed fresh) few)
   unfolded_searched (suc k) seen path f rest few closed fresh there w =

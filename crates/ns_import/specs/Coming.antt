@@ -23,16 +23,16 @@ abbrev pub bindings_in : (List ℕ → List (List ℕ)) → Wanted → List Stri
 bindings_in values wanted = entry_bindings wanted (values tower_attribute) (values object_attribute)
 
 -- the objects that names lead to, in the order of the names
-abbrev pub resolved : Reader → List (List (List ℕ)) → List Found
-resolved reader names = filter_map (object_of reader) names
+abbrev pub objects_of_names : Reader → List (List (List ℕ)) → List Found
+objects_of_names reader names = filter_map (object_of reader) names
 
 -- the bindings of the entries that a search still comes to, where these were searched and these names wait
 abbrev pub to_come : Reader → (objects : List Found) → Wanted → (searched : List Found) → (names : List (List (List ℕ))) → List StringBinding
 to_come reader objects wanted searched names =
     flat_map (bindings_at reader wanted)
-    (depth_first same_entry (edges reader wanted.interface) (length objects) searched (resolved reader names))
+    (depth_first same_entry (edges reader wanted.interface) (length objects) searched (objects_of_names reader names))
 
 -- the bindings that are still to come: those that are ready, and those of the entries that the search still comes to
-abbrev pub coming : Reader → (objects : List Found) → Wanted → Progress → List StringBinding
-coming reader objects wanted progress =
+abbrev pub bindings_to_come : Reader → (objects : List Found) → Wanted → Progress → List StringBinding
+bindings_to_come reader objects wanted progress =
     reverse progress.ready.items ++ to_come reader objects wanted progress.searched.keys (reverse progress.names.items)

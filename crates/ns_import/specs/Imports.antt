@@ -13,7 +13,7 @@ use Rattle.directory.specs.Kinds.{rank}
 use Rattle.resolver.specs.declared.refusal.Refusal.{Refusal}
 use Rattle.resolver.specs.declared.seen.Found.{Found}
 use Rattle.resolver.specs.Readers.{Reader}
-use Rattle.resolver.specs.WalkEnds.{walked}
+use Rattle.resolver.specs.WalkEnds.{walk_end}
 use Rattle.server_entries.specs.declared.client.Wanted.{Wanted}
 use Rattle.server_entries.specs.Clients.{entry_bindings}
 use Rattle.server_entries.specs.Exports.{tower_attribute, object_attribute}
@@ -40,7 +40,7 @@ object_walked (Err why) = Err (Walk why)
 
 -- the object that a name leads to, links followed to the last, or why it leads to none (own)
 abbrev pub object_at : Reader → List (List ℕ) → Result Found ImportFault
-object_at reader name = object_walked (walked reader true name)
+object_at reader name = object_walked (walk_end reader true name)
 
 -- the same, of a name that is passed over where it leads to none (own)
 abbrev pub object_of : Reader → List (List ℕ) → Option Found
@@ -69,8 +69,8 @@ abbrev pub imports_from : Reader → (objects : List Found) → Wanted → Found
 imports_from reader objects wanted start = flat_map (bindings_at reader wanted) (order_from reader objects wanted.interface start)
 
 -- what an import of a name lists, or why it does not begin (own)
-abbrev pub imported : Reader → (objects : List Found) → Wanted → List (List ℕ) → Result (List StringBinding) ImportFault
-imported reader objects wanted name = result_map_both (imports_from reader objects wanted) (λ fault. fault) (object_at reader name)
+abbrev pub import_list : Reader → (objects : List Found) → Wanted → List (List ℕ) → Result (List StringBinding) ImportFault
+import_list reader objects wanted name = result_map_both (imports_from reader objects wanted) (λ fault. fault) (object_at reader name)
 
 -- an import lists these bindings: those of the entries that are reached from the one of this name, each once, in the order
 -- that any large enough number of steps gives (own, after C706, importing bindings)
@@ -84,8 +84,8 @@ pub record IsImport (reader : Reader) (wanted : Wanted) (name : List (List ℕ))
   pub ordered : (n : ℕ) × ((m : ℕ) → n ≤ m → entries ≡ order same_entry (edges reader wanted.interface) m start)
 
 -- an import that has begun so: all its bindings are still to come (own)
-abbrev pub begun : Result (List StringBinding) ImportFault → Result (Option (List StringBinding)) ImportFault
-begun answer = result_map_both (λ bindings. Some bindings) (λ fault. fault) answer
+abbrev pub begin_import : Result (List StringBinding) ImportFault → Result (Option (List StringBinding)) ImportFault
+begin_import answer = result_map_both (λ bindings. Some bindings) (λ fault. fault) answer
 
 -- a call of an importer, from the bindings that were to come to those that are: it is spent, and has none, exactly after want
 -- of memory, and what is spent answers nothing (own)

@@ -1,10 +1,10 @@
 // What a client wants to find, and what an entry says of it.
 ghost use Rattle.std.specs.Prelude.{◌≡◌, ◌++◌, map, filter, reverse, IfOk};
 ghost use Rattle.cell_names.specs.FullNames.{components_of, is_full_name};
-ghost use Rattle.attr_sets.specs.Cells.{cell_values};
+ghost use Rattle.attr_sets.specs.AttributeCells.{cell_values};
 ghost use Rattle.resolver.specs.Readers.{values_by};
 ghost use Rattle.ns_groups.specs.Groups.{members_of};
-ghost use Rattle.ns_profiles.specs.Elements.{said};
+ghost use Rattle.ns_profiles.specs.Elements.{element_of_octets};
 ghost use Rattle.ns_profiles.specs.Profiles.{is_sought, search_order};
 ghost use Rattle.ns_import.specs.Imports.{names_of, bindings_at};
 ghost use Rattle.ns_import.specs.Coming.{names_in, bindings_in};
@@ -60,8 +60,8 @@ impl<'a> Said<'a> {
         mut elements: Vec<Waiting<'a>>,
         mut bindings: Vec<StringBinding>,
     ) -> Result<Said<'a>, AllocError>
-        ensures names { IfOk result (λ said. reverse said.names.items ≡ members.entry.items ++ elements.entry.items) }
-        ensures bindings { IfOk result (λ said. reverse said.bindings.items ≡ bindings.items) }
+        ensures names { IfOk result (λ element_of_octets. reverse element_of_octets.names.items ≡ members.entry.items ++ elements.entry.items) }
+        ensures bindings { IfOk result (λ element_of_octets. reverse element_of_octets.bindings.items ≡ bindings.items) }
     {
         members.reverse();
         elements.reverse();
@@ -95,8 +95,8 @@ impl Client {
         reader: &'a R,
         at: &Found,
     ) -> Result<Said<'a>, AllocError>
-        ensures names { IfOk result (λ said. reverse said.names.items ≡ names_of (R.tells reader.now) self.now.interface at.now) }
-        ensures bindings { IfOk result (λ said. reverse said.bindings.items ≡ bindings_at (R.tells reader.now) self.now at.now) }
+        ensures names { IfOk result (λ element_of_octets. reverse element_of_octets.names.items ≡ names_of (R.tells reader.now) self.now.interface at.now) }
+        ensures bindings { IfOk result (λ element_of_octets. reverse element_of_octets.bindings.items ≡ bindings_at (R.tells reader.now) self.now at.now) }
     {
         match reader.attributes(at) {
             Some(cells) => self.read_cells(alloc, cells),
@@ -106,8 +106,8 @@ impl Client {
 
     // What the cells of an entry's attributes say.
     fn read_cells<'a>(&self, alloc: Global, cells: &'a AttrMap) -> Result<Said<'a>, AllocError>
-        ensures names { IfOk result (λ said. reverse said.names.items ≡ names_in (values_by cells.now) self.now.interface) }
-        ensures bindings { IfOk result (λ said. reverse said.bindings.items ≡ bindings_in (values_by cells.now) self.now) }
+        ensures names { IfOk result (λ element_of_octets. reverse element_of_octets.names.items ≡ names_in (values_by cells.now) self.now.interface) }
+        ensures bindings { IfOk result (λ element_of_octets. reverse element_of_octets.bindings.items ≡ bindings_in (values_by cells.now) self.now) }
     {
         let towers = values_in(alloc, cells, &self.towers)?;
         let objects = values_in(alloc, cells, &self.objects)?;
@@ -126,8 +126,8 @@ impl Client {
         reader: &R,
         at: &Found,
     ) -> Result<Said<'a>, AllocError>
-        ensures names { IfOk result (λ said. reverse said.names.items ≡ names_of (R.tells reader.now) self.now.interface at.now) }
-        ensures bindings { IfOk result (λ said. reverse said.bindings.items ≡ bindings_at (R.tells reader.now) self.now at.now) }
+        ensures names { IfOk result (λ element_of_octets. reverse element_of_octets.names.items ≡ names_of (R.tells reader.now) self.now.interface at.now) }
+        ensures bindings { IfOk result (λ element_of_octets. reverse element_of_octets.bindings.items ≡ bindings_at (R.tells reader.now) self.now at.now) }
     {
         let towers = reader.values(alloc, at, &self.towers)?;
         let objects = reader.values(alloc, at, &self.objects)?;
@@ -155,7 +155,7 @@ fn lent_elements<'a>(
     values: &[&'a Value],
     interface: &Interface,
 ) -> Result<Vec<Waiting<'a>>, AllocError>
-    ensures { IfOk result (λ v. v.items ≡ map (λ octets. (said octets).member) (filter (is_sought interface.now) (map (λ value. value.now) values.now))) }
+    ensures { IfOk result (λ v. v.items ≡ map (λ octets. (element_of_octets octets).member) (filter (is_sought interface.now) (map (λ value. value.now) values.now))) }
 {
     Waiting::all_lent(alloc, elements_in_order(alloc, values, interface)?)
 }

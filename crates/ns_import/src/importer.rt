@@ -4,7 +4,7 @@ ghost use Rattle.cds_stamps.specs.Outcomes.{Answers};
 ghost use Rattle.tower_codec.specs.declared.binding.StringBinding.{StringBinding};
 ghost use Rattle.resolver.specs.declared.seen.Found.{Found};
 ghost use Rattle.resolver.specs.Readers.{ShowsOnly};
-ghost use Rattle.ns_import.specs.Imports.{imported, begun, IsCall};
+ghost use Rattle.ns_import.specs.Imports.{import_list, begin_import, IsCall};
 
 use crate::client::Client;
 use crate::fault::ImportFault;
@@ -32,11 +32,11 @@ impl<'a, R: EntryReader> Model for Importer<'a, R> {
     ghost use Rattle.std.specs.Prelude.{List, Option, Some, None, if◌then◌else◌};
     ghost use Rattle.tower_codec.specs.declared.binding.StringBinding.{StringBinding};
     ghost use Rattle.resolver.specs.Nears.{Knows};
-    ghost use Rattle.ns_import.specs.Coming.{coming};
+    ghost use Rattle.ns_import.specs.Coming.{bindings_to_come};
 
     ghost Value = { Option (List StringBinding) };
 
-    ghost view = { λ i. if i.spent then None else Some (coming (R.tells i.reader.now) (R.objects i.reader.now) i.client i.progress) };
+    ghost view = { λ i. if i.spent then None else Some (bindings_to_come (R.tells i.reader.now) (R.objects i.reader.now) i.client i.progress) };
 
     ghost invariant = { λ i. Knows (R.tells i.reader.now) i.progress.near };
 }
@@ -50,7 +50,7 @@ impl<'a, R: EntryReader> Importer<'a, R> {
         wanted: Wanted,
     ) -> Result<Importer<'a, R>, AllocOr<ImportFault>>
         ensures { (objects : List Found) → ShowsOnly (R.tells reader.now) objects
-            → Answers result (begun (imported (R.tells reader.now) objects wanted name.now)) }
+            → Answers result (begin_import (import_list (R.tells reader.now) objects wanted name.now)) }
     {
         let entry = object(alloc, reader, name)?;
         let client = Client::new(alloc, wanted)?;

@@ -7,7 +7,7 @@ ghost use Rattle.resolver.specs.declared.seen.Found.{Found};
 ghost use Rattle.resolver.specs.Readers.{Reader, ShowsOnly};
 ghost use Rattle.server_entries.specs.declared.client.Wanted.{Wanted};
 ghost use Rattle.ns_import.specs.Orders.{order, Reaches};
-ghost use Rattle.ns_import.specs.Imports.{same_entry, edges, order_from, imported, IsImport};
+ghost use Rattle.ns_import.specs.Imports.{same_entry, edges, order_from, import_list, IsImport};
 
 /// A search comes exactly to the entries that are reached along edges from the one at which it begins, and to each once.
 pub fn searches_reach_each_entry_once()
@@ -31,5 +31,5 @@ pub fn more_steps_change_nothing()
 /// What an import of a name lists are the bindings of the entries that are reached from it, in the order of the search.
 pub fn imports_list_what_is_reached()
     ensures { (reader : Reader) (objects : List Found) (wanted : Wanted) (name : List (List ℕ)) (bindings : List StringBinding)
-        → ShowsOnly reader objects → imported reader objects wanted name ≡ Ok bindings → IsImport reader wanted name bindings }
+        → ShowsOnly reader objects → import_list reader objects wanted name ≡ Ok bindings → IsImport reader wanted name bindings }
 {}

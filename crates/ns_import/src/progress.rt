@@ -5,7 +5,7 @@ ghost use Rattle.cds_stamps.specs.Firsts.{has};
 ghost use Rattle.resolver.specs.Nears.{Knows};
 ghost use Rattle.ns_import.specs.Imports.{same_entry, names_of, bindings_at};
 ghost use Rattle.ns_import.specs.DepthFirst.{behind_seen};
-ghost use Rattle.ns_import.specs.Coming.{coming, resolved};
+ghost use Rattle.ns_import.specs.Coming.{bindings_to_come, objects_of_names};
 
 use crate::client::{Client, Said};
 use crate::waiting::Waiting;
@@ -51,7 +51,7 @@ impl<'a> Progress<'a> {
     ) -> Result<Option<StringBinding>, AllocError>
         requires { Knows (R.tells reader.now) self.old.near }
         ensures near { Knows (R.tells reader.now) self.new.near }
-        ensures next { let left = coming (R.tells reader.now) (R.objects reader.now) client.now in
+        ensures next { let left = bindings_to_come (R.tells reader.now) (R.objects reader.now) client.now in
             IfOk result (λ next. (next ≡ slice_get (left self.old) 0) × (left self.new ≡ drop 1 (left self.old))) }
     {
         'entries: loop {
@@ -107,8 +107,8 @@ fn next_object<R: EntryReader>(
 ) -> Result<Option<Found>, AllocError>
     requires { Knows (R.tells reader.now) near.old }
     ensures near { Knows (R.tells reader.now) near.new }
-    ensures next { IfOk result (λ next. option_to_list next ++ resolved (R.tells reader.now) (reverse names.new.items)
-        ≡ behind_seen same_entry searched.now.keys (resolved (R.tells reader.now) (reverse names.old.items))) }
+    ensures next { IfOk result (λ next. option_to_list next ++ objects_of_names (R.tells reader.now) (reverse names.new.items)
+        ≡ behind_seen same_entry searched.now.keys (objects_of_names (R.tells reader.now) (reverse names.old.items))) }
     ensures end { IfOk result (λ next. IfNone next (names.new.items ≡ [])) }
 {
     'names: while let Some(name) = names.pop() {

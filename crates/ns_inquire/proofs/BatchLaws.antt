@@ -6,7 +6,7 @@ use Rattle.std.specs.List.{flat_map}
 use Rattle.std.proofs.lemmas.Bool.Decides.{nat_tests}
 use Rattle.tower_codec.specs.declared.binding.StringBinding.{StringBinding}
 use Rattle.ns_import.specs.declared.fault.ImportFault.{ImportFault}
-use Rattle.ns_import.specs.Imports.{begun}
+use Rattle.ns_import.specs.Imports.{begin_import}
 use Rattle.ns_inquire.specs.Batches.{first_batch, last_batch, batches_from, batches}
 
 not_full : (n m : ℕ) → n < m → n + 1 < m → (n + 1 == m) ≡ false
@@ -106,6 +106,6 @@ module _ {A : Type 0} where
   usable (Some left) h = (left, refl)
 
 -- an import that has begun is usable
-pub begun_usable : (found : Result (List StringBinding) ImportFault) (o : Option (List StringBinding)) → begun found ≡ Ok o → is_none o ≡ false
+pub begun_usable : (found : Result (List StringBinding) ImportFault) (o : Option (List StringBinding)) → begin_import found ≡ Ok o → is_none o ≡ false
 begun_usable (Ok bindings) o is = let same : o ≡ Some bindings = cc in ap is_none same
 begun_usable (Err fault) o is = absurd cc

@@ -3,7 +3,7 @@ use Rattle.std.proofs.Common.{◌≡◌, ◌∙◌, ℕ, Bool, true, false, List
 use Rattle.std.specs.Prelude.{◌↔◌, Option, Some, None, if◌then◌else◌}
 use Rattle.std.specs.List.{Contains, filter_map, cons_option}
 use Rattle.std.specs.Option.{option_and_then}
-use Rattle.cds_stamps.specs.Ascending.{ascending}
+use Rattle.cds_stamps.specs.Ascending.{in_ascending_order}
 use Rattle.cds_stamps.proofs.ListMembers.{Contains-filter, filter-Contains}
 use Rattle.ns_profiles.specs.declared.element.Element.{Element}
 use Rattle.ns_profiles.specs.Elements.{element_of}
@@ -28,8 +28,8 @@ picked_all q (x ∷ xs) = by_read (element_of x) (picked_all q xs)
     by_read (Some e) rest = by_test e (is_picked q e) _ _ rest
 
 -- those among ascending values are those of the inquiry
-pub picked_in_order : (q : Inquiry) (values : List (List ℕ)) → filter_map (picked_in q) (ascending values) ≡ elements_of q values
-picked_in_order q values = picked_all q (ascending values) ∙ filter_by_priority (is_picked q) values
+pub picked_in_order : (q : Inquiry) (values : List (List ℕ)) → filter_map (picked_in q) (in_ascending_order values) ≡ elements_of q values
+picked_in_order q values = picked_all q (in_ascending_order values) ∙ filter_by_priority (is_picked q) values
 
 -- what an inquiry lists are the elements that it asks for
 pub picked_exactly : (q : Inquiry) (values : List (List ℕ)) (e : Element)

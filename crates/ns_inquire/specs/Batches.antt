@@ -32,5 +32,5 @@ pub record Batching : Type 0 where
   pub left : Option (List StringBinding)
 
 -- a look-up that has begun so: all its bindings are still to come
-abbrev pub begun : (most : ℕ) → Result (List StringBinding) ImportFault → Result Batching ImportFault
-begun most found = result_map_both (λ bindings. record { most = most; left = Some bindings }) (λ fault. fault) found
+abbrev pub begin_lookup : (most : ℕ) → Result (List StringBinding) ImportFault → Result Batching ImportFault
+begin_lookup most found = result_map_both (λ bindings. record { most = most; left = Some bindings }) (λ fault. fault) found

@@ -3,7 +3,7 @@ use Rattle.std.specs.Prelude.{ℕ, Bool, true, not, ◌&&◌, ◌||◌, ◌==◌
 use Rattle.std.specs.List.{filter_map, flat_map}
 use Rattle.std.specs.Option.{option_map, option_and_then}
 use Rattle.std.specs.Str.{bytes_eq}
-use Rattle.cds_stamps.specs.Ascending.{ascending}
+use Rattle.cds_stamps.specs.Ascending.{in_ascending_order}
 use Rattle.cds_stamps.specs.Firsts.{firsts}
 use Rattle.tower_codec.specs.declared.rpc.Interface.{Interface}
 use Rattle.tower_codec.specs.Serving.{same_interface}
@@ -68,8 +68,8 @@ interface_in octets = option_map (λ tower. tower.interface) (rpc_tower_of octet
 
 -- the interfaces of the towers of servers, each where it is first in ascending order of the towers' octets
 abbrev pub interfaces_of : List (List ℕ) → List Interface
-interfaces_of towers = firsts same_interface [] (filter_map interface_in (ascending towers))
+interfaces_of towers = firsts same_interface [] (filter_map interface_in (in_ascending_order towers))
 
 -- the objects among values, ascending
 abbrev pub objects_of : List (List ℕ) → List (List ℕ)
-objects_of values = ascending (objects_in values)
+objects_of values = in_ascending_order (objects_in values)

@@ -5,8 +5,8 @@ ghost use Rattle.cds_stamps.specs.Outcomes.{Answers};
 ghost use Rattle.tower_codec.specs.declared.binding.StringBinding.{StringBinding};
 ghost use Rattle.resolver.specs.declared.seen.Found.{Found};
 ghost use Rattle.resolver.specs.Readers.{ShowsOnly};
-ghost use Rattle.ns_import.specs.Imports.{IsCall, imported};
-ghost use Rattle.ns_inquire.specs.Batches.{begun, first_batch};
+ghost use Rattle.ns_import.specs.Imports.{IsCall, import_list};
+ghost use Rattle.ns_inquire.specs.Batches.{begin_lookup, first_batch};
 
 use cds_stamps::AllocOr;
 use cell_names::FullName;
@@ -52,7 +52,7 @@ impl<'a, R: EntryReader> Lookup<'a, R> {
     ) -> Result<Lookup<'a, R>, AllocOr<ImportFault>>
         requires { 1 ≤ most }
         ensures { (objects : List Found) → ShowsOnly (R.tells reader.now) objects
-            → Answers result (begun most (imported (R.tells reader.now) objects wanted name.now)) }
+            → Answers result (begin_lookup most (import_list (R.tells reader.now) objects wanted name.now)) }
     {
         let importer = Importer::begin(alloc, reader, name, wanted)?;
         Ok(Lookup {

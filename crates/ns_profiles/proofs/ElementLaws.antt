@@ -12,12 +12,12 @@ use Rattle.std.specs.List.{All, list_all, slice_range}
 use Rattle.std.specs.Option.{option_or}
 use Rattle.std.proofs.lemmas.Nat.{be_bytes_2}
 use Rattle.cds_stamps.specs.Outcomes.{ok_unless}
-use Rattle.cell_names.specs.FullNames.{spelling, components_of, name_fault}
+use Rattle.cell_names.specs.FullNames.{full_name_octets, components_of, name_fault}
 use Rattle.cell_names.proofs.FullNameLaws.{spelling-components}
 use Rattle.ns_profiles.specs.declared.fault.ProfileFault.{ProfileFault}
 use Rattle.ns_profiles.specs.declared.fault.ProfileFault.TheVariants.{BadElement}
 use Rattle.ns_profiles.specs.Elements.{Field, field_octets, field_fault, first_fault, priority_field, interface_field, length_field, member_field}
-use Rattle.ns_profiles.specs.Elements.{annotation_field, is_default, name_length, element_fault, element_octets, interface_in, member_octets, said}
+use Rattle.ns_profiles.specs.Elements.{annotation_field, is_default, name_length, element_fault, element_octets, interface_in, member_octets, element_of_octets}
 use Rattle.ns_profiles.specs.Elements.{element_of, is_annotation_octet, no_interface, IsElement, IsElementOf}
 
 -- ---- faults, field by field
@@ -171,7 +171,7 @@ module _ (octets : List ℕ) (all : All (λ b. b < 2 ^ 8) octets) (whole : IsWho
   rest_is : slice_range octets (23 + name_length octets) (length octets) ≡ drop (23 + name_length octets) octets
   rest_is = take_rest octets (23 + name_length octets)
 
-  said_lawful : IsElement (said octets)
+  said_lawful : IsElement (element_of_octets octets)
   said_lawful =
       let h = long in
       record {
@@ -189,27 +189,27 @@ module _ (octets : List ℕ) (all : All (λ b. b < 2 ^ 8) octets) (whole : IsWho
   member_is : take (name_length octets) (drop 23 octets) ≡ member_octets octets
   member_is = let n : 23 + name_length octets - 23 ≡ name_length octets = omega arith in ap (λ (k : ℕ). take k (drop 23 octets)) (sym n)
 
-  name_is : spelling (components_of (member_octets octets)) ≡ take (name_length octets) (drop 23 octets)
+  name_is : full_name_octets (components_of (member_octets octets)) ≡ take (name_length octets) (drop 23 octets)
   name_is = sym (spelling-components (member_octets octets) whole.member).1 ∙ sym member_is
 
-  name_length_is : to_be_bytes w16 (length (spelling (components_of (member_octets octets)))) ≡ take 2 (drop 21 octets)
+  name_length_is : to_be_bytes w16 (length (full_name_octets (components_of (member_octets octets)))) ≡ take 2 (drop 21 octets)
   name_length_is =
       let h = long in
       ap (λ (xs : List ℕ). to_be_bytes w16 (length xs)) name_is
       ∙ ap (to_be_bytes w16) (range_length octets 23 (name_length octets) h)
       ∙ (number_in octets 21 (omega arith) all).1
 
-  said_spelled : octets ≡ element_octets (said octets)
+  said_spelled : octets ≡ element_octets (element_of_octets octets)
   said_spelled =
       let h = long in
       let n = name_length octets in
       let first : octets ≡ slice_index octets 0 ∷ drop 1 octets = cut octets 0 1
       ∙ ap (λ (xs : List ℕ). xs ++ drop 1 octets) (first_octet octets (omega arith)) in
       let e6 : drop (23 + n) octets ≡ drop (23 + n) octets ++ [] = sym (append-nil _) in
-      let e5 : drop 23 octets ≡ spelling (components_of (member_octets octets)) ++ (drop (23 + n) octets ++ []) =
+      let e5 : drop 23 octets ≡ full_name_octets (components_of (member_octets octets)) ++ (drop (23 + n) octets ++ []) =
       cut octets 23 n ∙ (λ i. sym name_is i ++ e6 i) in
-      let e4 : drop 21 octets ≡ to_be_bytes w16 (length (spelling (components_of (member_octets octets)))) ++
-      (spelling (components_of (member_octets octets)) ++ (drop (23 + n) octets ++ [])) =
+      let e4 : drop 21 octets ≡ to_be_bytes w16 (length (full_name_octets (components_of (member_octets octets)))) ++
+      (full_name_octets (components_of (member_octets octets)) ++ (drop (23 + n) octets ++ [])) =
       cut octets 21 2 ∙ (λ i. sym name_length_is i ++ e5 i) in
       let e3 = cut octets 19 2 ∙ (λ i. sym (number_in octets 19 (omega arith) all).1 i ++ e4 i) in
       let e2 = cut octets 17 2 ∙ (λ i. sym (number_in octets 17 (omega arith) all).1 i ++ e3 i) in
@@ -217,7 +217,7 @@ module _ (octets : List ℕ) (all : All (λ b. b < 2 ^ 8) octets) (whole : IsWho
       first ∙ ap (λ (xs : List ℕ). slice_index octets 0 ∷ xs) e1
 
 -- octets without a fault are those of the element that they say
-pub said_element : (octets : List ℕ) → All (λ b. b < 2 ^ 8) octets → element_fault octets ≡ None → IsElementOf octets (said octets)
+pub said_element : (octets : List ℕ) → All (λ b. b < 2 ^ 8) octets → element_fault octets ≡ None → IsElementOf octets (element_of_octets octets)
 said_element octets all e = let whole = whole_from octets e in record { lawful = said_lawful octets all whole; spelled = said_spelled octets all whole }
 
 -- what a check found
@@ -233,22 +233,22 @@ fault_found octets result is = by_fault (element_fault octets) result is
     by_fault (Some fault) (Err f) is = cc
 
 -- the element of octets without a fault
-pub element_there : (octets : List ℕ) → element_fault octets ≡ None → element_of octets ≡ Some (said octets)
-element_there octets e = ap (λ (f : Option ProfileFault). if is_none f then Some (said octets) else None) e
+pub element_there : (octets : List ℕ) → element_fault octets ≡ None → element_of octets ≡ Some (element_of_octets octets)
+element_there octets e = ap (λ (f : Option ProfileFault). if is_none f then Some (element_of_octets octets) else None) e
 
 -- octets in which no fault was found are read as what they say
 pub known_found : (octets : List ℕ) (result : Result (Unit {0}) ProfileFault) → result ≡ ok_unless (element_fault octets) tt
-    → OnOk result (element_of octets ≡ Some (said octets))
+    → OnOk result (element_of octets ≡ Some (element_of_octets octets))
 known_found octets (Ok u) is = element_there octets (fault_found octets (Ok u) is)
 known_found octets (Err f) is = tt
 
 -- and what they say is an element of which they are the octets
 pub said_found : (octets : List ℕ) → ((i : ℕ) → Fits w8 (get_or octets i 0)) → (result : Result (Unit {0}) ProfileFault)
-    → result ≡ ok_unless (element_fault octets) tt → OnOk result (IsElementOf octets (said octets))
+    → result ≡ ok_unless (element_fault octets) tt → OnOk result (IsElementOf octets (element_of_octets octets))
 said_found octets fits result is = by_fault (element_fault octets) refl result is
   where
     by_fault : (fault : Option ProfileFault) → element_fault octets ≡ fault → (result : Result (Unit {0}) ProfileFault) → result ≡ ok_unless fault tt
-        → OnOk result (IsElementOf octets (said octets))
+        → OnOk result (IsElementOf octets (element_of_octets octets))
     by_fault None e (Ok u) is = said_element octets (All-from_get_or (λ b. b < 2 ^ 8) octets 0 (λ i h. omega (arith, fits i))) e
     by_fault None e (Err f) is = cc
     by_fault (Some fault) e (Ok u) is = cc

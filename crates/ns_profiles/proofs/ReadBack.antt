@@ -8,12 +8,12 @@ use Rattle.std.proofs.lemmas.Nat.{from_be_bytes-to_be_bytes_2}
 use Rattle.std.proofs.lemmas.List.{drop-drop, take_at, drop_at, take_rest, append-nil}
 use Rattle.std.proofs.lemmas.List.Sums.{list_all-from_AllPass}
 use Rattle.tower_codec.specs.declared.rpc.Interface.{Interface}
-use Rattle.cell_names.specs.FullNames.{spelling, components_of, is_full_name}
+use Rattle.cell_names.specs.FullNames.{full_name_octets, components_of, is_full_name}
 use Rattle.cell_names.proofs.FullNameLaws.{components_of-spelling, name_fault-spelling}
 use Rattle.ns_profiles.specs.declared.element.Element.{Element}
 use Rattle.ns_profiles.specs.declared.fault.ProfileFault.{ProfileFault}
 use Rattle.ns_profiles.specs.Elements.{Field, field_fault, first_fault, priority_field, interface_field, length_field, member_field, annotation_field}
-use Rattle.ns_profiles.specs.Elements.{is_default, name_length, element_fault, element_octets, said, element_of, is_annotation_octet, no_interface}
+use Rattle.ns_profiles.specs.Elements.{is_default, name_length, element_fault, element_octets, element_of_octets, element_of, is_annotation_octet, no_interface}
 use Rattle.ns_profiles.specs.Elements.{IsElement, IsElementOf}
 use Rattle.ns_profiles.proofs.ElementLaws.{after_field, kept_field, said_element, element_there}
 
@@ -53,7 +53,7 @@ module _ (e : Element) (lawful : IsElement e) where
   x = element_octets e
 
   abbrev name : List ℕ
-  name = spelling e.member
+  name = full_name_octets e.member
 
   short : length name ≤ 1023
   short = lawful.member.short
@@ -165,7 +165,7 @@ module _ (e : Element) (lawful : IsElement e) where
       ∙ after_field x length_field f6 (kept_field x length_field length_stands.whole refl)
       ∙ texts_kept
 
-  written_said : said x ≡ e
+  written_said : element_of_octets x ≡ e
   written_said =
       let uuid = uuid_stands.here in
       let major = ap (from_be_bytes w16) major_stands.here ∙ number_again e.interface.major lawful.interface.major in
@@ -197,12 +197,12 @@ answered (Some fault) x e is = cc
 
 -- what is read was written of the element
 pub read_written : (octets : List ℕ) (e : Element) → All (λ b. b < 2 ^ 8) octets → element_of octets ≡ Some e → IsElementOf octets e
-read_written octets e all is = let found = answered (element_fault octets) (said octets) e is in
+read_written octets e all is = let found = answered (element_fault octets) (element_of_octets octets) e is in
     subst (IsElementOf octets) found.1 (said_element octets all found.0)
 
 -- no fault is found exactly in the octets of elements
 pub element_fault-none : (octets : List ℕ) → All (λ b. b < 2 ^ 8) octets → (element_fault octets ≡ None) ↔ ((e : Element) × IsElementOf octets e)
 element_fault-none octets all = (
-  λ e. (said octets, said_element octets all e),
+  λ e. (element_of_octets octets, said_element octets all e),
   λ found. ap element_fault found.1.spelled ∙ written_whole found.0 found.1.lawful,
 )

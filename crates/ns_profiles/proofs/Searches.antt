@@ -14,7 +14,7 @@ use Rattle.std.proofs.lemmas.List.Elements.{filter_passes, All-weaker, All-from_
 use Rattle.std.proofs.lemmas.Grind.{flat_map-append}
 use Rattle.cds_stamps.specs.Octets.{octets_cmp}
 use Rattle.cds_stamps.specs.Outcomes.{ok_unless}
-use Rattle.cds_stamps.specs.Ascending.{ascending}
+use Rattle.cds_stamps.specs.Ascending.{in_ascending_order}
 use Rattle.cds_stamps.proofs.AscendingLaws.{ascending-rises, ascending-filter}
 use Rattle.tower_codec.specs.declared.rpc.Interface.{Interface}
 use Rattle.tower_codec.specs.Serving.{serves}
@@ -22,8 +22,8 @@ use Rattle.directory.specs.Updates.{Change, Remove}
 use Rattle.ns_profiles.specs.declared.fault.ProfileFault.TheVariants.{NoSuchElement}
 use Rattle.ns_profiles.specs.declared.element.Element.{Element}
 use Rattle.ns_profiles.specs.declared.fault.ProfileFault.{ProfileFault}
-use Rattle.ns_profiles.specs.Elements.{default_priority, element_fault, element_of, said}
-use Rattle.ns_profiles.specs.Profiles.{profile, is_element, delete_fault, deleted, reads_as, is_taken, is_sought, elements_in, of_priority}
+use Rattle.ns_profiles.specs.Elements.{default_priority, element_fault, element_of, element_of_octets}
+use Rattle.ns_profiles.specs.Profiles.{profile, is_element, delete_fault, element_deletion, reads_as, is_taken, is_sought, elements_in, of_priority}
 use Rattle.ns_profiles.specs.Profiles.{priorities, search_order}
 use Rattle.ns_profiles.proofs.ElementLaws.{priority_within}
 
@@ -34,19 +34,19 @@ behind = map (λ o. o.now)
 -- ---- what octets are read as
 
 -- a test of octets that are an element is the test of the element
-pub read_test : (t : Element → Bool) (octets : List ℕ) → element_fault octets ≡ None → reads_as t octets ≡ t (said octets)
-read_test t octets e = ap (λ (f : Option ProfileFault). option_map_or t (if is_none f then Some (said octets) else None) false) e
+pub read_test : (t : Element → Bool) (octets : List ℕ) → element_fault octets ≡ None → reads_as t octets ≡ t (element_of_octets octets)
+read_test t octets e = ap (λ (f : Option ProfileFault). option_map_or t (if is_none f then Some (element_of_octets octets) else None) false) e
 
 -- octets that are none pass no test
 pub fault_test : (t : Element → Bool) (octets : List ℕ) (fault : ProfileFault) → element_fault octets ≡ Some fault → reads_as t octets ≡ false
-fault_test t octets fault e = ap (λ (f : Option ProfileFault). option_map_or t (if is_none f then Some (said octets) else None) false) e
+fault_test t octets fault e = ap (λ (f : Option ProfileFault). option_map_or t (if is_none f then Some (element_of_octets octets) else None) false) e
 
 -- octets that pass a test of elements have no fault
 tested : (t : Element → Bool) (octets : List ℕ) → option_map_or t (element_of octets) false ≡ true → element_fault octets ≡ None
 tested t octets e = by_fault (element_fault octets) refl e
   where
     by_fault : (fault : Option ProfileFault) → element_fault octets ≡ fault
-        → option_map_or t (if is_none fault then Some (said octets) else None) false ≡ true → fault ≡ None
+        → option_map_or t (if is_none fault then Some (element_of_octets octets) else None) false ≡ true → fault ≡ None
     by_fault None is e = refl
     by_fault (Some fault) is e = cc
 
@@ -209,10 +209,10 @@ taken_in_order wanted es rises high =
 
 -- ---- the elements among octets
 
-by_read : (P : Option Element → Type 0) (octets : List ℕ) → P None → (element_fault octets ≡ None → P (Some (said octets))) → P (element_of octets)
+by_read : (P : Option Element → Type 0) (octets : List ℕ) → P None → (element_fault octets ≡ None → P (Some (element_of_octets octets))) → P (element_of octets)
 by_read P octets none some = by_fault (element_fault octets) refl
   where
-    by_fault : (fault : Option ProfileFault) → element_fault octets ≡ fault → P (if is_none fault then Some (said octets) else None)
+    by_fault : (fault : Option ProfileFault) → element_fault octets ≡ fault → P (if is_none fault then Some (element_of_octets octets) else None)
     by_fault None e = some e
     by_fault (Some fault) e = none
 
@@ -242,34 +242,34 @@ pub filter_by_priority : (q : Element → Bool) (values : List (List ℕ))
     → filter q (elements_in values) ≡ flat_map (λ p. of_priority p (filter q (elements_in values))) (priorities ++ default_priority ∷ [])
 filter_by_priority q values =
     let es = elements_in values in
-    let rises : Rises es = rises_read (ascending values) (ascending-rises values) in
-    let high : AllByRecursion (λ e. e.priority < 9) es = high_read (ascending values) in
+    let rises : Rises es = rises_read (in_ascending_order values) (ascending-rises values) in
+    let high : AllByRecursion (λ e. e.priority < 9) es = high_read (in_ascending_order values) in
     sym (all_groups 9 (filter q es) (rises_filter q es rises) (all_filter (λ e. e.priority < 9) q es high))
 
 -- the members of the octets that pass a test of elements
 map_taken : (t : Element → Bool) (xs : List (List ℕ))
-    → map (λ v. (said v).member) (filter (reads_as t) xs) ≡ map (λ e. e.member) (filter t (filter_map element_of xs))
+    → map (λ v. (element_of_octets v).member) (filter (reads_as t) xs) ≡ map (λ e. e.member) (filter t (filter_map element_of xs))
 map_taken t [] = refl
 map_taken t (x ∷ xs) =
     let rest = map_taken t xs in
     by_read
-    (λ o. map (λ v. (said v).member) (cond (option_map_or t o false) (x ∷ filter (reads_as t) xs) (filter (reads_as t) xs)) ≡ map (λ e. e.member)
+    (λ o. map (λ v. (element_of_octets v).member) (cond (option_map_or t o false) (x ∷ filter (reads_as t) xs) (filter (reads_as t) xs)) ≡ map (λ e. e.member)
     (filter t (cons_option o (filter_map element_of xs))))
-    x rest (λ e. by_test (t (said x)) rest)
+    x rest (λ e. by_test (t (element_of_octets x)) rest)
   where
-    by_test : (b : Bool) → map (λ v. (said v).member) (filter (reads_as t) xs) ≡ map (λ e. e.member) (filter t (filter_map element_of xs))
-        → map (λ v. (said v).member) (cond b (x ∷ filter (reads_as t) xs) (filter (reads_as t) xs)) ≡ map (λ e. e.member)
-        (cond b (said x ∷ filter t (filter_map element_of xs)) (filter t (filter_map element_of xs)))
-    by_test true rest = ap (λ (ms : List (List (List ℕ))). (said x).member ∷ ms) rest
+    by_test : (b : Bool) → map (λ v. (element_of_octets v).member) (filter (reads_as t) xs) ≡ map (λ e. e.member) (filter t (filter_map element_of xs))
+        → map (λ v. (element_of_octets v).member) (cond b (x ∷ filter (reads_as t) xs) (filter (reads_as t) xs)) ≡ map (λ e. e.member)
+        (cond b (element_of_octets x ∷ filter t (filter_map element_of xs)) (filter t (filter_map element_of xs)))
+    by_test true rest = ap (λ (ms : List (List (List ℕ))). (element_of_octets x).member ∷ ms) rest
     by_test false rest = rest
 
 -- the members of the values that a search takes, ascending, are those of the search
 pub members_in_order : (wanted : Interface) (values : List (List ℕ))
-    → map (λ v. (said v).member) (filter (is_sought wanted) (ascending values)) ≡ search_order wanted values
+    → map (λ v. (element_of_octets v).member) (filter (is_sought wanted) (in_ascending_order values)) ≡ search_order wanted values
 members_in_order wanted values =
-    map_taken (is_taken wanted) (ascending values)
-    ∙ ap (map (λ e. e.member)) (taken_in_order wanted (elements_in values) (rises_read (ascending values) (ascending-rises values))
-    (high_read (ascending values)))
+    map_taken (is_taken wanted) (in_ascending_order values)
+    ∙ ap (map (λ e. e.member)) (taken_in_order wanted (elements_in values) (rises_read (in_ascending_order values) (ascending-rises values))
+    (high_read (in_ascending_order values)))
 
 -- ---- references to values
 
@@ -283,9 +283,9 @@ all_behind P [] all = tt
 all_behind P (b ∷ bs) all = (all.0, all_behind P bs all.1)
 
 -- the values that pass a test, sorted and each once
-in_order_is : (p : List ℕ → Bool) (values found sorted : List (List ℕ)) → sorted ≡ ascending found → found ≡ filter p values
-    → sorted ≡ filter p (ascending values)
-in_order_is p values found sorted s f = s ∙ ap ascending f ∙ ascending-filter p values
+in_order_is : (p : List ℕ → Bool) (values found sorted : List (List ℕ)) → sorted ≡ in_ascending_order found → found ≡ filter p values
+    → sorted ≡ filter p (in_ascending_order values)
+in_order_is p values found sorted s f = s ∙ ap in_ascending_order f ∙ ascending-filter p values
 
 -- what a search takes is elements
 pub all_whole : (wanted : Interface) (values : List (List ℕ)) (bs : List (Bor (List ℕ))) → behind bs ≡ filter (is_sought wanted) values
@@ -324,8 +324,8 @@ some_there true n some is = refl
 some_there false n some is = absurd (some (grind (arith, is)))
 
 pub deleted_are : (name : List ℕ) (interface : Option Interface) (member values : List (List ℕ)) (found sorted : List (Bor (List ℕ)))
-    → behind found ≡ filter (is_element interface member) values → behind sorted ≡ ascending (behind found)
-    → map (λ value. Remove name profile value.now) sorted ≡ deleted name interface member values
+    → behind found ≡ filter (is_element interface member) values → behind sorted ≡ in_ascending_order (behind found)
+    → map (λ value. Remove name profile value.now) sorted ≡ element_deletion name interface member values
 deleted_are name interface member values found sorted f s =
     map_behind (Remove name profile) sorted ∙ ap (map (Remove name profile))
     (in_order_is (is_element interface member) values (behind found) (behind sorted) s f)
@@ -334,10 +334,10 @@ deleted_are name interface member values found sorted f s =
 pub deleted_answer : (name : List ℕ) (interface : Option Interface) (member values : List (List ℕ)) (n : ℕ) (found sorted : List (Bor (List ℕ)))
     (done : List Change)
     → n ≢ 0 → (n == 0) ≡ not (list_any (is_element interface member) values)
-    → behind found ≡ filter (is_element interface member) values → behind sorted ≡ ascending (behind found)
+    → behind found ≡ filter (is_element interface member) values → behind sorted ≡ in_ascending_order (behind found)
     → done ≡ map (λ value. Remove name profile value.now) sorted
-    → ok_unless (delete_fault interface member values) (deleted name interface member values) ≡ Ok done
+    → ok_unless (delete_fault interface member values) (element_deletion name interface member values) ≡ Ok done
 deleted_answer name interface member values n found sorted done some is f s d =
     let there : list_any (is_element interface member) values ≡ true = some_there _ n some is in
-    ap (λ (t : Bool). ok_unless (if t then None else Some NoSuchElement) (deleted name interface member values)) there
+    ap (λ (t : Bool). ok_unless (if t then None else Some NoSuchElement) (element_deletion name interface member values)) there
     ∙ ap Ok (sym (d ∙ deleted_are name interface member values found sorted f s))

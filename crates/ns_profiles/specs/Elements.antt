@@ -7,7 +7,7 @@ use Rattle.std.specs.Option.{option_or}
 use Rattle.uuid.specs.Parts.{zero_bytes}
 use Rattle.tower_codec.specs.declared.rpc.Interface.{Interface}
 use Rattle.tower_codec.specs.Rpc.{IsInterface}
-use Rattle.cell_names.specs.FullNames.{spelling, components_of, is_full_name, IsComponentList}
+use Rattle.cell_names.specs.FullNames.{full_name_octets, components_of, is_full_name, IsComponentList}
 use Rattle.ns_profiles.specs.declared.element.Element.{Element}
 use Rattle.ns_profiles.specs.declared.fault.ProfileFault.{ProfileFault}
 use Rattle.ns_profiles.specs.declared.fault.ProfileFault.TheVariants.{BadElement}
@@ -32,8 +32,8 @@ element_fields e =
     ∷ e.interface.uuid
     ∷ to_be_bytes w16 e.interface.major
     ∷ to_be_bytes w16 e.interface.minor
-    ∷ to_be_bytes w16 (length (spelling e.member))
-    ∷ spelling e.member
+    ∷ to_be_bytes w16 (length (full_name_octets e.member))
+    ∷ full_name_octets e.member
     ∷ e.annotation
     ∷ []
 
@@ -138,8 +138,8 @@ abbrev pub annotation_octets : List ℕ → List ℕ
 annotation_octets octets = drop (23 + name_length octets) octets
 
 -- what the octets of an element say (own)
-abbrev pub said : List ℕ → Element
-said octets = record {
+abbrev pub element_of_octets : List ℕ → Element
+element_of_octets octets = record {
   priority = slice_index octets 0;
   interface = interface_in octets;
   member = components_of (member_octets octets);
@@ -148,4 +148,4 @@ said octets = record {
 
 -- the element of octets that are one (own)
 abbrev pub element_of : List ℕ → Option Element
-element_of octets = if is_none (element_fault octets) then Some (said octets) else None
+element_of octets = if is_none (element_fault octets) then Some (element_of_octets octets) else None

@@ -3,10 +3,10 @@ use Rattle.std.specs.Prelude.{ℕ, ◌+◌, Bool, false, not, ◌&&◌, ◌||◌
 use Rattle.std.specs.Prelude.{None, length, codes, if◌then◌else◌}
 use Rattle.std.specs.List.{filter_map, flat_map, list_any}
 use Rattle.std.specs.Option.{option_map_or}
-use Rattle.cds_stamps.specs.Ascending.{ascending}
+use Rattle.cds_stamps.specs.Ascending.{in_ascending_order}
 use Rattle.tower_codec.specs.declared.rpc.Interface.{Interface}
 use Rattle.tower_codec.specs.Serving.{same_interface, serves}
-use Rattle.cell_names.specs.FullNames.{spelling, is_name}
+use Rattle.cell_names.specs.FullNames.{full_name_octets, is_name}
 use Rattle.directory.specs.Updates.{Change, Add, Remove}
 use Rattle.directory.specs.EntryChanges.{creation}
 use Rattle.ns_profiles.specs.declared.element.Element.{Element}
@@ -34,23 +34,23 @@ is_priority None priority = priority == default_priority
 is_priority (Some interface) priority = nat_lt priority default_priority
 
 -- the interface that is written, which stands for none in a default element (own)
-abbrev pub written : Option Interface → Interface
-written None = no_interface
-written (Some interface) = interface
+abbrev pub written_interface : Option Interface → Interface
+written_interface None = no_interface
+written_interface (Some interface) = interface
 
 -- the element to add (own)
 abbrev pub new_element : Option Interface → (member : List (List ℕ)) → (priority : ℕ) → (annotation : List ℕ) → Element
-new_element interface member priority annotation = record { priority = priority; interface = written interface; member = member; annotation = annotation }
+new_element interface member priority annotation = record { priority = priority; interface = written_interface interface; member = member; annotation = annotation }
 
 -- why an element is not added: its priority first, and then its length (own)
 abbrev pub add_fault : Option Interface → (member : List (List ℕ)) → (priority : ℕ) → (annotation : List ℕ) → Option ProfileFault
 add_fault interface member priority annotation =
     if not (is_priority interface priority) then Some BadPriority
-    else (if nat_lt most_text (length (spelling member) + length annotation) then Some ElementTooLong else None)
+    else (if nat_lt most_text (length (full_name_octets member) + length annotation) then Some ElementTooLong else None)
 
 -- to add an element to the entry n: the entry is created if it is absent, and then the element becomes a value (own)
-abbrev pub added : (n : List ℕ) → (absent : Bool) → Element → List Change
-added n absent element = creation n absent ++ Add n profile (element_octets element) ∷ []
+abbrev pub element_addition : (n : List ℕ) → (absent : Bool) → Element → List Change
+element_addition n absent element = creation n absent ++ Add n profile (element_octets element) ∷ []
 
 -- ---- deleting
 
@@ -72,14 +72,14 @@ abbrev pub delete_fault : Option Interface → (member : List (List ℕ)) → (v
 delete_fault interface member values = if list_any (is_element interface member) values then None else Some NoSuchElement
 
 -- to delete elements of the entry n: each value that is one is removed, in ascending order (own)
-abbrev pub deleted : (n : List ℕ) → Option Interface → (member : List (List ℕ)) → (values : List (List ℕ)) → List Change
-deleted n interface member values = map (Remove n profile) (filter (is_element interface member) (ascending values))
+abbrev pub element_deletion : (n : List ℕ) → Option Interface → (member : List (List ℕ)) → (values : List (List ℕ)) → List Change
+element_deletion n interface member values = map (Remove n profile) (filter (is_element interface member) (in_ascending_order values))
 
 -- ---- searching
 
 -- the elements among values, in ascending order of their octets; what is no element is passed over (own)
 abbrev pub elements_in : List (List ℕ) → List Element
-elements_in values = filter_map element_of (ascending values)
+elements_in values = filter_map element_of (in_ascending_order values)
 
 -- an element that a search takes: a default element, or one that serves the interface (own)
 abbrev pub is_taken : (wanted : Interface) → Element → Bool

@@ -7,7 +7,7 @@ ghost use Rattle.std.specs.Int.{from_be_bytes, w16};
 ghost use Rattle.cell_names.specs.FullNames.{name_fault, components_of};
 ghost use Rattle.ns_profiles.specs.Elements.{default_priority, is_annotation_octet, first_fault, field_fault, priority_field, interface_field};
 ghost use Rattle.ns_profiles.specs.Elements.{length_field, member_field, annotation_field, is_default, name_length, interface_in, member_octets};
-ghost use Rattle.ns_profiles.specs.Elements.{annotation_octets, element_fault, said, element_of, IsElementOf};
+ghost use Rattle.ns_profiles.specs.Elements.{annotation_octets, element_fault, element_of_octets, element_of, IsElementOf};
 ghost use Rattle.ns_profiles.specs.declared.fault.ProfileFault.TheVariants.{BadElement};
 
 use crate::fault::ProfileFault;
@@ -110,7 +110,7 @@ impl Element {
     // The element of octets that are one.
     fn of_octets(alloc: Global, octets: &[u8]) -> Result<Element, AllocError>
         requires { element_fault octets.now ≡ None }
-        ensures { IfOk result (λ e. e ≡ said octets.now) }
+        ensures { IfOk result (λ e. e ≡ element_of_octets octets.now) }
     {
         Ok(Element {
             priority: priority_of(octets),
@@ -192,8 +192,8 @@ fn uuid_of(octets: &[u8]) -> Uuid
 /// that is missing. Takes no memory.
 pub(crate) fn check(octets: &[u8]) -> Result<(), ProfileFault>
     ensures found { MatchResult result (λ _. element_fault octets.now ≡ None) (λ fault. element_fault octets.now ≡ Some fault) }
-    ensures known { OnOk result (element_of octets.now ≡ Some (said octets.now)) }
-    ensures lawful { OnOk result (IsElementOf octets.now (said octets.now)) }
+    ensures known { OnOk result (element_of octets.now ≡ Some (element_of_octets octets.now)) }
+    ensures lawful { OnOk result (IsElementOf octets.now (element_of_octets octets.now)) }
 {
     check_fields(octets)
 }

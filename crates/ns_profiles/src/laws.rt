@@ -4,11 +4,11 @@ ghost use Rattle.std.specs.List.{All};
 ghost use Rattle.tower_codec.specs.declared.rpc.Interface.{Interface};
 ghost use Rattle.directory.specs.Histories.{Mark, IsHistory};
 ghost use Rattle.directory.specs.Updates.{Create, Add, Remove};
-ghost use Rattle.directory.specs.Shown.{Shown, shown, refusal_of};
+ghost use Rattle.directory.specs.Shown.{Shown, shown_of_name, refusal_of};
 ghost use Rattle.directory.specs.EntryChanges.{AreAccepted};
 ghost use Rattle.ns_profiles.specs.declared.element.Element.{Element};
 ghost use Rattle.ns_profiles.specs.Elements.{IsElement, IsElementOf, element_octets, element_fault, element_of};
-ghost use Rattle.ns_profiles.specs.Profiles.{profile, added, deleted};
+ghost use Rattle.ns_profiles.specs.Profiles.{profile, element_addition, element_deletion};
 
 /// No fault is found exactly where the octets are those of an element.
 pub fn elements_have_no_fault()
@@ -28,9 +28,9 @@ pub fn elements_read_back()
 /// so are those that delete elements of an entry that shows.
 pub fn profile_updates_are_accepted()
     ensures additions { (h : List Mark) (n : List ℕ) (element : Element) → IsHistory h
-        → AreAccepted h (added n (is_none (shown h n)) element) }
+        → AreAccepted h (element_addition n (is_none (shown_of_name h n)) element) }
     ensures deletions { (h : List Mark) (n : List ℕ) (e : Shown) (interface : Option Interface) (member : List (List ℕ))
-        (values : List (List ℕ)) → shown h n ≡ Some e → AreAccepted h (deleted n interface member values) }
+        (values : List (List ℕ)) → shown_of_name h n ≡ Some e → AreAccepted h (element_deletion n interface member values) }
     ensures created { (n : List ℕ) → refusal_of None (Create n) ≡ None }
     ensures added { (e : Shown) (n v : List ℕ) → refusal_of (Some e) (Add n profile v) ≡ None }
     ensures removed { (e : Shown) (n v : List ℕ) → refusal_of (Some e) (Remove n profile v) ≡ None }

@@ -2,7 +2,7 @@
 ghost use Rattle.std.specs.Prelude.{◌≡◌, ◌∷◌, [], None, map, filter, not, true, false, ◌==◌, option_copied, IfOk, OnErr, vec_len};
 ghost use Rattle.std.specs.List.{All, list_any};
 ghost use Rattle.cell_names.specs.FullNames.{is_name};
-ghost use Rattle.ns_profiles.specs.Elements.{element_fault, said};
+ghost use Rattle.ns_profiles.specs.Elements.{element_fault, element_of_octets};
 ghost use Rattle.ns_profiles.specs.Profiles.{is_for, is_meant, is_element, is_taken, is_sought, search_order};
 
 use crate::element::{DEFAULT, check, interface_of, member_of, priority_of};
@@ -33,7 +33,7 @@ pub fn elements_in_order<'a>(
     values: &[&'a Value],
     interface: &Interface,
 ) -> Result<Vec<LentName<'a>>, AllocError>
-    ensures { IfOk result (λ v. v.items ≡ map (λ octets. (said octets).member) (filter (is_sought interface.now) (map (λ value. value.now) values.now))) }
+    ensures { IfOk result (λ v. v.items ≡ map (λ octets. (element_of_octets octets).member) (filter (is_sought interface.now) (map (λ value. value.now) values.now))) }
 {
     let found = sought(alloc, values, interface)?;
     members_of(alloc, &found)
@@ -79,7 +79,7 @@ fn sought<'a>(
 // The members of values that are elements, in their order.
 fn members_of<'a>(alloc: Global, values: &[&'a Value]) -> Result<Vec<LentName<'a>>, AllocError>
     requires { All (λ value. element_fault value.now ≡ None) values.now }
-    ensures { IfOk result (λ v. v.items ≡ map (λ value. (said value.now).member) values.now) }
+    ensures { IfOk result (λ v. v.items ≡ map (λ value. (element_of_octets value.now).member) values.now) }
 {
     let mut members = Vec::with_capacity(alloc, values.len())?;
     for value in values {
@@ -91,7 +91,7 @@ fn members_of<'a>(alloc: Global, values: &[&'a Value]) -> Result<Vec<LentName<'a
 // The member of a value that is an element.
 fn known_member(value: &Value) -> LentName<'_>
     requires { element_fault value.now ≡ None }
-    ensures { result ≡ (said value.now).member }
+    ensures { result ≡ (element_of_octets value.now).member }
 {
     LentName::known(member_of(value.octets()))
 }
@@ -109,7 +109,7 @@ fn is_sought(octets: &[u8], interface: &Interface) -> bool
 // Whether a search for the interface takes the element of these octets.
 fn is_taken(octets: &[u8], interface: &Interface) -> bool
     requires { element_fault octets.now ≡ None }
-    ensures { result ≡ is_taken interface.now (said octets.now) }
+    ensures { result ≡ is_taken interface.now (element_of_octets octets.now) }
 {
     priority_of(octets) == DEFAULT || interface_of(octets).serves(interface)
 }
@@ -127,7 +127,7 @@ fn is_element(octets: &[u8], interface: Option<&Interface>, member: &FullName) -
 // Whether the element of these octets is for this interface, and has this member.
 fn is_meant(octets: &[u8], interface: Option<&Interface>, member: &FullName) -> bool
     requires { element_fault octets.now ≡ None }
-    ensures { result ≡ is_meant (option_copied interface.entry) member.now (said octets.now) }
+    ensures { result ≡ is_meant (option_copied interface.entry) member.now (element_of_octets octets.now) }
 {
     is_for(octets, interface) && is_member(octets, member)
 }
@@ -135,7 +135,7 @@ fn is_meant(octets: &[u8], interface: Option<&Interface>, member: &FullName) -> 
 // Whether the element of these octets has this member.
 fn is_member(octets: &[u8], member: &FullName) -> bool
     requires { element_fault octets.now ≡ None }
-    ensures { result ≡ is_name (said octets.now).member member.now }
+    ensures { result ≡ is_name (element_of_octets octets.now).member member.now }
 {
     member.is_spelled(member_of(octets))
 }
@@ -143,7 +143,7 @@ fn is_member(octets: &[u8], member: &FullName) -> bool
 // Whether the octets of an element are for this interface, or of a default element where there is none.
 fn is_for(octets: &[u8], interface: Option<&Interface>) -> bool
     requires { element_fault octets.now ≡ None }
-    ensures { result ≡ is_for (option_copied interface.entry) (said octets.now) }
+    ensures { result ≡ is_for (option_copied interface.entry) (element_of_octets octets.now) }
 {
     match interface {
         None => priority_of(octets) == DEFAULT,

@@ -7,12 +7,12 @@ ghost use Rattle.std.specs.Result.{result_map_both};
 ghost use Rattle.cds_stamps.specs.Outcomes.{Answers, ok_unless};
 ghost use Rattle.cds_stamps.specs.declared.alloc_or.AllocOr.TheVariants.{Fault};
 ghost use Rattle.attr_sets.specs.Values.{value_fault};
-ghost use Rattle.cell_names.specs.FullNames.{spelling, IsComponentList};
+ghost use Rattle.cell_names.specs.FullNames.{full_name_octets, IsComponentList};
 ghost use Rattle.tower_codec.specs.Rpc.{IsInterface};
 ghost use Rattle.directory.specs.Updates.{Add, Remove, change_of};
 ghost use Rattle.directory.specs.EntryChanges.{changes, creation};
 ghost use Rattle.ns_profiles.specs.Elements.{is_annotation_octet, element_octets, element_of};
-ghost use Rattle.ns_profiles.specs.Profiles.{profile, most_text, is_priority, written, new_element, add_fault, added, is_element, delete_fault, deleted};
+ghost use Rattle.ns_profiles.specs.Profiles.{profile, most_text, is_priority, written_interface, new_element, add_fault, element_addition, is_element, delete_fault, element_deletion};
 
 use crate::element::{DEFAULT, NAME};
 use crate::fault::ProfileFault;
@@ -48,7 +48,7 @@ pub fn add(
     requires { IsTrue (list_all is_annotation_octet annotation.now) }
     ensures answer { Answers (result_map_both (λ v. changes v.items) (λ e. e) result)
         (ok_unless (add_fault (option_copied interface.entry) member.now priority annotation.now)
-        (added name.now absent (new_element (option_copied interface.entry) member.now priority annotation.now))) }
+        (element_addition name.now absent (new_element (option_copied interface.entry) member.now priority annotation.now))) }
     ensures faulty { IfSome (add_fault (option_copied interface.entry) member.now priority annotation.now) (λ fault. result ≡ Err (Fault fault)) }
     ensures readable { let element = new_element (option_copied interface.entry) member.now priority annotation.now in
         OnOk result (element_of (element_octets element) ≡ Some element) }
@@ -75,7 +75,7 @@ pub fn delete(
 ) -> Result<Vec<Update>, AllocOr<ProfileFault>>
     ensures answer { Answers (result_map_both (λ v. changes v.items) (λ e. e) result)
         (ok_unless (delete_fault (option_copied interface.entry) member.now values.now)
-        (deleted name.now (option_copied interface.entry) member.now values.now)) }
+        (element_deletion name.now (option_copied interface.entry) member.now values.now)) }
     ensures faulty { IfSome (delete_fault (option_copied interface.entry) member.now values.now) (λ fault. result ≡ Err (Fault fault)) }
 {
     let found = elements_of(alloc, values, interface, member)?;
@@ -120,7 +120,7 @@ fn is_priority(interface: Option<&Interface>, priority: u8) -> bool
 
 // The interface that is written: the nil UUID and version 0.0 where there is none.
 fn interface_or_none(interface: Option<&Interface>) -> Interface
-    ensures { result ≡ written (option_copied interface.entry) }
+    ensures { result ≡ written_interface (option_copied interface.entry) }
 {
     match interface {
         None => Interface {
@@ -140,7 +140,7 @@ fn element(
     priority: u8,
     annotation: &[u8],
 ) -> Result<Vec<u8>, AllocError>
-    requires { length (spelling member.now) + length annotation.now ≤ most_text }
+    requires { length (full_name_octets member.now) + length annotation.now ≤ most_text }
     ensures spelled { IfOk result (λ v. v.items ≡ element_octets (record {
       priority = priority;
       interface = interface.now;

@@ -9,7 +9,7 @@ use Rattle.std.specs.FinMap.{FinMap, IsAntisymmetric, get, find, entries, entrie
 use Rattle.std.specs.FinMap.Entries.{is_sorted, below_all}
 use Rattle.std.proofs.lemmas.Option.{IfSome_then}
 use Rattle.cds_stamps.specs.Joins.{EachValue}
-use Rattle.cds_stamps.specs.Keyed.{tied}
+use Rattle.cds_stamps.specs.Keyed.{ties_are_equal}
 use Rattle.purge_rule.specs.Latest.{greatest_of}
 
 both_of : (a b : Bool) → T (a && b) → T a × T b
@@ -42,7 +42,7 @@ module _ {K X : Type 0} {R : K → K → Ordering} (o : IsTotalOrder R) (same : 
       parts = both_of (below_all R e.0 es) (is_sorted R es) sorted
 
       by_case : (q : K) (b : Bool) → eq_by_cmp R q e.0 ≡ b → IfSome (find R q es) V
-      by_case q true at = none_below q e.0 es (tied same q e.0 at) parts.0
+      by_case q true at = none_below q e.0 es (ties_are_equal same q e.0 at) parts.0
       by_case q false at = subst (λ b. IfSome (cond b (Some e.1) (find R q es)) V) at (h q)
 
   found_in_all : (es : List (K × X)) → AllByRecursion (λ e. V e.1) es → (q : K) → IfSome (find R q es) V

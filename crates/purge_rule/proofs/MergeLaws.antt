@@ -7,7 +7,7 @@ use Rattle.std.specs.Option.{option_and_then, option_map}
 use Rattle.std.specs.Cmp.Lexicographic.{nat_list_cmp_total}
 use Rattle.cds_stamps.specs.declared.stamp.Stamp.{Stamp}
 use Rattle.cds_stamps.specs.Joins.{EachValue}
-use Rattle.cds_stamps.specs.Keyed.{tied, get-merge}
+use Rattle.cds_stamps.specs.Keyed.{ties_are_equal, get-merge}
 use Rattle.cds_stamps.specs.Octets.{octets_exact, is_octets}
 use Rattle.cds_stamps.specs.Semilattice.{maybe}
 use Rattle.cds_stamps.specs.Stamps.{is_up_to, later_stamp}
@@ -21,7 +21,7 @@ use Rattle.directory.specs.declared.entry.Fragment.{Fragment}
 use Rattle.directory.specs.Entries.{Entries, join_entries, join_tables, IsValidEntry, IsValidTable}
 use Rattle.directory.specs.EntryLawProofs.{entry_join, table_join}
 use Rattle.directory.specs.Histories.{Mark, entry_at, entry_of, table_of, CanMerge}
-use Rattle.directory.specs.Purges.{purged_entry, is_dead_up_to, entry_left, purged_table, purged, after_entry, is_passed, taken_entry, take_entry, take_table}
+use Rattle.directory.specs.Purges.{purged_entry, is_dead_up_to, entry_left, purged_table, purged_entries, after_entry, is_passed, taken_entry, take_entry, take_table}
 use Rattle.directory.specs.Purges.{is_bare, delta_entry, delta_table}
 use Rattle.directory.proofs.DropLaws.{dropped-taken}
 use Rattle.directory.proofs.DeltaLaws.{dropped-delta}
@@ -149,7 +149,7 @@ delta_table-up_to n (Some t) m p = each_some nat_list_cmp_total octets_exact (En
         by_case false = after_entry-up_to n t e q
 
 -- nor has the purged table of marks
-pub purged-up_to : (n : ℕ) (h : List Mark) (t : Option Stamp) → AllByRecursion (MarkUpTo n) h → TableUpTo n (purged h t)
+pub purged-up_to : (n : ℕ) (h : List Mark) (t : Option Stamp) → AllByRecursion (MarkUpTo n) h → TableUpTo n (purged_entries h t)
 purged-up_to n h None all = table_of-up_to n h all
 purged-up_to n h (Some t) all = purged_table-up_to n t (table_of h) (table_of-up_to n h all)
 
@@ -184,16 +184,16 @@ neither (Some a) (Some b) e = cc (e)
 
 -- the purged tables of two histories, merged up to the later AllUpTo, are that of both
 pub merged_purged : (h g : List Mark) (a b t : Option Stamp) → together a b ≡ t → CanMerge h g t
-    → merged_table t (purged h a) (purged g b) ≡ purged (h ++ g) t
+    → merged_table t (purged_entries h a) (purged_entries g b) ≡ purged_entries (h ++ g) t
 merged_purged h g a b None e can =
     let none = neither a b e in
-    ap (λ a. join_tables (purged h a) (purged g b)) none.0 ∙ ap (λ b. join_tables (table_of h) (purged g b)) none.1
+    ap (λ a. join_tables (purged_entries h a) (purged_entries g b)) none.0 ∙ ap (λ b. join_tables (table_of h) (purged_entries g b)) none.1
     ∙ join_tables-table_of h g can.mine.births can.theirs.births
 merged_purged h g a b (Some t) e can = dropped-taken h g a b t (above_left a b (Some t) e) (above_right a b (Some t) e) can
 
 -- and so are the table of one and the delta of the other
 pub merged_delta : (h g : List Mark) (a b t : Option Stamp) → together a b ≡ t → CanMerge h g t
-    → merged_table t (purged h a) (delta_table b (purged g b)) ≡ purged (h ++ g) t
+    → merged_table t (purged_entries h a) (delta_table b (purged_entries g b)) ≡ purged_entries (h ++ g) t
 merged_delta h g a None t e can = merged_purged h g a None t e can
 merged_delta h g a (Some s) None e can = cc ((neither a (Some s) e).1)
 merged_delta h g a (Some s) (Some t) e can =
@@ -205,12 +205,12 @@ pub fragment_at : (marks : List Mark) (f : Fragment) → IsFragmentOf marks f �
 fragment_at marks f fragment q = at (is_octets q f.name) refl
   where
     at : (b : Bool) → is_octets q f.name ≡ b → (if b then Some f.entry else None) ≡ entry_of marks q
-    at true same = sym (ap (entry_of marks) (tied octets_exact q f.name same) ∙ fragment.entry)
+    at true same = sym (ap (entry_of marks) (ties_are_equal octets_exact q f.name same) ∙ fragment.entry)
     at false apart = sym (ap (option_map (entry_at marks q)) (birth_of-other marks f.name q fragment.named apart))
 
 -- one name of the purged table of a history, with the entry of marks
 pub merged_name : (h marks : List Mark) (t : Option Stamp) → CanMerge h marks t → (q : List ℕ)
-    → merged_entry t (get (purged h t) q) (entry_of marks q) ≡ get (purged (h ++ marks) t) q
+    → merged_entry t (get (purged_entries h t) q) (entry_of marks q) ≡ get (purged_entries (h ++ marks) t) q
 merged_name h marks None can q =
     ap (λ x. maybe join_entries x (entry_of marks q)) (get-table_of h q) ∙ entries_joined h marks q can.mine.births can.theirs.births
     ∙ sym (get-table_of (h ++ marks) q)
@@ -229,7 +229,7 @@ entry_passed t old name e passed q = at (is_octets q name) refl
     at : (b : Bool) → is_octets q name ≡ b → get old q ≡ take_entry t (get old q) (if b then Some e else None)
     at false apart = sym (none_right join_entries (get old q))
     at true same =
-        let here : is_passed t (get old q) e ≡ true = ap (λ k. is_passed t (get old k) e) (tied octets_exact q name same) ∙ passed in
+        let here : is_passed t (get old q) e ≡ true = ap (λ k. is_passed t (get old k) e) (ties_are_equal octets_exact q name same) ∙ passed in
         sym (none_right join_entries (get old q)) ∙ ap (λ b. maybe join_entries (get old q) (if b then None else Some (after_entry t e))) (sym here)
 
 -- an entry of which what is later is joined in
@@ -242,7 +242,7 @@ entry_raised t old new name e stays raises q = raises q ∙ at (is_octets q name
         → maybe join_entries (get old q) (if b then Some (after_entry t e) else None) ≡ take_entry t (get old q) (if b then Some e else None)
     at false apart = refl
     at true same =
-        let here : is_passed t (get old q) e ≡ false = ap (λ k. is_passed t (get old k) e) (tied octets_exact q name same) ∙ stays in
+        let here : is_passed t (get old q) e ≡ false = ap (λ k. is_passed t (get old k) e) (ties_are_equal octets_exact q name same) ∙ stays in
         ap (λ b. maybe join_entries (get old q) (if b then None else Some (after_entry t e))) (sym here)
 
 -- what follows of an answer that is no error

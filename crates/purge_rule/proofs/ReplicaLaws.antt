@@ -9,7 +9,7 @@ use Rattle.directory.specs.declared.entry.EntryCell.{EntryCell}
 use Rattle.directory.specs.declared.entry.Fragment.{Fragment}
 use Rattle.directory.specs.Entries.{Entries, IsValidEntry, IsValidTable}
 use Rattle.directory.specs.Histories.{Mark, entry_of, CanMerge, SameMarks}
-use Rattle.directory.specs.Purges.{purged_table, purged, delta_table}
+use Rattle.directory.specs.Purges.{purged_table, purged_entries, delta_table}
 use Rattle.directory.proofs.DeltaLaws.{delta_table-valid, delta_table-above}
 use Rattle.directory.proofs.MemberLaws.{table_of-same}
 use Rattle.directory.proofs.PurgeLaws.{purged-valid}
@@ -26,7 +26,7 @@ pub same_replica : (t u : Entries) (a b : Option Stamp) → t ≡ u → a ≡ b
 same_replica t u a b p q = λ i. record { table = p i; all_up_to = q i }
 
 -- neither the order nor repeats of marks count
-pub purged-same : (g h : List Mark) (t : Option Stamp) → SameMarks g h → purged g t ≡ purged h t
+pub purged-same : (g h : List Mark) (t : Option Stamp) → SameMarks g h → purged_entries g t ≡ purged_entries h t
 purged-same g h None same = table_of-same g h same
 purged-same g h (Some t) same = ap (purged_table t) (table_of-same g h same)
 
@@ -40,19 +40,19 @@ merged_as t own other new x y one two valid valid_too merges =
 -- the tables of two histories, merged
 pub merged_tables : (h g : List Mark) (t : Option Stamp) (old other : Replica) (a b : Option Stamp) (new : Entries)
     → together a b ≡ t → CanMerge h g t → old ≡ replica_of h a → other ≡ replica_of g b
-    → (IsValidTable old.table → IsValidTable other.table → new ≡ merged_table t old.table other.table) → new ≡ purged (h ++ g) t
+    → (IsValidTable old.table → IsValidTable other.table → new ≡ merged_table t old.table other.table) → new ≡ purged_entries (h ++ g) t
 merged_tables h g t old other a b new later can mine theirs merges =
-    merged_as t old.table other.table new (purged h a) (purged g b) (ap (λ (r : Replica). r.table) mine)
+    merged_as t old.table other.table new (purged_entries h a) (purged_entries g b) (ap (λ (r : Replica). r.table) mine)
     (ap (λ (r : Replica). r.table) theirs) (purged-valid h a) (purged-valid g b) merges
     ∙ merged_purged h g a b t later can
 
 -- the table of a history and the delta of another, merged
 pub merged_deltas : (h g : List Mark) (t : Option Stamp) (old : Replica) (other : Delta) (a b : Option Stamp) (new : Entries)
     → together a b ≡ t → CanMerge h g t → old ≡ replica_of h a → other ≡ delta_of g b
-    → (IsValidTable old.table → IsValidTable other.table → new ≡ merged_table t old.table other.table) → new ≡ purged (h ++ g) t
+    → (IsValidTable old.table → IsValidTable other.table → new ≡ merged_table t old.table other.table) → new ≡ purged_entries (h ++ g) t
 merged_deltas h g t old other a b new later can mine theirs merges =
-    merged_as t old.table other.table new (purged h a) (delta_table b (purged g b)) (ap (λ (r : Replica). r.table) mine)
-    (ap (λ (d : Delta). d.table) theirs) (purged-valid h a) (delta_table-valid b (purged g b) (purged-valid g b)) merges
+    merged_as t old.table other.table new (purged_entries h a) (delta_table b (purged_entries g b)) (ap (λ (r : Replica). r.table) mine)
+    (ap (λ (d : Delta). d.table) theirs) (purged-valid h a) (delta_table-valid b (purged_entries g b) (purged-valid g b)) merges
     ∙ merged_delta h g a b t later can
 
 -- the delta of a replica with a valid table
@@ -73,11 +73,11 @@ pub merged_marks : (h marks : List Mark) (t : Option Stamp) (old : Replica) (f :
     → IsFragmentOf marks f → old ≡ replica_of h t
     → (IfSome (get old.table f.name) IsValidEntry → IsValidEntry f.entry
     → (q : List ℕ) → get new q ≡ merged_entry t (get old.table q) (if is_octets q f.name then Some f.entry else None))
-    → new ≡ purged (h ++ marks) t
+    → new ≡ purged_entries (h ++ marks) t
 merged_marks h marks t old f new can fragment mine merges =
-    let own : old.table ≡ purged h t = ap (λ (r : Replica). r.table) mine in
+    let own : old.table ≡ purged_entries h t = ap (λ (r : Replica). r.table) mine in
     let entry : IsValidEntry f.entry = subst (λ x. IfSome x IsValidEntry) fragment.entry (entry_of-valid marks f.name) in
-    same_map nat_list_cmp_total octets_exact new (purged (h ++ marks) t) (λ q.
+    same_map nat_list_cmp_total octets_exact new (purged_entries (h ++ marks) t) (λ q.
     merges (subst IsValidTable (sym own) (purged-valid h t) f.name) entry q
     ∙ ap (merged_entry t (get old.table q)) (fragment_at marks f fragment q)
     ∙ ap (λ m. merged_entry t (get m q) (entry_of marks q)) own ∙ merged_name h marks t can q)

@@ -16,8 +16,8 @@ use Rattle.cds_stamps.specs.Joins.{EachValue, join_maps, get-join_maps}
 use Rattle.cds_stamps.specs.Undos.{RaisesAt}
 use Rattle.attr_sets.specs.declared.mark.ValueMark.{ValueMark}
 use Rattle.attr_sets.specs.declared.cell.AttrCell.{AttrCell}
-use Rattle.attr_sets.specs.Marks.{mark_cmp, later, kept}
-use Rattle.attr_sets.specs.Cells.{AttrMark, Cleared, Marked, attr_stamp, clear_in, mark_in, cell_of, greatest_clear, greatest_mark, join_cells}
+use Rattle.attr_sets.specs.Marks.{mark_cmp, later, mark_after_clear}
+use Rattle.attr_sets.specs.AttributeCells.{AttrMark, Cleared, Marked, attr_stamp, clear_in, mark_in, cell_of, greatest_clear, greatest_mark, join_cells}
 use Rattle.attr_sets.specs.CellLawProofs.{get-cell_of, get-join_cells}
 use Rattle.directory.specs.declared.entry.EntryCell.{EntryCell}
 use Rattle.directory.specs.Entries.{Entries, join_tied, join_entries, join_tables}
@@ -106,7 +106,7 @@ module _ {X : Type 0} (P : X → Type 0) where
   join_of-holds f keeps g (x ∷ xs) h = maybe-holds f keeps (g x) (join_of f g xs) h.0 (join_of-holds f keeps g xs h.1)
 
 -- a clear brings no later mark
-kept-up_to : (n : ℕ) (c : Option Stamp) (m : Option ValueMark) → IfSome m (λ x. x.stamp.time ≤ n) → IfSome (kept c m) (λ x. x.stamp.time ≤ n)
+kept-up_to : (n : ℕ) (c : Option Stamp) (m : Option ValueMark) → IfSome m (λ x. x.stamp.time ≤ n) → IfSome (mark_after_clear c m) (λ x. x.stamp.time ≤ n)
 kept-up_to n c None h = tt
 kept-up_to n None (Some m) h = h
 kept-up_to n (Some c) (Some m) h = by_case (is_earlier m.stamp c)

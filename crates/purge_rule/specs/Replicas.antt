@@ -9,13 +9,13 @@ use Rattle.directory.specs.declared.entry.EntryCell.{EntryCell}
 use Rattle.directory.specs.declared.entry.Fragment.{Fragment}
 use Rattle.directory.specs.Entries.{Entries, join_entries, join_tables, IsValidTable}
 use Rattle.directory.specs.Histories.{Mark, name_in, entry_of}
-use Rattle.directory.specs.Purges.{purged_table, purged, take_entry, take_table, delta_table, IsAboveEntry}
+use Rattle.directory.specs.Purges.{purged_table, purged_entries, take_entry, take_table, delta_table, IsAboveEntry}
 use Rattle.purge_rule.specs.declared.delta.Delta.{Delta}
 use Rattle.purge_rule.specs.declared.replica.Replica.{Replica}
 
 -- the replica of a history up to an AllUpTo: the table of the history, without the deletions stamped at most that (own)
 abbrev pub replica_of : List Mark → Option Stamp → Replica
-replica_of h t = record { table = purged h t; all_up_to = t }
+replica_of h t = record { table = purged_entries h t; all_up_to = t }
 
 -- what a replica has that is later than its AllUpTo (own, after C705, skulks and AllUpTo)
 abbrev pub delta_in : Replica → Delta

@@ -6,8 +6,8 @@ ghost use Rattle.cds_stamps.specs.declared.stamp.Stamp.{Stamp};
 ghost use Rattle.directory.specs.declared.entry.EntryCell.{EntryCell};
 ghost use Rattle.directory.specs.Entries.{Entries, IsValidTable};
 ghost use Rattle.directory.specs.Histories.{Mark, entry_of, table_of, SameMarks, CanMerge};
-ghost use Rattle.directory.specs.Purges.{purged_table, purged, take_table};
-ghost use Rattle.directory.specs.Shown.{shown, shown_in};
+ghost use Rattle.directory.specs.Purges.{purged_table, purged_entries, take_table};
+ghost use Rattle.directory.specs.Shown.{shown_of_name, shown_in};
 ghost use Rattle.purge_rule.specs.Replicas.{replica_of, delta_in, delta_of, IsDelta, together};
 ghost use Rattle.purge_rule.specs.declared.delta.Delta.{Delta};
 ghost use Rattle.purge_rule.specs.declared.replica.Replica.{Replica};
@@ -27,7 +27,7 @@ pub fn same_marks_make_one_replica()
 
 /// A reader sees in a replica's table what the history shows.
 pub fn replicas_show_histories()
-    ensures { (h : List Mark) (t : Option Stamp) (n : List ℕ) → shown_in (replica_of h t).table n ≡ shown h n }
+    ensures { (h : List Mark) (t : Option Stamp) (n : List ℕ) → shown_in (replica_of h t).table n ≡ shown_of_name h n }
 {}
 
 /// What is left of the table of a history up to the later AllUpTo, with what is taken of that of another that can be merged,
@@ -35,10 +35,10 @@ pub fn replicas_show_histories()
 pub fn purged_replicas_merge()
     ensures replica { (h g : List Mark) (a b : Option Stamp) (t : Stamp) →
         together a b ≡ Some t → CanMerge h g (Some t) →
-        take_table t (purged_table t (table_of h)) (purged g b) ≡ purged (h ++ g) (Some t) }
+        take_table t (purged_table t (table_of h)) (purged_entries g b) ≡ purged_entries (h ++ g) (Some t) }
     ensures delta { (h g : List Mark) (a b : Option Stamp) (t : Stamp) →
         together a b ≡ Some t → CanMerge h g (Some t) →
-        take_table t (purged_table t (table_of h)) (delta_of g b).table ≡ purged (h ++ g) (Some t) }
+        take_table t (purged_table t (table_of h)) (delta_of g b).table ≡ purged_entries (h ++ g) (Some t) }
 {}
 
 /// The greatest time is at most n exactly where no time is later than n.
@@ -61,6 +61,6 @@ pub fn marks_make_no_later_time()
         IfSome (entry_of h name) (EntryUpTo n) }
     ensures table { (h : List Mark) (n : ℕ) → AllByRecursion (MarkUpTo n) h → TableUpTo n (table_of h) }
     ensures purged { (h : List Mark) (t : Option Stamp) (n : ℕ) →
-        AllByRecursion (MarkUpTo n) h → TableUpTo n (purged h t) }
+        AllByRecursion (MarkUpTo n) h → TableUpTo n (purged_entries h t) }
     ensures empty { (n : ℕ) → TableUpTo n map.empty }
 {}

@@ -10,7 +10,7 @@ use Rattle.std.specs.Cmp.{IsTotalOrder, tied_itself}
 use Rattle.std.specs.FinMap.{FinMap, IsAntisymmetric, empty, insert, entries, entries_sorted, put, find, is_sorted, same_entries_map, entries-insert}
 use Rattle.std.specs.FinMap.{len-entries, len-empty}
 use Rattle.std.specs.FinMap.Entries.{below_all}
-use Rattle.cds_stamps.specs.Keyed.{tied}
+use Rattle.cds_stamps.specs.Keyed.{ties_are_equal}
 use Rattle.record_fields.specs.Added.{add_all}
 
 -- two tests that hold, as one
@@ -91,5 +91,5 @@ module _ {K X : Type 0} {R : K → K → Ordering} (total : IsTotalOrder R) wher
     )
       where
         at : (q : K) (b : Bool) → eq_by_cmp R q e.0 ≡ b → IfSome (find R q es) V
-        at q true same = subst (λ x. IfSome x V) (sym (not_found q es (subst (λ k. T (below_all R k es)) (sym (tied exact q e.0 same)) (first_of _ _ p)))) tt
+        at q true same = subst (λ x. IfSome x V) (sym (not_found q es (subst (λ k. T (below_all R k es)) (sym (ties_are_equal exact q e.0 same)) (first_of _ _ p)))) tt
         at q false other = subst (λ b. IfSome (cond b (Some e.1) (find R q es)) V) other (h q)

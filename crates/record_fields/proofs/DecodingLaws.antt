@@ -7,8 +7,8 @@ use Rattle.record_fields.specs.declared.fault.RecordFault.{RecordFault}
 use Rattle.cds_stamps.specs.declared.alloc_or.AllocOr.{AllocOr}
 use Rattle.cds_stamps.specs.declared.alloc_or.AllocOr.TheVariants.{Fault, OutOfMemory}
 use Rattle.record_fields.specs.Layouts.{Layout, done, field, next, Stands, Breaks}
-use Rattle.record_fields.specs.Reading.{read}
-use Rattle.record_fields.specs.Readers.{Reads}
+use Rattle.record_fields.specs.LayoutReading.{read}
+use Rattle.record_fields.specs.FieldReaders.{Reads}
 use Rattle.record_fields.specs.Decoding.{fault_at, error_of, IsLeftWithin, IsWhole, Decodes}
 use Rattle.record_fields.proofs.LayoutLaws.{ok_is, stands_read, read_stands, breaks_read, read_breaks, front_stands}
 

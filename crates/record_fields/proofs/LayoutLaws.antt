@@ -7,7 +7,7 @@ use Rattle.record_fields.specs.declared.fault.Rule.{Rule}
 use Rattle.record_fields.specs.declared.fault.Rule.TheVariants.{Short}
 use Rattle.record_fields.specs.declared.fault.Broken.{Broken}
 use Rattle.record_fields.specs.Layouts.{Layout, done, field, next, Stands, Breaks}
-use Rattle.record_fields.specs.Reading.{◌>>=◌, ruled, read}
+use Rattle.record_fields.specs.LayoutReading.{◌>>=◌, by_rule, read}
 
 -- ---- steps
 
@@ -34,11 +34,11 @@ short_field : {A : Type 0} (size : ℕ) (says : List ℕ → A) (rule : A → Op
 short_field size says rule x short = rw (lt-ltb (length x) size short) refl
 
 whole_field : {A : Type 0} (size : ℕ) (says : List ℕ → A) (rule : A → Option Rule) (x : List ℕ) → size ≤ length x
-    → one size says rule x ≡ ruled (rule (says (take size x))) (length x) (says (take size x)) (drop size x)
+    → one size says rule x ≡ by_rule (rule (says (take size x))) (length x) (says (take size x)) (drop size x)
 whole_field size says rule x whole = rw (le-ltb (length x) size whole) refl
 
 front_field : {A : Type 0} (says : List ℕ → A) (rule : A → Option Rule) (own rest : List ℕ)
-    → one (length own) says rule (own ++ rest) ≡ ruled (rule (says own)) (length (own ++ rest)) (says own) rest
+    → one (length own) says rule (own ++ rest) ≡ by_rule (rule (says own)) (length (own ++ rest)) (says own) rest
 front_field says rule own rest =
     whole_field (length own) says rule (own ++ rest) (omega (arith, length-append own rest))
     ∙ rw (take_at own rest (length own) refl, drop_at own rest (length own) refl) refl
@@ -53,13 +53,13 @@ field_err : {A : Type 0} (size : ℕ) (says : List ℕ → A) (rule : A → Opti
 field_err size says rule own rest r len breaks =
     subst (λ n. one n says rule (own ++ rest) ≡ Err (record { rule = r; left = length (own ++ rest) })) len (front_field says rule own rest ∙ rw breaks refl)
 
-ruled_ok : {A : Type 0} (r : Option Rule) (n : ℕ) (v w : A) (y z : List ℕ) → ruled r n v y ≡ Ok (w, z) → (r ≡ None) × (v ≡ w) × (y ≡ z)
+ruled_ok : {A : Type 0} (r : Option Rule) (n : ℕ) (v w : A) (y z : List ℕ) → by_rule r n v y ≡ Ok (w, z) → (r ≡ None) × (v ≡ w) × (y ≡ z)
 ruled_ok {A} None n v w y z e =
     let same : (v, y) ≡ (w, z) = ok_is (v, y) (w, z) e in
     (refl, ap (λ (p : A × List ℕ). p.0) same, ap (λ (p : A × List ℕ). p.1) same)
 ruled_ok (Some r) n v w y z e = absurd cc
 
-ruled_err : {A : Type 0} (r : Option Rule) (n : ℕ) (v : A) (y : List ℕ) (b : Broken) → ruled r n v y ≡ Err b → (r ≡ Some b.rule) × (b.left ≡ n)
+ruled_err : {A : Type 0} (r : Option Rule) (n : ℕ) (v : A) (y : List ℕ) (b : Broken) → by_rule r n v y ≡ Err b → (r ≡ Some b.rule) × (b.left ≡ n)
 ruled_err None n v y b e = absurd cc
 ruled_err (Some r) n v y b e =
     let same : record { rule = r; left = n } ≡ b = cc in

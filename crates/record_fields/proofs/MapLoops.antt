@@ -6,10 +6,10 @@ use Rattle.cds_stamps.specs.declared.alloc_or.AllocOr.{AllocOr}
 use Rattle.cds_stamps.specs.declared.alloc_or.AllocOr.TheVariants.{Fault, OutOfMemory}
 use Rattle.record_fields.specs.declared.fault.Broken.{Broken}
 use Rattle.record_fields.specs.Layouts.{Layout}
-use Rattle.record_fields.specs.Reading.{◌>>=◌, read}
-use Rattle.record_fields.specs.Readers.{Reads, Adds}
+use Rattle.record_fields.specs.LayoutReading.{◌>>=◌, read}
+use Rattle.record_fields.specs.FieldReaders.{Reads, Adds}
 use Rattle.record_fields.specs.Added.{add_all}
-use Rattle.record_fields.specs.Records.{item, ascending, map_of}
+use Rattle.record_fields.specs.ListLayouts.{item, ascending_items, map_of}
 
 -- the items that are still to be read, added to the map of those before
 abbrev pub added : {K X : Type 0} {R : K → K → Ordering} → FinMap R X → Result (List (K × X) × List ℕ) Broken → Result (FinMap R X × List ℕ) Broken
@@ -23,7 +23,7 @@ one_added m e (Err b) = refl
 -- what is still to be read after i of so many items
 abbrev pub to_come : {K X : Type 0} {R : K → K → Ordering} → (Option K → Layout K) → Layout X → FinMap R X → ℕ → ℕ → Option K → List ℕ
     → Result (FinMap R X × List ℕ) Broken
-to_come key content m count i before x = added m (read (ascending key content (count - i) before) x)
+to_come key content m count i before x = added m (read (ascending_items key content (count - i) before) x)
 
 module _ {K X : Type 0} {R : K → K → Ordering} (key : Option K → Layout K) (content : Layout X) where
   -- before the first item all of the map is to come
@@ -35,18 +35,18 @@ module _ {K X : Type 0} {R : K → K → Ordering} (key : Option K → Layout K)
   pub goes_on : {Y : Type 0} (view : Y → K) (y : Y) (m n : FinMap R X) (count i : ℕ) (before : Option K) (x z : List ℕ)
       (total : Result (FinMap R X × List ℕ) Broken) → i < count → Adds view (item key content before) m n x z (Ok y)
       → to_come key content m count i before x ≡ total → to_come key content n count (i + 1) (Some (view y)) z ≡ total
-  unfolding ascending
+  unfolding ascending_items
   goes_on view y m n count i before x z total lt adds so_far =
       let k : count - i ≡ suc (count - (i + 1)) = omega arith in
       let one : to_come key content m count i before x ≡ to_come key content (insert m (view y) adds.0) count (i + 1) (Some (view y)) z =
-      rw (k, adds.1) (one_added m (view y, adds.0) (read (ascending key content (count - (i + 1)) (Some (view y))) z)) in
+      rw (k, adds.1) (one_added m (view y, adds.0) (read (ascending_items key content (count - (i + 1)) (Some (view y))) z)) in
       ap (λ n. to_come key content n count (i + 1) (Some (view y)) z) adds.2 ∙ sym one ∙ so_far
 
   -- an item that fails fails the map
   pub ends : {Y V : Type 0} (seen : V → FinMap R X) (view : Y → K) (e : AllocOr Broken) (m n : FinMap R X) (count i : ℕ) (before : Option K)
       (x z w start : List ℕ) → i < count → Adds view (item key content before) m n x z (Err e)
       → to_come key content m count i before x ≡ read (map_of {R = R} key content count) start → Reads seen (map_of {R = R} key content count) start w (Err e)
-  unfolding ascending
+  unfolding ascending_items
   ends seen view OutOfMemory m n count i before x z w start lt adds so_far = tt
   ends seen view (Fault b) m n count i before x z w start lt adds so_far =
       let k : count - i ≡ suc (count - (i + 1)) = omega arith in
@@ -56,7 +56,7 @@ module _ {K X : Type 0} {R : K → K → Ordering} (key : Option K → Layout K)
   -- behind the last item the map is read
   pub is_done : (m : FinMap R X) (count i : ℕ) (before : Option K) (x : List ℕ) (total : Result (FinMap R X × List ℕ) Broken) → count ≤ i
       → to_come key content m count i before x ≡ total → total ≡ Ok (m, x)
-  unfolding ascending
+  unfolding ascending_items
   is_done m count i before x total le so_far =
       let k : count - i ≡ 0 = omega arith in
       let one : to_come key content m count i before x ≡ Ok (m, x) = rw k refl in

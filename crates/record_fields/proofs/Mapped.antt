@@ -8,8 +8,8 @@ use Rattle.std.specs.FinMap.{get-from_sorted, entries-from_sorted, same_map, sam
 use Rattle.std.specs.FinMap.Entries.{below_all}
 use Rattle.std.proofs.lemmas.List.{length-map}
 use Rattle.record_fields.specs.Added.{add_all}
-use Rattle.record_fields.specs.Octets.{items_octets}
-use Rattle.record_fields.specs.Ranges.{ItemsFit}
+use Rattle.record_fields.specs.FieldOctets.{items_octets}
+use Rattle.record_fields.specs.FieldRanges.{ItemsFit}
 use Rattle.record_fields.proofs.Ascending.{both, first_of, second_of, entries_added}
 
 module _ {K X Y : Type 0} {R : K → K → Ordering} (total : IsTotalOrder R) (exact : IsAntisymmetric R) (f : X → Y) where

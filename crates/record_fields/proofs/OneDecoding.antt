@@ -8,8 +8,8 @@ use Rattle.cds_stamps.specs.Outcomes.{Answers}
 use Rattle.record_fields.specs.declared.fault.Broken.{Broken}
 use Rattle.record_fields.specs.declared.fault.RecordFault.{RecordFault}
 use Rattle.record_fields.specs.Layouts.{Layout}
-use Rattle.record_fields.specs.Reading.{read}
-use Rattle.record_fields.specs.Decoding.{fault_at, Decodes, decoding, with_memory}
+use Rattle.record_fields.specs.LayoutReading.{read}
+use Rattle.record_fields.specs.Decoding.{fault_at, Decodes, decode_by, with_memory}
 use Rattle.record_fields.proofs.DecodingLaws.{decoded, not_decoded}
 
 -- what a reading comes to
@@ -17,7 +17,7 @@ abbrev pub of_read : {A : Type 0} → ℕ → Result (A × List ℕ) Broken → 
 of_read len = result_map_both (λ r. (r.0, len - length r.1)) (λ b. fault_at b.rule (len - b.left + 1))
 
 -- what is answered is what the function says
-pub decoding_decodes : {A : Type 0} (l : Layout A) (octets : List ℕ) → Decodes l octets (with_memory (decoding l octets))
+pub decoding_decodes : {A : Type 0} (l : Layout A) (octets : List ℕ) → Decodes l octets (with_memory (decode_by l octets))
 decoding_decodes {A} l octets = go (read l octets) refl
   where
     go : (r : Result (A × List ℕ) Broken) → read l octets ≡ r → Decodes l octets (with_memory (of_read (length octets) r))
@@ -26,8 +26,8 @@ decoding_decodes {A} l octets = go (read l octets) refl
 
 -- each answer is what is decoded, or want of memory
 pub answers_decoding : {A : Type 0} (l : Layout A) (octets : List ℕ) (r : Result (A × ℕ) (AllocOr RecordFault)) → Decodes l octets r
-    → Answers r (decoding l octets)
-answers_decoding {A} l octets r h = go (decoding l octets) (decoding_decodes l octets)
+    → Answers r (decode_by l octets)
+answers_decoding {A} l octets r h = go (decode_by l octets) (decoding_decodes l octets)
   where
     go : (d : Result (A × ℕ) RecordFault) → Decodes l octets (with_memory d) → Answers r d
     go (Ok (value, n)) is =

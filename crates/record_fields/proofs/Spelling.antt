@@ -20,7 +20,7 @@ use Rattle.record_fields.specs.Layouts.{Layout, done, field, next, choose, Stand
 use Rattle.record_fields.specs.Decoding.{IsWhole}
 use Rattle.record_fields.specs.Fields.{node_of, stamp_of, octet, number, node, stamp, octets_of}
 use Rattle.record_fields.specs.Added.{add_all}
-use Rattle.record_fields.specs.Records.{item, ascending, map_of}
+use Rattle.record_fields.specs.ListLayouts.{item, ascending_items, map_of}
 use Rattle.record_fields.proofs.LayoutLaws.{front_stands}
 use Rattle.record_fields.proofs.Ascending.{both, below_less, entries_added}
 
@@ -237,17 +237,17 @@ module _ {K X : Type 0} {R : K → K → Ordering} (total : IsTotalOrder R) wher
         let above = rises b e.0 x y h in
         both _ _ (subst (λ r. T (is_lt r)) (sym above) tt) (below_less total b e.0 es above p)
 
-    items_ascend : (n : ℕ) (before : Option K) (x : List ℕ) (es : List (K × X)) (y : List ℕ) → Stands (ascending key content n before) x es y
+    items_ascend : (n : ℕ) (before : Option K) (x : List ℕ) (es : List (K × X)) (y : List ℕ) → Stands (ascending_items key content n before) x es y
         → T (is_sorted R es) × Above before es
-    unfolding ascending item
+    unfolding ascending_items item
     items_ascend zero before x es y h = subst (λ es. T (is_sorted R es) × Above before es) h.0 (tt, none_above before)
     items_ascend (suc n) before x es y h =
         let rest = items_ascend n (Some h.0.0) h.1 h.3.0 h.3.1 h.3.2 in
         let first = subst (λ k. Stands (key before) x k h.2.1) (ap (λ (e : K × X). e.0) h.2.3.3.0) h.2.2 in
         subst (λ es. T (is_sorted R es) × Above before es) h.3.3.0 (both _ _ rest.1 rest.0, all_above before h.0 h.3.0 x h.2.1 first rest.1)
 
-    item_count : (n : ℕ) (before : Option K) (x : List ℕ) (es : List (K × X)) (y : List ℕ) → Stands (ascending key content n before) x es y → length es ≡ n
-    unfolding ascending
+    item_count : (n : ℕ) (before : Option K) (x : List ℕ) (es : List (K × X)) (y : List ℕ) → Stands (ascending_items key content n before) x es y → length es ≡ n
+    unfolding ascending_items
     item_count zero before x es y h = ap length (sym h.0)
     item_count (suc n) before x es y h = ap length (sym h.3.3.0) ∙ ap suc (item_count n (Some h.0.0) h.1 h.3.0 h.3.1 h.3.2)
 
@@ -264,8 +264,8 @@ module _ {K X : Type 0} {R : K → K → Ordering} (total : IsTotalOrder R) wher
           spell_next (tells (λ (e : K × X). e.0) (λ k e w x g h. ap (λ (e : K × X). e.0) (sym h.3.0))) (keys before) (λ k.
           spell_last (λ c. (k, c)) (λ c d e. ap (λ (e : K × X). e.1) e) contents)
 
-      spell_items : (n : ℕ) (before : Option K) → OneSpelling (ascending key content n before)
-      unfolding ascending
+      spell_items : (n : ℕ) (before : Option K) → OneSpelling (ascending_items key content n before)
+      unfolding ascending_items
       spell_items zero before = spell_done []
       spell_items (suc n) before = spell_cons (spell_item before) (λ e. spell_items n (Some e.0))
 

@@ -12,7 +12,7 @@ use Rattle.attr_sets.specs.declared.cell.AttrCell.{AttrCell}
 use Rattle.record_fields.specs.declared.fault.Rule.TheVariants.{BadName, OutOfOrder, BadFlag}
 use Rattle.record_fields.specs.Layouts.{Stands}
 use Rattle.record_fields.specs.Fields.{outside, above_rule, mark_rule, octets_order, octet, stamp_if, optional_stamp, octets_of, simple_name, attr_name, value}
-use Rattle.record_fields.specs.Records.{mark, cell}
+use Rattle.record_fields.specs.ListLayouts.{mark, cell}
 use Rattle.record_fields.proofs.Spelling.{OneSpelling, tells, spell_next, spell_done, spell_last, spell_choose, spell_octet, spell_16, spell_64, spell_stamp}
 use Rattle.record_fields.proofs.Spelling.{spell_sized, spell_counted}
 

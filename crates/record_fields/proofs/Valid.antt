@@ -13,13 +13,13 @@ use Rattle.cds_stamps.specs.Joins.{EachValue}
 use Rattle.attr_sets.specs.declared.mark.ValueMark.{ValueMark}
 use Rattle.attr_sets.specs.declared.cell.AttrCell.{AttrCell}
 use Rattle.attr_sets.specs.CellPurges.{is_above}
-use Rattle.attr_sets.specs.Marks.{kept}
+use Rattle.attr_sets.specs.Marks.{mark_after_clear}
 use Rattle.record_fields.specs.Layouts.{Layout, next, done, choose, Stands}
-use Rattle.record_fields.specs.Reading.{read}
+use Rattle.record_fields.specs.LayoutReading.{read}
 use Rattle.record_fields.specs.Fields.{above_rule, is_cleared, mark_rule, stamp, optional_stamp, value}
 use Rattle.record_fields.specs.declared.fault.Rule.TheVariants.{OutOfOrder, NotAbove}
 use Rattle.record_fields.specs.Added.{add_all}
-use Rattle.record_fields.specs.Records.{item, ascending, map_of, mark, empty_cell}
+use Rattle.record_fields.specs.ListLayouts.{item, ascending_items, map_of, mark, empty_cell}
 use Rattle.record_fields.proofs.LayoutLaws.{ok_is, bind_ok, read_stands}
 
 -- ---- maps of items
@@ -27,15 +27,15 @@ use Rattle.record_fields.proofs.LayoutLaws.{ok_is, bind_ok, read_stands}
 module _ {K X : Type 0} {R : K → K → Ordering} (o : IsTotalOrder R) (V : X → Type 0) (key : Option K → Layout K) (content : Layout X)
     (each : (x : List ℕ) (c : X) (y : List ℕ) → read content x ≡ Ok (c, y) → V c) where
   -- each of so many items that were read is valid
-  pub items_valid : (n : ℕ) (before : Option K) (x : List ℕ) (es : List (K × X)) (y : List ℕ) → read (ascending key content n before) x ≡ Ok (es, y)
+  pub items_valid : (n : ℕ) (before : Option K) (x : List ℕ) (es : List (K × X)) (y : List ℕ) → read (ascending_items key content n before) x ≡ Ok (es, y)
       → AllByRecursion (λ e. V e.1) es
-  unfolding ascending item
+  unfolding ascending_items item
   items_valid zero before x es y e = subst (λ (p : List (K × X) × List ℕ). AllByRecursion (λ e. V e.1) p.0) (ok_is ([], x) (es, y) e) tt
   items_valid (suc n) before x es y e =
-      let a = bind_ok (read (item key content before) x) (λ w. read (next (ascending key content n (Some w.0.0)) (λ es. done (w.0 ∷ es))) w.1) (es, y) e in
+      let a = bind_ok (read (item key content before) x) (λ w. read (next (ascending_items key content n (Some w.0.0)) (λ es. done (w.0 ∷ es))) w.1) (es, y) e in
       let k = bind_ok (read (key before) x) (λ w. read (next content (λ c. done (w.0, c))) w.1) a.0 a.1 in
       let c = bind_ok (read content k.0.1) (λ w. Ok ((k.0.0, w.0), w.1)) a.0 k.2 in
-      let b = bind_ok (read (ascending key content n (Some a.0.0.0)) a.0.1) (λ w. Ok (a.0.0 ∷ w.0, w.1)) (es, y) a.2 in
+      let b = bind_ok (read (ascending_items key content n (Some a.0.0.0)) a.0.1) (λ w. Ok (a.0.0 ∷ w.0, w.1)) (es, y) a.2 in
       let one : V a.0.0.1 = subst (λ (p : (K × X) × List ℕ). V p.0.1) (ok_is ((k.0.0, c.0.0), c.0.1) a.0 c.2) (each k.0.1 c.0.0 c.0.1 c.1) in
       subst (λ (p : List (K × X) × List ℕ). AllByRecursion (λ e. V e.1) p.0) (ok_is (a.0.0 ∷ b.0.0, b.0.1) (es, y) b.2)
       (one, items_valid n (Some a.0.0.0) a.0.1 b.0.0 b.0.1 b.1)
@@ -54,7 +54,7 @@ module _ {K X : Type 0} {R : K → K → Ordering} (o : IsTotalOrder R) (V : X �
   pub map_valid : (n : ℕ) (x : List ℕ) (m : FinMap R X) (y : List ℕ) → read (map_of {R = R} key content n) x ≡ Ok (m, y) → EachValue V m
   unfolding map_of
   map_valid n x m y e =
-      let a = bind_ok (read (ascending key content n None) x) (λ w. Ok (add_all empty w.0, w.1)) (m, y) e in
+      let a = bind_ok (read (ascending_items key content n None) x) (λ w. Ok (add_all empty w.0, w.1)) (m, y) e in
       subst (λ (p : FinMap R X × List ℕ). EachValue V p.0) (ok_is (add_all empty a.0.0, a.0.1) (m, y) a.2)
       (add_all_valid empty a.0.0 (λ q. subst (λ x. IfSome x V) (sym (get-empty R q)) tt) (items_valid n None x a.0.0 a.0.1 a.1))
 
@@ -76,11 +76,11 @@ put_there k x e =
 
 map_filled : {X : Type 0} (key : Option (List ℕ) → Layout (List ℕ)) (content : Layout X) (n : ℕ) (x : List ℕ) (m : FinMap octets_cmp X) (y : List ℕ)
     → read (map_of {R = octets_cmp} key content (suc n)) x ≡ Ok (m, y) → m ≡ empty → ⊥
-unfolding map_of ascending
+unfolding map_of ascending_items
 map_filled {X} key content n x m y e none =
-    let a = bind_ok (read (ascending key content (suc n) None) x) (λ w. Ok (add_all (empty {R = octets_cmp}) w.0, w.1)) (m, y) e in
-    let b = bind_ok (read (item key content None) x) (λ w. read (next (ascending key content n (Some w.0.0)) (λ es. done (w.0 ∷ es))) w.1) a.0 a.1 in
-    let c = bind_ok (read (ascending key content n (Some b.0.0.0)) b.0.1) (λ w. Ok (b.0.0 ∷ w.0, w.1)) a.0 b.2 in
+    let a = bind_ok (read (ascending_items key content (suc n) None) x) (λ w. Ok (add_all (empty {R = octets_cmp}) w.0, w.1)) (m, y) e in
+    let b = bind_ok (read (item key content None) x) (λ w. read (next (ascending_items key content n (Some w.0.0)) (λ es. done (w.0 ∷ es))) w.1) a.0 a.1 in
+    let c = bind_ok (read (ascending_items key content n (Some b.0.0.0)) b.0.1) (λ w. Ok (b.0.0 ∷ w.0, w.1)) a.0 b.2 in
     let all : b.0.0 ∷ c.0.0 ≡ a.0.0 = ap (λ (p : List (List ℕ × X) × List ℕ). p.0) (ok_is (b.0.0 ∷ c.0.0, c.0.1) a.0 c.2) in
     let is : add_all empty a.0.0 ≡ m = ap (λ (p : FinMap octets_cmp X × List ℕ). p.0) (ok_is (add_all (empty {R = octets_cmp}) a.0.0, a.0.1) (m, y) a.2) in
     stays (insert empty b.0.0.0 b.0.0.1) c.0.0 b.0.0.0 (put_there b.0.0.0 b.0.0.1)
@@ -121,7 +121,7 @@ stamp_above above x s y h = by (h.0 == 0) s h.1 h.3
     by false s x h = subst (λ s. IfSome s (λ s. is_above above s ≡ true)) h.3.0 (lawful (is_above above h.0) h.2.4)
 
 -- so the clear keeps each mark
-pub kept_all : (above cleared : Option Stamp) (o : Option ValueMark) → IfSome o (λ m. mark_rule above cleared m.stamp ≡ None) → kept cleared o ≡ o
+pub kept_all : (above cleared : Option Stamp) (o : Option ValueMark) → IfSome o (λ m. mark_rule above cleared m.stamp ≡ None) → mark_after_clear cleared o ≡ o
 kept_all above cleared None h = refl
 kept_all above None (Some m) h = refl
 kept_all above (Some c) (Some m) h = rw ((lawful_mark above (Some c) m.stamp h).0) refl

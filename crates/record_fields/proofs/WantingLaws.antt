@@ -4,7 +4,7 @@ use Rattle.cds_stamps.specs.declared.alloc_or.AllocOr.{AllocOr}
 use Rattle.cds_stamps.specs.declared.alloc_or.AllocOr.TheVariants.{Fault, OutOfMemory}
 use Rattle.record_fields.specs.declared.fault.Broken.{Broken}
 use Rattle.record_fields.specs.Decoding.{error_of}
-use Rattle.record_fields.specs.Wanting.{IfWant}
+use Rattle.record_fields.specs.MemoryFaults.{IfWant}
 
 -- what holds where a part wants for memory gives what holds of the whole
 pub part_wants : {E : Type 0} (P Q : Type 0) (e : AllocOr E) → (P → Q) → IfWant {T = ℕ} P (Err e) → IfWant {T = ℕ} Q (Err e)

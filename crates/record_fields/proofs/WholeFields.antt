@@ -26,9 +26,9 @@ use Rattle.record_fields.specs.Decoding.{IsWhole}
 use Rattle.record_fields.specs.Fields.{free, outside, name_rule, node_of, node_octets, stamp_of, octets_order, octet, number, node, stamp, stamp_if, above_rule}
 use Rattle.record_fields.specs.Fields.{optional_stamp, octets_of, simple_name, attr_name, value}
 use Rattle.record_fields.specs.Added.{add_all}
-use Rattle.record_fields.specs.Records.{item, ascending, map_of}
-use Rattle.record_fields.specs.Octets.{stamp_octets, optional_stamp_octets, name_octets, value_octets, items_octets, each_octets}
-use Rattle.record_fields.specs.Ranges.{FitsStamp, ItemsFit}
+use Rattle.record_fields.specs.ListLayouts.{item, ascending_items, map_of}
+use Rattle.record_fields.specs.FieldOctets.{stamp_octets, optional_stamp_octets, name_octets, value_octets, items_octets, each_octets}
+use Rattle.record_fields.specs.FieldRanges.{FitsStamp, ItemsFit}
 use Rattle.record_fields.proofs.LayoutLaws.{front_stands}
 use Rattle.record_fields.proofs.Ascending.{first_of, second_of, added_entries, each_entry}
 
@@ -237,11 +237,11 @@ module _ {K X : Type 0} {o : KeyOrder K} {V : X → Type 0} {key : Option K → 
       (whole_last {f = λ x. (e.0, x)} (parts.contents e.1 valid fits.1) refl)
 
   items_whole : (before : Option K) (es : List (K × X)) → IsAscending before es → ItemsFit P Q es → AllByRecursion (λ e. V e.1) es
-      → Whole (ascending key content (length es) before) es (items_octets named said es)
-  unfolding ascending items_octets
+      → Whole (ascending_items key content (length es) before) es (items_octets named said es)
+  unfolding ascending_items items_octets
   items_whole before [] above fits valid = whole_done []
   items_whole before (e ∷ es) above fits valid =
-      whole_next {second = λ e. next (ascending key content (length es) (Some e.0)) (λ es. done (e ∷ es))}
+      whole_next {second = λ e. next (ascending_items key content (length es) (Some e.0)) (λ es. done (e ∷ es))}
       (item_whole before e above.0 fits.0 valid.0)
       (whole_last {f = λ es. e ∷ es} (items_whole (Some e.0) es above.1 fits.1 valid.1) refl)
 
@@ -251,5 +251,5 @@ module _ {K X : Type 0} {o : KeyOrder K} {V : X → Type 0} {key : Option K → 
   map_whole m fits valid =
       let each = each_entry o.total o.exact V (entries m) (entries_sorted m) (λ q. subst (λ x. IfSome x V) (get-entries m q) (valid q)) in
       let all = items_whole None (entries m) (ascends (entries m) (entries_sorted m)) fits each in
-      subst (λ n. Whole (next (ascending key content n None) (λ es. done (add_all (empty {R = o.cmp}) es))) m (each_octets named said m)) (sym (len-entries m))
+      subst (λ n. Whole (next (ascending_items key content n None) (λ es. done (add_all (empty {R = o.cmp}) es))) m (each_octets named said m)) (sym (len-entries m))
       (whole_last {f = add_all (empty {R = o.cmp})} all (added_entries o.total m))

@@ -5,14 +5,14 @@ use Rattle.cds_stamps.specs.declared.stamp.Stamp.{Stamp}
 use Rattle.cds_stamps.specs.Stamps.{is_earlier}
 use Rattle.attr_sets.specs.declared.mark.ValueMark.{ValueMark}
 use Rattle.attr_sets.specs.CellPurges.{is_above}
-use Rattle.attr_sets.specs.Marks.{kept}
+use Rattle.attr_sets.specs.Marks.{mark_after_clear}
 use Rattle.attr_sets.specs.Values.{value_fault}
 use Rattle.record_fields.specs.declared.fault.Rule.TheVariants.{BadFlag, OutOfOrder}
 use Rattle.record_fields.specs.Layouts.{done, next}
 use Rattle.record_fields.specs.Fields.{outside, above_rule, mark_rule, stamp, value}
-use Rattle.record_fields.specs.Records.{mark}
-use Rattle.record_fields.specs.Octets.{value_octets, mark_octets}
-use Rattle.record_fields.specs.Ranges.{FitsStamp}
+use Rattle.record_fields.specs.ListLayouts.{mark}
+use Rattle.record_fields.specs.FieldOctets.{value_octets, mark_octets}
+use Rattle.record_fields.specs.FieldRanges.{FitsStamp}
 use Rattle.record_fields.proofs.WholeFields.{Whole, Keyed, octets_keys, whole_next, whole_last, octet_whole, stamp_whole, value_whole, above_lawful}
 
 flag_back : (b : Bool) → (outside BadFlag 0 1 (if b then 1 else 0) ≡ None) × (((if b then 1 else 0) == 1) ≡ b)
@@ -31,7 +31,7 @@ mark_whole above cleared m lawful fits =
     (λ i. record { present = back.1 i; stamp = m.stamp }))
 
 -- a mark that is kept and above breaks no rule
-pub mark_in_order : (above cleared : Option Stamp) (o : Option ValueMark) → kept cleared o ≡ o → IfSome o (λ m. is_above above m.stamp ≡ true)
+pub mark_in_order : (above cleared : Option Stamp) (o : Option ValueMark) → mark_after_clear cleared o ≡ o → IfSome o (λ m. is_above above m.stamp ≡ true)
     → IfSome o (λ m. mark_rule above cleared m.stamp ≡ None)
 mark_in_order above cleared None e is = tt
 mark_in_order above None (Some m) e is = above_lawful above m.stamp is

@@ -2,8 +2,8 @@
 use Rattle.std.proofs.Common.{◌≡◌, ℕ, ◌/◌, ◌%◌, arith, List, [], ◌∷◌, ◌++◌, refl, sym, ap, subst, ◌∙◌, append_assoc, append-nil}
 use Rattle.std.specs.Int.{bytes_high_first}
 use Rattle.record_fields.specs.Fields.{node_octets}
-use Rattle.record_fields.specs.Octets.{items_octets}
-use Rattle.record_fields.specs.Ranges.{ItemsFit}
+use Rattle.record_fields.specs.FieldOctets.{items_octets}
+use Rattle.record_fields.specs.FieldRanges.{ItemsFit}
 
 -- the 6 octets of a number are those of its high 16 bits and of its low 32
 pub six_octets : (n : ℕ) → bytes_high_first 6 n ≡ node_octets n

@@ -10,7 +10,7 @@ use Rattle.record_fields.specs.declared.fault.Broken.{Broken}
 use Rattle.record_fields.specs.declared.fault.RecordFault.{RecordFault}
 use Rattle.record_fields.specs.declared.fault.RecordFault.TheVariants.{Short, BadTag, BadLength, BadName, OutOfOrder, BadFlag, NotAbove, BadHeld}
 use Rattle.record_fields.specs.Layouts.{Layout, Stands, Breaks}
-use Rattle.record_fields.specs.Reading.{read}
+use Rattle.record_fields.specs.LayoutReading.{read}
 
 -- the fault of a rule at a place (own)
 abbrev pub fault_at : Rule → ℕ → RecordFault
@@ -65,8 +65,8 @@ pub record Decodes {A : Type 0} (l : Layout A) (octets : List ℕ) (result : Res
   pub each_fault : (fault : RecordFault) → IsFault l octets fault → Answers result (Err fault)
 
 -- the same as a function: what reading by the layout gives, with the number of its octets, or the fault by its place (own)
-abbrev pub decoding : {A : Type 0} → Layout A → List ℕ → Result (A × ℕ) RecordFault
-decoding l octets =
+abbrev pub decode_by : {A : Type 0} → Layout A → List ℕ → Result (A × ℕ) RecordFault
+decode_by l octets =
     result_map_both (λ r. (r.0, length octets - length r.1)) (λ b. fault_at b.rule (length octets - b.left + 1)) (read l octets)
 
 -- this as a call answers it that wants for no memory (own)

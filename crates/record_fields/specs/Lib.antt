@@ -1,10 +1,10 @@
 pub mod Layouts
-pub mod Reading
-pub mod Readers
+pub mod LayoutReading
+pub mod FieldReaders
 pub mod Fields
 pub mod Added
-pub mod Records
+pub mod ListLayouts
 pub mod Decoding
-pub mod Wanting
-pub mod Octets
-pub mod Ranges
+pub mod MemoryFaults
+pub mod FieldOctets
+pub mod FieldRanges

@@ -2,9 +2,9 @@
 ghost use Rattle.std.specs.Prelude.{◌≡◌, Some, None, if◌then◌else◌};
 ghost use Rattle.std.specs.Int.{w64};
 ghost use Rattle.std.specs.Option.{option_map};
-ghost use Rattle.record_fields.specs.Readers.{Reads, ReadsSurely, Adds};
+ghost use Rattle.record_fields.specs.FieldReaders.{Reads, ReadsSurely, Adds};
 ghost use Rattle.record_fields.specs.Fields.{number, value};
-ghost use Rattle.record_fields.specs.Records.{item, map_of, mark, empty_cell, cell};
+ghost use Rattle.record_fields.specs.ListLayouts.{item, map_of, mark, empty_cell, cell};
 ghost use Rattle.record_fields.specs.declared.fault.Rule.TheVariants.{BadLength};
 
 use crate::fault::{Broken, ReadError, Rule};

@@ -7,7 +7,7 @@ ghost use Rattle.std.specs.Option.{option_map};
 ghost use Rattle.cds_stamps.specs.Names.{is_name_octet, is_attr_octet, simple_name_fault, attr_fault};
 ghost use Rattle.attr_sets.specs.CellPurges.{is_above};
 ghost use Rattle.attr_sets.specs.Values.{value_fault};
-ghost use Rattle.record_fields.specs.Readers.{ReadsSurely};
+ghost use Rattle.record_fields.specs.FieldReaders.{ReadsSurely};
 ghost use Rattle.record_fields.specs.Fields.{node_of, free, outside, is_cleared, above_rule, mark_rule, octets_order, name_rule, octet, number, node, stamp, optional_stamp};
 ghost use Rattle.record_fields.specs.Fields.{octets_of, simple_name, attr_name, value};
 ghost use Rattle.record_fields.specs.declared.fault.Rule.TheVariants.{Short, OutOfOrder};

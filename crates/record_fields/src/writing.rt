@@ -7,8 +7,8 @@ ghost use Rattle.cds_stamps.specs.Names.{simple_name_fault, attr_fault};
 ghost use Rattle.attr_sets.specs.Values.{value_fault};
 ghost use Rattle.attr_sets.specs.declared.mark.ValueMark.{ValueMark};
 ghost use Rattle.record_fields.specs.Fields.{node_octets};
-ghost use Rattle.record_fields.specs.Octets.{stamp_octets, optional_stamp_octets, name_octets, value_octets, each_octets, mark_octets, cell_octets};
-ghost use Rattle.record_fields.specs.Ranges.{FitsStamp, ItemsFit, FitsCell};
+ghost use Rattle.record_fields.specs.FieldOctets.{stamp_octets, optional_stamp_octets, name_octets, value_octets, each_octets, mark_octets, cell_octets};
+ghost use Rattle.record_fields.specs.FieldRanges.{FitsStamp, ItemsFit, FitsCell};
 
 use attr_sets::{AttrCell, Value, ValueMap, ValueMark};
 use byteorder::{BigEndian, ByteOrder};

@@ -7,7 +7,7 @@ use Rattle.resolver.specs.declared.seen.Seen.TheVariants as seen
 use Rattle.resolver.specs.declared.walk.End.TheVariants.{Found, Missing, Refused}
 use Rattle.resolver.specs.Readers.{Reader}
 use Rattle.resolver.specs.Walks.{Ends, stops, goes}
-use Rattle.resolver.specs.ListedReaders.{listed}
+use Rattle.resolver.specs.ListedReaders.{list_reader}
 
 -- names
 abbrev sub : List ℕ
@@ -27,7 +27,7 @@ gone = codes "gone"
 
 -- the root directory has a link to itself, a child and an object; the child has a link to the root
 abbrev cell : Reader
-cell = listed true (
+cell = list_reader true (
     (1, loop, seen.Link (record { 0 = 1 }) (loop ∷ []))
     ∷ (1, sub, seen.Child (record { 0 = 1 }) (record { dir = record { 0 = 2 }; houses = record { master = 1; others = [] } }))
     ∷ (1, obj, seen.Object (record { 0 = 1 }))
@@ -61,8 +61,8 @@ an_object_within : Ends cell true (obj ∷ gone ∷ []) (Refused (NotDirectory 1
 an_object_within = stops refl
 
 -- the root has no entry, with or without a root directory
-the_root : Ends (listed false []) true [] (Refused RootName)
+the_root : Ends (list_reader false []) true [] (Refused RootName)
 the_root = stops refl
 
-no_root_directory : Ends (listed false []) true (obj ∷ []) (Refused (Unreachable (record { 0 = 1 })))
+no_root_directory : Ends (list_reader false []) true (obj ∷ []) (Refused (Unreachable (record { 0 = 1 })))
 no_root_directory = stops refl

@@ -5,7 +5,7 @@ use Rattle.std.specs.Prelude.{Result, IfOk, IfSome, nat_lt}
 use Rattle.std.specs.declared.alloc.AllocError.{AllocError}
 use Rattle.std.proofs.lemmas.List.{at_drop_more, at_drop_all, same_from_push}
 use Rattle.std.proofs.lemmas.Result.{IfOk-weaker}
-use Rattle.cell_names.specs.FullNames.{spelling, longest_name, is_name, IsComponentList}
+use Rattle.cell_names.specs.FullNames.{full_name_octets, longest_name, is_name, IsComponentList}
 use Rattle.cell_names.specs.ChildPointers.{Pointer}
 use Rattle.cell_names.proofs.FullNameLaws.{is_name-Decides}
 use Rattle.resolver.specs.declared.refusal.Refusal.{Refusal}
@@ -16,7 +16,7 @@ use Rattle.resolver.specs.Readers.{Reader, Sight, Unreachable, Absent, Object, L
 use Rattle.resolver.specs.Walks.{Walker, link_refusal, follow_unless, follow, at_last, at_inner, in_directory, step_from, step, EndsFrom, goes}
 use Rattle.resolver.specs.PassWords.{EndsBy}
 use Rattle.resolver.specs.WalkEndProofs.{behind, from_step_at}
-use Rattle.resolver.specs.WalkEnds.{walked}
+use Rattle.resolver.specs.WalkEnds.{walk_end}
 use Rattle.resolver.specs.Nears.{IsDirect, child_seen, children, object_there}
 use Rattle.resolver.proofs.EndLaws.{walked_at}
 
@@ -103,7 +103,7 @@ module _ (reader : Reader) (name : List (List ℕ)) (f : Found) (direct : IsDire
       (ap ends.Found (sym direct.found)))
 
   -- so that is what the walk finds
-  direct_found : walked reader true name ≡ Ok f
+  direct_found : walk_end reader true name ≡ Ok f
   direct_found = walked_at (ends.Found f) (comes_there (name ∷ []) 0) refl
 
 -- a link to such a name leads there too
@@ -131,7 +131,7 @@ module _ (reader : Reader) (front : List (List ℕ)) (c : List ℕ) (p : Pointer
   no_refusal : link_refusal 0 ((front ++ c ∷ []) ∷ []) target ≡ None
   no_refusal =
       let short = lawful.short in
-      let fits : nat_lt longest_name (length (spelling target)) ≡ false = grind arith in
+      let fits : nat_lt longest_name (length (full_name_octets target)) ≡ false = grind arith in
       rw (fits, apart) refl
 
   follows : LastLeads reader c p (ends.Found f) ((front ++ c ∷ []) ∷ []) 0
@@ -142,14 +142,14 @@ module _ (reader : Reader) (front : List (List ℕ)) (c : List ℕ) (p : Pointer
       (subst (λ (o : Option Refusal). EndsBy reader true (follow_unless o reader 0 ((front ++ c ∷ []) ∷ []) target) (ends.Found f)) (sym no_refusal)
       (comes_there reader target f direct ((front ++ c ∷ []) ∷ target ∷ []) 1))))
 
-  linked_found : walked reader true (front ++ c ∷ []) ≡ Ok f
+  linked_found : walk_end reader true (front ++ c ∷ []) ≡ Ok f
   linked_found =
       walked_at (ends.Found f)
       (leads_there reader c p (ends.Found f) front (front ++ c ∷ []) reader.root 0 ((front ++ c ∷ []) ∷ []) 0 refl entered follows) refl
 
 -- what is seen as an object in a directory that was entered so is what its name leads to
 pub object_leads : (reader : Reader) (front : List (List ℕ)) (c c' : List ℕ) (p : Pointer) (house : ℕ) → children reader front reader.root ≡ Some p → c' ≡ c
-    → Object house ≡ reader.sees p c' → walked reader true (front ++ c ∷ []) ≡ Ok (object_found p.dir house c')
+    → Object house ≡ reader.sees p c' → walk_end reader true (front ++ c ∷ []) ≡ Ok (object_found p.dir house c')
 object_leads reader front c c' p house entered same sees =
     direct_found reader (front ++ c ∷ []) (object_found p.dir house c') (record {
       front = front;
@@ -166,11 +166,11 @@ object_leads reader front c c' p house entered same sees =
 pub link_leads : (reader : Reader) (front : List (List ℕ)) (c c' : List ℕ) (p : Pointer) (house : ℕ) (target lent : List (List ℕ))
     (answer : Result (Option Found) AllocError) → children reader front reader.root ≡ Some p → c' ≡ c → Link house target ≡ reader.sees p c' → lent ≡ target
     → IsComponentList lent → IfOk answer (λ found. IfSome found (IsDirect reader lent))
-    → IfOk answer (λ found. IfSome found (λ f. walked reader true (front ++ c ∷ []) ≡ Ok f))
+    → IfOk answer (λ found. IfSome found (λ f. walk_end reader true (front ++ c ∷ []) ≡ Ok f))
 link_leads reader front c c' p house target lent answer entered same sees is lawful there =
-    IfOk-weaker answer (λ found. IfSome found (IsDirect reader lent)) (λ found. IfSome found (λ f. walked reader true (front ++ c ∷ []) ≡ Ok f)) found_so there
+    IfOk-weaker answer (λ found. IfSome found (IsDirect reader lent)) (λ found. IfSome found (λ f. walk_end reader true (front ++ c ∷ []) ≡ Ok f)) found_so there
   where
-    found_so : (found : Option Found) → IfSome found (IsDirect reader lent) → IfSome found (λ f. walked reader true (front ++ c ∷ []) ≡ Ok f)
+    found_so : (found : Option Found) → IfSome found (IsDirect reader lent) → IfSome found (λ f. walk_end reader true (front ++ c ∷ []) ≡ Ok f)
     found_so None h = tt
     found_so (Some f) h =
         linked_found reader front c p house target f entered (ap (reader.sees p) (sym same) ∙ sym sees) (subst IsComponentList is lawful)
@@ -198,6 +198,6 @@ direct_answers reader name front c p answer parted entered there =
 
 -- what was found of a name, by its parts
 pub same_name : (reader : Reader) (name : List (List ℕ)) (parts : List (List ℕ)) (answer : Result (Option Found) AllocError) → name ≡ parts
-    → IfOk answer (λ found. IfSome found (λ f. walked reader true parts ≡ Ok f)) → IfOk answer (λ found. IfSome found (λ f. walked reader true name ≡ Ok f))
+    → IfOk answer (λ found. IfSome found (λ f. walk_end reader true parts ≡ Ok f)) → IfOk answer (λ found. IfSome found (λ f. walk_end reader true name ≡ Ok f))
 same_name reader name parts answer is there =
-    subst (λ (n : List (List ℕ)). IfOk answer (λ found. IfSome found (λ f. walked reader true n ≡ Ok f))) (sym is) there
+    subst (λ (n : List (List ℕ)). IfOk answer (λ found. IfSome found (λ f. walk_end reader true n ≡ Ok f))) (sym is) there

@@ -21,7 +21,7 @@ use Rattle.resolver.specs.Readers.{Reader, Sight}
 use Rattle.resolver.specs.Walks.{Walker, Step, Goes, Stops, most_links, link_refusal, follow_unless, follow, in_directory, step_from, step, EndsFrom, stops, Ends, SomeEnd}
 use Rattle.resolver.specs.ChangingReaders.{first_look, look_of}
 use Rattle.resolver.specs.PassWords.{IsNoRefusal, Saw, come_to, step_of, present_name}
-use Rattle.resolver.specs.WalkEndProofs.{allowed, some_end}
+use Rattle.resolver.specs.WalkEndProofs.{link_is_allowed, some_end}
 
 answers : {T E : Type 0} (result : Result T (AllocOr E)) → IsErrAnd result (λ e. e ≡ OutOfMemory) → (expected : Result T E) → Answers result expected
 answers (Ok value) failed expected = elim failed [ ]
@@ -134,7 +134,7 @@ begins_again reader root first later pushed name next is_root is_pushed h =
 -- one more link is one of those that may be followed
 pub one_link_less : (links : ℕ) (came_up : List (List (List ℕ))) (name next : List (List ℕ)) → ok_unless (link_refusal links came_up name) name ≡ Ok next
     → links < most_links
-one_link_less links came_up name next h = allowed links came_up name (ok_unless-Ok (link_refusal links came_up name) name next h).0
+one_link_less links came_up name next h = link_is_allowed links came_up name (ok_unless-Ok (link_refusal links came_up name) name next h).0
 
 -- ---- the beginning
 

@@ -7,7 +7,7 @@ use Rattle.resolver.specs.declared.walk.End.{End}
 use Rattle.resolver.specs.Readers.{Sight, Unreachable, Absent, Object, Link, Child}
 use Rattle.resolver.specs.Walks.{Walker, Step, Goes, Stops, start, most_links, link_refusal, follow_unless, follow, at_last, at_inner, step_from, step}
 use Rattle.resolver.specs.ChangingReaders.{ChangingReader, Ending, EndsChanging, stops, goes, ending_at, state_after}
-use Rattle.resolver.specs.WalkEndProofs.{behind, allowed}
+use Rattle.resolver.specs.WalkEndProofs.{behind, link_is_allowed}
 
 apart : (w : Walker) (e : End) → Goes w ≡ Stops e → ⊥
 apart w e h = cc
@@ -51,7 +51,7 @@ module _ {S : Type 0} (reader : ChangingReader S) (last : Bool) where
     where
       by_refusal : (o : Option Refusal) → link_refusal w.links w.came_up name ≡ o → SomeBy s w (follow_unless o (reader.tells s) w.links w.came_up name)
       by_refusal (Some why) h = (_, refl)
-      by_refusal None h = on (state_after reader s w) _ (allowed w.links w.came_up name h) refl
+      by_refusal None h = on (state_after reader s w) _ (link_is_allowed w.links w.came_up name h) refl
 
   last_ends : (b : Bool) (s : S) (w : Walker) → GoesOn w → (dir : ℕ) (c : List ℕ) (seen : Sight) → SomeBy s w (at_last (reader.tells s) b w dir c seen)
   last_ends b s w on dir c Unreachable = (_, refl)

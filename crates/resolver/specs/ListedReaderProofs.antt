@@ -10,7 +10,7 @@ use Rattle.resolver.specs.declared.seen.Seen.{Seen}
 use Rattle.resolver.specs.declared.seen.Seen.TheVariants as seen
 use Rattle.resolver.specs.declared.seen.Found.{Found}
 use Rattle.resolver.specs.Readers.{Object, sight_of, object_found, ShowsOnly}
-use Rattle.resolver.specs.ListedReaders.{sight_in, listed, objects_in}
+use Rattle.resolver.specs.ListedReaders.{sight_in, list_reader, objects_in}
 
 -- what is among the later objects is among all
 later : (e : ℕ × List ℕ × Seen) (es : List (ℕ × List ℕ × Seen)) (f : Found) → Contains (objects_in es) f → Contains (objects_in (e ∷ es)) f
@@ -54,5 +54,5 @@ among (e ∷ es) dir house name h = by_test (e.0 == dir && pointwise nat_eq e.1 
     by_test false off rest k = later e es (object_found dir house name) (rest k)
 
 -- the reader of these entries shows only the objects among them
-pub listed_shows_only : (rooted : Bool) (es : List (ℕ × List ℕ × Seen)) → ShowsOnly (listed rooted es) (objects_in es)
+pub listed_shows_only : (rooted : Bool) (es : List (ℕ × List ℕ × Seen)) → ShowsOnly (list_reader rooted es) (objects_in es)
 listed_shows_only rooted es at house name h = among es at.dir house name h

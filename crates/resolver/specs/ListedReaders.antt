@@ -18,8 +18,8 @@ sight_in [] dir name = Absent 1
 sight_in (e ∷ es) dir name = if e.0 == dir && pointwise nat_eq e.1 name then sight_of e.2 else sight_in es dir name
 
 -- the reader of these entries, with or without a root directory
-abbrev pub listed : (rooted : Bool) → List (ℕ × List ℕ × Seen) → Reader
-listed rooted entries = record { root = if rooted then Some (at_one 1) else None; sees = λ p name. sight_in entries p.dir name; values = λ _ _. [] }
+abbrev pub list_reader : (rooted : Bool) → List (ℕ × List ℕ × Seen) → Reader
+list_reader rooted entries = record { root = if rooted then Some (at_one 1) else None; sees = λ p name. sight_in entries p.dir name; values = λ _ _. [] }
 
 -- the object that an entry is, if it is one
 abbrev pub object_seen : (dir : ℕ) → List ℕ → Seen → Option Found

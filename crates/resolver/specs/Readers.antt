@@ -5,7 +5,7 @@ use Rattle.std.specs.List.{Contains}
 use Rattle.std.specs.Option.{option_map_or}
 use Rattle.cds_stamps.specs.Octets.{octets_cmp}
 use Rattle.attr_sets.specs.declared.cell.AttrCell.{AttrCell}
-use Rattle.attr_sets.specs.Cells.{cell_values}
+use Rattle.attr_sets.specs.AttributeCells.{cell_values}
 use Rattle.cell_names.specs.ChildPointers.{Pointer, pointer_in}
 use Rattle.directory.specs.declared.entry.Kind.TheVariants as kind
 use Rattle.resolver.specs.declared.seen.Seen.{Seen}

@@ -61,8 +61,8 @@ abbrev GoesOn : Reader → Bool → Walker → Type 0
 GoesOn reader last w = (next : Walker) → w.links < most_links → next.links ≡ w.links + 1 → SomeEndFrom reader last next
 
 -- a link that is followed was not the last that may be
-pub allowed : (links : ℕ) (came_up : List (List (List ℕ))) (name : List (List ℕ)) → link_refusal links came_up name ≡ None → links < most_links
-allowed links came_up name h = grind (arith, h)
+pub link_is_allowed : (links : ℕ) (came_up : List (List (List ℕ))) (name : List (List ℕ)) → link_refusal links came_up name ≡ None → links < most_links
+link_is_allowed links came_up name h = grind (arith, h)
 
 follow_ends : {reader : Reader} {last : Bool} (w : Walker) → GoesOn reader last w → (name : List (List ℕ))
     → SomeEndBy reader last (follow reader w.links w.came_up name)
@@ -70,7 +70,7 @@ follow_ends {reader} {last} w on name = by_refusal (link_refusal w.links w.came_
   where
     by_refusal : (o : Option Refusal) → link_refusal w.links w.came_up name ≡ o → SomeEndBy reader last (follow_unless o reader w.links w.came_up name)
     by_refusal (Some why) h = (_, refl)
-    by_refusal None h = on _ (allowed w.links w.came_up name h) refl
+    by_refusal None h = on _ (link_is_allowed w.links w.came_up name h) refl
 
 last_ends : {reader : Reader} (last : Bool) (w : Walker) → GoesOn reader last w → (dir : ℕ) (c : List ℕ) (seen : Sight)
     → SomeEndBy reader last (at_last reader last w dir c seen)

@@ -13,9 +13,9 @@ unfoldable pub end_of : Reader → (last : Bool) → List (List ℕ) → End
 end_of reader last name = (some_end reader last name).0
 
 -- what the walk of a full name finds, or why it finds nothing (own)
-abbrev pub walked : Reader → (follow_last : Bool) → List (List ℕ) → Result Found Refusal
-walked reader follow_last name = found_of (end_of reader follow_last name)
+abbrev pub walk_end : Reader → (follow_last : Bool) → List (List ℕ) → Result Found Refusal
+walk_end reader follow_last name = found_of (end_of reader follow_last name)
 
 -- the place to which the walk of a full name leads, links followed, or why it leads to none (own)
-abbrev pub placed : Reader → List (List ℕ) → Result Place Refusal
-placed reader name = place_of (end_of reader true name)
+abbrev pub place_of_walk : Reader → List (List ℕ) → Result Place Refusal
+place_of_walk reader name = place_of (end_of reader true name)

@@ -2,7 +2,7 @@
 use Rattle.std.specs.Prelude.{◌≡◌, ℕ, ◌+◌, Bool, nat_lt, not, List, [], ◌∷◌, ◌++◌, length, drop, Option, Some, None, Result, Ok, Err, if◌then◌else◌}
 use Rattle.std.specs.List.{list_any}
 use Rattle.cds_stamps.specs.Numbers.{root_dir}
-use Rattle.cell_names.specs.FullNames.{spelling, longest_name, is_name}
+use Rattle.cell_names.specs.FullNames.{full_name_octets, longest_name, is_name}
 use Rattle.cell_names.specs.ChildPointers.{Pointer}
 use Rattle.directory.specs.declared.entry.Kind.{Kind}
 use Rattle.directory.specs.declared.entry.Kind.TheVariants as kind
@@ -42,7 +42,7 @@ start reader name = record { name = name; at = reader.root; done = 0; came_up = 
 abbrev pub link_refusal : (links : ℕ) → (came_up : List (List (List ℕ))) → List (List ℕ) → Option Refusal
 link_refusal links came_up name =
     if not (nat_lt links most_links) then Some TooManyLinks
-    else (if nat_lt longest_name (length (spelling name)) then Some NameTooLong
+    else (if nat_lt longest_name (length (full_name_octets name)) then Some NameTooLong
     else (if list_any (λ earlier. is_name earlier name) came_up then Some LinkCycle else None))
 
 -- a link is followed: the walk of this name begins again at the root directory, unless that is refused (own, after C705, soft links)
@@ -55,21 +55,21 @@ abbrev pub follow : Reader → (links : ℕ) → (came_up : List (List (List ℕ
 follow reader links came_up name = follow_unless (link_refusal links came_up name) reader links came_up name
 
 -- an entry of this kind, and the place of one that does not show (own)
-abbrev pub found : (dir house : ℕ) → List ℕ → Kind → Step
-found dir house name k = Stops (ends.Found (record { dir = record { 0 = dir }; house = record { 0 = house }; name = name; kind = k }))
+abbrev pub find_step : (dir house : ℕ) → List ℕ → Kind → Step
+find_step dir house name k = Stops (ends.Found (record { dir = record { 0 = dir }; house = record { 0 = house }; name = name; kind = k }))
 
 -- the walk stops at the place of an entry that does not show, with so many components done (own)
-abbrev pub missing : (dir house : ℕ) → List ℕ → (done : ℕ) → Step
-missing dir house name done = Stops (ends.Missing (record { dir = record { 0 = dir }; house = record { 0 = house }; name = name; kind = None }) done)
+abbrev pub missing_step : (dir house : ℕ) → List ℕ → (done : ℕ) → Step
+missing_step dir house name done = Stops (ends.Missing (record { dir = record { 0 = dir }; house = record { 0 = house }; name = name; kind = None }) done)
 
 -- the last component of a name, by what is seen of it. `last` says whether a link that is the last component is followed:
 -- its target is the new name (own, after C705, soft links and child pointers)
 abbrev pub at_last : Reader → (last : Bool) → Walker → (dir : ℕ) → List ℕ → Sight → Step
 at_last reader last w dir c Unreachable = Stops (ends.Refused (refusal.Unreachable (record { 0 = dir })))
-at_last reader last w dir c (Absent house) = missing dir house c w.done
-at_last reader last w dir c (Object house) = found dir house c kind.Object
-at_last reader last w dir c (Child house child) = found dir house c kind.Child
-at_last reader last w dir c (Link house target) = if last then follow reader w.links w.came_up target else found dir house c kind.Link
+at_last reader last w dir c (Absent house) = missing_step dir house c w.done
+at_last reader last w dir c (Object house) = find_step dir house c kind.Object
+at_last reader last w dir c (Child house child) = find_step dir house c kind.Child
+at_last reader last w dir c (Link house target) = if last then follow reader w.links w.came_up target else find_step dir house c kind.Link
 
 -- a component with this rest of the name behind it, by what is seen of it: a child is entered, and a link is followed, its
 -- target and the rest being the new name (own, after C705, soft links and child pointers)

@@ -1,7 +1,7 @@
 //! Where one component of a full name leads, by what is seen of it.
 ghost use Rattle.std.specs.Prelude.{◌≡◌, ◌+◌, ◌<◌, ◌^◌, [], IfOk, OnErr};
 ghost use Rattle.resolver.specs.Readers.{Reader, sight_of};
-ghost use Rattle.resolver.specs.Walks.{Walker, Stops, at_last, at_inner, in_directory, found};
+ghost use Rattle.resolver.specs.Walks.{Walker, Stops, at_last, at_inner, in_directory, find_step};
 ghost use Rattle.resolver.specs.PassWords.{IsNoRefusal, step_of};
 
 use crate::refusal::Refusal;
@@ -101,7 +101,7 @@ impl Component<'_> {
     // The entry of this kind.
     fn found(&self, alloc: Global, house: HouseNo, kind: Kind) -> Result<Move, AllocError>
         ensures { IfOk result (λ next. (reader : Reader) (w : Walker)
-            → found self.now.dir.0 house.0 self.now.name.now kind ≡ step_of reader w [] next) }
+            → find_step self.now.dir.0 house.0 self.now.name.now kind ≡ step_of reader w [] next) }
     {
         Ok(Move::Stop(End::Found(Found {
             dir: self.dir,

@@ -6,7 +6,7 @@ ghost use Rattle.cds_stamps.specs.Outcomes.{Answers};
 ghost use Rattle.cell_names.specs.ChildPointers.{pointer_in};
 ghost use Rattle.resolver.specs.Readers.{sight_of};
 ghost use Rattle.resolver.specs.Nears.{Knows, IsEntered, IsDirect, child_seen, children, house_seen, object_there};
-ghost use Rattle.resolver.specs.WalkEnds.{walked};
+ghost use Rattle.resolver.specs.WalkEnds.{walk_end};
 
 use crate::reader::EntryReader;
 use crate::refusal::Refusal;
@@ -39,7 +39,7 @@ pub fn resolve_near<R: EntryReader>(
 ) -> Result<Found, AllocOr<Refusal>>
     requires { Knows (R.tells reader.now) near.old }
     ensures near { Knows (R.tells reader.now) near.new }
-    ensures walked { Answers result (walked (R.tells reader.now) true name.now) }
+    ensures walked { Answers result (walk_end (R.tells reader.now) true name.now) }
 {
     match object_near(alloc, reader, near, name)? {
         Some(found) => Ok(found),
@@ -56,7 +56,7 @@ fn object_near<R: EntryReader>(
 ) -> Result<Option<Found>, AllocError>
     requires { Knows (R.tells reader.now) near.old }
     ensures near { Knows (R.tells reader.now) near.new }
-    ensures walked { IfOk result (λ found. IfSome found (λ f. walked (R.tells reader.now) true name.now ≡ Ok f)) }
+    ensures walked { IfOk result (λ found. IfSome found (λ f. walk_end (R.tells reader.now) true name.now ≡ Ok f)) }
 {
     if let Some(dir) = near {
         if let Some(last) = name.last_behind(&dir.name) {
@@ -79,7 +79,7 @@ fn object_in<R: EntryReader>(
     name: &LentName<'_>,
 ) -> Result<Option<Found>, AllocError>
     requires { IsEntered (R.tells reader.now) dir.now }
-    ensures { IfOk result (λ found. IfSome found (λ f. walked (R.tells reader.now) true name.now ≡ Ok f)) }
+    ensures { IfOk result (λ found. IfSome found (λ f. walk_end (R.tells reader.now) true name.now ≡ Ok f)) }
 {
     match name.last_behind(&dir.name) {
         Some(last) => dir.object(alloc, reader, last),
@@ -98,7 +98,7 @@ impl Near {
     ) -> Result<Option<Found>, AllocError>
         requires simple { simple_name_fault octets.now ≡ None }
         requires entered { IsEntered (R.tells reader.now) self.now }
-        ensures { IfOk result (λ found. IfSome found (λ f. walked (R.tells reader.now) true (self.now.name ++ octets.now ∷ []) ≡ Ok f)) }
+        ensures { IfOk result (λ found. IfSome found (λ f. walk_end (R.tells reader.now) true (self.now.name ++ octets.now ∷ []) ≡ Ok f)) }
     {
         let name = SimpleName::known(alloc, octets)?;
         match reader.lookup(alloc, &self.at, &name)? {

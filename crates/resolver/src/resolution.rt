@@ -4,7 +4,7 @@ ghost use Rattle.cds_stamps.specs.Outcomes.{Answers};
 ghost use Rattle.cds_stamps.specs.declared.alloc_or.AllocOr.TheVariants.{Fault};
 ghost use Rattle.resolver.specs.declared.refusal.Refusal.TheVariants.{RootName};
 ghost use Rattle.resolver.specs.Walks.{SomeEnd, found_of, place_of};
-ghost use Rattle.resolver.specs.WalkEnds.{walked, placed};
+ghost use Rattle.resolver.specs.WalkEnds.{walk_end, place_of_walk};
 
 use crate::reader::EntryReader;
 use crate::refusal::Refusal;
@@ -23,7 +23,7 @@ pub fn resolve<R: EntryReader>(
     follow_last: bool,
 ) -> Result<Found, AllocOr<Refusal>>
     ensures ends { SomeEnd (R.tells reader.now) follow_last name.now (λ end. Answers result (found_of end)) }
-    ensures walked { Answers result (walked (R.tells reader.now) follow_last name.now) }
+    ensures walked { Answers result (walk_end (R.tells reader.now) follow_last name.now) }
     ensures root { name.now ≡ [] → result ≡ Err (Fault RootName) }
 {
     match walk_name(alloc, reader, name, follow_last)? {
@@ -41,7 +41,7 @@ pub fn place<R: EntryReader>(
     name: &FullName,
 ) -> Result<crate::seen::Place, AllocOr<Refusal>>
     ensures ends { SomeEnd (R.tells reader.now) true name.now (λ end. Answers result (place_of end)) }
-    ensures placed { Answers result (placed (R.tells reader.now) name.now) }
+    ensures placed { Answers result (place_of_walk (R.tells reader.now) name.now) }
     ensures root { name.now ≡ [] → result ≡ Err (Fault RootName) }
 {
     match walk_name(alloc, reader, name, true)? {

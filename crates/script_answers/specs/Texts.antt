@@ -11,7 +11,7 @@ use Rattle.cds_stamps.specs.declared.members.Member.{Member}
 use Rattle.cds_stamps.specs.declared.members.MemberKind.{MemberKind}
 use Rattle.cds_stamps.specs.declared.members.MemberKind.TheVariants as member
 use Rattle.cds_stamps.specs.Octets.{octets_cmp}
-use Rattle.cell_names.specs.FullNames.{spelling}
+use Rattle.cell_names.specs.FullNames.{full_name_octets}
 use Rattle.tower_codec.specs.declared.binding.StringBinding.{StringBinding}
 use Rattle.tower_codec.specs.Binding.{binding_text}
 use Rattle.attr_sets.specs.declared.mark.ValueMark.{ValueMark}
@@ -36,8 +36,8 @@ abbrev pub lines_text : ℕ → List (List ℕ) → List ℕ
 lines_text number = flat_map (line_text number)
 
 -- numbers, each behind a space (own)
-abbrev pub spaced : List ℕ → List ℕ
-spaced = flat_map (λ n. 32 ∷ decimal n)
+abbrev pub spaced_numbers : List ℕ → List ℕ
+spaced_numbers = flat_map (λ n. 32 ∷ decimal n)
 
 -- a node, in twelve hexadecimal digits (own)
 abbrev pub node_octets : ℕ → List ℕ
@@ -59,7 +59,7 @@ epochs_text a b = 32 ∷ (decimal a.0 ++ (32 ∷ decimal b.0))
 -- the serial numbers of the messages that a step posted, where it posted any (own)
 abbrev pub posted_text : List ℕ → List ℕ
 posted_text [] = []
-posted_text (n ∷ ns) = codes " posted" ++ spaced (n ∷ ns)
+posted_text (n ∷ ns) = codes " posted" ++ spaced_numbers (n ∷ ns)
 
 -- the stamp of an update, and the messages that it posted (own)
 abbrev pub stamped_text : Stamp → List ℕ → List ℕ
@@ -253,7 +253,7 @@ answer_line (answer.Stale s running) = codes "ok stale " ++ (stamp_text s ++ (32
 answer_line answer.NoReplica = codes "ok noreplica"
 answer_line (answer.Complete s ns) = codes "ok complete " ++ stamped_text s ns
 answer_line (answer.Values vs) = codes "ok " ++ values_text vs
-answer_line (answer.Target components) = codes "ok " ++ spelling components
+answer_line (answer.Target components) = codes "ok " ++ full_name_octets components
 answer_line (answer.Updates n ns) = codes "ok " ++ (decimal n ++ posted_text ns)
 answer_line (answer.Bindings bs) = []
 answer_line (answer.Dump epoch all_up_to members table) = []

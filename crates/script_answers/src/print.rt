@@ -1,6 +1,6 @@
 // Answers and faults to text.
 ghost use Rattle.std.specs.Prelude.{◌≡◌, ◌++◌, ◌∷◌, length, take, IfOk, OnOk, OnErr, codes, decimal};
-ghost use Rattle.cell_names.specs.FullNames.{spelling};
+ghost use Rattle.cell_names.specs.FullNames.{full_name_octets};
 ghost use Rattle.script_answers.specs.Texts.{line_text, posted_text, stamp_text, stamp_or, epochs_text, stamped_text, values_text, counted_octets};
 ghost use Rattle.script_answers.specs.Texts.{message_name, refusal_name, refusal_numbers, answer_line, answer_text, fault_text};
 ghost use Rattle.script_answers.specs.Texts.{parse_fault_text};
@@ -46,7 +46,7 @@ fn push_shown(line: &mut Vec<u8>, values: &[Value]) -> Result<(), AllocError>
 
 // The answer of the name that a link leads to.
 fn push_target(alloc: Global, line: &mut Vec<u8>, name: &FullName) -> Result<(), AllocError>
-    ensures ok { OnOk result (line.new.items ≡ line.old.items ++ (codes "ok " ++ spelling name.now)) }
+    ensures ok { OnOk result (line.new.items ≡ line.old.items ++ (codes "ok " ++ full_name_octets name.now)) }
     ensures err { OnErr result (take (length line.old.items) line.new.items ≡ line.old.items) }
 {
     line.extend_from_slice(b"ok ")?;

@@ -8,15 +8,15 @@ use Rattle.uuid.specs.Text.{by_index}
 use Rattle.tower_codec.specs.declared.rpc.Interface.{Interface}
 use Rattle.tower_codec.specs.declared.rpc.Protseq.TheVariants.{Udp}
 use Rattle.tower_codec.specs.declared.binding.StringBinding.{StringBinding}
-use Rattle.tower_codec.specs.BindingReading.{cut}
+use Rattle.tower_codec.specs.BindingReading.{cut_at_mark}
 use Rattle.cell_script.specs.declared.command.ScriptLine.TheVariants as line
 use Rattle.cell_script.specs.declared.command.Question.TheVariants as question
 use Rattle.cell_script.specs.declared.fault.ParseFault.{ParseFault}
 use Rattle.cell_script.specs.declared.fault.ParseFault.TheVariants.{UnknownCommand, WrongCount, BadWord}
 use Rattle.cell_script.specs.Words.{words_of, number_of}
 use Rattle.cell_script.specs.NameService.{interface_of, object_of, protocols_of}
-use Rattle.cell_script.specs.Forms.{counted, taken}
-use Rattle.cell_script.specs.Commands.{said_by, early_by}
+use Rattle.cell_script.specs.WordForms.{check_count, take_words}
+use Rattle.cell_script.specs.CommandRows.{said_by, early_by}
 use Rattle.ns_inquire.specs.declared.inquiry.Inquiry.TheVariants as asked
 use Rattle.ns_inquire.specs.declared.version.Version.TheVariants as version
 use Rattle.script_forms.specs.declared.inquire_line.InquireLine.{InquireLine}
@@ -35,53 +35,53 @@ interface_a = record { uuid = 160 ∷ 0 ∷ 0 ∷ 0 ∷ 0 ∷ 0 ∷ 0 ∷ 0 ∷ 
 -- ---- lines
 
 grouplist_is : says (codes "grouplist 1 high /.:/g") ≡ Ok (Some (inquire.Grouplist (record { 0 = 1 }) true (codes "g" ∷ [])))
-unfolding inquired_by counted taken number_of
+unfolding inquired_by check_count take_words number_of
 grouplist_is = refl
 
 entrylist_is : says (codes "entrylist 2 low /.:/s") ≡ Ok (Some (inquire.Entrylist (record { 0 = 2 }) false (codes "s" ∷ [])))
-unfolding inquired_by counted taken number_of
+unfolding inquired_by check_count take_words number_of
 entrylist_is = refl
 
 by_interface : says (codes "proflist 1 low /.:/p byif a0000000-0000-0000-0000-000000000001:1.2 upto -")
     ≡ Ok (Some (inquire.Proflist (record { 0 = 1 }) false (codes "p" ∷ []) (asked.ByInterface interface_a version.Upto)))
-unfolding inquired_by proflist_said counted taken number_of interface_of cut by_index
+unfolding inquired_by proflist_said check_count take_words number_of interface_of cut_at_mark by_index
 by_interface = refl
 
 by_both : says (codes "proflist 1 low /.:/p byboth a0000000-0000-0000-0000-000000000001:1.2 compatible /.:/m")
     ≡ Ok (Some (inquire.Proflist (record { 0 = 1 }) false (codes "p" ∷ []) (asked.ByBoth interface_a version.Compatible (codes "m" ∷ []))))
-unfolding inquired_by proflist_said counted taken number_of interface_of cut by_index
+unfolding inquired_by proflist_said check_count take_words number_of interface_of cut_at_mark by_index
 by_both = refl
 
 -- no interface is asked for by a member, and no member by an interface
 interface_at_fault : says (codes "proflist 1 low /.:/p bymbr a0000000-0000-0000-0000-000000000001:1.2 all /.:/m") ≡ Err (BadWord 6)
-unfolding inquired_by proflist_said counted taken number_of
+unfolding inquired_by proflist_said check_count take_words number_of
 interface_at_fault = refl
 
 version_at_fault : says (codes "proflist 1 low /.:/p all - exact -") ≡ Err (BadWord 7)
-unfolding inquired_by proflist_said counted taken number_of
+unfolding inquired_by proflist_said check_count take_words number_of
 version_at_fault = refl
 
 member_at_fault : says (codes "proflist 1 low /.:/p default - all /.:/m") ≡ Err (BadWord 8)
-unfolding inquired_by proflist_said counted taken number_of
+unfolding inquired_by proflist_said check_count take_words number_of
 member_at_fault = refl
 
 lookup_is : says (codes "lookup 1 high /.:/p a0000000-0000-0000-0000-000000000001:1.2 - ncadg_ip_udp 65535")
     ≡ Ok (Some (inquire.Lookup (record { 0 = 1 }) true (codes "p" ∷ []) interface_a zero_bytes false true 65535))
-unfolding inquired_by lookup_said counted taken interface_of cut number_of object_of protocols_of by_index
+unfolding inquired_by lookup_said check_count take_words interface_of cut_at_mark number_of object_of protocols_of by_index
 lookup_is = refl
 
 most_at_fault : says (codes "lookup 1 high /.:/p a0000000-0000-0000-0000-000000000001:1.2 - ncadg_ip_udp 65536") ≡ Err (BadWord 8)
-unfolding inquired_by lookup_said counted taken interface_of cut number_of object_of protocols_of by_index
+unfolding inquired_by lookup_said check_count take_words interface_of cut_at_mark number_of object_of protocols_of by_index
 most_at_fault = refl
 
 -- words are counted first
 too_few : says (codes "lookup 0 high") ≡ Err (WrongCount 3)
-unfolding inquired_by lookup_said counted
+unfolding inquired_by lookup_said check_count
 too_few = refl
 
 -- each other line is one of a script
 a_dump : says (codes "dump 1 2") ≡ Ok (Some (inquire.Plain (line.Question (question.Dump (record { 0 = 1 }) (record { 0 = 2 })))))
-unfolding inquired_by said_by counted taken number_of
+unfolding inquired_by said_by check_count take_words number_of
 a_dump = refl
 
 no_command : early_inquire_fault (words_of (codes "grouplists 1 high /.:/g")) ≡ Some (UnknownCommand 1)

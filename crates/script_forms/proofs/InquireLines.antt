@@ -9,8 +9,8 @@ use Rattle.cds_stamps.specs.Outcomes.{Answers}
 use Rattle.cell_script.specs.declared.command.ScriptLine.{ScriptLine}
 use Rattle.cell_script.specs.declared.fault.ParseFault.{ParseFault}
 use Rattle.cell_script.specs.declared.fault.ParseFault.TheVariants.{UnknownCommand}
-use Rattle.cell_script.specs.Forms.{◌>>=◌, Words, counted, is_open, least_of, read_as, said_at}
-use Rattle.cell_script.specs.Commands.{RowOf, said_among, early_among, no_command, said_by, early_by, rows}
+use Rattle.cell_script.specs.WordForms.{◌>>=◌, Words, check_count, is_open, least_of, read_as, said_at}
+use Rattle.cell_script.specs.CommandRows.{RowOf, said_among, early_among, no_command, said_by, early_by, rows}
 use Rattle.script_forms.specs.declared.inquire_line.InquireLine.{InquireLine}
 use Rattle.script_forms.specs.declared.inquire_line.InquireLine.TheVariants as line
 use Rattle.script_forms.specs.InquireLines.{seven, proflist_said, lookup_said, plain_said, inquiry_rows, inquired_by, early_inquired}
@@ -30,9 +30,9 @@ among {L} (row ∷ rows) other early fault word s others is = by_word (bytes_eq 
   where
     by_word : (same : Bool)
         → (early_among rows early word s ≡ Some fault → said_among rows other word s ≡ Err fault)
-        → (if same then result_err (counted (is_open row.forms) (least_of row.forms) s) else early_among rows early word s) ≡ Some fault
+        → (if same then result_err (check_count (is_open row.forms) (least_of row.forms) s) else early_among rows early word s) ≡ Some fault
         → (if same then read_as row.forms row.says s else said_among rows other word s) ≡ Err fault
-    by_word true rest is = first_fails (counted (is_open row.forms) (least_of row.forms) s) _ fault is
+    by_word true rest is = first_fails (check_count (is_open row.forms) (least_of row.forms) s) _ fault is
     by_word false rest is = rest is
 
 -- of a script

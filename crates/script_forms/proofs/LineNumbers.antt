@@ -10,11 +10,11 @@ use Rattle.cell_script.specs.declared.command.Command.{Command}
 use Rattle.cell_script.specs.declared.command.ScriptLine.{ScriptLine}
 use Rattle.cell_script.specs.declared.fault.ParseFault.{ParseFault}
 use Rattle.cell_script.specs.Words.{house_of, most_house, number_of, number_to}
-use Rattle.cell_script.specs.Forms.{◌>>=◌, House, Words, counted, is_open, least_of, next_word, said_at, taken}
-use Rattle.cell_script.specs.Commands as plain
+use Rattle.cell_script.specs.WordForms.{◌>>=◌, House, Words, check_count, is_open, least_of, next_word, said_at, take_words}
+use Rattle.cell_script.specs.CommandRows as plain
 use Rattle.script_forms.specs.declared.journal_line.JournalLine.{JournalLine}
 use Rattle.script_forms.specs.declared.journal_line.JournalLine.TheVariants as line
-use Rattle.script_forms.specs.JournalLines.{HasNumbers, call_of, command_miscounted, command_said, image_said, leave_of, said_by, stop_said, stopping, unless, Stopping}
+use Rattle.script_forms.specs.JournalLines.{HasNumbers, call_of, command_miscounted, command_said, image_said, leave_of, said_by, stop_said, stop_of_words, unless, Stopping}
 
 -- a number from 1 to a most is one
 pub number_within : (most : ℕ) (w : List ℕ) (n : ℕ) → number_to most w ≡ Some n → (1 ≤ n) × (n ≤ most)
@@ -38,7 +38,7 @@ house_within w h is = by_number (number_to most_house w) refl is
 
 -- a line that is read as this has what each line of its kind has
 image_numbers : (s : Words) (l : JournalLine) → image_said s ≡ Ok l → HasNumbers l
-unfolding taken counted
+unfolding take_words check_count
 image_numbers s l is = by_count _ is
   where
     by_house : (o : Option HouseNo) (w : List ℕ) (ws : List (List ℕ)) → house_of w ≡ o
@@ -91,7 +91,7 @@ stop_numbers (h ∷ k ∷ w ∷ name ∷ ws) l is = by_count (command_miscounted
     by_house (Some x) house is = by_call x (call_of k) refl (house_within h x house) is
 
     by_count : (o : Option ParseFault)
-        → unless o (stopping h k w >>= λ at. command_said name ws >>= λ command. Ok (line.Stop at.0 at.1 at.2 command)) ≡ Ok l → HasNumbers l
+        → unless o (stop_of_words h k w >>= λ at. command_said name ws >>= λ command. Ok (line.Stop at.0 at.1 at.2 command)) ≡ Ok l → HasNumbers l
     by_count None is = by_house (house_of h) refl is
     by_count (Some fault) is = absurd (cc)
 

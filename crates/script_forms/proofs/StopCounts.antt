@@ -8,9 +8,9 @@ use Rattle.std.proofs.lemmas.Slice.Eq.{bytes_eq-Decides}
 use Rattle.cell_script.specs.declared.command.ScriptLine.{ScriptLine}
 use Rattle.cell_script.specs.declared.fault.ParseFault.{ParseFault}
 use Rattle.cell_script.specs.declared.fault.ParseFault.TheVariants.{UnknownCommand, WrongCount, BadWord}
-use Rattle.cell_script.specs.Forms.{◌>>=◌, Builds, Form, Words, built, counted, is_open, least_of, next_word, read_as, taken, all_words, each_word, said_at}
-use Rattle.cell_script.specs.Forms.{Houses, Listeds, Encoded}
-use Rattle.cell_script.specs.Commands.{Row, said_among, early_among, no_command, said_by, early_by, rows}
+use Rattle.cell_script.specs.WordForms.{◌>>=◌, Builds, Form, Words, build_words, check_count, is_open, least_of, next_word, read_as, take_words, all_words, each_word, said_at}
+use Rattle.cell_script.specs.WordForms.{Houses, Listeds, Encoded}
+use Rattle.cell_script.specs.CommandRows.{Row, said_among, early_among, no_command, said_by, early_by, rows}
 use Rattle.script_forms.specs.JournalLines.{is_among, is_stoppable, stoppable_words, behind_five}
 
 -- forms of a word each, the last of which may be for any number of them
@@ -64,7 +64,7 @@ words_then {A} says read (w ∷ ws) n is = by_said (says w) (words_then says (re
 
 -- a word that is there, of lines that go on with fewer
 abbrev Short : Type 0 → List Form → Type 0
-Short A fs = (build : Builds fs A) (s : Words) (n : ℕ) → Counts (is_open fs) (least_of fs) (length s.rest) → built fs build s ≡ Err (WrongCount n) → ⊥
+Short A fs = (build : Builds fs A) (s : Words) (n : ℕ) → Counts (is_open fs) (least_of fs) (length s.rest) → build_words fs build s ≡ Err (WrongCount n) → ⊥
 
 -- all words that are left
 all_then : {A B : Type 0} (says : List ℕ → Option A) (read : ℕ) (rest : List (List ℕ)) (next : List A × Words → Result B ParseFault) (n : ℕ)
@@ -79,15 +79,15 @@ all_then {A} says read rest next n later is = by_words (each_word says read rest
 
 -- words that are as many as such forms stand for are never told to be too few or too many
 never_short : {A : Type 0} (fs : List Form) → ends_open fs ≡ true → Short A fs
-unfolding taken
+unfolding take_words
 never_short [] ends build s n counts is = absurd (cc)
-never_short (Houses ∷ []) ends build s n counts is = all_then _ s.read s.rest (λ t. built [] (build t.0) t.1) n (λ t e. absurd (cc)) is
+never_short (Houses ∷ []) ends build s n counts is = all_then _ s.read s.rest (λ t. build_words [] (build t.0) t.1) n (λ t e. absurd (cc)) is
 never_short (Houses ∷ f ∷ fs) ends build s n counts is = absurd (cc)
-never_short (Listeds ∷ []) ends build s n counts is = all_then _ s.read s.rest (λ t. built [] (build t.0) t.1) n (λ t e. absurd (cc)) is
+never_short (Listeds ∷ []) ends build s n counts is = all_then _ s.read s.rest (λ t. build_words [] (build t.0) t.1) n (λ t e. absurd (cc)) is
 never_short (Listeds ∷ f ∷ fs) ends build s n counts is = absurd (cc)
 never_short (Encoded ∷ fs) ends build s n counts is = absurd (cc)
 never_short (f ∷ fs) ends build s n counts is =
-    word_then _ s.read s.rest (λ t. built fs (build t.0) t.1) n (some (is_open fs) (least_of fs) (length s.rest) counts)
+    word_then _ s.read s.rest (λ t. build_words fs (build t.0) t.1) n (some (is_open fs) (least_of fs) (length s.rest) counts)
     (λ x w ws rest e. never_short fs ends (build x) (record { read = s.read + 1; rest = ws }) n
     (fewer (is_open fs) (least_of fs) s.rest w ws rest counts) e) is
 
@@ -121,7 +121,7 @@ count_decides false least n is = grind (arith, nat_tests)
 -- a wrong number of words shows early
 early_among_rows : (those : List Row) (name : List ℕ) (s : Words) (n : ℕ) → is_stoppable name ≡ true → rows_end those ≡ true
     → said_among those no_command name s ≡ Err (WrongCount n) → early_among those (Some (UnknownCommand 1)) name s ≡ Some (WrongCount n)
-unfolding counted
+unfolding check_count
 early_among_rows [] name s n stoppable ends is = absurd (cc)
 early_among_rows (row ∷ rows) name s n stoppable ends is =
     let ends' = both (row_ends row) (rows_end rows) ends in
@@ -131,7 +131,7 @@ early_among_rows (row ∷ rows) name s n stoppable ends is =
     enough = if is_open row.forms then nat_le (least_of row.forms) (length s.rest) else length s.rest == least_of row.forms
 
     by_test : (b : Bool) → enough ≡ b → ends_open row.forms ≡ true
-        → ((let r : Result (Unit {0}) ParseFault = if b then Ok tt else Err (WrongCount (s.read + length s.rest)) in r) >>= λ _. built row.forms row.says s) ≡ Err (WrongCount n)
+        → ((let r : Result (Unit {0}) ParseFault = if b then Ok tt else Err (WrongCount (s.read + length s.rest)) in r) >>= λ _. build_words row.forms row.says s) ≡ Err (WrongCount n)
         → result_err (let r : Result (Unit {0}) ParseFault = if b then Ok tt else Err (WrongCount (s.read + length s.rest)) in r) ≡ Some (WrongCount n)
     by_test true counts ends is =
         absurd (never_short row.forms ends row.says s n (count_decides (is_open row.forms) (least_of row.forms) (length s.rest) counts) is)
@@ -140,7 +140,7 @@ early_among_rows (row ∷ rows) name s n stoppable ends is =
     by_word : (same : Bool) → bytes_eq name row.word ≡ same → row_ends row ≡ true
         → (said_among rows no_command name s ≡ Err (WrongCount n) → early_among rows (Some (UnknownCommand 1)) name s ≡ Some (WrongCount n))
         → (if same then read_as row.forms row.says s else said_among rows no_command name s) ≡ Err (WrongCount n)
-        → (if same then result_err (counted (is_open row.forms) (least_of row.forms) s) else early_among rows (Some (UnknownCommand 1)) name s) ≡ Some (WrongCount n)
+        → (if same then result_err (check_count (is_open row.forms) (least_of row.forms) s) else early_among rows (Some (UnknownCommand 1)) name s) ≡ Some (WrongCount n)
     by_word true same ends others is = by_test enough refl (ends_where name row stoppable ends same) is
     by_word false same ends others is = others is
 
@@ -159,7 +159,7 @@ is_row (row ∷ rows) name = bytes_eq name row.word || is_row rows name
 -- the number of the words is told, where a row has the first one
 early_counts : (rows : List Row) (name : List ℕ) (s : Words) (fault : ParseFault) → is_row rows name ≡ true
     → early_among rows (Some (UnknownCommand 1)) name s ≡ Some fault → (n : ℕ) × (fault ≡ WrongCount n)
-unfolding counted
+unfolding check_count
 early_counts [] name s fault row is = absurd (cc)
 early_counts (r ∷ rows) name s fault row is = by_word (bytes_eq name r.word) (early_counts rows name s fault) row is
   where
@@ -170,7 +170,7 @@ early_counts (r ∷ rows) name s fault row is = by_word (bytes_eq name r.word) (
 
     by_word : (same : Bool) → (is_row rows name ≡ true → early_among rows (Some (UnknownCommand 1)) name s ≡ Some fault → (n : ℕ) × (fault ≡ WrongCount n))
         → (same || is_row rows name) ≡ true
-        → (if same then result_err (counted (is_open r.forms) (least_of r.forms) s) else early_among rows (Some (UnknownCommand 1)) name s) ≡ Some fault
+        → (if same then result_err (check_count (is_open r.forms) (least_of r.forms) s) else early_among rows (Some (UnknownCommand 1)) name s) ≡ Some fault
         → (n : ℕ) × (fault ≡ WrongCount n)
     by_word true others row is =
         by_test (if is_open r.forms then nat_le (least_of r.forms) (length s.rest) else length s.rest == least_of r.forms) is

@@ -10,11 +10,11 @@ use Rattle.cell_script.specs.declared.command.ScriptLine.{ScriptLine}
 use Rattle.cell_script.specs.declared.command.ScriptLine.TheVariants as script
 use Rattle.cell_script.specs.declared.fault.ParseFault.{ParseFault}
 use Rattle.cell_script.specs.declared.fault.ParseFault.TheVariants.{UnknownCommand, WrongCount, BadWord}
-use Rattle.cell_script.specs.Forms.{◌>>=◌, said_at}
-use Rattle.cell_script.specs.Commands as plain
+use Rattle.cell_script.specs.WordForms.{◌>>=◌, said_at}
+use Rattle.cell_script.specs.CommandRows as plain
 use Rattle.script_forms.specs.declared.journal_line.JournalLine.{JournalLine}
 use Rattle.script_forms.specs.declared.journal_line.JournalLine.TheVariants as line
-use Rattle.script_forms.specs.JournalLines.{Stopping, behind_five, command_in, command_miscounted, command_said, is_stoppable, stop_early, stop_said, stopping, unless}
+use Rattle.script_forms.specs.JournalLines.{Stopping, behind_five, command_in, command_miscounted, command_said, is_stoppable, stop_early, stop_said, stop_of_words, unless}
 use Rattle.script_forms.specs.PrivateStops.{miscount}
 use Rattle.script_forms.proofs.StopCounts.{early_is_count, wrong_count_shows}
 
@@ -81,17 +81,17 @@ module _ (h k w name : List ℕ) (ws : List (List ℕ)) (r : Result Command (All
 
   -- or where a word before the command is not of its form
   pub ends_stopping : (x : Unit {0}) (e : AllocOr ParseFault) (at : Result Stopping (AllocOr ParseFault)) (end : Result JournalLine (AllocOr ParseFault))
-      → miscount r ≡ Ok x → at ≡ Err e → Answers at (stopping h k w) → at ≢ Err OutOfMemory → end ≡ Err e
+      → miscount r ≡ Ok x → at ≡ Err e → Answers at (stop_of_words h k w) → at ≢ Err OutOfMemory → end ≡ Err e
       → Answers end (stop_said (h ∷ k ∷ w ∷ name ∷ ws)) × IfSome (stop_early (h ∷ k ∷ w ∷ name ∷ ws)) (λ fault. end ≡ Err (Fault fault))
   ends_stopping x OutOfMemory at end counted is said memory ends = absurd (memory is)
   ends_stopping x (Fault fault) at end counted is said memory ends =
       let none = no_other (command_miscounted name ws) refl x counted in
-      let told : stopping h k w ≡ Err fault = rw is at said in
+      let told : stop_of_words h k w ≡ Err fault = rw is at said in
       rw (none, told, ends) (refl, refl)
 
   -- or where the command is at fault
   pub ends_command : (x : Unit {0}) (at : Stopping) (e : AllocOr ParseFault) (end : Result JournalLine (AllocOr ParseFault))
-      → miscount r ≡ Ok x → stopping h k w ≡ Ok at → r ≡ Err e → end ≡ Err e
+      → miscount r ≡ Ok x → stop_of_words h k w ≡ Ok at → r ≡ Err e → end ≡ Err e
       → Answers end (stop_said (h ∷ k ∷ w ∷ name ∷ ws)) × IfSome (stop_early (h ∷ k ∷ w ∷ name ∷ ws)) (λ fault. end ≡ Err (Fault fault))
   ends_command x at e end counted before is ends =
       let none = no_other (command_miscounted name ws) refl x counted in

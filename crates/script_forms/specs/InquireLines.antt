@@ -3,8 +3,8 @@ use Rattle.std.specs.Prelude.{ℕ, ◌≤◌, false, if◌then◌else◌, List, 
 use Rattle.std.specs.Result.{result_err, result_map_both}
 use Rattle.std.specs.Str.{bytes_eq}
 use Rattle.cell_script.specs.declared.fault.ParseFault.{ParseFault}
-use Rattle.cell_script.specs.Forms.{◌>>=◌, Form, House, Confidence, FullName, Interface, Object, Protocols, Words, taken, next_word, counted}
-use Rattle.cell_script.specs.Commands.{RowOf, said_among, early_among, line_in, fault_in, said_by, early_by}
+use Rattle.cell_script.specs.WordForms.{◌>>=◌, Form, House, Confidence, FullName, Interface, Object, Protocols, Words, take_words, next_word, check_count}
+use Rattle.cell_script.specs.CommandRows.{RowOf, said_among, early_among, line_in, fault_in, said_by, early_by}
 use Rattle.ns_inquire.specs.declared.inquiry.Inquiry.{Inquiry}
 use Rattle.ns_inquire.specs.declared.inquiry.Inquiry.TheVariants as inquiry
 use Rattle.script_forms.specs.declared.inquire_words.ListKind.{ListKind}
@@ -36,20 +36,20 @@ three first second third together s = do
 abbrev pub inquiry_said : ListKind → Words → Result Inquiry ParseFault
 inquiry_said kind.All = three (word none_of) (word all_of) (word none_of) (λ i v m. inquiry.AllElements)
 inquiry_said kind.Default = three (word none_of) (word all_of) (word none_of) (λ i v m. inquiry.Default)
-inquiry_said kind.ByIf = three (taken Interface) (word version_of) (word none_of) (λ i v m. inquiry.ByInterface i v)
-inquiry_said kind.ByMbr = three (word none_of) (word all_of) (taken FullName) (λ i v m. inquiry.ByMember m)
-inquiry_said kind.ByBoth = three (taken Interface) (word version_of) (taken FullName) inquiry.ByBoth
+inquiry_said kind.ByIf = three (take_words Interface) (word version_of) (word none_of) (λ i v m. inquiry.ByInterface i v)
+inquiry_said kind.ByMbr = three (word none_of) (word all_of) (take_words FullName) (λ i v m. inquiry.ByMember m)
+inquiry_said kind.ByBoth = three (take_words Interface) (word version_of) (take_words FullName) inquiry.ByBoth
 
 -- there are seven words after the first one (own)
 abbrev pub seven : Words → Result (Unit {0}) ParseFault
-seven = counted false 7
+seven = check_count false 7
 
 -- the elements of a profile that are asked for (own, after C706, inquiry of profile elements)
 unfoldable pub proflist_said : Words → Result InquireLine ParseFault
 proflist_said s = seven s >>= λ _. (do
-  h ← taken House s
-  c ← taken Confidence h.1
-  n ← taken FullName c.1
+  h ← take_words House s
+  c ← take_words Confidence h.1
+  n ← take_words FullName c.1
   k ← word kind_of n.1
   i ← inquiry_said k.0 k.1
   Ok (line.Proflist h.0 c.0 n.0 i))
@@ -57,12 +57,12 @@ proflist_said s = seven s >>= λ _. (do
 -- the bindings of an import in batches (own, after C706, lookup of bindings)
 unfoldable pub lookup_said : Words → Result InquireLine ParseFault
 lookup_said s = seven s >>= λ _. (do
-  h ← taken House s
-  c ← taken Confidence h.1
-  n ← taken FullName c.1
-  i ← taken Interface n.1
-  o ← taken Object i.1
-  p ← taken Protocols o.1
+  h ← take_words House s
+  c ← take_words Confidence h.1
+  n ← take_words FullName c.1
+  i ← take_words Interface n.1
+  o ← take_words Object i.1
+  p ← take_words Protocols o.1
   m ← word most_of p.1
   Ok (line.Lookup h.0 c.0 n.0 i.0 o.0 p.0.0 p.0.1 m.0))
 

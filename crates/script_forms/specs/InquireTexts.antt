@@ -4,7 +4,7 @@ use Rattle.std.specs.List.{flat_map}
 use Rattle.std.specs.Fmt.{decimal}
 use Rattle.hex.specs.Hex.{encode_lower}
 use Rattle.uuid.specs.Text.{hyphenated_text, lower}
-use Rattle.cell_names.specs.FullNames.{spelling}
+use Rattle.cell_names.specs.FullNames.{full_name_octets}
 use Rattle.tower_codec.specs.declared.binding.StringBinding.{StringBinding}
 use Rattle.tower_codec.specs.declared.rpc.Interface.{Interface}
 use Rattle.tower_codec.specs.InterfaceTexts.{interface_text}
@@ -15,7 +15,7 @@ use Rattle.script_forms.specs.Inquired.{Inquired, Plain, Members, Entries, Eleme
 
 -- a member of a group (own)
 abbrev pub member_line : List (List ℕ) → List ℕ
-member_line name = codes "member " ++ spelling name
+member_line name = codes "member " ++ full_name_octets name
 
 -- an interface, and an object (own, after C706, string UUIDs)
 abbrev pub interface_line : Interface → List ℕ
@@ -36,7 +36,7 @@ note_text (b ∷ bs) = encode_lower (b ∷ bs)
 
 -- an element: its priority, its interface, its member and its annotation (own)
 abbrev pub element_said : Element → List ℕ
-element_said e = decimal e.priority ++ (32 ∷ (element_interface e ++ (32 ∷ (spelling e.member ++ (32 ∷ note_text e.annotation)))))
+element_said e = decimal e.priority ++ (32 ∷ (element_interface e ++ (32 ∷ (full_name_octets e.member ++ (32 ∷ note_text e.annotation)))))
 
 abbrev pub element_line : Element → List ℕ
 element_line e = codes "element " ++ element_said e

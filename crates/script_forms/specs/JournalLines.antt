@@ -11,9 +11,9 @@ use Rattle.cell_script.specs.declared.command.ScriptLine.TheVariants as script
 use Rattle.cell_script.specs.declared.fault.ParseFault.{ParseFault}
 use Rattle.cell_script.specs.declared.fault.ParseFault.TheVariants.{WrongCount, BadWord}
 use Rattle.cell_script.specs.Words.{house_of, number_to}
-use Rattle.cell_script.specs.Forms.{◌>>=◌, Words, House, miscounted, read_as, said_at}
-use Rattle.cell_script.specs.Commands.{line_in, fault_in}
-use Rattle.cell_script.specs.Commands as plain
+use Rattle.cell_script.specs.WordForms.{◌>>=◌, Words, House, count_fault, read_as, said_at}
+use Rattle.cell_script.specs.CommandRows.{line_in, fault_in}
+use Rattle.cell_script.specs.CommandRows as plain
 use Rattle.script_forms.specs.declared.journal_line.JournalLine.{JournalLine}
 use Rattle.script_forms.specs.declared.journal_line.JournalLine.TheVariants as line
 
@@ -25,7 +25,7 @@ image_said = read_as (House ∷ []) line.Image
 
 -- the fault of their number (own)
 abbrev pub image_early : Words → Option ParseFault
-image_early = miscounted (House ∷ [])
+image_early = count_fault (House ∷ [])
 
 -- ---- stop
 
@@ -82,8 +82,8 @@ abbrev pub Stopping : Type 0
 Stopping = HouseNo × ℕ × Leave
 
 -- words two to four (own)
-abbrev pub stopping : (h k w : List ℕ) → Result Stopping ParseFault
-stopping h k w = do
+abbrev pub stop_of_words : (h k w : List ℕ) → Result Stopping ParseFault
+stop_of_words h k w = do
   house ← said_at 2 (house_of h)
   call ← said_at 3 (call_of k)
   leave ← said_at 4 (leave_of w)
@@ -93,7 +93,7 @@ stopping h k w = do
 -- from the left that is not of its form (own)
 abbrev pub stop_said : List (List ℕ) → Result JournalLine ParseFault
 stop_said (h ∷ k ∷ w ∷ name ∷ ws) = unless (command_miscounted name ws) (do
-  at ← stopping h k w
+  at ← stop_of_words h k w
   command ← command_said name ws
   Ok (line.Stop at.0 at.1 at.2 command))
 stop_said few = Err (WrongCount (length few + 1))
@@ -101,7 +101,7 @@ stop_said few = Err (WrongCount (length few + 1))
 -- the fault that shows before a word of the command is read (own)
 abbrev pub stop_early : List (List ℕ) → Option ParseFault
 stop_early (h ∷ k ∷ w ∷ name ∷ ws) = result_err (unless (command_miscounted name ws) (do
-  at ← stopping h k w
+  at ← stop_of_words h k w
   if is_stoppable name then Ok name else Err (BadWord 5)))
 stop_early few = Some (WrongCount (length few + 1))
 

@@ -4,7 +4,7 @@ ghost use Rattle.tower_codec.specs.declared.binding.StringBinding.{StringBinding
 ghost use Rattle.resolver.specs.declared.seen.Found.{Found};
 ghost use Rattle.resolver.specs.Readers.{ShowsOnly};
 ghost use Rattle.ns_inquire.specs.Batches.{batches};
-ghost use Rattle.script_forms.specs.Inquired.{batches_listed, elements_in, elements_listed, entry_in, entry_listed, inquired, members_in, members_listed, refused};
+ghost use Rattle.script_forms.specs.Inquired.{batches_listed, elements_in, elements_listed, entry_in, entry_listed, inquired_answer, members_in, members_listed, inquired_refusal};
 
 use cds_stamps::AllocOr;
 use cell_names::FullName;
@@ -49,7 +49,7 @@ impl Drop for InquireAnswer {
 
 // An inquiry that is refused.
 fn refused(refusal: ScriptRefusal) -> InquireAnswer
-    ensures { inquired result ≡ refused refusal }
+    ensures { inquired_answer result ≡ inquired_refusal refusal }
 {
     InquireAnswer::Plain(Answer::Refused(refusal))
 }
@@ -61,7 +61,7 @@ pub fn list_members<R: EntryReader>(
     reader: &R,
     name: &FullName,
 ) -> Result<InquireAnswer, AllocError>
-    ensures { IfOk result (λ a. inquired a ≡ members_listed (R.tells reader.now) name.now) }
+    ensures { IfOk result (λ a. inquired_answer a ≡ members_listed (R.tells reader.now) name.now) }
 {
     match object(alloc, reader, name) {
         Ok(entry) => members_in(alloc, reader, &entry),
@@ -76,7 +76,7 @@ fn members_in<R: EntryReader>(
     reader: &R,
     entry: &Found,
 ) -> Result<InquireAnswer, AllocError>
-    ensures { IfOk result (λ a. inquired a ≡ members_in (R.tells reader.now) entry.now) }
+    ensures { IfOk result (λ a. inquired_answer a ≡ members_in (R.tells reader.now) entry.now) }
 {
     let values = values_of(alloc, reader, entry, GROUP)?;
     Ok(InquireAnswer::Members(members(alloc, &values)?))
@@ -89,7 +89,7 @@ pub fn list_entry<R: EntryReader>(
     reader: &R,
     name: &FullName,
 ) -> Result<InquireAnswer, AllocError>
-    ensures { IfOk result (λ a. inquired a ≡ entry_listed (R.tells reader.now) name.now) }
+    ensures { IfOk result (λ a. inquired_answer a ≡ entry_listed (R.tells reader.now) name.now) }
 {
     match object(alloc, reader, name) {
         Ok(entry) => entry_in(alloc, reader, &entry),
@@ -104,7 +104,7 @@ fn entry_in<R: EntryReader>(
     reader: &R,
     entry: &Found,
 ) -> Result<InquireAnswer, AllocError>
-    ensures { IfOk result (λ a. inquired a ≡ entry_in (R.tells reader.now) entry.now) }
+    ensures { IfOk result (λ a. inquired_answer a ≡ entry_in (R.tells reader.now) entry.now) }
 {
     let towers = values_of(alloc, reader, entry, TOWERS)?;
     let held = values_of(alloc, reader, entry, OBJECTS)?;
@@ -119,7 +119,7 @@ pub fn list_elements<R: EntryReader>(
     name: &FullName,
     inquiry: &Inquiry,
 ) -> Result<InquireAnswer, AllocError>
-    ensures { IfOk result (λ a. inquired a ≡ elements_listed (R.tells reader.now) inquiry.now name.now) }
+    ensures { IfOk result (λ a. inquired_answer a ≡ elements_listed (R.tells reader.now) inquiry.now name.now) }
 {
     match object(alloc, reader, name) {
         Ok(entry) => elements_in(alloc, reader, &entry, inquiry),
@@ -135,7 +135,7 @@ fn elements_in<R: EntryReader>(
     entry: &Found,
     inquiry: &Inquiry,
 ) -> Result<InquireAnswer, AllocError>
-    ensures { IfOk result (λ a. inquired a ≡ elements_in (R.tells reader.now) inquiry.now entry.now) }
+    ensures { IfOk result (λ a. inquired_answer a ≡ elements_in (R.tells reader.now) inquiry.now entry.now) }
 {
     let values = values_of(alloc, reader, entry, PROFILE)?;
     Ok(InquireAnswer::Elements(elements(alloc, &values, inquiry)?))
@@ -152,7 +152,7 @@ pub fn look_up<R: EntryReader>(
 ) -> Result<InquireAnswer, AllocError>
     requires { 1 ≤ most }
     ensures { (objects : List Found) → ShowsOnly (R.tells reader.now) objects
-        → IfOk result (λ a. inquired a ≡ batches_listed (R.tells reader.now) objects wanted most name.now) }
+        → IfOk result (λ a. inquired_answer a ≡ batches_listed (R.tells reader.now) objects wanted most name.now) }
 {
     match Lookup::begin(alloc, reader, name, wanted, usize::from(most)) {
         Ok(mut lookup) => Ok(InquireAnswer::Batches(all_batches(alloc, &mut lookup)?)),

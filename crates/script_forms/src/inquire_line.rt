@@ -6,8 +6,8 @@ ghost use Rattle.std.specs.Result.{result_err};
 ghost use Rattle.cds_stamps.specs.Outcomes.{Answers};
 ghost use Rattle.cds_stamps.specs.declared.alloc_or.AllocOr.TheVariants.{Fault};
 ghost use Rattle.cell_script.specs.Words.{words_of};
-ghost use Rattle.cell_script.specs.Commands.{early_by};
-ghost use Rattle.cell_script.specs.Forms.{miscounted, read_as};
+ghost use Rattle.cell_script.specs.CommandRows.{early_by};
+ghost use Rattle.cell_script.specs.WordForms.{count_fault, read_as};
 ghost use Rattle.script_forms.specs.InquireLines.{WantsSome, about_entry, proflist_said, lookup_said, inquiry_said, plain_said, seven, inquired_by, early_inquired, inquired_in, early_inquire_fault};
 ghost use Rattle.script_forms.specs.PrivateInquireLines.{Says};
 ghost use Rattle.script_forms.specs.declared.inquire_line.InquireLine.TheVariants as said;
@@ -38,7 +38,7 @@ pub enum InquireLine {
 }
 
 fn grouplist(alloc: Global, words: &mut Words<'_>) -> Parsed<InquireLine>
-    ensures said { Says result (read_as about_entry said.Grouplist words.old) (miscounted about_entry words.old) }
+    ensures said { Says result (read_as about_entry said.Grouplist words.old) (count_fault about_entry words.old) }
     ensures some { IfOk result WantsSome }
 {
     words.exactly(3)?;
@@ -46,7 +46,7 @@ fn grouplist(alloc: Global, words: &mut Words<'_>) -> Parsed<InquireLine>
 }
 
 fn entrylist(alloc: Global, words: &mut Words<'_>) -> Parsed<InquireLine>
-    ensures said { Says result (read_as about_entry said.Entrylist words.old) (miscounted about_entry words.old) }
+    ensures said { Says result (read_as about_entry said.Entrylist words.old) (count_fault about_entry words.old) }
     ensures some { IfOk result WantsSome }
 {
     words.exactly(3)?;

@@ -3,7 +3,7 @@ ghost use Rattle.std.specs.Prelude.{◌≡◌, ◌++◌, ◌∷◌, [], map, dec
 ghost use Rattle.std.specs.List.{flat_map};
 ghost use Rattle.tower_codec.specs.InterfaceTexts.{interface_text};
 ghost use Rattle.script_answers.specs.Texts.{line_text, lines_text, binding_line, import_end};
-ghost use Rattle.script_forms.specs.Inquired.{inquired};
+ghost use Rattle.script_forms.specs.Inquired.{inquired_answer};
 ghost use Rattle.script_forms.specs.InquireTexts.{batch_lines, element_interface, element_line, element_said, inquire_text, interface_line, member_line, note_text, object_line, total};
 
 use crate::inquire_answer::InquireAnswer;
@@ -268,7 +268,7 @@ fn push_answer(
     number: u32,
     answer: &InquireAnswer,
 ) -> Result<(), AllocError>
-    ensures { OnOk result (text.new.items ≡ text.old.items ++ inquire_text number (inquired answer.now)) }
+    ensures { OnOk result (text.new.items ≡ text.old.items ++ inquire_text number (inquired_answer answer.now)) }
 {
     match answer {
         InquireAnswer::Plain(answer) => append_answer(alloc, text, number, answer),
@@ -299,7 +299,7 @@ pub fn print_inquire_answer(
     number: u32,
     answer: &InquireAnswer,
 ) -> Result<Vec<u8>, AllocError>
-    ensures { IfOk result (λ text. text.items ≡ inquire_text number (inquired answer.now)) }
+    ensures { IfOk result (λ text. text.items ≡ inquire_text number (inquired_answer answer.now)) }
 {
     let mut text = Vec::new(alloc);
     push_answer(alloc, &mut text, number, answer)?;

@@ -2,7 +2,7 @@
 #![tactic(auto, unfolding(cell_script::specs::Forms::taken))]
 
 ghost use Rattle.std.specs.Prelude.{◌≡◌, ◌≤◌, IfOk, IfSome};
-ghost use Rattle.cell_script.specs.Forms.{Takes, next_word};
+ghost use Rattle.cell_script.specs.WordForms.{Takes, next_word};
 ghost use Rattle.script_forms.specs.InquireWords.{kind_of, version_of, most_of, only_of, none_of, all_of};
 
 use cell_script::{Parsed, Words, number_up_to};

@@ -3,9 +3,9 @@ ghost use Rattle.std.specs.Prelude.{◌≡◌, ◌≢◌, false, IfSome, Err};
 ghost use Rattle.cds_stamps.specs.Outcomes.{Answers};
 ghost use Rattle.cds_stamps.specs.declared.alloc_or.AllocOr.TheVariants.{Fault, OutOfMemory};
 ghost use Rattle.cell_script.specs.Words.{house_of};
-ghost use Rattle.cell_script.specs.Forms.{said_at};
+ghost use Rattle.cell_script.specs.WordForms.{said_at};
 ghost use Rattle.script_forms.specs.JournalLines.{call_of, command_in, command_miscounted, command_said, is_stoppable, leave_of};
-ghost use Rattle.script_forms.specs.JournalLines.{stop_early, stop_said, stopping};
+ghost use Rattle.script_forms.specs.JournalLines.{stop_early, stop_said, stop_of_words};
 ghost use Rattle.script_forms.specs.PrivateStops.{miscount};
 ghost use Rattle.cell_script.specs.declared.fault.ParseFault.TheVariants.{BadWord};
 
@@ -120,7 +120,7 @@ fn said_at<T>(number: usize, value: Option<T>) -> Parsed<T>
 
 // What stands between `stop` and the command: the house, the call, and what is left.
 fn stopping(house_word: &[u8], call_word: &[u8], leave_word: &[u8]) -> Parsed<(HouseNo, u8, Leave)>
-    ensures answer { Answers result (stopping house_word.now call_word.now leave_word.now) }
+    ensures answer { Answers result (stop_of_words house_word.now call_word.now leave_word.now) }
     ensures memory { result ≢ Err OutOfMemory }
 {
     let house = said_at(2, house(house_word))?;

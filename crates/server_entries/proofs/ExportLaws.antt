@@ -18,9 +18,9 @@ use Rattle.tower_codec.proofs.SpellingLaws.{tower_again}
 use Rattle.attr_sets.specs.Values.{value_fault}
 use Rattle.cds_stamps.proofs.ListMembers.{Contains-head, Contains-tail, Contains-none, Contains-cases}
 use Rattle.server_entries.specs.declared.client.Wanted.{Wanted}
-use Rattle.cds_stamps.specs.Ascending.{ascending}
+use Rattle.cds_stamps.specs.Ascending.{in_ascending_order}
 use Rattle.server_entries.specs.ServerTowers.{IsServerTower, rpc_tower_of}
-use Rattle.server_entries.specs.Clients.{wants, is_compatible, compatible_binding, binding_to, binding_in, carried, entry_bindings, IsBindingOf}
+use Rattle.server_entries.specs.Clients.{wants, is_compatible, compatible_binding, binding_to, binding_in, object_to_carry, entry_bindings, IsBindingOf}
 use Rattle.server_entries.specs.Exports.{exported_tower, offers, tower_goes}
 use Rattle.cds_stamps.proofs.AscendingLaws.{ascending-has, ascending-had}
 use Rattle.server_entries.proofs.ServerReading.{server_again}
@@ -116,13 +116,13 @@ binding_among wanted towers held binding b =
     let h = binding_in wanted binding.object in
     let gives : h b.octets ≡ Some binding = ap (compatible_binding wanted binding.object) b.read ∙ passing wanted binding.object b.tower b.compatible
     ∙ ap (λ (x : StringBinding). Some x) (sym b.made) in
-    let has : Contains (filter_map h (ascending towers)) binding = given h (ascending towers) b.octets binding (ascending-has towers b.octets b.among) gives in
-    subst (λ (o : Option (List ℕ)). Contains (option_map_or (λ object. filter_map (binding_in wanted object) (ascending towers)) o []) binding)
+    let has : Contains (filter_map h (in_ascending_order towers)) binding = given h (in_ascending_order towers) b.octets binding (ascending-has towers b.octets b.among) gives in
+    subst (λ (o : Option (List ℕ)). Contains (option_map_or (λ object. filter_map (binding_in wanted object) (in_ascending_order towers)) o []) binding)
     (sym b.carries) has
 
 -- what a value gave is a binding of a compatible server
 giver_serves : (wanted : Wanted) (towers held : List (List ℕ)) (binding : StringBinding) (object octets : List ℕ) → Contains towers octets
-    → carried wanted.object held ≡ Some object
+    → object_to_carry wanted.object held ≡ Some object
     → binding_in wanted object octets ≡ Some binding → IsBindingOf wanted towers held binding
 giver_serves wanted towers held binding object octets among carries gives = by_tower (rpc_tower_of octets) refl gives
   where
@@ -149,13 +149,13 @@ giver_serves wanted towers held binding object octets among carries gives = by_t
 -- and each binding of the entry is one to a compatible server
 pub binding_serves : (wanted : Wanted) (towers held : List (List ℕ)) (binding : StringBinding) → Contains (entry_bindings wanted towers held) binding
     → IsBindingOf wanted towers held binding
-binding_serves wanted towers held binding c = by_object (carried wanted.object held) refl c
+binding_serves wanted towers held binding c = by_object (object_to_carry wanted.object held) refl c
   where
-    by_object : (o : Option (List ℕ)) → carried wanted.object held ≡ o
-        → Contains (option_map_or (λ object. filter_map (binding_in wanted object) (ascending towers)) o []) binding → IsBindingOf wanted towers held binding
+    by_object : (o : Option (List ℕ)) → object_to_carry wanted.object held ≡ o
+        → Contains (option_map_or (λ object. filter_map (binding_in wanted object) (in_ascending_order towers)) o []) binding → IsBindingOf wanted towers held binding
     by_object None carries there = absurd (Contains-none binding there)
     by_object (Some object) carries there =
-        let g = giver_of (binding_in wanted object) (ascending towers) binding there in
+        let g = giver_of (binding_in wanted object) (in_ascending_order towers) binding there in
         giver_serves wanted towers held binding object g.giver (ascending-had towers g.giver g.among) carries g.gives
 
 both_hold : (a b : Bool) → a ≡ true → b ≡ true → ((a && true) && b) ≡ true
@@ -165,7 +165,7 @@ both_hold a b e f = ap (λ (x : Bool). (x && true) && b) e ∙ f
 pub exported_found : (wanted : Wanted) (interface : Interface) (binding : StringBinding) (object : List ℕ) (towers held : List (List ℕ))
     → IsInterface interface → FitsBinding binding
     → Contains towers (rpc_octets (exported_tower interface binding)) → serves interface wanted.interface ≡ true → wants wanted binding.protseq ≡ true
-    → carried wanted.object held ≡ Some object → Contains (entry_bindings wanted towers held) (record binding { object = object })
+    → object_to_carry wanted.object held ≡ Some object → Contains (entry_bindings wanted towers held) (record binding { object = object })
 exported_found wanted interface binding object towers held fits bound among serving wanting carries =
     let tower = exported_tower interface binding in
     binding_among wanted towers held (record binding { object = object }) (record {

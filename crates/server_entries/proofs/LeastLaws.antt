@@ -8,7 +8,7 @@ use Rattle.std.specs.FinMap.Entries.{by_order}
 use Rattle.std.proofs.lemmas.List.{map_more, append-nil}
 use Rattle.std.proofs.lemmas.List.Elements.{filter-append}
 use Rattle.cds_stamps.specs.Octets.{octets_cmp}
-use Rattle.cds_stamps.specs.Ascending.{put_in_order, ascending}
+use Rattle.cds_stamps.specs.Ascending.{put_in_order, in_ascending_order}
 use Rattle.cds_stamps.proofs.AscendingLaws.{ascending-push}
 use Rattle.server_entries.specs.Clients.{objects_in, least_object, lesser}
 
@@ -25,13 +25,13 @@ first_of_put v (w ∷ ws) = by_case (octets_cmp v w)
 least_push : (held : List (List ℕ)) (v : List ℕ)
     → least_object (held ++ v ∷ []) ≡ cond (eqb (length v) 16) (Some (lesser v (least_object held))) (least_object held)
 least_push held v =
-    ap (λ (vs : List (List ℕ)). slice_get (ascending vs) 0) (filter-append (λ (w : List ℕ). eqb (length w) 16) held (v ∷ [])) ∙ by_case (eqb (length v) 16)
+    ap (λ (vs : List (List ℕ)). slice_get (in_ascending_order vs) 0) (filter-append (λ (w : List ℕ). eqb (length w) 16) held (v ∷ [])) ∙ by_case (eqb (length v) 16)
   where
-    by_case : (b : Bool) → slice_get (ascending (objects_in held ++ cond b (v ∷ []) [])) 0
+    by_case : (b : Bool) → slice_get (in_ascending_order (objects_in held ++ cond b (v ∷ []) [])) 0
         ≡ cond b (Some (lesser v (least_object held))) (least_object held)
     by_case true =
-        ap (λ (vs : List (List ℕ)). slice_get vs 0) (ascending-push (objects_in held) v) ∙ first_of_put v (ascending (objects_in held))
-    by_case false = ap (λ (vs : List (List ℕ)). slice_get (ascending vs) 0) (append-nil (objects_in held))
+        ap (λ (vs : List (List ℕ)). slice_get vs 0) (ascending-push (objects_in held) v) ∙ first_of_put v (in_ascending_order (objects_in held))
+    by_case false = ap (λ (vs : List (List ℕ)). slice_get (in_ascending_order vs) 0) (append-nil (objects_in held))
 
 -- one more of the values that are seen through a function, as borrowed values are
 pub least_more : {X : Type 0} (f : X → List ℕ) (held : List X) (i : ℕ) (x : X) → i < length held → x ≡ get_or held i x

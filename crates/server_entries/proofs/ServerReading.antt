@@ -10,7 +10,7 @@ use Rattle.tower_codec.specs.declared.fault.TowerFault.{TowerFault}
 use Rattle.tower_codec.specs.declared.rpc.RpcTower.{RpcTower}
 use Rattle.tower_codec.specs.Tower.{Floor, IsTower, IsFault}
 use Rattle.tower_codec.specs.Rpc.{IsRpcTower}
-use Rattle.tower_codec.specs.Reading.{body_at, known_floors}
+use Rattle.tower_codec.specs.TowerReading.{body_at, known_floors}
 use Rattle.tower_codec.specs.RpcReading.{rpc_at}
 use Rattle.tower_codec.proofs.Grammar.{IsBytes}
 use Rattle.tower_codec.proofs.TowersRead.{body_read, body_again}

@@ -6,7 +6,7 @@ use Rattle.std.specs.Str.{bytes_eq}
 use Rattle.std.specs.FinMap.Entries.{by_order}
 use Rattle.uuid.specs.Parts.{zero_bytes, is_nil_bytes}
 use Rattle.cds_stamps.specs.Octets.{octets_cmp}
-use Rattle.cds_stamps.specs.Ascending.{ascending}
+use Rattle.cds_stamps.specs.Ascending.{in_ascending_order}
 use Rattle.tower_codec.specs.declared.binding.StringBinding.{StringBinding}
 use Rattle.tower_codec.specs.declared.rpc.Interface.{Interface}
 use Rattle.tower_codec.specs.declared.rpc.Protseq.{Protseq}
@@ -56,7 +56,7 @@ objects_in held = filter (λ v. length v == 16) held
 
 -- The least object of an entry (own).
 abbrev pub least_object : List (List ℕ) → Option (List ℕ)
-least_object held = slice_get (ascending (objects_in held)) 0
+least_object held = slice_get (in_ascending_order (objects_in held)) 0
 
 -- The lesser of octets and of those that there may be beside them (own).
 abbrev pub lesser : List ℕ → Option (List ℕ) → List ℕ
@@ -65,18 +65,18 @@ lesser v (Some w) = by_order (octets_cmp v w) v w w
 
 -- The object that bindings carry. Where the nil object is wanted it is the entry's least, or nil where there is none.
 -- Another is the wanted one, where the entry has it, and else there is no binding (own, after C706, importing bindings).
-abbrev pub carried : List ℕ → List (List ℕ) → Option (List ℕ)
-carried wanted held =
+abbrev pub object_to_carry : List ℕ → List (List ℕ) → Option (List ℕ)
+object_to_carry wanted held =
     if is_nil_bytes wanted then Some (unwrap_or (least_object held) zero_bytes)
     else (if list_any (λ v. bytes_eq v wanted) held then Some wanted else None)
 
 -- The bindings of an entry with these values, in the order of the towers (own, after C706, importing bindings).
 abbrev pub bindings_of : Wanted → (towers held : List (List ℕ)) → List StringBinding
-bindings_of wanted towers held = option_map_or (λ object. filter_map (binding_in wanted object) towers) (carried wanted.object held) []
+bindings_of wanted towers held = option_map_or (λ object. filter_map (binding_in wanted object) towers) (object_to_carry wanted.object held) []
 
 -- The same in ascending order of the octets of the towers, each once (own, after C706, importing bindings).
 abbrev pub entry_bindings : Wanted → (towers held : List (List ℕ)) → List StringBinding
-entry_bindings wanted towers held = bindings_of wanted (ascending towers) held
+entry_bindings wanted towers held = bindings_of wanted (in_ascending_order towers) held
 
 -- The binding is one to a compatible server whose tower the entry has, and carries the object that it is to (own, after
 -- C706, importing bindings).
@@ -86,5 +86,5 @@ pub record IsBindingOf (wanted : Wanted) (towers held : List (List ℕ)) (bindin
   pub among : Contains towers octets
   pub read : rpc_tower_of octets ≡ Some tower
   pub compatible : is_compatible wanted tower ≡ true
-  pub carries : carried wanted.object held ≡ Some binding.object
+  pub carries : object_to_carry wanted.object held ≡ Some binding.object
   pub made : binding ≡ binding_to binding.object tower

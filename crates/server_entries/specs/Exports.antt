@@ -2,7 +2,7 @@
 use Rattle.std.specs.Prelude.{ℕ, Bool, ◌&&◌, ◌==◌, false, List, ◌++◌, map, length, filter, Option, Some, None, codes, if◌then◌else◌}
 use Rattle.std.specs.List.{list_any}
 use Rattle.std.specs.Str.{bytes_eq}
-use Rattle.cds_stamps.specs.Ascending.{ascending}
+use Rattle.cds_stamps.specs.Ascending.{in_ascending_order}
 use Rattle.tower_codec.specs.declared.binding.StringBinding.{StringBinding}
 use Rattle.tower_codec.specs.declared.rpc.Interface.{Interface}
 use Rattle.tower_codec.specs.declared.rpc.RpcTower.{RpcTower}
@@ -37,8 +37,8 @@ abbrev pub object_added : List ℕ → List ℕ → Change
 object_added name object = Add name object_attribute object
 
 -- An export: the entry is made where it is absent, and gets the towers and then the objects (own, after C706, exporting servers).
-abbrev pub exported : List ℕ → Bool → Interface → List StringBinding → List (List ℕ) → List Change
-exported name absent interface bindings objects =
+abbrev pub export_changes : List ℕ → Bool → Interface → List StringBinding → List (List ℕ) → List Change
+export_changes name absent interface bindings objects =
     creation name absent ++ map (tower_added name interface) bindings ++ map (object_added name) objects
 
 -- With no binding and no object there is nothing to export (own).
@@ -61,10 +61,10 @@ object_goes objects octets = list_any (λ object. bytes_eq object octets) object
 
 -- An unexport: the values that go are removed, the towers first, each in ascending order and once (own, after C706,
 -- unexporting servers).
-abbrev pub unexported : List ℕ → (towers held : List (List ℕ)) → Option Interface → List (List ℕ) → List Change
-unexported name towers held interface objects =
-    map (Remove name tower_attribute) (ascending (filter (tower_goes interface) towers))
-    ++ map (Remove name object_attribute) (ascending (filter (object_goes objects) held))
+abbrev pub unexport_changes : List ℕ → (towers held : List (List ℕ)) → Option Interface → List (List ℕ) → List Change
+unexport_changes name towers held interface objects =
+    map (Remove name tower_attribute) (in_ascending_order (filter (tower_goes interface) towers))
+    ++ map (Remove name object_attribute) (in_ascending_order (filter (object_goes objects) held))
 
 -- Where no value goes there is nothing to unexport (own).
 abbrev pub unexport_fault : List Change → Option ExportFault

@@ -5,7 +5,7 @@ use Rattle.tower_codec.specs.declared.fault.TowerFault.{TowerFault}
 use Rattle.tower_codec.specs.declared.rpc.RpcTower.{RpcTower}
 use Rattle.tower_codec.specs.Tower.{Floor, IsTower}
 use Rattle.tower_codec.specs.Rpc.{IsRpcTower}
-use Rattle.tower_codec.specs.Reading.{body_at, known_floors}
+use Rattle.tower_codec.specs.TowerReading.{body_at, known_floors}
 use Rattle.tower_codec.specs.RpcReading.{rpc_at}
 
 -- The octets are the tower of this RPC server, and nothing else (own, a profile of C706's protocol towers).

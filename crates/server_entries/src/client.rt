@@ -3,7 +3,7 @@ ghost use Rattle.std.specs.Prelude.{◌≡◌, ◌==◌, ◌++◌, length, map, 
 ghost use Rattle.std.specs.Option.{option_to_list};
 ghost use Rattle.std.specs.List.{filter_map, list_any};
 ghost use Rattle.std.specs.Str.{bytes_eq};
-ghost use Rattle.server_entries.specs.Clients.{ndr_syntax, wants, is_ndr, is_compatible, binding_in, least_object, lesser, carried};
+ghost use Rattle.server_entries.specs.Clients.{ndr_syntax, wants, is_ndr, is_compatible, binding_in, least_object, lesser, object_to_carry};
 ghost use Rattle.server_entries.specs.Clients.{bindings_of, entry_bindings};
 
 use crate::tower::tower_of_value;
@@ -162,7 +162,7 @@ fn has_object(held: &[&Value], object: &Uuid) -> bool
 
 // The object that bindings carry for one that is wanted, where there are bindings.
 fn carried_object(wanted: Uuid, held: &[&Value]) -> Option<Uuid>
-    ensures { result ≡ carried wanted (map (λ v. v.now) held.now) }
+    ensures { result ≡ object_to_carry wanted (map (λ v. v.now) held.now) }
 {
     if wanted.is_nil() {
         return Some(least_object(held).unwrap_or(Uuid::nil()));

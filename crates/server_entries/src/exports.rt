@@ -2,15 +2,15 @@
 ghost use Rattle.std.specs.Prelude.{◌≡◌, ◌++◌, [], ◌∷◌, map, filter, length, IfOk, IfErr, IfSome, OnOk, IsOk, None};
 ghost use Rattle.std.specs.Option.{option_copied};
 ghost use Rattle.std.specs.Result.{result_err};
-ghost use Rattle.cds_stamps.specs.Ascending.{ascending};
+ghost use Rattle.cds_stamps.specs.Ascending.{in_ascending_order};
 ghost use Rattle.cds_stamps.specs.Names.{attr_fault};
 ghost use Rattle.cds_stamps.specs.declared.alloc_or.AllocOr.TheVariants.{Fault, OutOfMemory};
 ghost use Rattle.tower_codec.specs.Rpc.{rpc_octets};
 ghost use Rattle.directory.specs.Updates.{Remove};
 ghost use Rattle.directory.specs.EntryChanges.{changes};
 ghost use Rattle.server_entries.specs.Clients.{ndr_syntax};
-ghost use Rattle.server_entries.specs.Exports.{tower_attribute, object_attribute, exported_tower, tower_added, object_added, exported, export_fault};
-ghost use Rattle.server_entries.specs.Exports.{tower_goes, object_goes, unexported, unexport_fault};
+ghost use Rattle.server_entries.specs.Exports.{tower_attribute, object_attribute, exported_tower, tower_added, object_added, export_changes, export_fault};
+ghost use Rattle.server_entries.specs.Exports.{tower_goes, object_goes, unexport_changes, unexport_fault};
 
 use crate::client::ndr;
 use crate::tower::tower_of_value;
@@ -123,7 +123,7 @@ fn exported_updates(
     objects: &[Uuid],
 ) -> Result<Vec<Update>, AllocError>
     ensures { IfOk result (λ list. changes list.items
-        ≡ exported name.now absent interface.now bindings.now objects.now) }
+        ≡ export_changes name.now absent interface.now bindings.now objects.now) }
 {
     let mut updates = creation(alloc, name, absent)?;
     push_towers(alloc, &mut updates, name, interface, bindings)?;
@@ -152,7 +152,7 @@ pub fn export(
     objects: &[Uuid],
 ) -> Result<Vec<Update>, AllocOr<ExportFault>>
     ensures updates { IfOk result (λ list. changes list.items
-        ≡ exported name.now absent interface.now bindings.now objects.now) }
+        ≡ export_changes name.now absent interface.now bindings.now objects.now) }
 
     // The fault, and that no other comes.
     ensures faulty { IfSome (export_fault bindings.now objects.now)
@@ -193,7 +193,7 @@ fn towers_to_go<'a>(
     interface: Option<&Interface>,
 ) -> Result<Vec<&'a Value>, AllocError>
     ensures values { IfOk result (λ list. map (λ v. v.now) list.items
-        ≡ ascending (filter (tower_goes (option_copied interface.entry)) towers.now)) }
+        ≡ in_ascending_order (filter (tower_goes (option_copied interface.entry)) towers.now)) }
     ensures none { filter (tower_goes (option_copied interface.entry)) towers.now ≡ []
         → IsOk result }
 {
@@ -213,7 +213,7 @@ fn objects_to_go<'a>(
     objects: &[Uuid],
 ) -> Result<Vec<&'a Value>, AllocError>
     ensures values { IfOk result (λ list. map (λ v. v.now) list.items
-        ≡ ascending (filter (object_goes objects.now) held.now)) }
+        ≡ in_ascending_order (filter (object_goes objects.now) held.now)) }
     ensures none { filter (object_goes objects.now) held.now ≡ [] → IsOk result }
 {
     let mut list = Vec::new(alloc);
@@ -273,8 +273,8 @@ fn unexported_updates(
     objects: &[Uuid],
 ) -> Result<Vec<Update>, AllocError>
     ensures updates { IfOk result (λ list. changes list.items
-        ≡ unexported name.now towers.now held.now (option_copied interface.entry) objects.now) }
-    ensures none { unexported name.now towers.now held.now (option_copied interface.entry) objects.now
+        ≡ unexport_changes name.now towers.now held.now (option_copied interface.entry) objects.now) }
+    ensures none { unexport_changes name.now towers.now held.now (option_copied interface.entry) objects.now
         ≡ [] → IsOk result }
 {
     let towers = towers_to_go(alloc, towers, interface)?;
@@ -294,14 +294,14 @@ pub fn unexport(
     objects: &[Uuid],
 ) -> Result<Vec<Update>, AllocOr<ExportFault>>
     ensures updates { IfOk result (λ list. changes list.items
-        ≡ unexported name.now towers.now held.now (option_copied interface.entry) objects.now) }
+        ≡ unexport_changes name.now towers.now held.now (option_copied interface.entry) objects.now) }
 
     // The fault, and that no other comes.
     ensures faulty { IfSome (unexport_fault
-        (unexported name.now towers.now held.now (option_copied interface.entry) objects.now))
+        (unexport_changes name.now towers.now held.now (option_copied interface.entry) objects.now))
         (λ fault. result ≡ Err (Fault fault)) }
     ensures lacking { unexport_fault
-        (unexported name.now towers.now held.now (option_copied interface.entry) objects.now) ≡ None
+        (unexport_changes name.now towers.now held.now (option_copied interface.entry) objects.now) ≡ None
         → IfErr result (λ e. e ≡ OutOfMemory) }
 {
     let updates = unexported_updates(alloc, name, towers, held, interface, objects)?;

@@ -8,12 +8,12 @@ ghost use Rattle.tower_codec.specs.Binding.{FitsBinding};
 ghost use Rattle.tower_codec.specs.Rpc.{rpc_octets, IsInterface};
 ghost use Rattle.tower_codec.specs.Serving.{serves};
 ghost use Rattle.directory.specs.Histories.{Mark, IsHistory};
-ghost use Rattle.directory.specs.Shown.{Shown, shown};
+ghost use Rattle.directory.specs.Shown.{Shown, shown_of_name};
 ghost use Rattle.directory.specs.EntryChanges.{AreAccepted};
 ghost use Rattle.server_entries.specs.declared.client.Wanted.{Wanted};
 ghost use Rattle.server_entries.specs.ServerTowers.{IsServerTower, rpc_tower_of};
-ghost use Rattle.server_entries.specs.Clients.{wants, carried, entry_bindings, IsBindingOf};
-ghost use Rattle.server_entries.specs.Exports.{exported_tower, exported, tower_goes, unexported};
+ghost use Rattle.server_entries.specs.Clients.{wants, object_to_carry, entry_bindings, IsBindingOf};
+ghost use Rattle.server_entries.specs.Exports.{exported_tower, export_changes, tower_goes, unexport_changes};
 
 /// The RPC server that is read of octets is the one whose tower they are, and each such tower is read.
 pub fn server_towers_are_read()
@@ -33,7 +33,7 @@ pub fn exported_servers_are_found()
         (towers held : List (List ℕ)) → IsInterface interface → FitsBinding binding
         → Contains towers (rpc_octets (exported_tower interface binding))
         → serves interface wanted.interface ≡ true → wants wanted binding.protseq ≡ true
-        → carried wanted.object held ≡ Some object
+        → object_to_carry wanted.object held ≡ Some object
         → Contains (entry_bindings wanted towers held) (record binding { object = object }) }
 {}
 
@@ -48,8 +48,8 @@ pub fn exported_servers_can_go()
 pub fn server_updates_are_accepted()
     ensures exports { (h : List Mark) (n : List ℕ) (interface : Interface) (bindings : List StringBinding)
         (objects : List (List ℕ)) → IsHistory h
-        → AreAccepted h (exported n (is_none (shown h n)) interface bindings objects) }
+        → AreAccepted h (export_changes n (is_none (shown_of_name h n)) interface bindings objects) }
     ensures unexports { (h : List Mark) (n : List ℕ) (e : Shown) (towers held : List (List ℕ))
-        (interface : Option Interface) (objects : List (List ℕ)) → shown h n ≡ Some e
-        → AreAccepted h (unexported n towers held interface objects) }
+        (interface : Option Interface) (objects : List (List ℕ)) → shown_of_name h n ≡ Some e
+        → AreAccepted h (unexport_changes n towers held interface objects) }
 {}

@@ -10,7 +10,7 @@ use Rattle.skulk_core.specs.declared.skulk.Skulk.{Skulk}
 use Rattle.skulk_core.specs.declared.skulk.Skulk.TheVariants.{Idle, Gathering, Spreading}
 use Rattle.skulk_core.specs.declared.skulk.Next.TheVariants.{Nothing, SendSpread, Complete}
 use Rattle.cds_stamps.specs.Places.{has_place, each_place}
-use Rattle.skulk_core.specs.Rounds.{also, TakesGathered, TakesSpread, IsRound, IsPhaseOf}
+use Rattle.skulk_core.specs.MasterRounds.{also, TakesGathered, TakesSpread, IsRound, IsPhaseOf}
 use Rattle.cds_stamps.proofs.Masks.{same_place, other_place, each_place-same, each_place-false, each_place-from}
 
 -- ---- cases

@@ -1,7 +1,7 @@
 // The phases of a skulk.
 ghost use Rattle.std.specs.Prelude.{◌≡◌, ℕ, ◌<◌, ◌≤◌};
 ghost use Rattle.cds_stamps.specs.Members.{most_members};
-ghost use Rattle.skulk_core.specs.Rounds.{Begins, TakesGathered, TakesSpread, IsPhaseOf, running};
+ghost use Rattle.skulk_core.specs.MasterRounds.{Begins, TakesGathered, TakesSpread, IsPhaseOf, running_stamp};
 
 use cds_stamps::{MemberMask, Stamp};
 
@@ -99,7 +99,7 @@ impl Skulk {
 
     // The stamp of the skulk that runs.
     fn running(&self) -> Option<Stamp>
-        ensures { result ≡ running self.now }
+        ensures { result ≡ running_stamp self.now }
     {
         match self {
             Skulk::Idle => None,

@@ -11,9 +11,9 @@ use Rattle.tower_codec.specs.declared.binding.StringBinding.{StringBinding}
 use Rattle.tower_codec.specs.declared.fault.BindingFault.{BindingFault}
 use Rattle.tower_codec.specs.declared.fault.BindingFault.TheVariants.{BadObject, BadProtseq, BadAddress, BadEndpoint}
 use Rattle.tower_codec.specs.declared.rpc.Protseq.{Protseq}
-use Rattle.tower_codec.specs.Steps.{◌>>=◌, Gives}
+use Rattle.tower_codec.specs.ReadingSteps.{◌>>=◌, Gives}
 use Rattle.tower_codec.specs.Binding.{address_text, IsEndpointPart}
-use Rattle.tower_codec.specs.BindingReading.{cut, number_of, object_of, object_at, protseq_named, protseq_at, parts_of, endpoint_parts, octet_at}
+use Rattle.tower_codec.specs.BindingReading.{cut_at_mark, number_of, object_of, object_at, protseq_named, protseq_at, parts_of, endpoint_parts, octet_at}
 use Rattle.tower_codec.specs.BindingReading.{address_of, port_before, port_of, binding_of}
 use Rattle.tower_codec.specs.BindingFaults.{HasMark, MayBeEndpoint, ObjectThen, ProtseqThen, AddressThen, IsBindingFault}
 use Rattle.tower_codec.proofs.StepLaws.{ok_is, bind_err, pair_ok}
@@ -26,31 +26,31 @@ abbrev more_front : ℕ → List ℕ × List ℕ → List ℕ × List ℕ
 more_front c p = (c ∷ p.0, p.1)
 
 -- a text with a mark is cut
-mark_cut : (mark : ℕ) (front back : List ℕ) → cut mark (front ++ mark ∷ back) ≡ None → ⊥
-unfolding cut
+mark_cut : (mark : ℕ) (front back : List ℕ) → cut_at_mark mark (front ++ mark ∷ back) ≡ None → ⊥
+unfolding cut_at_mark
 mark_cut mark [] back none = let cuts = rw (eq-eqb mark mark refl) at none in cc (cuts)
 mark_cut mark (c ∷ front) back none =
     elim (cases_eq c mark) [
       | inl same ↦ (let cuts = rw (eq-eqb c mark same) at none in cc (cuts))
-      | inr other ↦ (let cuts = rw (ne_eqb c mark other) at none in mark_cut mark front back (unmapped (cut mark (front ++ mark ∷ back)) cuts))
+      | inr other ↦ (let cuts = rw (ne_eqb c mark other) at none in mark_cut mark front back (unmapped (cut_at_mark mark (front ++ mark ∷ back)) cuts))
     ]
   where
     unmapped : (o : Option (List ℕ × List ℕ)) → option_map (more_front c) o ≡ None → o ≡ None
     unmapped None e = refl
     unmapped (Some p) e = absurd cc
 
-no_mark : (mark : ℕ) (text : List ℕ) → cut mark text ≡ None → HasMark mark text → ⊥
-no_mark mark text none has = mark_cut mark has.0 has.1 (ap (cut mark) (sym has.2) ∙ none)
+no_mark : (mark : ℕ) (text : List ℕ) → cut_at_mark mark text ≡ None → HasMark mark text → ⊥
+no_mark mark text none has = mark_cut mark has.0 has.1 (ap (cut_at_mark mark) (sym has.2) ∙ none)
 
 -- no mark stands before the first
-first_mark : (mark : ℕ) (text : List ℕ) (p : List ℕ × List ℕ) → cut mark text ≡ Some p → HasMark mark p.0 → ⊥
-unfolding cut
+first_mark : (mark : ℕ) (text : List ℕ) (p : List ℕ × List ℕ) → cut_at_mark mark text ≡ Some p → HasMark mark p.0 → ⊥
+unfolding cut_at_mark
 first_mark mark [] p e has = absurd cc
 first_mark mark (c ∷ text) p e has =
     elim (cases_eq c mark) [
       | inl same ↦ (let cuts : ◌≡◌ {A = Option (List ℕ × List ℕ)} (Some ([], text)) (Some p) = rw (eq-eqb c mark same) at e in
           none_in has.0 has.1 (ap (λ (q : List ℕ × List ℕ). q.0) (some_is ([], text) p cuts) ∙ has.2))
-      | inr other ↦ (let cuts = rw (ne_eqb c mark other) at e in later (first_mark mark text) (cut mark text) refl cuts other)
+      | inr other ↦ (let cuts = rw (ne_eqb c mark other) at e in later (first_mark mark text) (cut_at_mark mark text) refl cuts other)
     ]
   where
     some_is : (q r : List ℕ × List ℕ) → ◌≡◌ {A = Option (List ℕ × List ℕ)} (Some q) (Some r) → q ≡ r
@@ -64,7 +64,7 @@ first_mark mark (c ∷ text) p e has =
     at_head [] back rest other none is = other (cc (is))
     at_head (b ∷ front) back rest other none is = let same : rest ≡ front ++ mark ∷ back = cc (is) in none (front, back, same)
 
-    later : ((q : List ℕ × List ℕ) → cut mark text ≡ Some q → HasMark mark q.0 → ⊥) → (o : Option (List ℕ × List ℕ)) → cut mark text ≡ o
+    later : ((q : List ℕ × List ℕ) → cut_at_mark mark text ≡ Some q → HasMark mark q.0 → ⊥) → (o : Option (List ℕ × List ℕ)) → cut_at_mark mark text ≡ o
         → option_map (more_front c) o ≡ Some p → (c ≡ mark → ⊥) → ⊥
     later behind None is e other = cc (e)
     later behind (Some q) is e other =
@@ -85,7 +85,7 @@ mapped_none : {A B : Type 0} (o : Option A) (f : A → B) → option_map f o ≡
 mapped_none None f is = refl
 mapped_none (Some x) f is = absurd cc
 
-object_fails : (text : List ℕ) (o : Option (List ℕ × List ℕ)) (e : BindingFault) → cut 64 text ≡ o → object_of text o ≡ Err e → (BadObject ≡ e)
+object_fails : (text : List ℕ) (o : Option (List ℕ × List ℕ)) (e : BindingFault) → cut_at_mark 64 text ≡ o → object_of text o ≡ Err e → (BadObject ≡ e)
     × IsBindingFault text BadObject
 object_fails text None e is fails = absurd cc
 object_fails text (Some p) e is fails =
@@ -94,14 +94,14 @@ object_fails text (Some p) e is fails =
 
 no_object : (text : List ℕ) (e : BindingFault) → object_at text ≡ Err e → (BadObject ≡ e) × IsBindingFault text BadObject
 unfolding object_at
-no_object text e fails = object_fails text (cut 64 text) e refl fails
+no_object text e fails = object_fails text (cut_at_mark 64 text) e refl fails
 
 -- a part with its mark is not empty
 mark_ends : (front : List ℕ) (mark : ℕ) → front ++ mark ∷ [] ≡ [] → ⊥
 mark_ends [] mark is = cc
 mark_ends (b ∷ front) mark is = cc
 
-object_stand : (text : List ℕ) (o : Option (List ℕ × List ℕ)) (y : List ℕ × List ℕ) → cut 64 text ≡ o → object_of text o ≡ Ok y → ObjectThen text y.1
+object_stand : (text : List ℕ) (o : Option (List ℕ × List ℕ)) (y : List ℕ × List ℕ) → cut_at_mark 64 text ≡ o → object_of text o ≡ Ok y → ObjectThen text y.1
 object_stand text None y none is =
     subst (λ (z : List ℕ × List ℕ). ObjectThen text z.1) (ok_is (zero_bytes, text) y is)
     ([], zero_bytes, inl (refl, refl), refl, λ empty has. no_mark 64 text none has)
@@ -116,13 +116,13 @@ object_stand text (Some p) y some is =
 
 object_then : (text : List ℕ) (y : List ℕ × List ℕ) → object_at text ≡ Ok y → ObjectThen text y.1
 unfolding object_at
-object_then text y is = object_stand text (cut 64 text) y refl is
+object_then text y is = object_stand text (cut_at_mark 64 text) y refl is
 
 protseq_fails : (text : List ℕ) (e : BindingFault) → protseq_at text ≡ Err e → BadProtseq ≡ e
 unfolding protseq_at
 protseq_fails text e fails =
-    elim (bind_err (ok_or (cut 58 text) BadProtseq) (λ p. ok_or (option_map (λ protseq. (protseq, p.1)) (protseq_named p.0)) BadProtseq) e fails) [
-      | inl none ↦ (ok_or_err (cut 58 text) BadProtseq e none).1
+    elim (bind_err (ok_or (cut_at_mark 58 text) BadProtseq) (λ p. ok_or (option_map (λ protseq. (protseq, p.1)) (protseq_named p.0)) BadProtseq) e fails) [
+      | inl none ↦ (ok_or_err (cut_at_mark 58 text) BadProtseq e none).1
       | inr some ↦ (ok_or_err (option_map (λ protseq. (protseq, some.0.1)) (protseq_named some.0.0)) BadProtseq e some.2).1
     ]
 
@@ -132,8 +132,8 @@ no_protseq text e fails rest stands = never (stands.0, rest) e (sym (protseq_aga
 octet_fails : (text : List ℕ) (e : BindingFault) → octet_at text ≡ Err e → BadAddress ≡ e
 unfolding octet_at
 octet_fails text e fails =
-    elim (bind_err (ok_or (cut 46 text) BadAddress) (λ p. ok_or (option_map (λ n. (n, p.1)) (number_of 255 p.0)) BadAddress) e fails) [
-      | inl none ↦ (ok_or_err (cut 46 text) BadAddress e none).1
+    elim (bind_err (ok_or (cut_at_mark 46 text) BadAddress) (λ p. ok_or (option_map (λ n. (n, p.1)) (number_of 255 p.0)) BadAddress) e fails) [
+      | inl none ↦ (ok_or_err (cut_at_mark 46 text) BadAddress e none).1
       | inr some ↦ (ok_or_err (option_map (λ n. (n, some.0.1)) (number_of 255 some.0.0)) BadAddress e some.2).1
     ]
 
@@ -166,7 +166,7 @@ parts_again front rest lack (inl none) =
     ap endpoint_parts text ∙ rw (cut_none 91 front lack) same
 parts_again front rest lack (inr some) =
     let text : front ++ rest ≡ front ++ 91 ∷ some.0 = ap (λ (x : List ℕ). front ++ x) some.1 in
-    let found : cut 91 (front ++ 91 ∷ some.0) ≡ Some (front, some.0) = cut_again 91 front some.0 lack in
+    let found : cut_at_mark 91 (front ++ 91 ∷ some.0) ≡ Some (front, some.0) = cut_again 91 front some.0 lack in
     let behind : drop (length front) (front ++ 91 ∷ some.0) ≡ rest = drop_at front (91 ∷ some.0) (length front) refl ∙ sym some.1 in
     ap endpoint_parts text ∙ rw (found, behind) refl
 
@@ -174,7 +174,7 @@ record PartsStand (text : List ℕ) (parts : List ℕ × List ℕ) : Type 0 wher
   whole : text ≡ parts.0 ++ parts.1
   endpoint : MayBeEndpoint parts.1
 
-parts_stand : (text : List ℕ) (o : Option (List ℕ × List ℕ)) → cut 91 text ≡ o → PartsStand text (parts_of text o)
+parts_stand : (text : List ℕ) (o : Option (List ℕ × List ℕ)) → cut_at_mark 91 text ≡ o → PartsStand text (parts_of text o)
 parts_stand text None none = record { whole = sym (append-nil text); endpoint = inl refl }
 parts_stand text (Some p) some =
     let found = cut_found 91 text p some in
@@ -183,7 +183,7 @@ parts_stand text (Some p) some =
 
 endpoint_stand : (text : List ℕ) → PartsStand text (endpoint_parts text)
 unfolding endpoint_parts
-endpoint_stand text = parts_stand text (cut 91 text) refl
+endpoint_stand text = parts_stand text (cut_at_mark 91 text) refl
 
 no_address : (text : List ℕ) (e : BindingFault) → address_of (endpoint_parts text).0 ≡ Err e → (rest : List ℕ) → AddressThen text rest → ⊥
 no_address text e fails rest (address, fits, is, may) =
@@ -200,7 +200,7 @@ address_then text address is =
 port_fails : (text : List ℕ) (e : BindingFault) → port_of text ≡ Err e → BadEndpoint ≡ e
 unfolding port_of
 port_fails [] e fails = absurd cc
-port_fails (bracket ∷ text) e fails = (ok_or_err (port_before (cut 93 text)) BadEndpoint e fails).1
+port_fails (bracket ∷ text) e fails = (ok_or_err (port_before (cut_at_mark 93 text)) BadEndpoint e fails).1
 
 no_port : (part : List ℕ) (e : BindingFault) → port_of part ≡ Err e → (port : ℕ) → port < 2 ^ 16 → IsEndpointPart part port → ⊥
 no_port part e fails port small is = never port e (sym (endpoint_again [] part port is small refl).1 ∙ fails)

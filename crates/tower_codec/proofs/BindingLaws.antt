@@ -16,10 +16,10 @@ use Rattle.tower_codec.specs.declared.fault.BindingFault.{BindingFault}
 use Rattle.tower_codec.specs.declared.fault.BindingFault.TheVariants.{BadObject, BadProtseq, BadAddress, BadEndpoint}
 use Rattle.tower_codec.specs.declared.rpc.Protseq.{Protseq}
 use Rattle.tower_codec.specs.declared.rpc.Protseq.TheVariants.{Tcp, Udp}
-use Rattle.tower_codec.specs.Steps.{◌>>=◌, Gives}
+use Rattle.tower_codec.specs.ReadingSteps.{◌>>=◌, Gives}
 use Rattle.tower_codec.specs.Binding.{protseq_name, address_text, object_text, endpoint_text, binding_text, IsObjectPart, IsEndpointPart, FitsBinding}
 use Rattle.tower_codec.specs.Binding.{IsUuid, IsBinding}
-use Rattle.tower_codec.specs.BindingReading.{cut, number_of, object_of, object_at, protseq_named, protseq_at, parts_of, endpoint_parts, octet_at}
+use Rattle.tower_codec.specs.BindingReading.{cut_at_mark, number_of, object_of, object_at, protseq_named, protseq_at, parts_of, endpoint_parts, octet_at}
 use Rattle.tower_codec.specs.BindingReading.{address_of, port_before, port_of, binding_of}
 use Rattle.tower_codec.proofs.StepLaws.{ok_is, bind_ok, ok_or_ok, pair_ok}
 use Rattle.tower_codec.proofs.Cuts.{lacks, lacks-append, cut_again, cut_none, cut_found}
@@ -37,7 +37,7 @@ record ObjectStands (text object rest : List ℕ) : Type 0 where
   is : IsObjectPart part object
   front : text ≡ part ++ rest
 
-object_stands : (text : List ℕ) (cut_is : Option (List ℕ × List ℕ)) (y : List ℕ × List ℕ) → cut 64 text ≡ cut_is → object_of text cut_is ≡ Ok y
+object_stands : (text : List ℕ) (cut_is : Option (List ℕ × List ℕ)) (y : List ℕ × List ℕ) → cut_at_mark 64 text ≡ cut_is → object_of text cut_is ≡ Ok y
     → ObjectStands text y.0 y.1
 object_stands text None y e h =
     subst (λ (z : List ℕ × List ℕ). ObjectStands text z.0 z.1) (ok_is (zero_bytes, text) y h)
@@ -52,17 +52,17 @@ object_stands text (Some p) y e h =
 
 object_found : (text : List ℕ) (y : List ℕ × List ℕ) → object_at text ≡ Ok y → ObjectStands text y.0 y.1
 unfolding object_at
-object_found text y h = object_stands text (cut 64 text) y refl h
+object_found text y h = object_stands text (cut_at_mark 64 text) y refl h
 
 object_again : (part object rest : List ℕ) → IsObjectPart part object → lacks 64 rest ≡ true → object_at (part ++ rest) ≡ Ok (object, rest)
 unfolding object_at
 object_again part object rest (inl nil) lack =
-    let none : cut 64 rest ≡ None = cut_none 64 rest lack in
+    let none : cut_at_mark 64 rest ≡ None = cut_none 64 rest lack in
     let text : part ++ rest ≡ rest = ap (λ (x : List ℕ). x ++ rest) nil.0 in
     ap object_at text ∙ rw (none, nil.1) refl
 object_again part object rest (inr uuid) lack =
     let text : part ++ rest ≡ uuid.0 ++ 64 ∷ rest = ap (λ (x : List ℕ). x ++ rest) uuid.1 ∙ append_assoc uuid.0 (64 ∷ []) rest in
-    let found : cut 64 (uuid.0 ++ 64 ∷ rest) ≡ Some (uuid.0, rest) = cut_again 64 uuid.0 rest
+    let found : cut_at_mark 64 (uuid.0 ++ 64 ∷ rest) ≡ Some (uuid.0, rest) = cut_again 64 uuid.0 rest
     (uuid_lacks 64 uuid.0 object uuid.2 (λ e. absurd (omega arith)) refl) in
     ap object_at text ∙ rw (found, uuid.2) refl
 
@@ -92,8 +92,8 @@ named_again Udp = refl
 pub protseq_found : (text : List ℕ) (y : Protseq × List ℕ) → protseq_at text ≡ Ok y → text ≡ protseq_name y.0 ++ 58 ∷ y.1
 unfolding protseq_at
 protseq_found text y h =
-    let a = bind_ok (ok_or (cut 58 text) BadProtseq) (λ p. ok_or (option_map (λ protseq. (protseq, p.1)) (protseq_named p.0)) BadProtseq) y h in
-    let parts = cut_found 58 text a.0 (ok_or_ok (cut 58 text) BadProtseq a.0 a.1) in
+    let a = bind_ok (ok_or (cut_at_mark 58 text) BadProtseq) (λ p. ok_or (option_map (λ protseq. (protseq, p.1)) (protseq_named p.0)) BadProtseq) y h in
+    let parts = cut_found 58 text a.0 (ok_or_ok (cut_at_mark 58 text) BadProtseq a.0 a.1) in
     let named = pair_ok (protseq_named a.0.0) a.0.1 BadProtseq y a.2 in
     parts ∙ ap (λ (x : List ℕ). x ++ 58 ∷ a.0.1) (named_is a.0.0 y.0 named.0) ∙ ap (λ (x : List ℕ). protseq_name y.0 ++ 58 ∷ x) named.1
 
@@ -113,8 +113,8 @@ protseq_again protseq rest =
 octet_found : (text : List ℕ) (y : ℕ × List ℕ) → octet_at text ≡ Ok y → (text ≡ decimal y.0 ++ 46 ∷ y.1) × (y.0 < 256)
 unfolding octet_at
 octet_found text y h =
-    let a = bind_ok (ok_or (cut 46 text) BadAddress) (λ p. ok_or (option_map (λ n. (n, p.1)) (number_of 255 p.0)) BadAddress) y h in
-    let parts = cut_found 46 text a.0 (ok_or_ok (cut 46 text) BadAddress a.0 a.1) in
+    let a = bind_ok (ok_or (cut_at_mark 46 text) BadAddress) (λ p. ok_or (option_map (λ n. (n, p.1)) (number_of 255 p.0)) BadAddress) y h in
+    let parts = cut_found 46 text a.0 (ok_or_ok (cut_at_mark 46 text) BadAddress a.0 a.1) in
     let found = pair_ok (number_of 255 a.0.0) a.0.1 BadAddress y a.2 in
     let number = number_found 255 y.0 a.0.0 (lit< tt) found.0 in
     (parts ∙ ap (λ (x : List ℕ). x ++ 46 ∷ a.0.1) number.0 ∙ ap (λ (x : List ℕ). decimal y.0 ++ 46 ∷ x) found.1, omega (arith, number.1))
@@ -203,7 +203,7 @@ record EndpointStands (text : List ℕ) (parts : List ℕ × List ℕ) (port : �
   small : port < 2 ^ 16
   whole : text ≡ parts.0 ++ parts.1
 
-port_stands : (text : List ℕ) (cut_is : Option (List ℕ × List ℕ)) (port : ℕ) → cut 93 text ≡ cut_is → port_before cut_is ≡ Some port
+port_stands : (text : List ℕ) (cut_is : Option (List ℕ × List ℕ)) (port : ℕ) → cut_at_mark 93 text ≡ cut_is → port_before cut_is ≡ Some port
     → (91 ∷ text ≡ 91 ∷ (decimal port ++ 93 ∷ [])) × (port < 2 ^ 16)
 port_stands text None port e h = absurd cc
 port_stands text (Some p) port e h =
@@ -223,9 +223,9 @@ none_stands text port h =
 
 port_found : (text : List ℕ) (port : ℕ) → port_of (91 ∷ text) ≡ Ok port → (91 ∷ text ≡ 91 ∷ (decimal port ++ 93 ∷ [])) × (port < 2 ^ 16)
 unfolding port_of
-port_found text port h = port_stands text (cut 93 text) port refl (ok_or_ok (port_before (cut 93 text)) BadEndpoint port h)
+port_found text port h = port_stands text (cut_at_mark 93 text) port refl (ok_or_ok (port_before (cut_at_mark 93 text)) BadEndpoint port h)
 
-endpoint_stands : (text : List ℕ) (cut_is : Option (List ℕ × List ℕ)) (port : ℕ) → cut 91 text ≡ cut_is → port_of (parts_of text cut_is).1 ≡ Ok port
+endpoint_stands : (text : List ℕ) (cut_is : Option (List ℕ × List ℕ)) (port : ℕ) → cut_at_mark 91 text ≡ cut_is → port_of (parts_of text cut_is).1 ≡ Ok port
     → EndpointStands text (parts_of text cut_is) port
 endpoint_stands text None port e h = none_stands text port h
 endpoint_stands text (Some p) port e h =
@@ -236,7 +236,7 @@ endpoint_stands text (Some p) port e h =
 
 endpoint_found : (text : List ℕ) (port : ℕ) → port_of (endpoint_parts text).1 ≡ Ok port → EndpointStands text (endpoint_parts text) port
 unfolding endpoint_parts
-endpoint_found text port h = endpoint_stands text (cut 91 text) port refl h
+endpoint_found text port h = endpoint_stands text (cut_at_mark 91 text) port refl h
 
 -- An endpoint part is cut off, and read as its port.
 pub endpoint_again : (front part : List ℕ) (port : ℕ) → IsEndpointPart part port → port < 2 ^ 16 → lacks 91 front ≡ true
@@ -247,9 +247,9 @@ endpoint_again front part port (inl none) small lack =
     let same : (front, []) ≡ (front, part) = ap (λ (x : List ℕ). (front, x)) (sym none.0) in
     (ap endpoint_parts text ∙ rw (cut_none 91 front lack) same, ap port_of none.0 ∙ ap Ok (sym none.1))
 endpoint_again front part port (inr some) small lack =
-    let digits : cut 93 (decimal port ++ 93 ∷ []) ≡ Some (decimal port, []) = cut_again 93 (decimal port) [] (decimal_lacks 93 port (omega arith) refl) in
+    let digits : cut_at_mark 93 (decimal port ++ 93 ∷ []) ≡ Some (decimal port, []) = cut_again 93 (decimal port) [] (decimal_lacks 93 port (omega arith) refl) in
     let text : front ++ part ≡ front ++ 91 ∷ (decimal port ++ 93 ∷ []) = ap (λ (x : List ℕ). front ++ x) some in
-    let found : cut 91 (front ++ 91 ∷ (decimal port ++ 93 ∷ [])) ≡ Some (front, decimal port ++ 93 ∷ []) = cut_again 91 front (decimal port ++ 93 ∷ []) lack in
+    let found : cut_at_mark 91 (front ++ 91 ∷ (decimal port ++ 93 ∷ [])) ≡ Some (front, decimal port ++ 93 ∷ []) = cut_again 91 front (decimal port ++ 93 ∷ []) lack in
     let rest : drop (length front) (front ++ 91 ∷ (decimal port ++ 93 ∷ [])) ≡ part = drop_at front (91 ∷ (decimal port ++ 93 ∷ []))
     (length front) refl ∙ sym some in
     (ap endpoint_parts text ∙ rw (found, rest) refl, ap port_of some ∙ rw (digits, number_again 65535 port (omega arith) (lit< tt)) refl)

@@ -10,7 +10,7 @@ use Rattle.tower_codec.specs.Spelling.{tower_octets}
 use Rattle.tower_codec.specs.Rpc.{rpc_floors}
 use Rattle.tower_codec.specs.Binding.{binding_text}
 use Rattle.tower_codec.specs.BindingReading.{binding_of, object_at, protseq_at, protseq_named, endpoint_parts, address_of, octet_at, number_of, digits_of}
-use Rattle.tower_codec.specs.BindingReading.{port_of, cut}
+use Rattle.tower_codec.specs.BindingReading.{port_of, cut_at_mark}
 use Rattle.std.specs.Fmt.{digits}
 use Rattle.uuid.specs.Parts.{zero_bytes}
 use Rattle.uuid.proofs.OnLiterals.{uuid_on_literals}
@@ -97,5 +97,5 @@ faults :
     × (binding_of (codes "ncacn_np:1.2.3.4") ≡ Err BadProtseq)
     × (binding_of (codes "ncacn_ip_tcp:1.2.3.04") ≡ Err BadAddress)
     × (binding_of (codes "ncacn_ip_tcp:1.2.3.4[5]x") ≡ Err BadEndpoint)
-unfolding binding_of object_at protseq_at protseq_named endpoint_parts address_of octet_at number_of digits_of port_of cut uuid_on_literals
+unfolding binding_of object_at protseq_at protseq_named endpoint_parts address_of octet_at number_of digits_of port_of cut_at_mark uuid_on_literals
 faults = (refl, refl, refl, refl)

@@ -5,8 +5,8 @@ use Rattle.std.proofs.lemmas.Bool.{cases_lt, cases_eq, lt-ltb, le-ltb, ne_eqb, e
 use Rattle.tower_codec.specs.declared.fault.TowerFault.{TowerFault}
 use Rattle.tower_codec.specs.declared.fault.TowerFault.TheVariants.{ShortCount, ShortLength, ShortPart, EmptyLeft}
 use Rattle.tower_codec.specs.Tower.{Floor, IsNumber, IsPart, IsFloor, AreFloors, IsFloorDue, IsRightDue, IsFloorsFault, IsFault}
-use Rattle.tower_codec.specs.Steps.{◌>>=◌}
-use Rattle.tower_codec.specs.Reading.{length_at, part_at, floor_at, after_floors, body_at}
+use Rattle.tower_codec.specs.ReadingSteps.{◌>>=◌}
+use Rattle.tower_codec.specs.TowerReading.{length_at, part_at, floor_at, after_floors, body_at}
 use Rattle.tower_codec.proofs.StepLaws.{bind_err}
 use Rattle.tower_codec.proofs.Grammar.{IsBytes, IsBytes-rest, IsBytes-tail}
 use Rattle.tower_codec.proofs.TowersRead.{length_again, part_again, floor_again, length_read, part_stands, floor_read, floor_at_shorter}

@@ -3,7 +3,7 @@ use Rattle.std.proofs.Common.{◌≡◌, ◌≢◌, ℕ, zero, suc, ◌+◌, ◌
 use Rattle.std.specs.Prelude.{slice_get}
 use Rattle.std.proofs.lemmas.List.{take_at, drop_at, drop-drop}
 use Rattle.tower_codec.specs.Tower.{Floor, IsPart, IsFloor, AreFloors}
-use Rattle.tower_codec.specs.Reading.{known_part, after_known_part, known_floor, after_known_floor, known_floors}
+use Rattle.tower_codec.specs.TowerReading.{known_part, after_known_part, known_floor, after_known_floor, known_floors}
 use Rattle.tower_codec.proofs.Grammar.{same_floor}
 
 known_part_is : (x part rest : List ℕ) → IsPart x part rest → (known_part x ≡ part) × (after_known_part x ≡ rest)

@@ -1,7 +1,7 @@
 -- Steps of a reading that did not fail, and of one that did.
 use Rattle.std.proofs.Common.{◌≡◌, Bool, true, false, cond, Option, Some, None, Result, Ok, Err, ◌⊎◌, inl, inr, refl}
 use Rattle.std.specs.Option.{ok_or, option_map}
-use Rattle.tower_codec.specs.Steps.{◌>>=◌}
+use Rattle.tower_codec.specs.ReadingSteps.{◌>>=◌}
 
 -- What two readings found is the same.
 pub ok_is : {A E : Type 0} (x y : A) → ◌≡◌ {A = Result A E} (Ok x) (Ok y) → x ≡ y

@@ -5,8 +5,8 @@ use Rattle.std.proofs.lemmas.Bool.{ltb-false, le-ltb, eqb-false, ne_eqb}
 use Rattle.std.proofs.lemmas.List.{take_at, drop_at, take-append-drop, length-append, length-take-le}
 use Rattle.tower_codec.specs.declared.fault.TowerFault.TheVariants.{ShortPart, EmptyLeft}
 use Rattle.tower_codec.specs.Tower.{Floor, IsNumber, IsFloor, AreFloors, IsTower}
-use Rattle.tower_codec.specs.Steps.{◌>>=◌}
-use Rattle.tower_codec.specs.Reading.{length_at, part_at, floor_at, after_floors, body_at, known_floors}
+use Rattle.tower_codec.specs.ReadingSteps.{◌>>=◌}
+use Rattle.tower_codec.specs.TowerReading.{length_at, part_at, floor_at, after_floors, body_at, known_floors}
 use Rattle.tower_codec.proofs.StepLaws.{ok_is, bind_ok, guard_ok}
 use Rattle.tower_codec.proofs.Grammar.{IsBytes, IsBytes-rest, IsBytes-tail, floors_before, floors_front}
 use Rattle.tower_codec.proofs.Known.{known_floors_are}

@@ -3,7 +3,7 @@ use Rattle.std.proofs.Common.{◌≡◌, ℕ, ◌+◌, ◌<◌, ◌^◌, List, [
 use Rattle.std.proofs.lemmas.List.{length_push}
 use Rattle.tower_codec.specs.Tower.{Floor, AreFloors, IsTower}
 use Rattle.tower_codec.specs.Spelling.{number_octets, floor_octets, FloorFits}
-use Rattle.tower_codec.specs.Reading.{known_floors}
+use Rattle.tower_codec.specs.TowerReading.{known_floors}
 use Rattle.tower_codec.proofs.Known.{known_floors_are, length-known_floors}
 use Rattle.tower_codec.proofs.SpellingLaws.{tower_push}
 

@@ -10,12 +10,12 @@ use Rattle.tower_codec.specs.declared.fault.BindingFault.TheVariants.{BadObject,
 use Rattle.tower_codec.specs.declared.rpc.Protseq.{Protseq}
 use Rattle.tower_codec.specs.declared.rpc.Protseq.TheVariants.{Tcp, Udp}
 use Rattle.tower_codec.specs.Binding.{protseq_name}
-use Rattle.tower_codec.specs.Steps.{◌>>=◌}
+use Rattle.tower_codec.specs.ReadingSteps.{◌>>=◌}
 
 -- A text that is cut at its first mark: what stands before it, and what behind it.
-unfoldable pub cut : ℕ → List ℕ → Option (List ℕ × List ℕ)
-cut mark [] = None
-cut mark (c ∷ text) = if c == mark then Some ([], text) else option_map (λ p. (c ∷ p.0, p.1)) (cut mark text)
+unfoldable pub cut_at_mark : ℕ → List ℕ → Option (List ℕ × List ℕ)
+cut_at_mark mark [] = None
+cut_at_mark mark (c ∷ text) = if c == mark then Some ([], text) else option_map (λ p. (c ∷ p.0, p.1)) (cut_at_mark mark text)
 
 -- The number that decimal digits spell behind those of n.
 abbrev pub value_after : ℕ → List ℕ → ℕ
@@ -40,7 +40,7 @@ object_of text (Some p) = ok_or (option_map (λ object. (object, p.1)) (parsed_h
 
 -- The object in front of a text (own).
 unfoldable pub object_at : List ℕ → Result (List ℕ × List ℕ) BindingFault
-object_at text = object_of text (cut 64 text)
+object_at text = object_of text (cut_at_mark 64 text)
 
 -- The protocol sequence: what stands before the next `:`.
 unfoldable pub protseq_named : List ℕ → Option Protseq
@@ -52,7 +52,7 @@ protseq_named name =
 -- The protocol sequence in front of a text (own).
 unfoldable pub protseq_at : List ℕ → Result (Protseq × List ℕ) BindingFault
 protseq_at text = do
-  p ← ok_or (cut 58 text) BadProtseq
+  p ← ok_or (cut_at_mark 58 text) BadProtseq
   ok_or (option_map (λ protseq. (protseq, p.1)) (protseq_named p.0)) BadProtseq
 
 -- What stands before the next `[`, and what from there on, where there is one.
@@ -62,12 +62,12 @@ parts_of text (Some p) = (p.0, drop (length p.0) text)
 
 -- The text before the endpoint, and the endpoint (own).
 unfoldable pub endpoint_parts : List ℕ → List ℕ × List ℕ
-endpoint_parts text = parts_of text (cut 91 text)
+endpoint_parts text = parts_of text (cut_at_mark 91 text)
 
 -- The address: four numbers up to 255, the first three each before a dot.
 unfoldable pub octet_at : List ℕ → Result (ℕ × List ℕ) BindingFault
 octet_at text = do
-  p ← ok_or (cut 46 text) BadAddress
+  p ← ok_or (cut_at_mark 46 text) BadAddress
   ok_or (option_map (λ n. (n, p.1)) (number_of 255 p.0)) BadAddress
 
 -- The address that a text is (own).
@@ -87,7 +87,7 @@ port_before (Some p) = if length p.1 == 0 then number_of 65535 p.0 else None
 -- The port that an endpoint says (own).
 unfoldable pub port_of : List ℕ → Result ℕ BindingFault
 port_of [] = Ok 0
-port_of (bracket ∷ text) = ok_or (port_before (cut 93 text)) BadEndpoint
+port_of (bracket ∷ text) = ok_or (port_before (cut_at_mark 93 text)) BadEndpoint
 
 -- The binding of a text, or its first fault from the left.
 unfoldable pub binding_of : List ℕ → Result StringBinding BindingFault

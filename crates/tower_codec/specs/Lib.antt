@@ -1,5 +1,5 @@
 pub mod Tower
-pub mod Reading
+pub mod TowerReading
 pub mod FloorView
 pub mod Spelling
 pub mod Rpc
@@ -9,4 +9,4 @@ pub mod InterfaceTexts
 pub mod Binding
 pub mod BindingReading
 pub mod BindingFaults
-pub mod Steps
+pub mod ReadingSteps

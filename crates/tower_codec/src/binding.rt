@@ -1,10 +1,10 @@
 ghost use Rattle.std.specs.Prelude.{◌≡◌, ℕ, ◌<◌, ◌≤◌, List, length, Some, Ok, IfSome, IfOk, IfErr};
 ghost use Rattle.std.specs.Option.{option_map};
 ghost use Rattle.uuid.specs.Text.{parsed_hyphenated};
-ghost use Rattle.tower_codec.specs.Steps.{Gives};
+ghost use Rattle.tower_codec.specs.ReadingSteps.{Gives};
 ghost use Rattle.tower_codec.specs.Binding.{IsBinding, object_text, endpoint_text, binding_text};
 ghost use Rattle.tower_codec.specs.BindingFaults.{IsBindingFault};
-ghost use Rattle.tower_codec.specs.BindingReading.{cut, digits_of, number_of, object_at, protseq_named, protseq_at, endpoint_parts, octet_at, address_of};
+ghost use Rattle.tower_codec.specs.BindingReading.{cut_at_mark, digits_of, number_of, object_at, protseq_named, protseq_at, endpoint_parts, octet_at, address_of};
 ghost use Rattle.tower_codec.specs.BindingReading.{port_of, binding_of};
 
 use crate::{BindingFault, Protseq};
@@ -37,7 +37,7 @@ pub fn read_uuid(octets: &[u8]) -> Option<Uuid>
 
 /// What stands before the first mark, and what behind it.
 pub fn split_at_mark(text: &[u8], mark: u8) -> Option<(&[u8], &[u8])>
-    ensures cut { option_map (λ p. (p.0.now, p.1.now)) result ≡ cut mark text.now }
+    ensures cut { option_map (λ p. (p.0.now, p.1.now)) result ≡ cut_at_mark mark text.now }
     ensures within { IfSome result (λ p. length p.0.now ≤ length text.now) }
 {
     for (i, c) in text.iter().enumerate() {

@@ -2,9 +2,9 @@ ghost use Rattle.std.specs.Prelude.{◌≡◌, ℕ, ◌+◌, ◌-◌, ◌≤◌,
 ghost use Rattle.std.specs.Prelude.{MatchOption, slice_get};
 ghost use Rattle.std.specs.Option.{option_map};
 ghost use Rattle.tower_codec.specs.Tower.{Floor, IsPart, IsFloor, AreFloors, IsTower, IsFault};
-ghost use Rattle.tower_codec.specs.Steps.{Gives};
-ghost use Rattle.tower_codec.specs.Reading.{length_at, part_at, floor_at, after_floors, body_at, known_part, after_known_part, known_floor};
-ghost use Rattle.tower_codec.specs.Reading.{after_known_floor, known_floors};
+ghost use Rattle.tower_codec.specs.ReadingSteps.{Gives};
+ghost use Rattle.tower_codec.specs.TowerReading.{length_at, part_at, floor_at, after_floors, body_at, known_part, after_known_part, known_floor};
+ghost use Rattle.tower_codec.specs.TowerReading.{after_known_floor, known_floors};
 ghost use Rattle.tower_codec.specs.FloorView.{floor_of};
 
 use crate::TowerFault;
@@ -131,7 +131,7 @@ pub struct TowerView<'a> {
 impl<'a> Model for TowerView<'a> {
     ghost use Rattle.std.specs.Prelude.{List, []};
     ghost use Rattle.tower_codec.specs.Tower.{Floor, AreFloors};
-    ghost use Rattle.tower_codec.specs.Reading.{known_floors};
+    ghost use Rattle.tower_codec.specs.TowerReading.{known_floors};
 
     ghost Value = { List Floor };
 

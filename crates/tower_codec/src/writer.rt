@@ -16,7 +16,7 @@ pub struct TowerWriter {
 impl Model for TowerWriter {
     ghost use Rattle.std.specs.Prelude.{List, drop};
     ghost use Rattle.tower_codec.specs.Tower.{Floor, IsTower};
-    ghost use Rattle.tower_codec.specs.Reading.{known_floors};
+    ghost use Rattle.tower_codec.specs.TowerReading.{known_floors};
 
     ghost Value = { List Floor };
 

@@ -2,7 +2,7 @@ use Rattle.std.proofs.Common.{◌∙◌, sym, ap, arith}
 use Rattle.std.specs.Prelude.{◌||◌}
 use Rattle.std.proofs.lemmas.Bool.Decides.{nat_tests}
 use Rattle.cell_model.specs.Steps.{stands_twice}
-use Rattle.held_directories.specs.Posting.{numbers_of}
+use Rattle.house_directory.specs.HouseMessages.{numbers_of}
 use Rattle.cds_cell.proofs.MemberLists.{bad_by_houses, bad_by_number}
 use Rattle.cds_cell.proofs.members.is_bad_list.Goals.{then-others-ge-MOST_MEMBERS, else-others-ge-MOST_MEMBERS}
 use Rattle.cds_cell.proofs.members.is_bad_list.Goals as goal

@@ -3,7 +3,7 @@ use Rattle.std.proofs.lemmas.List.{drop_all}
 use Rattle.cds_stamps.specs.Members.{members_of, members_fault}
 use Rattle.cell_model.specs.Steps.{is_bad_list}
 use Rattle.cell_script.specs.Listings.{houses_in, secondaries_in}
-use Rattle.held_directories.specs.Posting.{numbers_of}
+use Rattle.house_directory.specs.HouseMessages.{numbers_of}
 use Rattle.cds_cell.proofs.MemberLists.{good_listing, lists_end}
 use Rattle.cds_cell.proofs.members.listing.Goals as goal
 

@@ -1,7 +1,7 @@
 use Rattle.std.proofs.Common.{drop}
 use Rattle.cds_stamps.specs.Members.{members_of}
 use Rattle.cell_script.specs.Listings.{houses_in, secondaries_in}
-use Rattle.held_directories.specs.Posting.{numbers_of}
+use Rattle.house_directory.specs.HouseMessages.{numbers_of}
 use Rattle.cds_cell.proofs.MemberLists.{ListsRest}
 use Rattle.cds_cell.proofs.members.listing.Given as goal
 

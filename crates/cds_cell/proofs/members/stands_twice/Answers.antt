@@ -1,7 +1,7 @@
 use Rattle.std.proofs.Common.{◌∙◌, sym, ap}
 use Rattle.std.specs.Prelude.{◌||◌}
 use Rattle.cell_model.specs.Steps.{stands_twice}
-use Rattle.held_directories.specs.Posting.{numbers_of}
+use Rattle.house_directory.specs.HouseMessages.{numbers_of}
 use Rattle.cds_cell.proofs.MemberLists.{twice_behind}
 use Rattle.cds_cell.proofs.members.stands_twice.Goals as goal
 

@@ -1,6 +1,6 @@
 use Rattle.std.proofs.Common.{◌≡◌, length}
 use Rattle.cell_model.specs.Steps.{stands_twice}
-use Rattle.held_directories.specs.Posting.{numbers_of}
+use Rattle.house_directory.specs.HouseMessages.{numbers_of}
 use Rattle.cds_cell.proofs.members.stands_twice.Given as goal
 
 abbrev pub invariant-loop-first : goal.invariant-loop-first

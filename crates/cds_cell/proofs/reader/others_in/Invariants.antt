@@ -1,6 +1,6 @@
 use Rattle.std.proofs.Common.{◌≡◌, ◌++◌, drop}
 use Rattle.cds_stamps.specs.Members.{members_of, others_of}
-use Rattle.held_directories.specs.Posting.{numbers_of}
+use Rattle.house_directory.specs.HouseMessages.{numbers_of}
 use Rattle.cds_cell.proofs.reader.others_in.Given as goal
 
 abbrev pub invariant-loop-member : goal.invariant-loop-member

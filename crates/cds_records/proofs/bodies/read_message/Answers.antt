@@ -1,6 +1,6 @@
 use Rattle.std.proofs.Common.{◌≡◌, true, refl}
 use Rattle.std.proofs.lemmas.Result.{err_from_is_err_and}
-use Rattle.cds_records.specs.Wanting.{message_head, takes_memory, WantsForMessage}
+use Rattle.cds_records.specs.RecordMemory.{message_head, takes_memory, WantsForMessage}
 use Rattle.record_fields.proofs.LayoutLaws.{read_stands}
 use Rattle.record_fields.proofs.WantingLaws.{part_wants}
 use Rattle.cds_records.proofs.bodies.read_message.Goals as goal

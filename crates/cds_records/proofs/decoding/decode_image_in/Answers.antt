@@ -1,7 +1,7 @@
 use Rattle.std.proofs.Common.{◌∙◌, ap, sym, subst, arith, Err}
-use Rattle.record_fields.specs.Reading.{read}
-use Rattle.cds_records.specs.Wanting.{WantsForImage}
-use Rattle.record_fields.specs.Readers.{Reads}
+use Rattle.record_fields.specs.LayoutReading.{read}
+use Rattle.cds_records.specs.RecordMemory.{WantsForImage}
+use Rattle.record_fields.specs.FieldReaders.{Reads}
 use Rattle.cds_records.specs.Images.{image_in}
 use Rattle.cds_messages.specs.declared.image.Image.{Image}
 use Rattle.record_fields.proofs.DecodingLaws.{decoded, rest_within, error_within, error_decodes}

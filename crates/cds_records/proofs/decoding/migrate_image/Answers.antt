@@ -1,4 +1,4 @@
-use Rattle.cds_records.specs.Wanting.{WantsForImage}
+use Rattle.cds_records.specs.RecordMemory.{WantsForImage}
 use Rattle.record_fields.proofs.WantingLaws.{any_wants}
 use Rattle.cds_records.proofs.WholeDecoding.{image_has_head}
 use Rattle.cds_records.proofs.decoding.migrate_image.Goals as goal

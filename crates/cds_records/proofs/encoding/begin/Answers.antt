@@ -1,6 +1,6 @@
 use Rattle.std.proofs.Common.{◌∷◌, [], arith}
 use Rattle.std.specs.Int.{w32, w64, to_be_bytes}
-use Rattle.cds_records.specs.Octets.{message_head}
+use Rattle.cds_records.specs.RecordOctets.{message_head}
 use Rattle.record_fields.proofs.WritingLoops.{behind_6, from_none}
 use Rattle.cds_records.proofs.encoding.begin.Goals as goal
 

@@ -1,6 +1,6 @@
 use Rattle.std.proofs.Common.{◌∙◌}
-use Rattle.cds_records.specs.Octets.{message_head}
-use Rattle.cds_records.specs.Ranges.{FitsHead}
+use Rattle.cds_records.specs.RecordOctets.{message_head}
+use Rattle.cds_records.specs.RecordRanges.{FitsHead}
 use Rattle.std.proofs.Common.{subst}
 use Rattle.cds_records.proofs.WholeMessages.{message_written, written_whole}
 use Rattle.cds_records.proofs.encoding.encode.Goals as goal

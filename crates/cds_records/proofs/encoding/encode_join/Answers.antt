@@ -1,5 +1,5 @@
 use Rattle.cds_messages.specs.declared.message.Body.TheVariants.{Join}
-use Rattle.cds_records.specs.Octets.{body_octets}
+use Rattle.cds_records.specs.RecordOctets.{body_octets}
 use Rattle.cds_records.proofs.WholeMessages.{message_written, written_whole}
 use Rattle.cds_records.proofs.encoding.encode_join.Goals as goal
 

@@ -1,6 +1,6 @@
 use Rattle.std.proofs.Common.{◌++◌, ◌∙◌, ap, subst}
-use Rattle.cds_records.specs.Octets.{members_octets}
-use Rattle.cds_records.specs.Ranges.{FitsMembers}
+use Rattle.cds_records.specs.RecordOctets.{members_octets}
+use Rattle.cds_records.specs.RecordRanges.{FitsMembers}
 use Rattle.record_fields.proofs.WritingLoops.{behind}
 use Rattle.cds_records.proofs.encoding.put_joined.Goals as goal
 

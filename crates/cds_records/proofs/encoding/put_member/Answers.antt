@@ -1,7 +1,7 @@
 use Rattle.std.proofs.Common.{◌++◌, ◌∷◌, [], ◌∙◌, ap}
 use Rattle.std.specs.Int.{w64, to_be_bytes}
-use Rattle.cds_messages.specs.Kinds.{kind_number}
-use Rattle.cds_records.specs.Octets.{member_octets}
+use Rattle.cds_messages.specs.KindNumbers.{kind_number}
+use Rattle.cds_records.specs.RecordOctets.{member_octets}
 use Rattle.record_fields.proofs.WritingLoops.{behind_3}
 use Rattle.cds_records.proofs.encoding.put_member.Goals as goal
 

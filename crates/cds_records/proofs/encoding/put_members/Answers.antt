@@ -1,6 +1,6 @@
 use Rattle.std.proofs.Common.{◌+◌, drop, arith}
 use Rattle.std.proofs.lemmas.List.{drop_more, drop_all}
-use Rattle.cds_records.specs.Octets.{members_octets}
+use Rattle.cds_records.specs.RecordOctets.{members_octets}
 use Rattle.cds_records.proofs.WholeMessages.{members_lawful}
 use Rattle.record_fields.proofs.WritingLoops.{behind}
 use Rattle.cds_records.proofs.WritingMembers.{list_begins, list_goes_on, list_ends}

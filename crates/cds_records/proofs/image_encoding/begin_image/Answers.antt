@@ -1,7 +1,7 @@
 use Rattle.std.proofs.Common.{◌∷◌, []}
 use Rattle.std.specs.Int.{w64, to_be_bytes}
 use Rattle.record_fields.specs.Fields.{node_octets}
-use Rattle.cds_records.specs.Octets.{image_head}
+use Rattle.cds_records.specs.RecordOctets.{image_head}
 use Rattle.record_fields.proofs.WritingLoops.{behind_6, from_none}
 use Rattle.cds_records.proofs.image_encoding.begin_image.Goals as goal
 

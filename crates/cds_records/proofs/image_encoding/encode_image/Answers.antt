@@ -1,8 +1,8 @@
 use Rattle.std.proofs.Common.{◌++◌, ◌∙◌, ap, sym, subst, arith}
 use Rattle.record_fields.specs.Decoding.{IsWhole}
 use Rattle.cds_records.specs.Images.{image}
-use Rattle.cds_records.specs.Octets.{dir_octets, kept_octets, image_head, image_octets}
-use Rattle.record_fields.specs.Octets.{each_octets}
+use Rattle.cds_records.specs.RecordOctets.{dir_octets, kept_octets, image_head, image_octets}
+use Rattle.record_fields.specs.FieldOctets.{each_octets}
 use Rattle.cds_records.proofs.WholeImages.{the_image_whole}
 use Rattle.cds_records.proofs.image_encoding.encode_image.Goals as goal
 

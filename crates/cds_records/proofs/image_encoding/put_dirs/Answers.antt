@@ -2,8 +2,8 @@ use Rattle.std.proofs.Common.{◌∙◌}
 use Rattle.std.proofs.Common.{◌<◌, ◌^◌}
 use Rattle.std.specs.FinMap.{entries}
 use Rattle.cds_stamps.specs.declared.numbers.DirId.{DirId}
-use Rattle.cds_records.specs.Octets.{dir_octets, kept_octets}
-use Rattle.cds_records.specs.Ranges.{FitsDir}
+use Rattle.cds_records.specs.RecordOctets.{dir_octets, kept_octets}
+use Rattle.cds_records.specs.RecordRanges.{FitsDir}
 use Rattle.record_fields.proofs.WritingLoops.{writing_begins, writing_goes_on, writing_ends}
 use Rattle.cds_records.proofs.image_encoding.put_dirs.Goals as goal
 

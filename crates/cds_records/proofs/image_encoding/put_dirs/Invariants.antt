@@ -1,8 +1,8 @@
 use Rattle.std.proofs.Common.{◌<◌, ◌^◌}
 use Rattle.std.specs.FinMap.{entries}
 use Rattle.cds_stamps.specs.declared.numbers.DirId.{DirId}
-use Rattle.cds_records.specs.Octets.{dir_octets, kept_octets}
-use Rattle.cds_records.specs.Ranges.{FitsDir}
+use Rattle.cds_records.specs.RecordOctets.{dir_octets, kept_octets}
+use Rattle.cds_records.specs.RecordRanges.{FitsDir}
 use Rattle.record_fields.proofs.WritingLoops.{Written}
 use Rattle.cds_records.proofs.image_encoding.put_dirs.Given as goal
 

@@ -1,6 +1,6 @@
 use Rattle.std.proofs.Common.{◌∷◌, []}
 use Rattle.std.specs.Int.{w32, w64, to_be_bytes}
-use Rattle.cds_records.specs.Octets.{dir_octets, kept_octets}
+use Rattle.cds_records.specs.RecordOctets.{dir_octets, kept_octets}
 use Rattle.record_fields.proofs.WritingLoops.{behind_3}
 use Rattle.cds_records.proofs.image_encoding.put_gone.Goals as goal
 

@@ -2,8 +2,8 @@ use Rattle.std.proofs.Common.{◌++◌, ◌∷◌, [], ◌∙◌, ap, subst, ari
 use Rattle.std.specs.Prelude.{min}
 use Rattle.std.specs.Int.{w32, w64, to_be_bytes}
 use Rattle.directory.specs.Held.{held_in, most_held}
-use Rattle.cds_records.specs.Octets.{dir_octets, kept_octets, members_octets, replica_octets}
-use Rattle.cds_records.specs.Ranges.{FitsMembers}
+use Rattle.cds_records.specs.RecordOctets.{dir_octets, kept_octets, members_octets, replica_octets}
+use Rattle.cds_records.specs.RecordRanges.{FitsMembers}
 use Rattle.record_fields.proofs.WritingLoops.{behind_6}
 use Rattle.cds_records.proofs.image_encoding.put_held.Goals as goal
 

@@ -1,5 +1,5 @@
 use Rattle.std.proofs.Common.{refl}
-use Rattle.record_fields.specs.Records.{item}
+use Rattle.record_fields.specs.ListLayouts.{item}
 use Rattle.cds_records.proofs.images.add_dir.Goals as goal
 
 pub returns : goal.returns

@@ -1,7 +1,7 @@
 use Rattle.std.proofs.lemmas.Result.{err_from_is_err_and}
 use Rattle.cds_stamps.specs.declared.numbers.DirId.{DirId}
-use Rattle.record_fields.specs.Reading.{read}
-use Rattle.record_fields.specs.Records.{map_of}
+use Rattle.record_fields.specs.LayoutReading.{read}
+use Rattle.record_fields.specs.ListLayouts.{map_of}
 use Rattle.cds_messages.specs.Dirs.{dir_cmp}
 use Rattle.cds_records.specs.Images.{dir_number, dir_state}
 use Rattle.record_fields.proofs.MapLoops.{begins, goes_on, ends, is_done}

@@ -1,6 +1,6 @@
 use Rattle.std.proofs.Common.{◌≡◌}
-use Rattle.record_fields.specs.Reading.{read}
-use Rattle.record_fields.specs.Records.{map_of}
+use Rattle.record_fields.specs.LayoutReading.{read}
+use Rattle.record_fields.specs.ListLayouts.{map_of}
 use Rattle.cds_messages.specs.Dirs.{dir_cmp}
 use Rattle.cds_records.specs.Images.{dir_number, dir_state}
 use Rattle.record_fields.proofs.MapLoops.{to_come}

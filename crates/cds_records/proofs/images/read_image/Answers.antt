@@ -1,5 +1,5 @@
 use Rattle.std.proofs.Common.{refl}
-use Rattle.cds_records.specs.Wanting.{image_head, WantsForImage}
+use Rattle.cds_records.specs.RecordMemory.{image_head, WantsForImage}
 use Rattle.record_fields.proofs.LayoutLaws.{read_stands}
 use Rattle.record_fields.proofs.WantingLaws.{any_wants}
 use Rattle.cds_records.proofs.images.read_image.Goals as goal

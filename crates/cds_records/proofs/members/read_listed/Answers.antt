@@ -1,7 +1,7 @@
 use Rattle.std.proofs.Common.{None, false}
 use Rattle.std.proofs.lemmas.Result.{err_from_is_err_and}
-use Rattle.record_fields.specs.Reading.{read}
-use Rattle.cds_records.specs.Records.{listed}
+use Rattle.record_fields.specs.LayoutReading.{read}
+use Rattle.cds_records.specs.Records.{member_list}
 use Rattle.cds_records.proofs.Listed.{members_begin, members_go_on, members_end, members_done}
 use Rattle.cds_records.proofs.members.read_listed.Goals as goal
 
@@ -18,9 +18,9 @@ pub loop-i-preserved : goal.loop-i-preserved
 loop-i-preserved c =
     rw (c.in_ok-push.ensures.items, c.has_master-master.ensures)
     (members_go_on c.args.secondary c.loop-i.list.items c.args.count c.loop-i.i c.loop-i.before c.loop-i.master c.loop-i.reader c.in_ok-member.member c.read_member.new.reader
-    (read (listed c.args.secondary c.args.count None false) c.args.reader.now) c.loop-i-test.true c.in_ok-member.ensures c.loop-i.invariant)
+    (read (member_list c.args.secondary c.args.count None false) c.args.reader.now) c.loop-i-test.true c.in_ok-member.ensures c.loop-i.invariant)
 
 pub returns : goal.returns
 returns c =
     members_done c.args.secondary c.loop-i.list.items c.args.count c.loop-i.i c.loop-i.before c.loop-i.master c.loop-i.reader
-    (read (listed c.args.secondary c.args.count None false) c.args.reader.now) c.loop-i-test.false c.loop-i.invariant
+    (read (member_list c.args.secondary c.args.count None false) c.args.reader.now) c.loop-i-test.false c.loop-i.invariant

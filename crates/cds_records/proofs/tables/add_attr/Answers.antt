@@ -1,6 +1,6 @@
 use Rattle.std.proofs.Common.{◌∙◌, ap, refl}
 use Rattle.std.specs.FinMap as map
-use Rattle.record_fields.specs.Records.{item}
+use Rattle.record_fields.specs.ListLayouts.{item}
 use Rattle.cds_records.proofs.tables.add_attr.Goals as goal
 
 pub returns : goal.returns

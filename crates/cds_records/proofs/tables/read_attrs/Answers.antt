@@ -2,9 +2,9 @@ use Rattle.std.proofs.Common.{Bor, List, ℕ}
 use Rattle.std.proofs.lemmas.Result.{err_from_is_err_and}
 use Rattle.std.specs.Option.{option_map}
 use Rattle.cds_stamps.specs.Octets.{octets_cmp}
-use Rattle.record_fields.specs.Reading.{read}
+use Rattle.record_fields.specs.LayoutReading.{read}
 use Rattle.record_fields.specs.Fields.{attr_name}
-use Rattle.record_fields.specs.Records.{cell, map_of}
+use Rattle.record_fields.specs.ListLayouts.{cell, map_of}
 use Rattle.record_fields.proofs.MapLoops.{begins, goes_on, ends, is_done}
 use Rattle.cds_records.proofs.tables.read_attrs.Goals as goal
 

@@ -1,9 +1,9 @@
 use Rattle.std.proofs.Common.{◌≡◌}
 use Rattle.std.specs.Option.{option_map}
 use Rattle.cds_stamps.specs.Octets.{octets_cmp}
-use Rattle.record_fields.specs.Reading.{read}
+use Rattle.record_fields.specs.LayoutReading.{read}
 use Rattle.record_fields.specs.Fields.{attr_name}
-use Rattle.record_fields.specs.Records.{cell, map_of}
+use Rattle.record_fields.specs.ListLayouts.{cell, map_of}
 use Rattle.record_fields.proofs.MapLoops.{to_come}
 use Rattle.cds_records.proofs.tables.read_attrs.Given as goal
 

@@ -2,10 +2,10 @@ use Rattle.std.proofs.Common.{Bor, List, ℕ, None, Vec, Global}
 use Rattle.std.proofs.lemmas.Result.{err_from_is_err_and}
 use Rattle.std.specs.Option.{option_map}
 use Rattle.directory.specs.declared.entry.EntryCell.{EntryCell}
-use Rattle.record_fields.specs.Reading.{read}
+use Rattle.record_fields.specs.LayoutReading.{read}
 use Rattle.record_fields.specs.Fields.{simple_name}
 use Rattle.cds_records.specs.Records.{entry}
-use Rattle.record_fields.specs.Records.{ascending}
+use Rattle.record_fields.specs.ListLayouts.{ascending_items}
 use Rattle.record_fields.proofs.ListLoops.{list_begins, list_goes_on, list_ends, list_done}
 use Rattle.cds_records.proofs.tables.read_entries.Goals as goal
 
@@ -24,9 +24,9 @@ pub loop-preserved : goal.loop-preserved
 loop-preserved c =
     list_goes_on simple_name (entry c.args.above.now) (λ (x : Bor (List ℕ)). x.now) c.in_ok-own.own c.loop.entries.items c.push_entry.new.entries.items c.args.count
     c.loop.counter (option_map (λ b. b.now) c.loop.before) c.loop.reader c.push_entry.new.reader
-    (read (ascending simple_name (entry c.args.above.now) c.args.count None) c.args.reader.now) c.loop-test.true c.in_ok-own.ensures c.loop.invariant
+    (read (ascending_items simple_name (entry c.args.above.now) c.args.count None) c.args.reader.now) c.loop-test.true c.in_ok-own.ensures c.loop.invariant
 
 pub returns : goal.returns
 returns c =
     list_done simple_name (entry c.args.above.now) c.loop.entries.items c.args.count c.loop.counter (option_map (λ b. b.now) c.loop.before) c.loop.reader
-    (read (ascending simple_name (entry c.args.above.now) c.args.count None) c.args.reader.now) c.loop-test.false c.loop.invariant
+    (read (ascending_items simple_name (entry c.args.above.now) c.args.count None) c.args.reader.now) c.loop-test.false c.loop.invariant

@@ -2,8 +2,8 @@ use Rattle.std.proofs.Common.{◌∙◌}
 use Rattle.std.proofs.Common.{◌≡◌, None}
 use Rattle.std.specs.FinMap.{entries}
 use Rattle.cds_stamps.specs.Names.{attr_fault}
-use Rattle.record_fields.specs.Octets.{name_octets, cell_octets}
-use Rattle.record_fields.specs.Ranges.{FitsCell}
+use Rattle.record_fields.specs.FieldOctets.{name_octets, cell_octets}
+use Rattle.record_fields.specs.FieldRanges.{FitsCell}
 use Rattle.record_fields.proofs.WritingLoops.{writing_begins, writing_goes_on, writing_ends}
 use Rattle.cds_records.proofs.writing.put_attrs.Goals as goal
 

@@ -2,9 +2,9 @@ use Rattle.std.proofs.Common.{◌∙◌}
 use Rattle.std.proofs.Common.{◌≡◌, None}
 use Rattle.std.specs.FinMap.{entries}
 use Rattle.cds_stamps.specs.Names.{simple_name_fault}
-use Rattle.record_fields.specs.Octets.{name_octets}
-use Rattle.cds_records.specs.Octets.{entry_octets}
-use Rattle.cds_records.specs.Ranges.{FitsEntry}
+use Rattle.record_fields.specs.FieldOctets.{name_octets}
+use Rattle.cds_records.specs.RecordOctets.{entry_octets}
+use Rattle.cds_records.specs.RecordRanges.{FitsEntry}
 use Rattle.record_fields.proofs.WritingLoops.{writing_begins, writing_goes_on, writing_ends}
 use Rattle.cds_records.proofs.writing.put_entries.Goals as goal
 

@@ -1,9 +1,9 @@
 use Rattle.std.proofs.Common.{◌≡◌, None}
 use Rattle.std.specs.FinMap.{entries}
 use Rattle.cds_stamps.specs.Names.{simple_name_fault}
-use Rattle.record_fields.specs.Octets.{name_octets}
-use Rattle.cds_records.specs.Octets.{entry_octets}
-use Rattle.cds_records.specs.Ranges.{FitsEntry}
+use Rattle.record_fields.specs.FieldOctets.{name_octets}
+use Rattle.cds_records.specs.RecordOctets.{entry_octets}
+use Rattle.cds_records.specs.RecordRanges.{FitsEntry}
 use Rattle.record_fields.proofs.WritingLoops.{Written}
 use Rattle.cds_records.proofs.writing.put_entries.Given as goal
 

@@ -2,8 +2,8 @@ use Rattle.std.proofs.Common.{◌≡◌, ◌+◌, ◌++◌, ◌∷◌, [], ◌�
 use Rattle.std.specs.Int.{w64, to_be_bytes}
 use Rattle.std.specs.FinMap.{len}
 use Rattle.directory.specs.Kinds.{rank}
-use Rattle.record_fields.specs.Octets.{stamp_octets, optional_stamp_octets, name_octets, each_octets, cell_octets}
-use Rattle.cds_records.specs.Octets.{entry_octets}
+use Rattle.record_fields.specs.FieldOctets.{stamp_octets, optional_stamp_octets, name_octets, each_octets, cell_octets}
+use Rattle.cds_records.specs.RecordOctets.{entry_octets}
 use Rattle.record_fields.proofs.WritingLoops.{behind_5}
 use Rattle.cds_records.proofs.writing.put_entry.Goals as goal
 

@@ -1,8 +1,8 @@
 use Rattle.std.proofs.Common.{◌≡◌, ◌++◌, ◌∙◌, ap, arith}
 use Rattle.std.specs.Int.{w64, to_be_bytes}
 use Rattle.std.specs.FinMap.{len}
-use Rattle.record_fields.specs.Octets.{optional_stamp_octets, name_octets, each_octets}
-use Rattle.cds_records.specs.Octets.{entry_octets, stamped_table_octets}
+use Rattle.record_fields.specs.FieldOctets.{optional_stamp_octets, name_octets, each_octets}
+use Rattle.cds_records.specs.RecordOctets.{entry_octets, stamped_table_octets}
 use Rattle.record_fields.proofs.WritingLoops.{behind_3}
 use Rattle.cds_records.proofs.writing.put_table.Goals as goal
 

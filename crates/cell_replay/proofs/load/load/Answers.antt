@@ -1,4 +1,4 @@
-use Rattle.line_replies.specs.Loading.{load_text}
+use Rattle.script_replay.specs.Loading.{load_text}
 use Rattle.cell_replay.specs.PrivateEndings.{side_of}
 use Rattle.cell_replay.proofs.Tasks.{writes}
 use Rattle.cell_replay.proofs.load.load.Goals as goal

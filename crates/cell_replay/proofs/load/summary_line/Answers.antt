@@ -1,8 +1,8 @@
 use Rattle.std.proofs.Common.{◌≡◌, ◌∙◌, [], subst}
 use Rattle.std.proofs.lemmas.Result.{IfOk-weaker}
 use Rattle.cell_script.specs.Generated.{TakesFirst, script}
-use Rattle.line_replies.specs.Loading.{load_text}
-use Rattle.line_replies.proofs.LoadTurns.{few_taken, fewer_left, loading_begins, loading_ends, next_turn, none_left}
+use Rattle.script_replay.specs.Loading.{load_text}
+use Rattle.script_replay.proofs.LoadTurns.{few_taken, fewer_left, loading_begins, loading_ends, next_turn, none_left}
 use Rattle.cell_replay.proofs.load.summary_line.Goals as goal
 
 pub commands-init : goal.commands-init

@@ -1,6 +1,6 @@
 use Rattle.std.proofs.Common.{length}
 use Rattle.cell_script.specs.Generated.{script}
-use Rattle.line_replies.proofs.LoadTurns.{IsLoading}
+use Rattle.script_replay.proofs.LoadTurns.{IsLoading}
 use Rattle.cell_replay.proofs.load.summary_line.Given as goal
 
 abbrev pub invariant-commands : goal.invariant-commands

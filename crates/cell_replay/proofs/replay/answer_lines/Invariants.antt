@@ -1,6 +1,6 @@
 use Rattle.std.proofs.Common.{◌≡◌, ◌-◌, ◌≤◌}
 use Rattle.std.specs.Prelude.{None}
-use Rattle.cds_base.specs.Lines.{given, held, kept}
+use Rattle.cds_base.specs.Lines.{lines_so_far, octets_ahead, fault_of_lines}
 use Rattle.cds_base.specs.declared.lines.Lines.{Lines}
 use Rattle.cell_replay.specs.declared.forms.LineForm.{LineForm}
 use Rattle.cell_replay.specs.LineStates.{LineState}
@@ -14,8 +14,8 @@ use Rattle.cell_replay.proofs.replay.answer_lines.Given as goal
 pub record IsGoingOn (Between So Starts : LineState → Type 0) (lines : Lines) (form : LineForm) : Type 0 where
   pub between : (state : LineState) → Starts state → Between state
   pub so : (state : LineState) → Starts state → So state
-  pub unbroken : kept lines ≡ None
-  pub counted : counted form ≤ given lines
+  pub unbroken : fault_of_lines lines ≡ None
+  pub counted : counted form ≤ lines_so_far lines
 
 abbrev pub invariant-lines : goal.invariant-lines
 invariant-lines g l =
@@ -23,10 +23,10 @@ invariant-lines g l =
     (λ state. IsBetween state (g.S.Source.left l.fn.source) (g.S.Source.left l.source) (g.K.Sink.written l.fn.sink) (g.K.Sink.written l.sink)
     (g.S.Source.faults l.fn.source) (g.S.Source.faults l.source) (g.K.Sink.faults l.fn.sink) (g.K.Sink.faults l.sink) l.lines l.form l.waiting)
     (λ state. (at : LineState) × IsAt l.form at × LinesSo state (g.S.Source.left l.fn.source) (g.S.Source.left l.source) (g.K.Sink.written l.fn.sink)
-    (g.K.Sink.written l.sink) (held l.lines) l.waiting (given l.lines) at)
+    (g.K.Sink.written l.sink) (octets_ahead l.lines) l.waiting (lines_so_far l.lines) at)
     (λ state. IsAt l.fn.form state)
     l.lines
     l.form
 
 abbrev pub decreases-lines : goal.decreases-lines
-decreases-lines g l = 16777217 - given l.lines
+decreases-lines g l = 16777217 - lines_so_far l.lines

@@ -1,5 +1,5 @@
 use Rattle.cell_replay.specs.LineStates.{Journaling}
-use Rattle.journal_replies.specs.Journals.{empty_state}
+use Rattle.journal_replay.specs.CellJournals.{empty_state}
 use Rattle.cell_replay.proofs.Turns.{unread_lines}
 use Rattle.cell_replay.proofs.replay.journal_over_new_disks.Goals as goal
 

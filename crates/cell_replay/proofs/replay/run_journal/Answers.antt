@@ -1,5 +1,5 @@
 use Rattle.std.proofs.Common.{subst, sym}
-use Rattle.journal_replies.specs.Journals.{empty_state}
+use Rattle.journal_replay.specs.CellJournals.{empty_state}
 use Rattle.cell_replay.specs.JournalRuns.{AreOnDisks, ArePut}
 use Rattle.cell_replay.specs.Leaving.{Leaves}
 use Rattle.cell_replay.specs.LineStates.{Journaling}

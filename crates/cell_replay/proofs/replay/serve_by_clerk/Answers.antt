@@ -1,5 +1,5 @@
 use Rattle.cell_replay.specs.LineStates.{Clerking}
-use Rattle.clerk_replies.specs.Clerking.{start}
+use Rattle.clerk_replay.specs.Clerking.{start}
 use Rattle.cell_replay.proofs.Turns.{unread_lines}
 use Rattle.cell_replay.proofs.replay.serve_by_clerk.Goals as goal
 

@@ -5,7 +5,7 @@ use Rattle.cds_messages.specs.declared.image.ImageDir.{ImageDir}
 use Rattle.cds_messages.specs.Dirs.{dir_total, dir_exact}
 use Rattle.record_fields.specs.Added.{add_all}
 use Rattle.record_fields.proofs.Mapped.{mapped_made}
-use Rattle.clearinghouse.specs.Imaging.{started_of}
+use Rattle.clearinghouse.specs.HouseImages.{started_of}
 use Rattle.clearinghouse.proofs.images.started_dirs.Goals as goal
 
 pub returns : goal.returns

@@ -3,7 +3,7 @@ use Rattle.std.specs.Prelude.{map}
 use Rattle.std.specs.FinMap.{empty, entries}
 use Rattle.cds_messages.specs.Dirs.{dir_cmp}
 use Rattle.record_fields.specs.Added.{add_all}
-use Rattle.clearinghouse.specs.Imaging.{started_of}
+use Rattle.clearinghouse.specs.HouseImages.{started_of}
 use Rattle.clearinghouse.proofs.images.started_dirs.Given as goal
 
 -- with the rest of the directories it is the whole

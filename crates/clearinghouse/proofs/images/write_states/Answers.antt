@@ -1,11 +1,11 @@
 use Rattle.std.proofs.Common.{◌∙◌, ◌<◌, ◌^◌, List, ℕ}
 use Rattle.std.specs.FinMap.{entries}
 use Rattle.cds_stamps.specs.declared.numbers.DirId.{DirId}
-use Rattle.cds_records.specs.Octets.{dir_octets, kept_octets}
-use Rattle.cds_records.specs.Ranges.{FitsDir}
+use Rattle.cds_records.specs.RecordOctets.{dir_octets, kept_octets}
+use Rattle.cds_records.specs.RecordRanges.{FitsDir}
 use Rattle.record_fields.proofs.WritingLoops.{writing_begins, writing_goes_on, writing_ends}
-use Rattle.clearinghouse.specs.Imaging.{kept_of}
-use Rattle.held_directories.specs.declared.states.DirState.{DirState}
+use Rattle.clearinghouse.specs.HouseImages.{kept_of}
+use Rattle.house_directory.specs.declared.states.DirState.{DirState}
 use Rattle.clearinghouse.proofs.images.write_states.Goals as goal
 
 abbrev Fits : DirId → Type 0

@@ -1,10 +1,10 @@
 use Rattle.std.proofs.Common.{◌<◌, ◌^◌}
 use Rattle.std.specs.FinMap.{entries}
 use Rattle.cds_stamps.specs.declared.numbers.DirId.{DirId}
-use Rattle.cds_records.specs.Octets.{dir_octets, kept_octets}
-use Rattle.cds_records.specs.Ranges.{FitsDir}
+use Rattle.cds_records.specs.RecordOctets.{dir_octets, kept_octets}
+use Rattle.cds_records.specs.RecordRanges.{FitsDir}
 use Rattle.record_fields.proofs.WritingLoops.{Written}
-use Rattle.clearinghouse.specs.Imaging.{kept_of}
+use Rattle.clearinghouse.specs.HouseImages.{kept_of}
 use Rattle.clearinghouse.proofs.images.write_states.Given as goal
 
 -- the directories before this one are written, and fit

@@ -1,7 +1,7 @@
 use Rattle.std.proofs.Common.{◌≡◌, filter}
 use Rattle.std.specs.Prelude.{option_copied}
 use Rattle.std.specs.List.{cons_option}
-use Rattle.attr_sets.specs.Cells.{present_in, cell_values}
+use Rattle.attr_sets.specs.AttributeCells.{present_in, cell_values}
 use Rattle.directory.specs.Shown.{is_readable}
 use Rattle.directory.proofs.entry.only_readable.Given as goal
 

@@ -2,10 +2,10 @@ use Rattle.std.proofs.Common.{◌≡◌, ℕ, ◌+◌, ◌-◌, ◌^◌, ◌≤�
 use Rattle.std.proofs.lemmas.List.{take_all, length-take}
 use Rattle.std.specs.Prelude.{Option, IfSome}
 use Rattle.std.specs.Option.{option_map}
-use Rattle.house_journal.specs.Disks.{Only, Told, Wrote, told_change, told_sync, written}
+use Rattle.house_journal.specs.Disks.{Only, Told, Wrote, told_change, told_sync, with_piece}
 use Rattle.house_journal.specs.Tellings.{put_calls}
 use Rattle.house_journal.proofs.Tellings.{answered, allowed, failed_tells, ended_tells}
-use Rattle.house_journal.specs.Records.{IsRecordOf}
+use Rattle.house_journal.specs.JournalRecords.{IsRecordOf}
 use Rattle.house_journal.proofs.Appending.{second_done}
 use Rattle.house_journal.proofs.Appended.{after_first, after_sync, after_second, appended, first_piece, told_synced}
 use Rattle.house_journal.proofs.append.append.Goals as goal
@@ -83,7 +83,7 @@ returns-clause-ok g c image is =
     let staged = c.in_ok-write_at.ensures.written
     ∙ first_piece g.D.Disk g.met.D.Disk.only_now d0 c.args.place c.requires.ready image c.args.octets.now is c.requires.room _ (rest_of c.args.octets.now) in
     let reads = c.in_ok-sync-2.ensures.synced.0 ∙ c.in_ok-write_at-2.ensures.written
-    ∙ (λ i. written ((c.in_ok-sync.ensures.synced.0 ∙ staged) i) c.args.place (gate_of image c.args.octets.now is i))
+    ∙ (λ i. with_piece ((c.in_ok-sync.ensures.synced.0 ∙ staged) i) c.args.place (gate_of image c.args.octets.now is i))
     ∙ second_done (g.D.Disk.reads d0) c.args.place c.requires.ready.rest image c.args.octets.now is c.requires.room in
     appended g.D.Disk g.met.D.Disk.only_now d0 c.args.place c.requires.ready image c.args.octets.now is c.requires.room c.sync-2.new.self
     (c.args.place + length c.args.octets.now - 1) refl reads
@@ -107,7 +107,7 @@ returns-in_err-sync-clause-told g c t is =
     let p = c.args.place in
     let d0 = c.args.disk.now in
     let file = g.D.Disk.reads d0 in
-    let read = c.in_ok-write_at.ensures.written ∙ ap (written file (p + 1)) (rest_of o) in
+    let read = c.in_ok-write_at.ensures.written ∙ ap (with_piece file (p + 1)) (rest_of o) in
     let first = c.in_ok-write_at.ensures.told tt ∙ (λ i. option_map (told_change (Wrote (p + 1) (rest_of o i)) false) (is i)) in
     let one = answered (g.D.Disk.told d0) t _ _ is c.in_ok-write_at.ensures.plan in
     failed_tells (put_calls p o) file t (g.D.Disk.told c.sync.new.self) 1 (omega arith) (one, tt) c.from_residual-in_err-sync.result c.from_residual-in_err-sync.ensures.1
@@ -120,7 +120,7 @@ returns-in_err-write_at-2-clause-told g c t is =
     let p = c.args.place in
     let d0 = c.args.disk.now in
     let file = g.D.Disk.reads d0 in
-    let read = c.in_ok-write_at.ensures.written ∙ ap (written file (p + 1)) (rest_of o) in
+    let read = c.in_ok-write_at.ensures.written ∙ ap (with_piece file (p + 1)) (rest_of o) in
     let first = c.in_ok-write_at.ensures.told tt ∙ (λ i. option_map (told_change (Wrote (p + 1) (rest_of o i)) false) (is i)) in
     let second = c.in_ok-sync.ensures.told ∙ (λ i. option_map (told_sync (read i) false) (first i)) in
     let one = answered (g.D.Disk.told d0) t _ _ is c.in_ok-write_at.ensures.plan in
@@ -137,10 +137,10 @@ returns-in_err-sync-2-clause-told g c t is =
     let p = c.args.place in
     let d0 = c.args.disk.now in
     let file = g.D.Disk.reads d0 in
-    let read = c.in_ok-write_at.ensures.written ∙ ap (written file (p + 1)) (rest_of o) in
+    let read = c.in_ok-write_at.ensures.written ∙ ap (with_piece file (p + 1)) (rest_of o) in
     let first = c.in_ok-write_at.ensures.told tt ∙ (λ i. option_map (told_change (Wrote (p + 1) (rest_of o i)) false) (is i)) in
     let second = c.in_ok-sync.ensures.told ∙ (λ i. option_map (told_sync (read i) false) (first i)) in
-    let opened = c.in_ok-write_at-2.ensures.written ∙ (λ i. written ((c.in_ok-sync.ensures.synced.0 ∙ read) i) p (take 1 o)) in
+    let opened = c.in_ok-write_at-2.ensures.written ∙ (λ i. with_piece ((c.in_ok-sync.ensures.synced.0 ∙ read) i) p (take 1 o)) in
     let third = c.in_ok-write_at-2.ensures.told tt ∙ (λ i. option_map (told_change (Wrote p (take 1 o)) false) (second i)) in
     let one = answered (g.D.Disk.told d0) t _ _ is c.in_ok-write_at.ensures.plan in
     let two = answered (g.D.Disk.told c.write_at.new.self) _ _ _ first c.in_ok-sync.ensures.plan in
@@ -156,10 +156,10 @@ returns-clause-told g c t is =
     let p = c.args.place in
     let d0 = c.args.disk.now in
     let file = g.D.Disk.reads d0 in
-    let read = c.in_ok-write_at.ensures.written ∙ ap (written file (p + 1)) (rest_of o) in
+    let read = c.in_ok-write_at.ensures.written ∙ ap (with_piece file (p + 1)) (rest_of o) in
     let first = c.in_ok-write_at.ensures.told tt ∙ (λ i. option_map (told_change (Wrote (p + 1) (rest_of o i)) false) (is i)) in
     let second = c.in_ok-sync.ensures.told ∙ (λ i. option_map (told_sync (read i) false) (first i)) in
-    let opened = c.in_ok-write_at-2.ensures.written ∙ (λ i. written ((c.in_ok-sync.ensures.synced.0 ∙ read) i) p (take 1 o)) in
+    let opened = c.in_ok-write_at-2.ensures.written ∙ (λ i. with_piece ((c.in_ok-sync.ensures.synced.0 ∙ read) i) p (take 1 o)) in
     let third = c.in_ok-write_at-2.ensures.told tt ∙ (λ i. option_map (told_change (Wrote p (take 1 o)) false) (second i)) in
     let one = answered (g.D.Disk.told d0) t _ _ is c.in_ok-write_at.ensures.plan in
     let two = answered (g.D.Disk.told c.write_at.new.self) _ _ _ first c.in_ok-sync.ensures.plan in

@@ -1,6 +1,6 @@
 use Rattle.std.proofs.Common.{ℕ, List, ◌∙◌, subst, sym, take}
 use Rattle.house_journal.specs.Disks.{CutBack}
-use Rattle.house_journal.specs.Records.{HasImagesOf}
+use Rattle.house_journal.specs.JournalRecords.{HasImagesOf}
 use Rattle.house_journal.proofs.Moments.{begins, goes_on, stays, goes_over, weaker}
 use Rattle.house_journal.proofs.Endings.{file_so, cut_crash, cut_gate, cut_images, cut_get}
 use Rattle.house_journal.proofs.close.close.Goals as goal

@@ -1,6 +1,6 @@
 use Rattle.std.proofs.Common.{ℕ, List, subst}
 use Rattle.house_journal.specs.Disks.{Torn}
-use Rattle.house_journal.specs.Records.{HasImagesOf}
+use Rattle.house_journal.specs.JournalRecords.{HasImagesOf}
 use Rattle.house_journal.proofs.Moments.{begins, goes_on, stays}
 use Rattle.house_journal.proofs.Endings.{gate_start, gate_so, gate_torn}
 use Rattle.house_journal.proofs.close.close_gate.Goals as goal

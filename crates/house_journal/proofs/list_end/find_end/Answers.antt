@@ -1,6 +1,6 @@
 use Rattle.std.proofs.Common.{◌≡◌, ◌∙◌, List, ℕ, length, drop, subst, arith}
 use Rattle.std.specs.Prelude.{true, false}
-use Rattle.house_journal.specs.Records.{is_open, length_at}
+use Rattle.house_journal.specs.JournalRecords.{is_open, length_at}
 use Rattle.house_journal.proofs.Readings.{reads_over, gate_on, gate_ends, last_on, last_ends}
 use Rattle.house_journal.proofs.list_end.find_end.Goals as goal
 

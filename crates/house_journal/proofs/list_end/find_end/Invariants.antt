@@ -2,7 +2,7 @@ use Rattle.std.proofs.Common.{◌≡◌, ◌+◌, ◌-◌, ◌≤◌, ℕ, List,
 use Rattle.std.specs.Prelude.{Option, IfSome}
 use Rattle.std.specs.Option.{option_map}
 use Rattle.std.specs.List.{last_or}
-use Rattle.house_journal.specs.Records.{gate_of, images, last_image}
+use Rattle.house_journal.specs.JournalRecords.{gate_of, images, last_image}
 use Rattle.house_journal.specs.ListEnds.{IsWithin, octets_of}
 use Rattle.house_journal.specs.declared.list_end.Span.{Span}
 use Rattle.house_journal.proofs.Readings.{Reads}

@@ -1,5 +1,5 @@
 use Rattle.std.proofs.Common.{ℕ, ◌^◌, ◌≤◌, List, ◌∙◌, subst, sym, ap, length, arith}
-use Rattle.house_journal.specs.Records.{images, gate_of, IsOpenable, HasImagesOf}
+use Rattle.house_journal.specs.JournalRecords.{images, gate_of, IsOpenable, HasImagesOf}
 use Rattle.house_journal.proofs.Moments.{settles, begins, stays, goes_over, weaker, safe_from}
 use Rattle.house_journal.proofs.Readings.{reads_over}
 use Rattle.house_journal.proofs.Endings.{gate_room}

@@ -1,6 +1,6 @@
 use Rattle.std.proofs.Common.{◌≡◌, ◌++◌, map}
 use Rattle.std.specs.FinMap.{entries}
-use Rattle.attr_sets.specs.Cells.{present_in}
+use Rattle.attr_sets.specs.AttributeCells.{present_in}
 use Rattle.ns_import.proofs.client.present.Given as goal
 
 abbrev pub invariant-loop-value : goal.invariant-loop-value

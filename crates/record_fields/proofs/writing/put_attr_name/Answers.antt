@@ -1,5 +1,5 @@
 use Rattle.std.proofs.Common.{◌++◌, ◌∷◌, ◌∙◌, ap, length, arith}
-use Rattle.record_fields.specs.Octets.{name_octets}
+use Rattle.record_fields.specs.FieldOctets.{name_octets}
 use Rattle.record_fields.proofs.WholeFields.{attr_name_lawful}
 use Rattle.record_fields.proofs.WritingLoops.{behind}
 use Rattle.record_fields.proofs.writing.put_attr_name.Goals as goal

@@ -1,7 +1,7 @@
 use Rattle.std.proofs.Common.{◌≡◌, ◌++◌, ◌∙◌, ap, arith}
 use Rattle.std.specs.Int.{w64, to_be_bytes}
 use Rattle.std.specs.FinMap.{len}
-use Rattle.record_fields.specs.Octets.{optional_stamp_octets, value_octets, mark_octets, each_octets, cell_octets}
+use Rattle.record_fields.specs.FieldOctets.{optional_stamp_octets, value_octets, mark_octets, each_octets, cell_octets}
 use Rattle.record_fields.proofs.WritingLoops.{behind_3}
 use Rattle.record_fields.proofs.writing.put_cell.Goals as goal
 

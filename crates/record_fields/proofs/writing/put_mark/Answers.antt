@@ -1,5 +1,5 @@
 use Rattle.std.proofs.Common.{◌++◌, ◌∷◌, ◌∙◌, ap}
-use Rattle.record_fields.specs.Octets.{stamp_octets, mark_octets}
+use Rattle.record_fields.specs.FieldOctets.{stamp_octets, mark_octets}
 use Rattle.record_fields.proofs.WritingLoops.{behind}
 use Rattle.record_fields.proofs.writing.put_mark.Goals as goal
 

@@ -2,8 +2,8 @@ use Rattle.std.proofs.Common.{◌≡◌, None}
 use Rattle.std.specs.FinMap.{entries}
 use Rattle.attr_sets.specs.declared.mark.ValueMark.{ValueMark}
 use Rattle.attr_sets.specs.Values.{value_fault}
-use Rattle.record_fields.specs.Octets.{value_octets, mark_octets}
-use Rattle.record_fields.specs.Ranges.{FitsStamp}
+use Rattle.record_fields.specs.FieldOctets.{value_octets, mark_octets}
+use Rattle.record_fields.specs.FieldRanges.{FitsStamp}
 use Rattle.record_fields.proofs.WritingLoops.{Written}
 use Rattle.record_fields.proofs.writing.put_marks.Given as goal
 

@@ -2,7 +2,7 @@ use Rattle.std.proofs.Common.{List, ℕ, ◌≡◌, ◌++◌, [], ◌∷◌, ◌
 use Rattle.std.specs.Int.{w64, to_be_bytes, bytes_high_first}
 use borrow.Rule.Slice.PartMut.{put_mid}
 use Rattle.record_fields.specs.Fields.{node_octets}
-use Rattle.record_fields.specs.Octets.{stamp_octets}
+use Rattle.record_fields.specs.FieldOctets.{stamp_octets}
 use Rattle.record_fields.proofs.WritingLoops.{six_octets}
 use Rattle.record_fields.proofs.writing.put_stamp.Goals as goal
 

@@ -1,6 +1,6 @@
 use Rattle.std.proofs.Common.{◌++◌, ◌∙◌, arith}
 use Rattle.std.specs.Int.{w16, to_be_bytes}
-use Rattle.record_fields.specs.Octets.{value_octets}
+use Rattle.record_fields.specs.FieldOctets.{value_octets}
 use Rattle.record_fields.proofs.WholeFields.{value_lawful}
 use Rattle.record_fields.proofs.WritingLoops.{behind}
 use Rattle.record_fields.proofs.writing.put_value.Goals as goal

@@ -1,11 +1,11 @@
 use Rattle.std.proofs.Common.{◌≡◌, ◌<◌, ℕ, List, [], ◌∷◌, ◌++◌, ◌∙◌, length, refl, ap, arith}
 use Rattle.std.specs.Prelude.{codes, decimal}
 use Rattle.std.proofs.lemmas.Bool.Decides.{nat_tests}
-use Rattle.script_answers.specs.Texts.{posted_text, spaced}
+use Rattle.script_answers.specs.Texts.{posted_text, spaced_numbers}
 use Rattle.script_answers.proofs.Printing.{on_err, row_ends, row_goes_on, still_begins}
 use Rattle.script_answers.proofs.pieces.push_posted.Goals as goal
 
-some_posted : (ns : List ℕ) → 0 < length ns → codes " posted" ++ spaced ns ≡ posted_text ns
+some_posted : (ns : List ℕ) → 0 < length ns → codes " posted" ++ spaced_numbers ns ≡ posted_text ns
 some_posted [] some = absurd (omega arith)
 some_posted (n ∷ ns) some = refl
 

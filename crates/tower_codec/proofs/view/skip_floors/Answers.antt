@@ -1,6 +1,6 @@
 use Rattle.std.proofs.Common.{◌≡◌, suc, ◌+◌, ◌-◌, Ok, Err, refl, sym, ◌∙◌, arith}
 use Rattle.std.proofs.lemmas.Result.{err_from_is_err_and}
-use Rattle.tower_codec.specs.Reading.{after_floors}
+use Rattle.tower_codec.specs.TowerReading.{after_floors}
 use Rattle.tower_codec.specs.FloorView.{floor_of}
 use Rattle.tower_codec.proofs.TowersRead.{floor_at_shorter}
 use Rattle.tower_codec.proofs.view.skip_floors.Goals as goal

@@ -1,5 +1,5 @@
 use Rattle.std.proofs.Common.{◌≡◌, ◌-◌, ◌≤◌, length}
-use Rattle.tower_codec.specs.Reading.{after_floors}
+use Rattle.tower_codec.specs.TowerReading.{after_floors}
 use Rattle.tower_codec.proofs.view.skip_floors.Given as goal
 
 abbrev pub invariant-loop : goal.invariant-loop

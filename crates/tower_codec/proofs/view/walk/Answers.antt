@@ -1,4 +1,4 @@
-use Rattle.tower_codec.specs.Reading.{known_floor, after_known_floor, known_floors}
+use Rattle.tower_codec.specs.TowerReading.{known_floor, after_known_floor, known_floors}
 use Rattle.tower_codec.proofs.Known.{floor_ahead, walk_on}
 use Rattle.tower_codec.proofs.view.walk.Goals as goal
 use Rattle.std.proofs.Common.{arith}

@@ -1,4 +1,4 @@
-use Rattle.tower_codec.specs.Reading.{known_floors}
+use Rattle.tower_codec.specs.TowerReading.{known_floors}
 use Rattle.tower_codec.proofs.Known.{IsAhead}
 use Rattle.tower_codec.proofs.view.walk.Given as goal
 

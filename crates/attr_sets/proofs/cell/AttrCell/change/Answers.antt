@@ -1,6 +1,6 @@
 use Rattle.std.proofs.Common.{◌∷◌, []}
 use Rattle.attr_sets.specs.Marks.{present_at, absent_at}
-use Rattle.attr_sets.specs.Cells.{Cleared, Marked, cell_of}
+use Rattle.attr_sets.specs.AttributeCells.{Cleared, Marked, cell_of}
 use Rattle.attr_sets.proofs.CellUndoing.{raised_agrees, joined_agrees}
 use Rattle.attr_sets.proofs.cell.AttrCell.change.Goals as goal
 

@@ -1,6 +1,6 @@
 use Rattle.std.proofs.Common.{◌≡◌, ◌++◌}
 use Rattle.std.specs.FinMap as map
-use Rattle.attr_sets.specs.Cells.{present_in}
+use Rattle.attr_sets.specs.AttributeCells.{present_in}
 use Rattle.attr_sets.proofs.cell.AttrCell.present_values.Given as goal
 
 abbrev pub invariant-loop-value : goal.invariant-loop-value

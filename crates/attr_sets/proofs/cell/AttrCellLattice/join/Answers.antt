@@ -1,6 +1,6 @@
 use Rattle.std.proofs.Common.{refl, ◌≡◌}
 use Rattle.attr_sets.specs.declared.cell.AttrCell.{AttrCell}
-use Rattle.attr_sets.specs.Cells.{join_cells}
+use Rattle.attr_sets.specs.AttributeCells.{join_cells}
 use Rattle.attr_sets.proofs.CellUndoing.{kept_joined, later_joined, kept_agrees, joined_agrees}
 use Rattle.attr_sets.proofs.cell.AttrCellLattice.join.Goals as goal
 

@@ -1,6 +1,6 @@
 use Rattle.std.proofs.Common.{ap, arith}
 use Rattle.std.specs.FinMap as map
-use Rattle.attr_sets.specs.Marks.{later, kept}
+use Rattle.attr_sets.specs.Marks.{later, mark_after_clear}
 use Rattle.attr_sets.specs.CellLawProofs.{marks}
 use Rattle.cds_stamps.specs.Octets.{octets_cmp}
 use Rattle.cds_stamps.specs.Semilattice.{maybe}
@@ -16,7 +16,7 @@ loop-value-init c = λ q.
 
 pub loop-value-preserved : goal.loop-value-preserved
 loop-value-preserved c = λ q.
-    item_joined later marks.assoc (λ e. kept c.args.clear.now
+    item_joined later marks.assoc (λ e. mark_after_clear c.args.clear.now
     (entry_at octets_cmp q e)) (map.get c.args.self.now q) (map.get c.args.self.now q) _ (c.in-Some.value.now, c.in-Some.mark.now)
     c.loop-value.value-iterator c.next.new.self
     c.in-Some.ensures.steps (c.outdates_uncovered-outdated.ensures (grind (arith, c.if-not-outdated.false)) q) (c.loop-value.invariant q)

@@ -2,7 +2,7 @@ use Rattle.std.proofs.Common.{◌≡◌, List, ℕ}
 use Rattle.std.specs.FinMap as map
 use Rattle.cds_stamps.specs.Octets.{octets_cmp}
 use Rattle.attr_sets.specs.Marks.{later}
-use Rattle.attr_sets.specs.Marks.{kept}
+use Rattle.attr_sets.specs.Marks.{mark_after_clear}
 use Rattle.cds_stamps.specs.Semilattice.{maybe, join_of}
 use Rattle.cds_stamps.specs.Undos.{put_back, LogsChange}
 use Rattle.cds_stamps.proofs.TreeViews.{entry_at}
@@ -11,6 +11,6 @@ use Rattle.attr_sets.proofs.value_map.ValueMap.raise_all_logged.Given as goal
 abbrev pub invariant-loop-value : goal.invariant-loop-value
 invariant-loop-value l =
     ((q : List ℕ)
-    → maybe later (map.get l.self q) (join_of later (λ e. kept l.fn.clear (entry_at octets_cmp q e)) l.value-iterator)
-    ≡ maybe later (map.get l.fn.self q) (kept l.fn.clear (map.get l.fn.other q)))
+    → maybe later (map.get l.self q) (join_of later (λ e. mark_after_clear l.fn.clear (entry_at octets_cmp q e)) l.value-iterator)
+    ≡ maybe later (map.get l.fn.self q) (mark_after_clear l.fn.clear (map.get l.fn.other q)))
     × LogsChange put_back l.fn.self l.self l.fn.log.items l.log.items

@@ -1,6 +1,6 @@
 use Rattle.std.proofs.Common.{◌≡◌, ◌-◌, length}
 use Rattle.cds_base.specs.Buffers.{octets_in, room_of}
-use Rattle.cds_base.specs.Reading.{GrowsByReading}
+use Rattle.cds_base.specs.SourceReading.{GrowsByReading}
 use Rattle.cds_base.proofs.buffer.Buffer.fill.Given as goal
 
 abbrev pub invariant-reads : goal.invariant-reads

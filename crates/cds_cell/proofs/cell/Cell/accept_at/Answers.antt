@@ -1,7 +1,7 @@
 use Rattle.std.proofs.Common.{ap, refl}
 use Rattle.directory.specs.Updates.{change_of}
 use Rattle.cell_model.specs.Turns as turns
-use Rattle.held_directories.specs.Stepping.{IsStampAnswer}
+use Rattle.house_directory.specs.DirectorySteps.{IsStampAnswer}
 use Rattle.cds_cell.specs.declared.cell.Cell.{Cell}
 use Rattle.cds_cell.specs.declared.house.CellHouse.{CellHouse}
 use Rattle.cds_cell.specs.PrivateHouses.{posted_at}

@@ -3,7 +3,7 @@ use Rattle.directory.specs.EntryChanges.{changes}
 use Rattle.cell_model.specs.Cells as model
 use Rattle.cds_cell.specs.PrivateActs.{KeepsRest}
 use Rattle.cds_cell.specs.PrivateSteps.{IsPlaceOf}
-use Rattle.cds_cell.specs.Standing.{Stands}
+use Rattle.cds_cell.specs.ModelCells.{Stands}
 use Rattle.cds_cell.proofs.ManyUpdates.{Midway}
 use Rattle.cds_cell.proofs.cell.Cell.accept_each.Given as goal
 

@@ -1,7 +1,7 @@
 use Rattle.std.proofs.Common.{◌≡◌, ◌≢◌, Some, true, false, ap, arith, refl, subst, sym, ◌∙◌}
 use Rattle.std.proofs.lemmas.Bool.Decides.{nat_tests}
 use Rattle.directory.specs.Updates.{change_of}
-use Rattle.held_directories.specs.Stepping.{IsStampAnswer}
+use Rattle.house_directory.specs.DirectorySteps.{IsStampAnswer}
 use Rattle.cell_model.specs.Turns as turns
 use Rattle.cds_cell.specs.PrivateHouses.{Asks}
 use Rattle.cds_cell.specs.declared.house.CellHouse.{CellHouse}

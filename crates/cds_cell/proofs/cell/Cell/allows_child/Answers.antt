@@ -3,7 +3,7 @@ use Rattle.std.proofs.lemmas.Result.{err_from_is_err_and}
 use Rattle.cell_model.specs.Commands as command
 use Rattle.cell_model.specs.Steps.{is_bad_list, is_down, is_missing, is_unknown}
 use Rattle.std.specs.Prelude.{◌||◌}
-use Rattle.held_directories.specs.Posting.{numbers_of}
+use Rattle.house_directory.specs.HouseMessages.{numbers_of}
 use Rattle.cds_cell.proofs.Refusals.{refused_first}
 use Rattle.cds_cell.proofs.cell.Cell.allows_child.Goals as goal
 

@@ -4,7 +4,7 @@ use Rattle.std.proofs.lemmas.Result.{err_from_is_err_and}
 use Rattle.cds_stamps.specs.Members.{is_listed}
 use Rattle.cell_model.specs.Commands as command
 use Rattle.cell_model.specs.Steps.{is_bad_list, is_down, is_missing, is_unknown}
-use Rattle.held_directories.specs.Posting.{numbers_of}
+use Rattle.house_directory.specs.HouseMessages.{numbers_of}
 use Rattle.cds_cell.proofs.Refusals.{passed_first, refused_first}
 use Rattle.cds_cell.proofs.cell.Cell.allows_epoch.Goals as goal
 

@@ -3,8 +3,8 @@ use Rattle.std.specs.Prelude.{OnOk, map}
 use Rattle.cell_model.specs.Cells as model
 use Rattle.cell_model.specs.Commands as command
 use Rattle.cell_model.specs.Steps.{outcome, replay_from}
-use Rattle.cds_cell.specs.Imaging.{serials_after}
-use Rattle.cds_cell.specs.Standing.{Stands}
+use Rattle.cds_cell.specs.CommandImages.{serials_after}
+use Rattle.cds_cell.specs.ModelCells.{Stands}
 use Rattle.cds_cell.proofs.Losses.{losing_crash}
 use Rattle.cds_cell.proofs.Outcomes.{unspent_stands}
 use Rattle.cds_cell.proofs.cell.Cell.crash_after.Goals as goal

@@ -4,8 +4,8 @@ use Rattle.std.specs.Result.{result_err}
 use Rattle.std.proofs.lemmas.Option.{slice_get_read}
 use Rattle.cds_stamps.specs.Members.{master_of, members_of}
 use Rattle.cell_model.specs.Turns as turns
-use Rattle.held_directories.specs.Posting.{numbers_of}
-use Rattle.held_directories.specs.Stepping.{IsEpochAnswer}
+use Rattle.house_directory.specs.HouseMessages.{numbers_of}
+use Rattle.house_directory.specs.DirectorySteps.{IsEpochAnswer}
 use Rattle.cds_cell.specs.declared.cell.Cell.{Cell}
 use Rattle.cds_cell.specs.declared.house.CellHouse.{CellHouse}
 use Rattle.cds_cell.specs.PrivateHouses.{Asks, epoch_posted_by}

@@ -4,12 +4,12 @@ use Rattle.std.proofs.lemmas.Option.{slice_get_read}
 use Rattle.cds_stamps.specs.declared.numbers.EpochNo.{EpochNo}
 use Rattle.cds_stamps.specs.declared.numbers.HouseNo.{HouseNo}
 use Rattle.cds_stamps.specs.Members.{master_of, members_of}
-use Rattle.cell_model.specs.Steps.{is_bad_list, leaving, listing}
+use Rattle.cell_model.specs.Steps.{is_bad_list, left_members, member_list_of}
 use Rattle.cell_model.proofs.Terms.{master_new}
 use Rattle.cell_script.specs.Listings.{houses_in, secondaries_in}
-use Rattle.held_directories.specs.Posting.{numbers_of}
+use Rattle.house_directory.specs.HouseMessages.{numbers_of}
 use Rattle.cds_cell.specs.PrivateHouses.{IsNewEpoch}
-use Rattle.cds_cell.specs.Standing.{house_of}
+use Rattle.cds_cell.specs.ModelCells.{house_of}
 use Rattle.cds_cell.specs.declared.console.Listing.{Listing}
 use Rattle.cds_cell.proofs.EpochSteps.{effect_is, epoch_call, epoch_up, greatest_at}
 use Rattle.cds_cell.proofs.Twins.{epoch_octets, numbers_again, place_of, twin_stands}
@@ -35,8 +35,8 @@ returns c g s is none =
     let ss = numbers_of (secondaries_in c.args.others.now) in
     let ms = members_of c.in-Some-2.members in
     let listed = subst (λ o. MatchOption o (is_bad_list (m ∷ rs) ≡ true) (λ ms. (is_bad_list (m ∷ rs) ≡ false)
-    × (members_of ms ≡ listing (members_of c.list.result.now) e.0 m rs ss))) c.in-Some-2.is c.in_ok-members.ensures in
-    let gone : List ℕ = leaving (members_of l.members) ms in
+    × (members_of ms ≡ member_list_of (members_of c.list.result.now) e.0 m rs ss))) c.in-Some-2.is c.in_ok-members.ensures in
+    let gone : List ℕ = left_members (members_of l.members) ms in
     let nos : List HouseNo = map (λ (n : ℕ). record { 0 = n }) gone in
     let place = place_of old.houses.items m h (ap (λ x. house_of old.houses.items x) is ∙ c.requires.twin) in
     let call = epoch_call old g d m rs ss s none c.in-Some.place place.0 l e c.list.result.now l.members ms (numbers_of nos)

@@ -1,7 +1,7 @@
 use Rattle.std.proofs.Common.{◌≡◌, [], arith, drop, sym, ◌∙◌, ap, subst}
 use Rattle.std.specs.Prelude.{max}
 use Rattle.std.proofs.lemmas.List.{drop_all}
-use Rattle.cds_cell.specs.Standing.{IsGreatestEpoch, greatest_epoch}
+use Rattle.cds_cell.specs.ModelCells.{IsGreatestEpoch, greatest_epoch}
 use Rattle.cds_cell.proofs.Counts.{epochs_counted}
 use Rattle.cds_cell.proofs.cell.Cell.epochs.Goals as goal
 

@@ -1,6 +1,6 @@
 use Rattle.std.proofs.Common.{◌≡◌}
 use Rattle.std.specs.Prelude.{max, drop}
-use Rattle.cds_cell.specs.Standing.{greatest_epoch}
+use Rattle.cds_cell.specs.ModelCells.{greatest_epoch}
 use Rattle.cds_cell.proofs.cell.Cell.epochs.Given as goal
 
 -- the greatest of those that were seen and of the rest is that of all

@@ -2,7 +2,7 @@ use Rattle.std.proofs.Common.{◌≡◌, true, false, None, sym, subst, ap, ◌�
 use Rattle.std.specs.Prelude.{IfOk}
 use Rattle.std.specs.Option.{option_map}
 use Rattle.cell_model.specs.Sets.{has}
-use Rattle.cds_cell.specs.Imaging.{actors, image_after}
+use Rattle.cds_cell.specs.CommandImages.{actors, image_after}
 use Rattle.cds_cell.specs.PrivateSteps.{step_meant}
 use Rattle.cds_cell.proofs.ImagesAfter.{allowed_none, image_idle, image_unallowed}
 use Rattle.cds_cell.proofs.cell.Cell.image_after.Goals as goal

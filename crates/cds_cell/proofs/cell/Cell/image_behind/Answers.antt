@@ -1,7 +1,7 @@
 use Rattle.std.proofs.Common.{◌≡◌, true, false, ap, arith, subst, sym, ◌∙◌}
 use Rattle.cell_model.specs.Sets.{has}
 use Rattle.cell_model.specs.Steps.{effect}
-use Rattle.cds_cell.specs.Imaging.{actors, octets_at}
+use Rattle.cds_cell.specs.CommandImages.{actors, octets_at}
 use Rattle.cds_cell.specs.PrivateHouses.{octets_in}
 use Rattle.cds_cell.specs.PrivateSteps.{step_meant}
 use Rattle.cds_cell.specs.declared.house.CellHouse.{CellHouse}

@@ -3,8 +3,8 @@ use Rattle.std.specs.Prelude.{◌∷◌, is_some, not}
 use Rattle.std.proofs.lemmas.Iterator.{YieldsList-from_slice}
 use Rattle.std.proofs.lemmas.Iterator.Search.{any_from_yields_List}
 use Rattle.cds_stamps.specs.declared.numbers.HouseNo.{HouseNo}
-use Rattle.held_directories.specs.Posting.{numbers_of}
-use Rattle.cds_cell.specs.Standing.{house_of}
+use Rattle.house_directory.specs.HouseMessages.{numbers_of}
+use Rattle.cds_cell.specs.ModelCells.{house_of}
 use Rattle.cds_cell.proofs.Refusals.{missing_where}
 use Rattle.cds_cell.proofs.Sorting.{any_of_numbers}
 use Rattle.cds_cell.proofs.cell.Cell.lacks.Goals as goal

@@ -1,5 +1,5 @@
 use Rattle.std.proofs.Common.{◌∙◌, subst}
-use Rattle.cds_cell.specs.Standing.{StandsListing}
+use Rattle.cds_cell.specs.ModelCells.{StandsListing}
 use Rattle.cds_cell.proofs.Refusals.{directory_at, read_there}
 use Rattle.cds_cell.proofs.cell.Cell.listing.Goals as goal
 

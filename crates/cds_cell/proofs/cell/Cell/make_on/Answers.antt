@@ -7,14 +7,14 @@ use Rattle.directory.specs.Updates as updates
 use Rattle.directory.specs.Updates.{Change, change_of}
 use Rattle.cell_model.specs.Cells as model
 use Rattle.cell_model.specs.Commands as command
-use Rattle.cell_model.specs.Steps.{ascending, at_house, effect, first_refusal, is_bad_list, is_missing, listing, refusals_of}
-use Rattle.cell_model.specs.Turns.{accept, found}
+use Rattle.cell_model.specs.Steps.{sorted_houses, at_house, effect, first_refusal, is_bad_list, is_missing, member_list_of, refusals_of}
+use Rattle.cell_model.specs.Turns.{accept, found_directory}
 use Rattle.cell_model.proofs.Terms.{master_new}
 use Rattle.cell_script.specs.Listings.{houses_in, secondaries_in}
-use Rattle.held_directories.specs.Posting.{numbers_of}
+use Rattle.house_directory.specs.HouseMessages.{numbers_of}
 use Rattle.cds_cell.specs.PrivateActs.{CanFound, IsAfter, child_outcome}
 use Rattle.cds_cell.specs.PrivateHouses.{IsTurnAt, posted_at}
-use Rattle.cds_cell.specs.Standing.{Stands}
+use Rattle.cds_cell.specs.ModelCells.{Stands}
 use Rattle.cds_cell.proofs.ActSteps.{made_where, passed}
 use Rattle.cds_cell.proofs.Children.{child_apart, child_can, child_next, founds_after, mkdir_is, mkdir_up}
 use Rattle.cds_cell.proofs.Twins.{apart_octets, founds_octets, refused_octets}
@@ -33,12 +33,12 @@ returns-then-not-branch c g s acts none =
     let ms = members_of c.in-Some.members in
     let u = change_of c.in-Some-2.update in
     let listed = subst (λ o. MatchOption o (is_bad_list (m ∷ rs) ≡ true) (λ ms. (is_bad_list (m ∷ rs) ≡ false)
-    × (members_of ms ≡ listing [] 1 m rs ss))) c.in-Some.is c.in_ok-members.ensures in
+    × (members_of ms ≡ member_list_of [] 1 m rs ss))) c.in-Some.is c.in_ok-members.ensures in
     let hs = c.houses.result.now in
-    let child : List HouseNo → Change = λ hs. updates.MakeChild n (record { dir = k; master = m; others = ascending (numbers_of hs) }) in
+    let child : List HouseNo → Change = λ hs. updates.MakeChild n (record { dir = k; master = m; others = sorted_houses (numbers_of hs) }) in
     let told = subst (λ o. MatchOption o (is_bad_list (m ∷ numbers_of hs) ≡ true)
-    (λ u. change_of u ≡ updates.MakeChild c.in_ok-copy.field-0 (record { dir = k; master = m; others = ascending (numbers_of hs) }))) c.in-Some-2.is c.in_ok-update.ensures in
-    let named = told ∙ ap (λ n'. updates.MakeChild n' (record { dir = k; master = m; others = ascending (numbers_of hs) })) c.in_ok-copy.ensures in
+    (λ u. change_of u ≡ updates.MakeChild c.in_ok-copy.field-0 (record { dir = k; master = m; others = sorted_houses (numbers_of hs) }))) c.in-Some-2.is c.in_ok-update.ensures in
+    let named = told ∙ ap (λ n'. updates.MakeChild n' (record { dir = k; master = m; others = sorted_houses (numbers_of hs) })) c.in_ok-copy.ensures in
     let made = named ∙ ap child c.houses.ensures in
     let next = child_next old g x d m n rs ss s none k c.next_directory-child.ensures in
     let is = mkdir_is old g x d m n rs ss s none k u ms next made listed.1 in
@@ -61,12 +61,12 @@ returns-then-ne c g s acts none =
     let ms = members_of c.in-Some.members in
     let u = change_of c.in-Some-2.update in
     let listed = subst (λ o. MatchOption o (is_bad_list (m ∷ rs) ≡ true) (λ ms. (is_bad_list (m ∷ rs) ≡ false)
-    × (members_of ms ≡ listing [] 1 m rs ss))) c.in-Some.is c.in_ok-members.ensures in
+    × (members_of ms ≡ member_list_of [] 1 m rs ss))) c.in-Some.is c.in_ok-members.ensures in
     let hs = c.houses.result.now in
-    let child : List HouseNo → Change = λ hs. updates.MakeChild n (record { dir = k; master = m; others = ascending (numbers_of hs) }) in
+    let child : List HouseNo → Change = λ hs. updates.MakeChild n (record { dir = k; master = m; others = sorted_houses (numbers_of hs) }) in
     let told = subst (λ o. MatchOption o (is_bad_list (m ∷ numbers_of hs) ≡ true)
-    (λ u. change_of u ≡ updates.MakeChild c.in_ok-copy.field-0 (record { dir = k; master = m; others = ascending (numbers_of hs) }))) c.in-Some-2.is c.in_ok-update.ensures in
-    let named = told ∙ ap (λ n'. updates.MakeChild n' (record { dir = k; master = m; others = ascending (numbers_of hs) })) c.in_ok-copy.ensures in
+    (λ u. change_of u ≡ updates.MakeChild c.in_ok-copy.field-0 (record { dir = k; master = m; others = sorted_houses (numbers_of hs) }))) c.in-Some-2.is c.in_ok-update.ensures in
+    let named = told ∙ ap (λ n'. updates.MakeChild n' (record { dir = k; master = m; others = sorted_houses (numbers_of hs) })) c.in_ok-copy.ensures in
     let made = named ∙ ap child c.houses.ensures in
     let next = child_next old g x d m n rs ss s none k c.next_directory-child.ensures in
     let is = mkdir_is old g x d m n rs ss s none k u ms next made listed.1 in
@@ -92,12 +92,12 @@ returns c g s acts none =
     let ms = members_of c.in-Some.members in
     let u = change_of c.in-Some-2.update in
     let listed = subst (λ o. MatchOption o (is_bad_list (m ∷ rs) ≡ true) (λ ms. (is_bad_list (m ∷ rs) ≡ false)
-    × (members_of ms ≡ listing [] 1 m rs ss))) c.in-Some.is c.in_ok-members.ensures in
+    × (members_of ms ≡ member_list_of [] 1 m rs ss))) c.in-Some.is c.in_ok-members.ensures in
     let hs = c.houses.result.now in
-    let child : List HouseNo → Change = λ hs. updates.MakeChild n (record { dir = k; master = m; others = ascending (numbers_of hs) }) in
+    let child : List HouseNo → Change = λ hs. updates.MakeChild n (record { dir = k; master = m; others = sorted_houses (numbers_of hs) }) in
     let told = subst (λ o. MatchOption o (is_bad_list (m ∷ numbers_of hs) ≡ true)
-    (λ u. change_of u ≡ updates.MakeChild c.in_ok-copy.field-0 (record { dir = k; master = m; others = ascending (numbers_of hs) }))) c.in-Some-2.is c.in_ok-update.ensures in
-    let named = told ∙ ap (λ n'. updates.MakeChild n' (record { dir = k; master = m; others = ascending (numbers_of hs) })) c.in_ok-copy.ensures in
+    (λ u. change_of u ≡ updates.MakeChild c.in_ok-copy.field-0 (record { dir = k; master = m; others = sorted_houses (numbers_of hs) }))) c.in-Some-2.is c.in_ok-update.ensures in
+    let named = told ∙ ap (λ n'. updates.MakeChild n' (record { dir = k; master = m; others = sorted_houses (numbers_of hs) })) c.in_ok-copy.ensures in
     let made = named ∙ ap child c.houses.ensures in
     let next = child_next old g x d m n rs ss s none k c.next_directory-child.ensures in
     let is = mkdir_is old g x d m n rs ss s none k u ms next made listed.1 in
@@ -113,5 +113,5 @@ returns c g s acts none =
     let turn = c.in_ok-found.ensures.step (o.cell.house c.args.twin.now.house.0) after.stands can.up can.absent (sym leads ∙ sym number) in
     founds_octets old g s c.args.twin.now c.requires.twin x d m n rs ss none k u ms is c.accepts_on.new.twin c.in_ok-accepts_on.field-0 after
     (let on = c.if-not-branch.false in cc (on)) leads c.found.new.self c.found.ensures.who.house (posted_at c.found.new.self c.next_directory-child.result c.in_ok-found.field-0)
-    (subst (λ y. IsTurnAt (found y (o.cell.house c.args.twin.now.house.0) k ms) c.found.new.self (posted_at c.found.new.self c.next_directory-child.result c.in_ok-found.field-0))
+    (subst (λ y. IsTurnAt (found_directory y (o.cell.house c.args.twin.now.house.0) k ms) c.found.new.self (posted_at c.found.new.self c.next_directory-child.result c.in_ok-found.field-0))
     number turn)

@@ -3,9 +3,9 @@ use Rattle.std.specs.Prelude.{MatchOption, length}
 use Rattle.std.proofs.lemmas.Option.{slice_get_read}
 use Rattle.cds_stamps.specs.declared.numbers.EpochNo.{EpochNo}
 use Rattle.cds_stamps.specs.Members.{members_of}
-use Rattle.cell_model.specs.Steps.{is_bad_list, listing}
+use Rattle.cell_model.specs.Steps.{is_bad_list, member_list_of}
 use Rattle.cell_script.specs.Listings.{houses_in, secondaries_in}
-use Rattle.held_directories.specs.Posting.{numbers_of}
+use Rattle.house_directory.specs.HouseMessages.{numbers_of}
 use Rattle.cds_cell.specs.declared.console.Listing.{Listing}
 use Rattle.cds_cell.proofs.EpochSteps.{epoch_call, epoch_leaves, epoch_placed, epoch_refused, epoch_taken, greatest_at}
 use Rattle.cds_cell.proofs.Houses.{place_within}
@@ -43,7 +43,7 @@ returns-in-Ok-clause-step c g s none =
     let ms = members_of c.in-Some-2.members in
     let left = numbers_of c.deref.result.now in
     let listed = subst (λ o. MatchOption o (is_bad_list (m ∷ rs) ≡ true) (λ ms. (is_bad_list (m ∷ rs) ≡ false)
-    × (members_of ms ≡ listing (members_of c.list.result.now) e.0 m rs ss))) c.in-Some-2.is c.in_ok-members.ensures in
+    × (members_of ms ≡ member_list_of (members_of c.list.result.now) e.0 m rs ss))) c.in-Some-2.is c.in_ok-members.ensures in
     let call = epoch_call c.args.self.now g c.args.dir.0 m rs ss s none c.in-Some.place c.in-Some-position.at l e c.list.result.now c.list-2.result.now ms left
     c.in-Some.ensures.0 c.in-Some.ensures.1 c.index-before.ensures c.in-Some-position.ensures refl c.list.ensures.value c.list-2.ensures.value listed.1
     (ap numbers_of c.deref.ensures.value ∙ c.in_ok-left.ensures.houses) in
@@ -62,7 +62,7 @@ returns-in-Err-clause-step c g s none =
     let ms = members_of c.in-Some-2.members in
     let left = numbers_of c.deref.result.now in
     let listed = subst (λ o. MatchOption o (is_bad_list (m ∷ rs) ≡ true) (λ ms. (is_bad_list (m ∷ rs) ≡ false)
-    × (members_of ms ≡ listing (members_of c.list.result.now) e.0 m rs ss))) c.in-Some-2.is c.in_ok-members.ensures in
+    × (members_of ms ≡ member_list_of (members_of c.list.result.now) e.0 m rs ss))) c.in-Some-2.is c.in_ok-members.ensures in
     let call = epoch_call c.args.self.now g c.args.dir.0 m rs ss s none c.in-Some.place c.in-Some-position.at l e c.list.result.now c.list-2.result.now ms left
     c.in-Some.ensures.0 c.in-Some.ensures.1 c.index-before.ensures c.in-Some-position.ensures refl c.list.ensures.value c.list-2.ensures.value listed.1
     (ap numbers_of c.deref.ensures.value ∙ c.in_ok-left.ensures.houses) in

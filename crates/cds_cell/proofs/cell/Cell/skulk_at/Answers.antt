@@ -1,6 +1,6 @@
 use Rattle.std.proofs.Common.{ap, refl}
 use Rattle.cell_model.specs.Turns as turns
-use Rattle.held_directories.specs.Stepping.{IsBegunAnswer}
+use Rattle.house_directory.specs.DirectorySteps.{IsBegunAnswer}
 use Rattle.cds_cell.specs.declared.cell.Cell.{Cell}
 use Rattle.cds_cell.specs.declared.house.CellHouse.{CellHouse}
 use Rattle.cds_cell.specs.PrivateHouses.{posted_at}

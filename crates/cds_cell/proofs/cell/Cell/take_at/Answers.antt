@@ -4,8 +4,8 @@ use Rattle.std.specs.Prelude.{length}
 use Rattle.std.proofs.lemmas.Option.{slice_get_read}
 use Rattle.cds_cell.proofs.Houses.{house_of_place}
 use Rattle.cell_model.specs.Turns as turns
-use Rattle.held_directories.specs.Posting.{StandsMessage}
-use Rattle.held_directories.specs.Stepping.{IsTakeAnswer}
+use Rattle.house_directory.specs.HouseMessages.{StandsMessage}
+use Rattle.house_directory.specs.DirectorySteps.{IsTakeAnswer}
 use Rattle.cds_cell.specs.declared.cell.Cell.{Cell}
 use Rattle.cds_cell.specs.declared.house.CellHouse.{CellHouse}
 use Rattle.cds_cell.specs.PrivateHouses.{posted_at}

@@ -1,7 +1,7 @@
 use Rattle.directory.specs.Updates.{change_of}
 use Rattle.cell_model.specs.Turns as turns
-use Rattle.clearinghouse.specs.Posting.{posts_at}
-use Rattle.held_directories.specs.Stepping.{IsStampAnswer}
+use Rattle.clearinghouse.specs.HouseLetters.{posts_at}
+use Rattle.house_directory.specs.DirectorySteps.{IsStampAnswer}
 use Rattle.cds_cell.proofs.HouseCalls.{asks_call, stands_up}
 use Rattle.cds_cell.proofs.KeptNodes.{accept_keeps}
 use Rattle.cds_cell.proofs.house.CellHouse.accept.Goals as goal

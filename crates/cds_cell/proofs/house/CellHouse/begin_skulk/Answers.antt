@@ -1,6 +1,6 @@
 use Rattle.cell_model.specs.Turns as turns
-use Rattle.clearinghouse.specs.Posting.{posts_at}
-use Rattle.held_directories.specs.Stepping.{IsBegunAnswer}
+use Rattle.clearinghouse.specs.HouseLetters.{posts_at}
+use Rattle.house_directory.specs.DirectorySteps.{IsBegunAnswer}
 use Rattle.cds_cell.proofs.HouseCalls.{asks_call, stands_up}
 use Rattle.cds_cell.proofs.KeptNodes.{skulk_keeps}
 use Rattle.cds_cell.proofs.house.CellHouse.begin_skulk.Goals as goal

@@ -2,9 +2,9 @@ use Rattle.std.specs.FinMap.{get}
 use Rattle.std.specs.Result.{result_err}
 use Rattle.cds_stamps.specs.Members.{members_of}
 use Rattle.cell_model.specs.Turns as turns
-use Rattle.held_directories.specs.Posting.{numbers_of}
-use Rattle.clearinghouse.specs.Posting.{epoch_posts_at}
-use Rattle.held_directories.specs.Stepping.{IsEpochAnswer}
+use Rattle.house_directory.specs.HouseMessages.{numbers_of}
+use Rattle.clearinghouse.specs.HouseLetters.{epoch_posts_at}
+use Rattle.house_directory.specs.DirectorySteps.{IsEpochAnswer}
 use Rattle.cds_cell.proofs.HouseCalls.{asks_call, later_epoch, stands_up}
 use Rattle.cds_cell.proofs.KeptNodes.{epoch_keeps}
 use Rattle.cds_cell.proofs.house.CellHouse.enter_epoch.Goals as goal

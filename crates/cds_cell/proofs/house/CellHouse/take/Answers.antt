@@ -1,9 +1,9 @@
 use Rattle.std.proofs.Common.{subst, sym}
 use Rattle.cds_stamps.specs.declared.numbers.HouseNo.{HouseNo}
 use Rattle.cell_model.specs.Turns as turns
-use Rattle.held_directories.specs.Posting.{StandsMessage}
-use Rattle.clearinghouse.specs.Posting.{posts_at}
-use Rattle.held_directories.specs.Stepping.{IsTakeAnswer}
+use Rattle.house_directory.specs.HouseMessages.{StandsMessage}
+use Rattle.clearinghouse.specs.HouseLetters.{posts_at}
+use Rattle.house_directory.specs.DirectorySteps.{IsTakeAnswer}
 use Rattle.cds_cell.proofs.HouseCalls.{asks_call, stands_up}
 use Rattle.cds_cell.proofs.KeptNodes.{take_keeps}
 use Rattle.cds_cell.proofs.house.CellHouse.take.Goals as goal

@@ -1,5 +1,5 @@
 use Rattle.std.proofs.Common.{◌≡◌, ◌+◌, length}
-use Rattle.cell_script.specs.Forms.{each_word}
+use Rattle.cell_script.specs.WordForms.{each_word}
 use Rattle.cell_script.specs.Words.{house_of}
 use Rattle.cell_script.proofs.Reading.{behind}
 use Rattle.cell_script.proofs.words.Words.houses.Given as goal

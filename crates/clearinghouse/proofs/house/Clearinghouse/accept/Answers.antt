@@ -1,8 +1,8 @@
 use Rattle.std.proofs.Common.{◌≡◌, ◌∙◌, ap, refl, subst, sym}
 use Rattle.std.specs.Prelude.{OnOk}
 use Rattle.directory.specs.Updates.{change_of}
-use Rattle.clearinghouse.specs.Posting.{posts_at}
-use Rattle.clearinghouse.specs.Updating.{PostsUpdate}
+use Rattle.clearinghouse.specs.HouseLetters.{posts_at}
+use Rattle.clearinghouse.specs.HouseUpdates.{PostsUpdate}
 use Rattle.clearinghouse.proofs.Houses.{heed_lawful}
 use Rattle.clearinghouse.proofs.house.Clearinghouse.accept.Goals as goal
 

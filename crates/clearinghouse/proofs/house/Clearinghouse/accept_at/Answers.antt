@@ -6,14 +6,14 @@ use Rattle.cds_stamps.specs.declared.stamp.Floor.{Floor}
 use Rattle.directory.specs.Updates.{change_of}
 use Rattle.cell_model.specs.Turns.{accept_in}
 use Rattle.cell_model.specs.Cells as model
-use Rattle.held_directories.specs.Lawful.{IsLawfulHeld}
-use Rattle.held_directories.specs.declared.states.DirState.TheVariants as state
-use Rattle.held_directories.specs.Updating.{HeldTakes}
-use Rattle.held_directories.specs.Turns.{HeldStep, IssuesAt}
-use Rattle.held_directories.specs.Stepping.{IsStampAnswer}
-use Rattle.held_directories.specs.declared.updates.Issuer.{Issuer}
+use Rattle.house_directory.specs.LawfulDirectories.{IsLawfulHeld}
+use Rattle.house_directory.specs.declared.states.DirState.TheVariants as state
+use Rattle.house_directory.specs.DirectoryUpdates.{HeldTakes}
+use Rattle.house_directory.specs.DirectoryTurns.{HeldStep, IssuesAt}
+use Rattle.house_directory.specs.DirectorySteps.{IsStampAnswer}
+use Rattle.house_directory.specs.declared.updates.Issuer.{Issuer}
 use Rattle.clearinghouse.proofs.Houses.{at_held, have_held, kept_at, kept_by, same_house}
-use Rattle.held_directories.proofs.Maps.{if_ok_map}
+use Rattle.house_directory.proofs.Maps.{if_ok_map}
 use Rattle.clearinghouse.proofs.house.Clearinghouse.accept_at.Goals as goal
 
 pub returns-in-Some-clause-kept : goal.returns-in-Some-clause-kept

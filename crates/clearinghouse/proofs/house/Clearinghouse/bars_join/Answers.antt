@@ -1,7 +1,7 @@
 use Rattle.std.proofs.Common.{◌∙◌, sym, ap, refl}
 use Rattle.std.specs.Prelude.{not}
 use Rattle.cds_stamps.specs.Members.{members_of}
-use Rattle.held_directories.proofs.Takings.{bar_is, listed_is}
+use Rattle.house_directory.proofs.Takings.{bar_is, listed_is}
 use Rattle.clearinghouse.proofs.house.Clearinghouse.bars_join.Goals.{then-is_none-via-then-is_none, then-is_none-via-else-is_none+then-is_none-2}
 use Rattle.clearinghouse.proofs.house.Clearinghouse.bars_join.Goals as goal
 

@@ -3,13 +3,13 @@ use Rattle.std.specs.FinMap as map
 use Rattle.std.proofs.lemmas.Result.{on_err_weaker}
 use Rattle.cell_model.specs.Cells as model
 use Rattle.cell_model.specs.Turns.{skulk_in}
-use Rattle.held_directories.specs.Lawful.{IsLawfulHeld}
-use Rattle.held_directories.specs.Turns.{HeldStep, IssuesAt}
-use Rattle.held_directories.specs.Stepping.{IsBegunAnswer}
-use Rattle.held_directories.specs.declared.updates.Issuer.{Issuer}
-use Rattle.held_directories.specs.declared.states.DirState.TheVariants as state
-use Rattle.held_directories.specs.Updating.{HeldBegins}
-use Rattle.held_directories.proofs.Maps.{if_ok_map}
+use Rattle.house_directory.specs.LawfulDirectories.{IsLawfulHeld}
+use Rattle.house_directory.specs.DirectoryTurns.{HeldStep, IssuesAt}
+use Rattle.house_directory.specs.DirectorySteps.{IsBegunAnswer}
+use Rattle.house_directory.specs.declared.updates.Issuer.{Issuer}
+use Rattle.house_directory.specs.declared.states.DirState.TheVariants as state
+use Rattle.house_directory.specs.DirectoryUpdates.{HeldBegins}
+use Rattle.house_directory.proofs.Maps.{if_ok_map}
 use Rattle.clearinghouse.proofs.Houses.{at_held_always, have_held, kept_at, same_house}
 use Rattle.clearinghouse.proofs.house.Clearinghouse.begin_at.Goals as goal
 

@@ -1,9 +1,9 @@
 use Rattle.std.proofs.Common.{refl, ap}
 use Rattle.std.specs.FinMap as map
 use Rattle.std.proofs.lemmas.Result.{on_err_weaker}
-use Rattle.held_directories.specs.declared.states.DirState.TheVariants as state
+use Rattle.house_directory.specs.declared.states.DirState.TheVariants as state
 use Rattle.clearinghouse.proofs.Houses.{have_held, same_house}
-use Rattle.held_directories.proofs.Maps.{if_ok_map}
+use Rattle.house_directory.proofs.Maps.{if_ok_map}
 use Rattle.clearinghouse.proofs.house.Clearinghouse.enter_at.Goals as goal
 
 pub returns-in-Some-clause-refused : goal.returns-in-Some-clause-refused

@@ -1,10 +1,10 @@
 use Rattle.std.specs.Result.{result_err}
 use Rattle.cds_stamps.specs.Members.{members_of}
 use Rattle.cell_model.specs.Turns.{new_epoch}
-use Rattle.held_directories.specs.Posting.{numbers_of}
-use Rattle.clearinghouse.specs.Posting.{epoch_posts_at}
-use Rattle.held_directories.specs.Stepping.{IsEpochAnswer}
-use Rattle.clearinghouse.specs.Stepping.{IsStep}
+use Rattle.house_directory.specs.HouseMessages.{numbers_of}
+use Rattle.clearinghouse.specs.HouseLetters.{epoch_posts_at}
+use Rattle.house_directory.specs.DirectorySteps.{IsEpochAnswer}
+use Rattle.clearinghouse.specs.HouseSteps.{IsStep}
 use Rattle.clearinghouse.proofs.Entering.{enters_lawful, enters_steps}
 use Rattle.clearinghouse.proofs.Houses.{heed_lawful, heed_ok}
 use Rattle.clearinghouse.proofs.house.Clearinghouse.enter_epoch.Goals as goal

@@ -1,9 +1,9 @@
 use Rattle.std.proofs.Common.{◌++◌, ◌∙◌, sym, ap, arith}
 use Rattle.std.specs.FinMap.{entries}
-use Rattle.cds_records.specs.Octets.{dir_octets, image_head, kept_octets}
-use Rattle.record_fields.specs.Octets.{items_octets}
+use Rattle.cds_records.specs.RecordOctets.{dir_octets, image_head, kept_octets}
+use Rattle.record_fields.specs.FieldOctets.{items_octets}
 use Rattle.cds_records.proofs.Mapped.{parts_fit, parts_written}
-use Rattle.clearinghouse.specs.Imaging.{kept_of, started}
+use Rattle.clearinghouse.specs.HouseImages.{kept_of, start_of_octets}
 use Rattle.clearinghouse.proofs.Starting.{image_starts}
 use Rattle.clearinghouse.proofs.house.Clearinghouse.image.Goals as goal
 
@@ -25,4 +25,4 @@ returns-clause-fits c =
     c.in_ok-write_states.ensures.fits
 
 pub returns-clause-starts : goal.returns-clause-starts
-returns-clause-starts c = λ lawful. ap started (returns-clause-octets c) ∙ image_starts c.args.self.now lawful (returns-clause-fits c)
+returns-clause-starts c = λ lawful. ap start_of_octets (returns-clause-octets c) ∙ image_starts c.args.self.now lawful (returns-clause-fits c)

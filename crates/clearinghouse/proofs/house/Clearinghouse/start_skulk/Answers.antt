@@ -1,8 +1,8 @@
 use Rattle.std.proofs.Common.{[], Ok, refl, ap, sym, ◌∙◌}
 use Rattle.clearinghouse.proofs.Houses.{heed_lawful, posted_step}
 use Rattle.std.specs.FinMap as map
-use Rattle.clearinghouse.specs.Posting.{sender_of}
-use Rattle.held_directories.proofs.Posts.{posts_none}
+use Rattle.clearinghouse.specs.HouseLetters.{sender_of}
+use Rattle.house_directory.proofs.Posts.{posts_none}
 use Rattle.clearinghouse.proofs.Posts.{completed_posts}
 use Rattle.clearinghouse.proofs.house.Clearinghouse.start_skulk.Goals as goal
 

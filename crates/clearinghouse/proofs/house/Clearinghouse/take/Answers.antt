@@ -1,7 +1,7 @@
 use Rattle.std.proofs.Common.{◌≡◌, ◌∙◌, ap, refl, subst, sym}
 use Rattle.std.specs.Prelude.{OnOk}
-use Rattle.clearinghouse.specs.Posting.{posts_at}
-use Rattle.clearinghouse.specs.Taking.{TakesPosting}
+use Rattle.clearinghouse.specs.HouseLetters.{posts_at}
+use Rattle.clearinghouse.specs.HouseTakes.{TakesPosting}
 use Rattle.clearinghouse.proofs.Houses.{heed_lawful}
 use Rattle.clearinghouse.proofs.house.Clearinghouse.take.Goals as goal
 

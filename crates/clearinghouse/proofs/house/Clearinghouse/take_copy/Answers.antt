@@ -6,9 +6,9 @@ use Rattle.std.proofs.lemmas.Bool.Decides.{nat_tests}
 use Rattle.std.proofs.lemmas.Result.{on_err_weaker}
 use Rattle.cds_stamps.specs.Members.{members_of, since_in}
 use Rattle.clearinghouse.specs.declared.house.Clearinghouse.{Clearinghouse}
-use Rattle.held_directories.specs.declared.states.DirState.TheVariants as state
-use Rattle.held_directories.specs.Taking.{held_in}
-use Rattle.clearinghouse.specs.Taking.{Copies, Merges}
+use Rattle.house_directory.specs.declared.states.DirState.TheVariants as state
+use Rattle.house_directory.specs.DirectoryTakes.{held_in}
+use Rattle.clearinghouse.specs.HouseTakes.{Copies, Merges}
 use Rattle.clearinghouse.proofs.Houses.{same_house}
 use Rattle.clearinghouse.proofs.Takings.{copied_over, of_held, of_none, on_ok_map}
 use Rattle.clearinghouse.proofs.house.Clearinghouse.take_copy.Goals.{in_default-via-in-Some+else-le, in_default-via-in-None-1}

@@ -2,8 +2,8 @@ use Rattle.std.proofs.Common.{◌∙◌, ap, sym, subst}
 use Rattle.std.specs.Prelude.{max, MatchOption}
 use Rattle.cds_stamps.specs.declared.stamp.Floor.{Floor}
 use Rattle.clearinghouse.specs.declared.house.Clearinghouse.{Clearinghouse}
-use Rattle.held_directories.specs.Taking.{Answers}
-use Rattle.clearinghouse.specs.Taking.{HasJoined}
+use Rattle.house_directory.specs.DirectoryTakes.{Answers}
+use Rattle.clearinghouse.specs.HouseTakes.{HasJoined}
 use Rattle.clearinghouse.proofs.Takings.{copy_floor}
 use Rattle.clearinghouse.proofs.house.Clearinghouse.take_join.Goals as goal
 

@@ -1,11 +1,11 @@
 use Rattle.std.proofs.Common.{◌≡◌, None, sym}
 use Rattle.clearinghouse.specs.declared.house.Clearinghouse.{Clearinghouse}
-use Rattle.held_directories.specs.declared.outgoing.Turn.{Turn}
-use Rattle.held_directories.specs.declared.taking.Taken.{Taken}
-use Rattle.clearinghouse.specs.Posting.{posts_at}
-use Rattle.clearinghouse.specs.Taking.{Takes}
-use Rattle.held_directories.specs.Stepping.{IsTakeAnswer, UnlessTaken}
-use Rattle.clearinghouse.specs.Stepping.{IsStep, LooksStep}
+use Rattle.house_directory.specs.declared.outgoing.Turn.{Turn}
+use Rattle.house_directory.specs.declared.taking.Taken.{Taken}
+use Rattle.clearinghouse.specs.HouseLetters.{posts_at}
+use Rattle.clearinghouse.specs.HouseTakes.{Takes}
+use Rattle.house_directory.specs.DirectorySteps.{IsTakeAnswer, UnlessTaken}
+use Rattle.clearinghouse.specs.HouseSteps.{IsStep, LooksStep}
 use Rattle.cell_model.specs.Turns.{take}
 use Rattle.clearinghouse.proofs.Does.{DoesOr, done_other, done_join, done_leave, or_kept, or_others, or_told, or_who}
 use Rattle.clearinghouse.proofs.Houses.{heed_ok, heed_lawful, heed_call}

@@ -2,10 +2,10 @@ use Rattle.std.proofs.Common.{◌∙◌, ap, subst, refl}
 use Rattle.std.specs.Prelude.{max, MatchOption}
 use Rattle.std.specs.FinMap as map
 use Rattle.clearinghouse.specs.declared.house.Clearinghouse.{Clearinghouse}
-use Rattle.held_directories.specs.declared.states.DirState.TheVariants as state
-use Rattle.held_directories.specs.declared.taking.Taken.TheVariants as answers
-use Rattle.held_directories.specs.Taking.{Answers}
-use Rattle.clearinghouse.specs.Taking.{TakesAt}
+use Rattle.house_directory.specs.declared.states.DirState.TheVariants as state
+use Rattle.house_directory.specs.declared.taking.Taken.TheVariants as answers
+use Rattle.house_directory.specs.DirectoryTakes.{Answers}
+use Rattle.clearinghouse.specs.HouseTakes.{TakesAt}
 use Rattle.clearinghouse.proofs.Houses.{same_house}
 use Rattle.clearinghouse.proofs.Takings.{on_err_of}
 use Rattle.clearinghouse.proofs.house.Clearinghouse.take_other.Goals as goal

@@ -1,6 +1,6 @@
 use Rattle.std.proofs.Common.{arith, subst}
 use Rattle.std.specs.Map.Calls.{CalledAtPair, TakesPair}
-use Rattle.compact_map.specs.Entries.{IsOrdered}
+use Rattle.compact_map.specs.MapEntries.{IsOrdered}
 use Rattle.compact_map.proofs.Sifting.{begun, asked, kept_next, dropped_next, ended, kept_ordered}
 use Rattle.compact_map.proofs.sorted_vec.SortedVec.retain.Goals as goal
 

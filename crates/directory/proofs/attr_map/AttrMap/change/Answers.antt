@@ -2,7 +2,7 @@ use Rattle.std.proofs.Common.{ap, ◌∙◌}
 use Rattle.std.specs.FinMap as map
 use Rattle.std.specs.Cmp.Lexicographic.{nat_list_cmp_total}
 use Rattle.cds_stamps.specs.Octets.{octets_exact}
-use Rattle.attr_sets.specs.Cells.{cell_of, join_cells}
+use Rattle.attr_sets.specs.AttributeCells.{cell_of, join_cells}
 use Rattle.attr_sets.specs.CellChanges.{change_marks}
 use Rattle.cds_stamps.proofs.Undoing.{joined_new}
 use Rattle.directory.proofs.attr_map.AttrMap.change.Goals as goal

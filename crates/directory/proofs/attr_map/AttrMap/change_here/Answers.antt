@@ -4,7 +4,7 @@ use Rattle.std.specs.BTreeMap.{is_at}
 use Rattle.std.specs.Cmp.Lexicographic.{nat_list_cmp_total}
 use Rattle.std.proofs.lemmas.Map.Steps.{set_value_same}
 use Rattle.cds_stamps.specs.Octets.{octets_exact, octets_cmp}
-use Rattle.attr_sets.specs.Cells.{cell_of, join_cells}
+use Rattle.attr_sets.specs.AttributeCells.{cell_of, join_cells}
 use Rattle.attr_sets.specs.CellChanges.{change_marks}
 use Rattle.cds_stamps.proofs.Undoing.{not_here, on_err}
 use Rattle.directory.specs.Entries.{IsHeldCell}

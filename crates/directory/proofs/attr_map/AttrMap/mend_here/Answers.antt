@@ -1,7 +1,7 @@
 use Rattle.std.proofs.Common.{refl}
 use Rattle.std.specs.Cmp.Lexicographic.{nat_list_cmp_total}
 use Rattle.cds_stamps.specs.Octets.{octets_exact}
-use Rattle.attr_sets.specs.Cells.{join_cells}
+use Rattle.attr_sets.specs.AttributeCells.{join_cells}
 use Rattle.attr_sets.specs.CellUndoWords.{undo_cell}
 use Rattle.cds_stamps.proofs.Undoing.{mended_here, mended_none}
 use Rattle.directory.proofs.attr_map.AttrMap.mend_here.Goals.{in-Some, in_default+in-Whole-1, in_default+in-Marks-1}

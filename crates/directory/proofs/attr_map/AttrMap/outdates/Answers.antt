@@ -1,5 +1,5 @@
 use Rattle.cds_stamps.specs.Octets.{octets_exact}
-use Rattle.attr_sets.specs.Cells.{join_cells}
+use Rattle.attr_sets.specs.AttributeCells.{join_cells}
 use Rattle.attr_sets.proofs.Unchanged.{unchanged_valid}
 use Rattle.directory.specs.Entries.{IsHeldCell}
 use Rattle.directory.proofs.attr_map.AttrMap.outdates.Goals as goal

@@ -5,7 +5,7 @@ use Rattle.cds_stamps.specs.Octets.{octets_cmp}
 use Rattle.cds_stamps.specs.Semilattice.{maybe, join_of}
 use Rattle.cds_stamps.specs.Joins.{EachValue}
 use Rattle.cds_stamps.proofs.TreeViews.{entry_at}
-use Rattle.attr_sets.specs.Cells.{join_cells}
+use Rattle.attr_sets.specs.AttributeCells.{join_cells}
 use Rattle.directory.specs.Entries.{IsHeldCell}
 use Rattle.directory.proofs.attr_map.AttrMap.outdates_all.Given as goal
 

@@ -4,7 +4,7 @@ use Rattle.std.specs.List.{AllByRecursion}
 use Rattle.std.specs.Cmp.Lexicographic.{nat_list_cmp_total}
 use Rattle.cds_stamps.specs.Octets.{octets_cmp, octets_exact}
 use Rattle.cds_stamps.specs.Semilattice.{maybe, join_of}
-use Rattle.attr_sets.specs.Cells.{join_cells}
+use Rattle.attr_sets.specs.AttributeCells.{join_cells}
 use Rattle.directory.specs.Entries.{IsHeldCell}
 use Rattle.directory.specs.EntryLawProofs.{cell_join}
 use Rattle.cds_stamps.proofs.TreeViews.{entry_at, join_of-entries, get-view, all_joined}

@@ -1,7 +1,7 @@
 use Rattle.std.proofs.Common.{◌≡◌, List, ℕ}
 use Rattle.std.specs.FinMap as map
 use Rattle.cds_stamps.specs.Octets.{octets_cmp}
-use Rattle.attr_sets.specs.Cells.{join_cells}
+use Rattle.attr_sets.specs.AttributeCells.{join_cells}
 use Rattle.cds_stamps.specs.Semilattice.{maybe, join_of}
 use Rattle.cds_stamps.specs.Undos.{LogsChange}
 use Rattle.attr_sets.specs.CellUndoWords.{undo_cell}

@@ -1,6 +1,6 @@
 use Rattle.std.specs.Cmp.Lexicographic.{nat_list_cmp_total}
 use Rattle.cds_stamps.specs.Octets.{octets_exact}
-use Rattle.attr_sets.specs.Cells.{join_cells}
+use Rattle.attr_sets.specs.AttributeCells.{join_cells}
 use Rattle.attr_sets.specs.CellUndoWords.{undo_cell}
 use Rattle.cds_stamps.proofs.Undoing.{mended_new}
 use Rattle.directory.proofs.attr_map.AttrMap.remove.Goals as goal

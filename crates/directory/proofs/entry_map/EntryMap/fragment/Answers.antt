@@ -1,5 +1,5 @@
 use Rattle.std.proofs.Common.{true}
-use Rattle.attr_sets.specs.Cells.{Marked}
+use Rattle.attr_sets.specs.AttributeCells.{Marked}
 use Rattle.directory.specs.Kinds.{link_target, replicas}
 use Rattle.directory.specs.declared.entry.Kind.TheVariants.{Object, Link, Child}
 use Rattle.directory.proofs.FragmentLaws.{born_fragment, led_fragment}

@@ -1,7 +1,7 @@
 use Rattle.std.proofs.Common.{◌≡◌, ◌∙◌, [], ◌∷◌, Some, sym, ap, option_copied}
 use Rattle.std.specs.Option.{option_map}
 use Rattle.cell_names.specs.ChildPointers.{pointer_octets}
-use Rattle.attr_sets.specs.Cells.{Cleared, Marked}
+use Rattle.attr_sets.specs.AttributeCells.{Cleared, Marked}
 use Rattle.attr_sets.specs.Marks.{present_at}
 use Rattle.directory.specs.Applied.{changed_entry}
 use Rattle.directory.specs.Histories.{entry_of}

@@ -1,5 +1,5 @@
 use Rattle.std.proofs.Common.{[], ◌∷◌, Some, None, refl}
-use Rattle.attr_sets.specs.Cells.{Cleared, Marked}
+use Rattle.attr_sets.specs.AttributeCells.{Cleared, Marked}
 use Rattle.attr_sets.specs.Marks.{present_at, absent_at}
 use Rattle.directory.proofs.FragmentLaws.{entry_of-changed, entry_of-deleted}
 use Rattle.directory.proofs.update.Update.own.Goals as goal

@@ -1,6 +1,6 @@
 use Rattle.std.proofs.Common.{◌≡◌, ◌≤◌, arith, ℕ, List, length, take, drop, false, sym, ◌∙◌, ap, subst}
 use Rattle.house_journal.specs.declared.step.Step.{Step}
-use Rattle.house_journal.specs.Disks.{written}
+use Rattle.house_journal.specs.Disks.{with_piece}
 use Rattle.house_journal.specs.MemoryDisks.{write_of, FitsStep, before_step}
 use Rattle.house_journal.proofs.MemoryCalls.{fits_write}
 use Rattle.house_journal.proofs.MemorySteps.{fits_more}
@@ -19,7 +19,7 @@ invariant_of-self-in-Ok c =
     ap (λ (l : List ℕ). record { cuts = false; at = at; len = length piece; gone = l; synced = false }) (sym gone) in
     let within : at ≤ length file = grind (arith, common_steps) in
     let new = c.overwrite.new.octets.items in
-    let wrote : new ≡ written file at piece = c.in-Ok.ensures.ok in
+    let wrote : new ≡ with_piece file at piece = c.in-Ok.ensures.ok in
     let step = subst (λ (f : List ℕ). FitsStep (write_of at piece file) f) (sym wrote) (fits_write at piece file within) in
     let back = ap (before_step (write_of at piece file)) wrote ∙ before_write at piece file within in
     rw c.in_ok-push.ensures.items

@@ -1,6 +1,6 @@
 use Rattle.std.proofs.Common.{◌∙◌, reverse, sym}
 use Rattle.std.proofs.lemmas.List.{nil_from_length}
-use Rattle.ns_import.specs.Coming.{coming}
+use Rattle.ns_import.specs.Coming.{bindings_to_come}
 use Rattle.ns_import.proofs.Landing.{shown_lead}
 use Rattle.ns_import.proofs.Advancing.{entry_is_new, fewer_unseen, coming_stays, at_the_end}
 use Rattle.ns_import.proofs.progress.Progress.advance.Goals as goal
@@ -40,7 +40,7 @@ returns-in-None-clause-next g c =
     let objects = g.R.EntryReader.objects c.args.reader.now in
     at_the_end tells objects c.args.client.now c.entries.self.searched.keys c.in_ok-entry.field-0
     c.entries.self.names.items c.next_object.new.names.items c.in_ok-entry.ensures.next c.in_ok-entry.ensures.end c.in-None.is
-    c.entries.self.ready.items c.pop.new.self.items (coming tells objects c.args.client.now c.args.self.now)
+    c.entries.self.ready.items c.pop.new.self.items (bindings_to_come tells objects c.args.client.now c.args.self.now)
     (nil_from_length c.entries.self.ready.items (sym c.entries.self.ready.ok.0 ∙ c.in_default.ensures.cases.0))
     (nil_from_length c.pop.new.self.items (sym c.pop.new.self.ok.0 ∙ c.in_default.ensures.cases.1))
     c.entries.invariant.same

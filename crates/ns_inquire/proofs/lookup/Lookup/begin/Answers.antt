@@ -1,4 +1,4 @@
-use Rattle.ns_import.specs.Imports.{imported}
+use Rattle.ns_import.specs.Imports.{import_list}
 use Rattle.ns_inquire.proofs.BatchLaws.{begun_usable}
 use Rattle.ns_inquire.proofs.lookup.Lookup.begin.Goals as goal
 
@@ -7,6 +7,6 @@ invariant_of-result g c =
     let reader = c.args.reader.now in
     let objects = g.R.EntryReader.objects reader in (
       c.requires,
-      λ _. begun_usable (imported (g.R.EntryReader.tells reader) objects c.args.wanted c.args.name.now) c.in_ok-importer.importer
+      λ _. begun_usable (import_list (g.R.EntryReader.tells reader) objects c.args.wanted c.args.name.now) c.in_ok-importer.importer
           (c.in_ok-importer.ensures objects (g.met.R.EntryReader.shows_only reader)),
     )

@@ -1,6 +1,6 @@
 use Rattle.std.proofs.Common.{◌≡◌, Some, ap, subst, sym, ◌∙◌}
 use Rattle.std.specs.Prelude.{IfSome}
-use Rattle.directory.specs.Purges.{purged, purged_table}
+use Rattle.directory.specs.Purges.{purged_entries, purged_table}
 use Rattle.purge_rule.specs.declared.replica.Replica.{Replica}
 use Rattle.purge_rule.specs.Latest.{StampUpTo, TableUpTo}
 use Rattle.purge_rule.proofs.MergeLaws.{above_left, purged_table-up_to}
@@ -12,7 +12,7 @@ pub returns-clause-merged : goal.returns-clause-merged
 returns-clause-merged c = λ h is.
     let later = c.raise-up_to.ensures.later in
     same_replica _ _ _ _ (c.drop_up_to.ensures.histories h c.args.self.now.all_up_to (above_left c.args.self.now.all_up_to (Some c.args.t)
-    (Some c.raise-up_to.result) later) (c.raise-up_to.ensures.table ∙ ap (λ (r : Replica). r.table) is) ∙ ap (purged h) (sym later))
+    (Some c.raise-up_to.result) later) (c.raise-up_to.ensures.table ∙ ap (λ (r : Replica). r.table) is) ∙ ap (purged_entries h) (sym later))
     (c.raise-up_to.ensures.all_up_to ∙ sym later)
 
 pub returns-clause-dropped : goal.returns-clause-dropped

@@ -1,7 +1,7 @@
 use Rattle.std.proofs.Common.{◌≡◌, Some, ap, subst, sym, ◌∙◌}
 use Rattle.std.specs.Prelude.{IfSome}
 use Rattle.directory.specs.Entries.{IsValidTable}
-use Rattle.directory.specs.Purges.{purged, purged_table}
+use Rattle.directory.specs.Purges.{purged_entries, purged_table}
 use Rattle.directory.proofs.PurgeLaws.{purged-again, purged_table-valid}
 use Rattle.purge_rule.specs.declared.replica.Replica.{Replica}
 use Rattle.purge_rule.specs.Latest.{StampUpTo, TableUpTo}
@@ -14,11 +14,11 @@ pub returns-clause-merged : goal.returns-clause-merged
 returns-clause-merged g c = λ h is.
     let later = c.raise-up_to.ensures.later in
     let up_to = c.raise-up_to.result in
-    let stands : c.raise-up_to.new.self.table ≡ purged h c.args.self.now.all_up_to = c.raise-up_to.ensures.table ∙ ap (λ (r : Replica). r.table) is in
+    let stands : c.raise-up_to.new.self.table ≡ purged_entries h c.args.self.now.all_up_to = c.raise-up_to.ensures.table ∙ ap (λ (r : Replica). r.table) is in
     same_replica _ _ _ _ (c.forget.ensures.dropped
     ∙ ap (purged_table up_to) stands
     ∙ purged-again h c.args.self.now.all_up_to up_to (above_left c.args.self.now.all_up_to (Some c.args.t) (Some up_to) later)
-    ∙ ap (purged h) (sym later)) (c.raise-up_to.ensures.all_up_to ∙ sym later)
+    ∙ ap (purged_entries h) (sym later)) (c.raise-up_to.ensures.all_up_to ∙ sym later)
 
 pub returns-clause-dropped : goal.returns-clause-dropped
 returns-clause-dropped g c =

@@ -1,7 +1,7 @@
 use Rattle.std.proofs.Common.{◌++◌, ap, sym, subst, ◌∙◌}
 use Rattle.directory.specs.Entries.{IsValidTable}
 use Rattle.directory.specs.Histories.{CanMerge}
-use Rattle.directory.specs.Purges.{purged}
+use Rattle.directory.specs.Purges.{purged_entries}
 use Rattle.purge_rule.specs.Latest.{StampUpTo, TableUpTo}
 use Rattle.purge_rule.specs.Replicas.{merged_table}
 use Rattle.purge_rule.proofs.MergeLaws.{merged_table-valid, merged_table-up_to}
@@ -14,7 +14,7 @@ returns-clause-merged c = λ h g can mine theirs.
     let up_to = c.later_of.ensures in
     same_replica _ _ _ _ (merged_deltas h g c.later_of.result c.args.self.now c.args.other.now c.args.self.now.all_up_to
     c.args.other.now.above c.merge_table.new.own (sym up_to) (subst (CanMerge h g) (sym up_to) can) mine theirs c.in_ok-merge_table.ensures.ok
-    ∙ ap (purged (h ++ g)) up_to) up_to
+    ∙ ap (purged_entries (h ++ g)) up_to) up_to
 
 pub returns-clause-joined : goal.returns-clause-joined
 returns-clause-joined c = λ mine theirs. c.in_ok-merge_table.ensures.ok mine theirs

@@ -1,6 +1,6 @@
 use Rattle.std.proofs.Common.{sym, arith}
 use Rattle.std.proofs.lemmas.Option.{slice_get_past}
-use Rattle.tower_codec.specs.Reading.{known_floor, after_known_floor, known_floors}
+use Rattle.tower_codec.specs.TowerReading.{known_floor, after_known_floor, known_floors}
 use Rattle.tower_codec.proofs.Known.{floor_ahead, found_ahead, length-known_floors}
 use Rattle.tower_codec.proofs.view.TowerView.floor.Goals as goal
 

@@ -1,9 +1,9 @@
 use Rattle.std.proofs.Common.{◌≡◌, ℕ, ◌+◌, List, length, Result, Ok, Err, sym, ap, ◌∙◌, arith}
 use Rattle.std.proofs.lemmas.Result.{err_from_is_err_and}
-use Rattle.tower_codec.specs.Reading.{body_at}
+use Rattle.tower_codec.specs.TowerReading.{body_at}
 use Rattle.tower_codec.specs.declared.fault.TowerFault.{TowerFault}
 use Rattle.tower_codec.specs.Tower.{Floor}
-use Rattle.tower_codec.specs.Reading.{known_floors}
+use Rattle.tower_codec.specs.TowerReading.{known_floors}
 use Rattle.tower_codec.proofs.TowersRead.{body_read, body_again}
 use Rattle.tower_codec.proofs.FaultsRead.{fault_read, fault_again}
 use Rattle.tower_codec.proofs.view.TowerView.read.Goals as goal

@@ -1,5 +1,5 @@
 use Rattle.std.proofs.Common.{sym, ◌∙◌}
-use Rattle.tower_codec.specs.Reading.{known_floor, after_known_floor}
+use Rattle.tower_codec.specs.TowerReading.{known_floor, after_known_floor}
 use Rattle.tower_codec.proofs.Known.{none_ahead, first_ahead}
 use Rattle.tower_codec.proofs.view.TowerView.split_first.Goals as goal
 

@@ -1,6 +1,6 @@
 use Rattle.std.proofs.Common.{◌≡◌, ℕ, List, [], ◌∷◌, ◌++◌, take, drop, refl, ap, ◌∙◌, lit<}
 use Rattle.tower_codec.specs.Spelling.{number_octets}
-use Rattle.tower_codec.specs.Reading.{known_floors}
+use Rattle.tower_codec.specs.TowerReading.{known_floors}
 use Rattle.tower_codec.proofs.writer.TowerWriter.clear.Goals as goal
 
 none_behind : (x : List ℕ) → drop 2 (take 2 x) ≡ []

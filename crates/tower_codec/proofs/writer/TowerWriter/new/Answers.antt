@@ -1,5 +1,5 @@
 use Rattle.std.proofs.Common.{[], refl, lit<}
-use Rattle.tower_codec.specs.Reading.{known_floors}
+use Rattle.tower_codec.specs.TowerReading.{known_floors}
 use Rattle.tower_codec.proofs.writer.TowerWriter.new.Goals as goal
 
 pub invariant_of-result : goal.invariant_of-result

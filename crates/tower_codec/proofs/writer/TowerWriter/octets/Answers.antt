@@ -1,7 +1,7 @@
 use Rattle.std.proofs.Common.{◌≡◌, List, drop, subst, ◌∙◌}
 use Rattle.tower_codec.specs.Tower.{Floor}
 use Rattle.tower_codec.specs.Spelling.{tower_octets}
-use Rattle.tower_codec.specs.Reading.{known_floors}
+use Rattle.tower_codec.specs.TowerReading.{known_floors}
 use Rattle.tower_codec.proofs.SpellingLaws.{tower_spelled}
 use Rattle.tower_codec.proofs.writer.TowerWriter.octets.Goals as goal
 

@@ -1,3 +1,0 @@
-pub mod SameQuestions
-pub mod Keeping
-pub mod Lines

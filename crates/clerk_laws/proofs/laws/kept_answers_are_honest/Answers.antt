@@ -1,5 +1,0 @@
-use Rattle.clerk_laws.proofs.Lines.{honest}
-use Rattle.clerk_laws.proofs.laws.kept_answers_are_honest.Goals as goal
-
-pub returns : goal.returns
-returns c = honest

@@ -1,0 +1,3 @@
+pub mod Clerking
+pub mod ClerkLines
+pub mod PrivateClerking

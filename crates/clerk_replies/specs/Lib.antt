@@ -1,3 +1,0 @@
-pub mod Clerking
-pub mod Standing
-pub mod PrivateClerking

@@ -1,6 +1,0 @@
--- By the two directions.
-use Rattle.completion_laws.proofs.LastAnswers.{completes_at_last}
-use Rattle.completion_laws.proofs.laws.a_last_answer_completes.Goals as goal
-
-pub returns : goal.returns
-returns c = completes_at_last

@@ -1,6 +1,0 @@
-//! Which delivery completes a skulk, in logic alone.
-#![tactic(auto)]
-
-mod laws;
-
-pub use laws::a_last_answer_completes;

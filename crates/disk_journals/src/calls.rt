@@ -1,0 +1,92 @@
+// Journals on disks in memory that never stop but where they are told to.
+ghost use Rattle.std.specs.Prelude.{◌≡◌, ◌≢◌, ◌+◌, ◌^◌, ◌<◌, ◌≤◌, ◌++◌, ◌∷◌, [], ℕ, List, true, Some, Err, IfOk, OnOk, length, if◌then◌else◌};
+ghost use Rattle.std.specs.Option.{option_map};
+ghost use Rattle.house_journal.specs.JournalRecords.{images, last_image};
+ghost use Rattle.house_journal.specs.Restarts.{CanBeOpened};
+ghost use Rattle.house_journal.specs.declared.step.Stop.TheVariants.{Never};
+ghost use Rattle.disk_journals.specs.KeptJournals.{Holds, HoldsEither, IsOpen, size_of, stops_after};
+ghost use Rattle.disk_journals.specs.declared.faults.Unkept.TheVariants as why;
+
+use crate::faults::Unkept;
+use cds_stamps::AllocOr;
+use house_journal::laws::{a_put_is_told_by_its_calls, a_stop_comes_at_its_call};
+use house_journal::{Journal, JournalFault, Leave, MemDisk};
+use std::alloc::Global;
+
+/// Opens the journal of a disk, and answers its last image. A crash leaves the images that were there.
+pub fn open(alloc: Global, disk: &mut MemDisk) -> Result<(Journal, Option<Vec<u8>>), Unkept>
+    requires size { length disk.old.octets ≤ 2 ^ 40 }
+    requires opens { CanBeOpened disk.old }
+    requires never { disk.old.stop ≡ Never }
+    ensures open { IfOk result (λ r. IsOpen r.0 disk.new) }
+    ensures images { OnOk result (images disk.new.octets ≡ images disk.old.octets) }
+    ensures last { IfOk result (λ r. option_map (λ v. v.items) r.1 ≡ last_image disk.old.octets) }
+    ensures crash { (list : List (List ℕ)) → Holds disk.old list → Holds disk.new list }
+    ensures memory { result ≢ Err why.Full }
+{
+    match Journal::open(alloc, disk) {
+        Ok(opened) => Ok(opened),
+        Err(AllocOr::OutOfMemory) => Err(Unkept::OutOfMemory),
+        Err(AllocOr::Fault(_)) => unreachable!(),
+    }
+}
+
+/// Puts an image, if there is room. A crash leaves the images that were there, or this one too.
+pub fn put(
+    alloc: Global,
+    journal: &mut Journal,
+    disk: &mut MemDisk,
+    image: &[u8],
+) -> Result<(), Unkept>
+    requires { IsOpen journal.old disk.old }
+    ensures open { OnOk result (IsOpen journal.new disk.new) }
+    ensures images { OnOk result (images disk.new.octets ≡ images disk.old.octets ++ image.now ∷ []) }
+    ensures crash { HoldsEither disk.new (images disk.old.octets) (images disk.old.octets ++ image.now ∷ []) }
+    ensures room { OnOk result (size_of (images disk.old.octets ++ image.now ∷ []) ≤ 2 ^ 40) }
+    ensures full { result ≡ Err why.Full → 2 ^ 40 < size_of (images disk.old.octets ++ image.now ∷ []) }
+{
+    match journal.put(alloc, disk, image) {
+        Ok(()) => Ok(()),
+        Err(AllocOr::OutOfMemory) => Err(Unkept::OutOfMemory),
+        Err(AllocOr::Fault(JournalFault::Full)) => Err(Unkept::Full),
+        Err(AllocOr::Fault(JournalFault::DiskFault | JournalFault::Reopen)) => unreachable!(),
+    }
+}
+
+/// Puts an image, if there is room, and stops the disk at this writing call, 1 to 4. Then the disk starts again, and the journal is
+/// opened. It has the image where the gate was written and is kept.
+pub fn stopped_put(
+    alloc: Global,
+    journal: &mut Journal,
+    disk: &mut MemDisk,
+    image: &[u8],
+    call: u8,
+    leave: Leave,
+) -> Result<(Journal, Option<Vec<u8>>), Unkept>
+    requires open { IsOpen journal.old disk.old }
+    requires first { 1 ≤ call }
+    requires last { call ≤ 4 }
+    ensures open { IfOk result (λ r. IsOpen r.0 disk.new) }
+    ensures images { OnOk result (images disk.new.octets ≡ (if stops_after call leave
+        then images disk.old.octets ++ image.now ∷ [] else images disk.old.octets)) }
+    ensures last { IfOk result (λ r. option_map (λ v. v.items) r.1 ≡ last_image disk.new.octets) }
+    ensures crash { HoldsEither disk.new (images disk.old.octets) (images disk.old.octets ++ image.now ∷ []) }
+    ensures room { OnOk result (size_of (images disk.old.octets ++ image.now ∷ []) ≤ 2 ^ 40) }
+    ensures full { result ≡ Err why.Full → 2 ^ 40 < size_of (images disk.old.octets ++ image.now ∷ []) }
+{
+    a_put_is_told_by_its_calls();
+    a_stop_comes_at_its_call();
+    if !journal.has_room(image.len()) {
+        return Err(Unkept::Full);
+    }
+    disk.stop(u64::from(call), leave);
+    match journal.put(alloc, disk, image) {
+        Err(AllocOr::Fault(JournalFault::DiskFault)) => {}
+        Err(AllocOr::OutOfMemory) => return Err(Unkept::OutOfMemory),
+        Err(AllocOr::Fault(JournalFault::Full)) => unreachable!(),
+        Err(AllocOr::Fault(JournalFault::Reopen)) => unreachable!(),
+        Ok(()) => unreachable!(),
+    }
+    disk.restart()?;
+    open(alloc, disk)
+}

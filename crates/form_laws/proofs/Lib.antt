@@ -1,0 +1,16 @@
+pub mod LastAnswers
+pub mod Goings
+pub mod Trios
+pub mod SkulkRuns
+pub mod Losses
+pub mod Shows
+pub mod Stamps
+pub mod Entries
+pub mod LiveCounts
+pub mod Parts
+pub mod Rounds
+pub mod Scripts
+pub mod Summaries
+pub mod SameQuestions
+pub mod Keeping
+pub mod Lines

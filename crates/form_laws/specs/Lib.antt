@@ -1,0 +1,4 @@
+pub mod LastAnswers
+pub mod Unrefused
+pub mod Summaries
+pub mod Honesty

@@ -1,7 +1,0 @@
-use Rattle.std.proofs.Common.{sym, ap, ◌∙◌, None}
-use Rattle.directory.specs.Entries.{Entries}
-use Rattle.directory.proofs.TableLaws.{table_of-nil}
-use Rattle.held_directories.proofs.epochs.empty_replica.Goals as goal
-
-pub returns : goal.returns
-returns c = ap (λ (t : Entries). record { table = t; all_up_to = None }) (c.new.ensures ∙ sym table_of-nil)

@@ -1,6 +1,0 @@
-use Rattle.std.proofs.Common.{drop}
-use Rattle.held_directories.proofs.Receivers.{OthersRest}
-use Rattle.held_directories.proofs.states.Held.others.Given as goal
-
-abbrev pub invariant-loop-member : goal.invariant-loop-member
-invariant-loop-member l = OthersRest l.house.0 l.self.members (drop l.member-index l.self.members) l.others.items

@@ -1,7 +1,0 @@
-use Rattle.std.proofs.Common.{drop}
-use Rattle.held_directories.specs.Posting.{message_of}
-use Rattle.held_directories.proofs.Posts.{PostsRest}
-use Rattle.held_directories.proofs.states.Held.posted_to_others.Given as goal
-
-abbrev pub invariant-loop-member : goal.invariant-loop-member
-invariant-loop-member l = PostsRest (message_of l.sender l.self l.outgoing) l.self.members (drop l.member-index l.self.members) l.posted

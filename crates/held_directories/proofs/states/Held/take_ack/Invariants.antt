@@ -1,4 +1,0 @@
-use Rattle.held_directories.proofs.states.Held.take_ack.Given as goal
-
-abbrev pub ghosts-advance : goal.ghosts-advance
-ghosts-advance a = record { name = a.blank.name; parts = a.blank.parts }

@@ -1,7 +1,0 @@
-use Rattle.std.proofs.Common.{◌≡◌, max}
-use Rattle.purge_rule.specs.Latest.{greatest_of}
-use Rattle.held_directories.specs.Times.{latest_in_image, latest_in_kept}
-use Rattle.held_directories.proofs.times.latest_in_image.Given as goal
-
-abbrev pub invariant-loop-kept : goal.invariant-loop-kept
-invariant-loop-kept l = max l.time (greatest_of (λ e. latest_in_kept e.1) l.kept-iterator) ≡ latest_in_image l.image

@@ -1,0 +1,11 @@
+pub mod PrivateCodes
+pub mod HouseMessages
+pub mod ModelReplicas
+pub mod DirectorySteps
+pub mod DirectoryTakes
+pub mod DirectoryUpdates
+pub mod Refusing
+pub mod Times
+pub mod LawfulDirectories
+pub mod DirectoryTurns
+pub mod Lending

@@ -1,0 +1,9 @@
+use Rattle.cell_script.specs.Words.{words_of}
+use Rattle.script_forms.specs.JournalLines.{said_in}
+use Rattle.journal_replay.specs.CellJournals.{puts_by}
+use Rattle.journal_replay.proofs.Putting.{putting_at_start}
+use Rattle.journal_replay.proofs.journals.Journals.replay_line.Goals as goal
+
+pub returns-in-Err-OutOfMemory-clause-disks : goal.returns-in-Err-OutOfMemory-clause-disks
+returns-in-Err-OutOfMemory-clause-disks c s stands =
+    putting_at_start c.args.self.now.keeper.disks.items s.lists (puts_by s (said_in (words_of c.args.line.now))) stands.stands.disks

@@ -1,0 +1,18 @@
+use Rattle.std.proofs.Common.{◌∷◌, [], sym, subst, refl}
+use Rattle.cell_model.specs.Commands as model
+use Rattle.cell_script.specs.declared.command.Command.TheVariants as command
+use Rattle.cell_script.specs.declared.command.ScriptLine.TheVariants as script
+use Rattle.cds_cell.specs.ModelCells.{Stands}
+use Rattle.script_replay.specs.declared.replayer.Replayer.{Replayer}
+use Rattle.script_replay.specs.Replies.{said_of}
+use Rattle.journal_replay.proofs.Doing.{done_all, give_done, one_spares}
+use Rattle.journal_replay.proofs.keeper.Keeper.start.Goals as goal
+
+pub returns-in_ok-step-in-None-clause-does : goal.returns-in_ok-step-in-None-clause-does
+returns-in_ok-step-in-None-clause-does c s stands =
+    let g = s.cell in
+    let here = subst (λ (r : Replayer). Stands r.cell g) (sym c.reopened.ensures.same) stands.cell in
+    let done = c.in_ok-step-in-None.ensures.step g here in
+    done_all c.in_ok-step-in-None.field-0 _ s (said_of g (script.Cell (command.Start c.args.house))) done.answer done.stands
+    (give_done c.images_stay.ensures s (model.Start c.args.house.0 ∷ []) stands.cell.reached stands.gives (one_spares g (model.Start c.args.house.0)))
+    (c.reopened.ensures.disks s.lists stands.disks) refl

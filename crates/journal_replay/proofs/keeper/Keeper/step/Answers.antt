@@ -1,0 +1,29 @@
+use Rattle.std.proofs.Common.{◌≡◌, ◌∷◌, [], false, List, ℕ, sym, subst}
+use Rattle.cell_model.specs.Steps.{outcome}
+use Rattle.cell_script.specs.declared.command.ScriptLine.TheVariants as script
+use Rattle.cds_cell.specs.Scripted.{step_of}
+use Rattle.cds_cell.specs.ModelCells.{Stands}
+use Rattle.script_replay.specs.declared.replayer.Replayer.{Replayer}
+use Rattle.script_replay.specs.Replies.{said_of}
+use Rattle.journal_replay.specs.CellJournals.{lacks_room, puts_of, with_puts}
+use Rattle.journal_replay.specs.CellDisks.{HoldAll}
+use Rattle.journal_replay.proofs.Doing.{does_memory, done_all, give_done, one_spares}
+use Rattle.journal_replay.proofs.keeper.Keeper.step.Goals as goal
+
+pub returns-in_err-answer-clause-does : goal.returns-in_err-answer-clause-does
+returns-in_err-answer-clause-does c s stands =
+    does_memory _ s (said_of s.cell (script.Cell c.args.command)) c.from_residual.result c.from_residual.ensures.1 stands.disks
+
+pub returns-clause-does : goal.returns-clause-does
+returns-clause-does c s stands =
+    let g = s.cell in
+    let next = (outcome g (step_of c.args.command)).cell in
+    let here = subst (λ x. Stands x g) (sym c.cell.ensures) stands.cell in
+    let acting = c.actors_of-first.ensures g here in
+    let done = c.in_ok-answer.ensures.step g stands.cell in
+    let puts = c.in_ok-keep_both.ensures.puts next s.lists done.stands stands.disks in
+    done_all c.in_ok-answer.answer c.keep_both.new.self s (said_of g (script.Cell c.args.command)) done.answer
+    (subst (λ (r : Replayer). Stands r.cell next) (sym c.keep_both.ensures.same) done.stands)
+    (give_done c.images_stay.ensures s (step_of c.args.command ∷ []) stands.cell.reached stands.gives (one_spares g (step_of c.args.command)))
+    (subst (λ (xs : List ℕ). HoldAll c.keep_both.new.self.disks.items (with_puts (puts_of next xs s.lists) s.lists)) acting puts.0)
+    (subst (λ (xs : List ℕ). lacks_room s.lists (puts_of next xs s.lists) ≡ false) acting puts.1)

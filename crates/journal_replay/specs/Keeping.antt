@@ -1,0 +1,31 @@
+-- How the disks of a cell's houses are kept, and what is on them behind a line of the form `journal` (own).
+use Rattle.std.specs.Prelude.{◌≡◌, false, Option, Result}
+use Rattle.cell_script.specs.declared.fault.ParseFault.{ParseFault}
+use Rattle.script_forms.specs.declared.journal_line.JournalLine.{JournalLine}
+use Rattle.cds_cell.specs.ModelCells.{Stands}
+use Rattle.reply_buffer.specs.declared.replies.LineEnd.{LineEnd}
+use Rattle.reply_buffer.specs.declared.replies.LineEnd.TheVariants as line
+use Rattle.journal_replay.specs.declared.keeper.Keeper.{Keeper}
+use Rattle.journal_replay.specs.declared.journals.Journals.{Journals}
+use Rattle.journal_replay.specs.CellJournals.{JournaledCell, puts_by}
+use Rattle.journal_replay.specs.CellDisks.{ArePutting, GiveImages, HoldAll}
+
+-- a cell of the program and its disks are those of a cell of the model with journals: on each disk is what the house put, whatever a crash
+-- leaves, and the last image there is that of the house (own)
+pub record StandsKeeper (k : Keeper) (s : JournaledCell) : Type 0 where
+  pub cell : Stands k.replayer.cell s.cell
+  pub disks : HoldAll k.disks.items s.lists
+  pub gives : GiveImages s
+
+-- the same between two lines, where no line was given up before (own)
+pub record StandsJournals (j : Journals) (s : JournaledCell) : Type 0 where
+  pub usable : j.spent ≡ false
+  pub stands : StandsKeeper j.keeper s
+
+-- what is on the disks behind a line that says this: all as the line leaves it, or as it was before a faulty one. A line that is given up
+-- for want of memory, or because a journal has no room, leaves them with its puts under way (own)
+abbrev pub LeavesDisks : LineEnd → JournaledCell → Result (Option JournalLine) ParseFault → Journals → Type 0
+LeavesDisks line.GoesOn s said j = Unit {0}
+LeavesDisks line.Stops s said j = HoldAll j.keeper.disks.items s.lists
+LeavesDisks line.NoMemory s said j = ArePutting j.keeper.disks.items s.lists (puts_by s said)
+LeavesDisks line.Full s said j = ArePutting j.keeper.disks.items s.lists (puts_by s said)

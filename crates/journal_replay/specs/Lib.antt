@@ -1,0 +1,6 @@
+pub mod Journaled
+pub mod CellJournals
+pub mod CellDisks
+pub mod Keeping
+pub mod PrivateJournals
+pub mod KeptProofs

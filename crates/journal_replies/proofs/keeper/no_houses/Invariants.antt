@@ -1,5 +1,0 @@
-use Rattle.std.proofs.Common.{◌≡◌, None, replicate}
-use Rattle.journal_replies.proofs.keeper.no_houses.Given as goal
-
-abbrev pub invariant-loop : goal.invariant-loop
-invariant-loop l = l.houses.items ≡ replicate l.counter None

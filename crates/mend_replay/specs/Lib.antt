@@ -1,0 +1,6 @@
+pub mod Readiness
+pub mod MendLines
+pub mod SayableCommands
+pub mod Quiet
+pub mod PrivateLines
+pub mod Menders

@@ -1,0 +1,60 @@
+-- The commands that mend a directory, as lines of a script (own).
+use Rattle.std.specs.Prelude.{ℕ, if◌then◌else◌, List, [], ◌∷◌, ◌++◌, map, codes, is_some}
+use Rattle.std.specs.Fmt.{decimal}
+use Rattle.std.specs.List.{flat_map}
+use Rattle.cds_stamps.specs.Members.{master_of}
+use Rattle.cell_model.specs.Cells.{Cell}
+use Rattle.cell_model.specs.Commands.{Command, Epoch, Skulk, Deliver, Start}
+use Rattle.cell_model.specs.Mending.{mend_commands, skulking_at}
+use Rattle.cell_model.specs.Sets.{has}
+use Rattle.cell_model.specs.Steps.{is_unknown}
+use Rattle.cell_model.specs.Turns.{stamp_at}
+use Rattle.mend_replay.specs.Readiness.{is_ready}
+
+-- ---- lines
+
+-- a house of a list, behind an `s` where it is one of the secondary ones (own)
+abbrev pub listed_word : (ss : List ℕ) → ℕ → List ℕ
+listed_word ss x = if has x ss then 115 ∷ decimal x else decimal x
+
+-- the words of these four commands; the others mend nothing, and have none here (own)
+abbrev pub command_words : Command → List (List ℕ)
+command_words (Start h) = codes "start" ∷ decimal h ∷ []
+command_words (Epoch d m rs ss) = codes "epoch" ∷ decimal d ∷ decimal m ∷ map (listed_word ss) rs
+command_words (Skulk h d) = codes "skulk" ∷ decimal h ∷ decimal d ∷ []
+command_words (Deliver n) = codes "deliver" ∷ decimal n ∷ []
+command_words _ = []
+
+-- words behind others, each behind a space (own)
+abbrev pub words_behind : List (List ℕ) → List ℕ
+words_behind = flat_map (λ w. 32 ∷ w)
+
+-- words in a line, with a space between two of them (own)
+abbrev pub line_of : List (List ℕ) → List ℕ
+line_of [] = []
+line_of (w ∷ ws) = w ++ words_behind ws
+
+-- the line of a command, without its end (own)
+abbrev pub command_line : Command → List ℕ
+command_line c = line_of (command_words c)
+
+-- the lines of commands, each with its end (own)
+abbrev pub command_lines : List Command → List ℕ
+command_lines = flat_map (λ c. command_line c ++ 10 ∷ [])
+
+-- ---- what mends a directory
+
+-- the commands that mend a directory of a cell: a skulk is enough where its houses are ready (own)
+abbrev pub mends : Cell → (d : ℕ) → List Command
+mends g d = if is_ready g d then skulking_at g d else mend_commands g d
+
+-- the line of a refusal (own)
+abbrev pub refusal_line : List ℕ → List ℕ
+refusal_line why = codes "refused " ++ (why ++ 10 ∷ [])
+
+-- the lines of these commands; or that there is no such directory, or that its master has no stamp left, without which none is mended (own)
+abbrev pub mend_text : (d : ℕ) → Cell → List ℕ
+mend_text d g =
+    if is_unknown g d then refusal_line (codes "NoDirectory")
+    else (if is_some (stamp_at (g.house (master_of (g.present d)))) then command_lines (mends g d)
+    else refusal_line (codes "StampsSpent"))

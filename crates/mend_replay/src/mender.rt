@@ -1,0 +1,91 @@
+// A script that is replayed without answers, and the lines that mend a directory behind it.
+ghost use Rattle.std.specs.Prelude.{◌≡◌, ◌+◌, ◌<◌, ◌≤◌, IfOk};
+ghost use Rattle.cds_base.specs.declared.scan.TheConstants.{MOST_LINES};
+ghost use Rattle.cell_model.specs.Cells as model;
+ghost use Rattle.cell_script.specs.Words.{words_of};
+ghost use Rattle.cell_script.specs.CommandRows.{said_in};
+ghost use Rattle.cds_cell.specs.ModelCells.{Stands};
+ghost use Rattle.script_replay.specs.Dialogues.{reply_of};
+ghost use Rattle.script_replay.specs.Replies.{cell_after};
+ghost use Rattle.mend_replay.specs.MendLines.{mend_text};
+ghost use Rattle.mend_replay.specs.Menders.{Mends, UnlessNoMemory};
+ghost use Rattle.mend_replay.specs.Quiet.{running_quietly};
+
+use crate::commands::mend_text;
+use cds_stamps::{AllocOr, DirId};
+use cell_script::{ScriptLine, parse_line};
+use script_replay::Replayer;
+use std::alloc::{AllocError, Global};
+use reply_buffer::{LineEnd, Waiting, reply_to_fault};
+
+/// How many messages a cell posted at most of which lines are made. More would count as out of memory, but no script posts so many.
+const MOST_POSTED: u64 = 4_611_686_018_427_387_904;
+
+/// Replays a script, and answers no line of it; then it tells what mends a directory of the cell.
+#[derive(Drop)]
+pub struct Mender {
+    replayer: Replayer,
+    dir: DirId,
+}
+
+impl Mender {
+    /// Over a cell without houses. Takes no memory.
+    pub fn new(alloc: Global, dir: DirId) -> Mender
+        ensures cell { Stands result.replayer.cell model.empty_cell }
+        ensures dir { result.dir ≡ dir }
+        ensures steps { result.replayer.steps ≡ 0 }
+    {
+        Mender {
+            replayer: Replayer::new(alloc),
+            dir,
+        }
+    }
+
+    /// Replays a line. Only a fault has a text, which waits behind the others.
+    pub fn take_line(
+        &mut self,
+        alloc: Global,
+        number: u32,
+        line: &[u8],
+        waiting: &mut Waiting,
+    ) -> LineEnd
+        requires fewer { self.old.replayer.steps < number }
+        requires most { number ≤ MOST_LINES }
+        ensures reply { (g : model.Cell) → Stands self.old.replayer.cell g
+            → Mends result (reply_of running_quietly number g (said_in (words_of line.now))) waiting.old waiting.new self.new }
+        ensures dir { self.new.dir ≡ self.old.dir }
+        ensures steps { self.new.replayer.steps ≤ number }
+    {
+        match parse_line(alloc, line) {
+            Ok(Some(line)) => self.replay(alloc, line),
+            Ok(None) => LineEnd::GoesOn,
+            Err(AllocOr::Fault(fault)) => reply_to_fault(alloc, number, fault, waiting),
+            Err(AllocOr::OutOfMemory) => LineEnd::NoMemory,
+        }
+    }
+
+    // What a line says is done, and the answer is let go.
+    fn replay(&mut self, alloc: Global, line: ScriptLine) -> LineEnd
+        requires few { self.old.replayer.steps < MOST_LINES }
+        ensures done { (g : model.Cell) → Stands self.old.replayer.cell g
+            → UnlessNoMemory result (Stands self.new.replayer.cell (cell_after g line)) }
+        ensures dir { self.new.dir ≡ self.old.dir }
+        ensures steps { self.new.replayer.steps ≤ self.old.replayer.steps + 1 }
+    {
+        match self.replayer.reply(alloc, line) {
+            Ok(_) => LineEnd::GoesOn,
+            Err(AllocError) => LineEnd::NoMemory,
+        }
+    }
+
+    /// The lines that mend the directory, or the line of the reason why none do.
+    pub fn print_lines(&self, alloc: Global) -> Result<Vec<u8>, AllocError>
+        ensures { (g : model.Cell) → Stands self.now.replayer.cell g → IfOk result (λ text. text.items ≡ mend_text self.now.dir.0 g) }
+    {
+        let cell = self.replayer.cell();
+        if cell.posted() > MOST_POSTED {
+            return Err(AllocError);
+        }
+        mend_text(alloc, cell, self.dir)
+    }
+}

@@ -1,0 +1,33 @@
+use Rattle.std.proofs.Common.{◌∙◌, ap, subst, true, None, List, ℕ}
+use Rattle.std.specs.Result.{result_map_both}
+use Rattle.cds_stamps.specs.Outcomes.{Answers}
+use Rattle.tower_codec.specs.declared.binding.StringBinding.{StringBinding}
+use Rattle.cds_cell.specs.Telling.{program_reader}
+use Rattle.resolver.specs.Readers.{Reader}
+use Rattle.resolver.specs.WalkEnds.{place_of_walk}
+use Rattle.ns_commands.specs.Asks.{Asks, changes_in, export}
+use Rattle.script_replay.specs.Replies.{trusted_reader}
+use Rattle.script_replay.proofs.SaidLaws.{asked_said, asked_up, place_up, unless_up}
+use Rattle.script_replay.proofs.questions.reply_to_export.Goals as goal
+
+pub returns-clause-said : goal.returns-clause-said
+returns-clause-said c g s =
+    let a = c.args in
+    let reader = c.reader_of_masters-reader.ensures ∙ c.cells_tell_the_model.ensures a.cell.now g s None true in
+    let is =
+    ap (λ (r : Reader). export r a.name.now a.interface.now c.list.result.now c.list-2.result.now) reader
+    ∙ ap (λ (bs : List StringBinding). export (trusted_reader g) a.name.now a.interface.now bs c.list-2.result.now) c.list.ensures
+    ∙ ap (λ (os : List (List ℕ)). export (trusted_reader g) a.name.now a.interface.now a.bindings.now os) c.list-2.ensures in
+    asked_said c.export.result c.asked.result g (export (trusted_reader g) a.name.now a.interface.now a.bindings.now a.objects.now) c.asked.ensures
+    (subst (Answers (result_map_both changes_in (λ e. e) c.export.result)) is c.export.ensures.answer)
+
+pub returns-clause-up : goal.returns-clause-up
+returns-clause-up c =
+    let a = c.args in
+    let cell = a.cell.now in
+    let reader = program_reader cell None true in
+    let asks : Reader → Asks = λ r. export r a.name.now a.interface.now c.list.result.now c.list-2.result.now in
+    let is = subst (Answers (result_map_both changes_in (λ e. e) c.export.result)) (ap asks c.reader_of_masters-reader.ensures) c.export.ensures.answer in
+    asked_up cell c.export.result c.asked.result (asks reader) c.asked.ensures is
+    (unless_up cell _ _
+    (place_up cell (place_of_walk reader c.args.name.now) _ (c.asked_houses_accept.ensures.placed_up cell None true c.args.name.now)))

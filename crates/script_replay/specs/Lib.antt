@@ -1,0 +1,11 @@
+pub mod Dialogues
+pub mod Replies
+pub mod Answering
+pub mod Loading
+pub mod StepCounts
+pub mod Counting
+pub mod LoadSteps
+pub mod QuestionReplies
+pub mod PrivateSaid
+pub mod PrivateRecords
+pub mod PrivateKinds

@@ -1,0 +1,224 @@
+// The form `run`: each line is replayed on a cell.
+ghost use Rattle.script_replay.specs.StepCounts.{HasSteps};
+
+use crate::limits::MOST_UPDATES;
+use crate::questions::reply_to_question;
+use crate::said::{Reply, answer_to_updates};
+use cds_cell::Cell;
+use cds_cell::laws::accepted_updates_are_commands;
+use cds_stamps::{AllocOr, HouseNo};
+use cell_script::{Command, Question, ScriptLine, parse_line};
+use ns_commands::Updates;
+use script_answers::Answer;
+use std::alloc::{AllocError, Global};
+use reply_buffer::{LineEnd, Waiting, reply_to_fault};
+
+/// A cell, how many steps and lists of updates it took, and how many updates stood in these lists: so many that there is room for
+/// each further line of a script.
+#[derive(Drop)]
+pub struct Replayer {
+    cell: Cell,
+    steps: u32,
+    updates: u64,
+    ghost few: { HasSteps steps updates cell },
+}
+
+impl Replayer {
+    ghost use Rattle.std.specs.Prelude.{◌≡◌, ◌++◌, ◌+◌, ◌<◌, ◌≤◌, true, is_some, Some, Ok, IfOk, OnOk, OnErr};
+    ghost use Rattle.std.specs.Option.{option_map};
+    ghost use Rattle.cds_base.specs.declared.scan.TheConstants.{MOST_LINES};
+    ghost use Rattle.cell_model.specs.Cells as model;
+    ghost use Rattle.cell_model.specs.Commands as command;
+    ghost use Rattle.cell_model.specs.Steps.{outcome, replay_from};
+    ghost use Rattle.cell_script.specs.Words.{words_of};
+    ghost use Rattle.cell_script.specs.CommandRows.{said_in};
+    ghost use Rattle.cell_script.specs.declared.command.ScriptLine.TheVariants as line;
+    ghost use Rattle.cds_cell.specs.CellHouses.{is_up_state};
+    ghost use Rattle.cds_cell.specs.CommandImages.{crash_losing, image_after, octets_at};
+    ghost use Rattle.cds_cell.specs.Scripted.{step_of};
+    ghost use Rattle.cds_cell.specs.ModelCells.{IsStep, Stands, house_of};
+    ghost use Rattle.ns_commands.specs.Asks.{changes_in};
+    ghost use Rattle.script_replay.specs.Dialogues.{reply_of};
+    ghost use Rattle.script_replay.specs.Replies.{cell_after, does, reply_text, run_dialogue};
+    ghost use Rattle.script_replay.specs.Answering.{IsDone, IsReply, Replays};
+
+    /// Over a cell without houses. Takes no memory.
+    pub fn new(alloc: Global) -> Replayer
+        ensures cell { Stands result.cell model.empty_cell }
+        ensures steps { result.steps ≡ 0 }
+    {
+        Replayer {
+            cell: Cell::new(alloc),
+            steps: 0,
+            updates: 0,
+        }
+    }
+
+    /// The cell.
+    pub fn cell(&self) -> &Cell
+        ensures { result.now ≡ self.now.cell }
+    {
+        &self.cell
+    }
+
+    /// Replays a line: its reply waits behind the others.
+    pub fn replay_line(
+        &mut self,
+        alloc: Global,
+        number: u32,
+        line: &[u8],
+        waiting: &mut Waiting,
+    ) -> LineEnd
+        requires fewer { self.old.steps < number }
+        requires most { number ≤ MOST_LINES }
+        ensures reply { (g : model.Cell) → Stands self.old.cell g
+            → Replays result (reply_of run_dialogue number g (said_in (words_of line.now))) waiting.old waiting.new self.new }
+        ensures steps { self.new.steps ≤ number }
+    {
+        match parse_line(alloc, line) {
+            Ok(Some(line)) => self.reply_to_line(alloc, number, line, waiting),
+            Ok(None) => LineEnd::GoesOn,
+            Err(AllocOr::Fault(fault)) => reply_to_fault(alloc, number, fault, waiting),
+            Err(AllocOr::OutOfMemory) => LineEnd::NoMemory,
+        }
+    }
+
+    fn reply_to_line(
+        &mut self,
+        alloc: Global,
+        number: u32,
+        line: ScriptLine,
+        waiting: &mut Waiting,
+    ) -> LineEnd
+        requires few { self.old.steps < MOST_LINES }
+        ensures reply { (g : model.Cell) → Stands self.old.cell g
+            → Replays result (reply_of run_dialogue number g (Ok (Some line))) waiting.old waiting.new self.new }
+        ensures steps { self.new.steps ≤ self.old.steps + 1 }
+    {
+        match self.answer(alloc, number, line, waiting) {
+            Ok(()) => LineEnd::GoesOn,
+            Err(AllocError) => LineEnd::NoMemory,
+        }
+    }
+
+    // The reply to a line waits behind the others.
+    fn answer(
+        &mut self,
+        alloc: Global,
+        number: u32,
+        line: ScriptLine,
+        waiting: &mut Waiting,
+    ) -> Result<(), AllocError>
+        requires few { self.old.steps < MOST_LINES }
+        ensures ok { (g : model.Cell) → Stands self.old.cell g → OnOk result ((waiting.new ≡ waiting.old ++ reply_text number g line)
+            × Stands self.new.cell (cell_after g line)) }
+        ensures err { OnErr result (waiting.new ≡ waiting.old) }
+        ensures steps { self.new.steps ≤ self.old.steps + 1 }
+    {
+        let answer = self.reply(alloc, line)?;
+        waiting.add_answer(alloc, number, &answer)
+    }
+
+    /// What the cell replies to a line.
+    pub fn reply(&mut self, alloc: Global, line: ScriptLine) -> Result<Answer, AllocError>
+        requires few { self.old.steps < MOST_LINES }
+        ensures reply { (g : model.Cell) → Stands self.old.cell g → IfOk result (λ a. IsReply a self.new.cell g line) }
+        ensures steps { self.new.steps ≤ self.old.steps + 1 }
+    {
+        match line {
+            ScriptLine::Cell(command) => self.step(alloc, command),
+            ScriptLine::Question(question) => self.answer_question(alloc, &question),
+        }
+    }
+
+    /// A step of the cell, unless memory ran out before.
+    pub fn step(&mut self, alloc: Global, command: Command) -> Result<Answer, AllocError>
+        requires few { self.old.steps < MOST_LINES }
+        ensures step { (g : model.Cell) → Stands self.old.cell g → IfOk result (λ a. IsStep a self.new.cell (outcome g (step_of command))) }
+        ensures steps { self.new.steps ≤ self.old.steps + 1 }
+    {
+        if self.cell.is_spent() {
+            return Err(AllocError);
+        }
+        self.steps += 1;
+        self.cell.step(alloc, command)
+    }
+
+    // The answer to a question, behind the updates that it asks for.
+    fn answer_question(&mut self, alloc: Global, question: &Question) -> Result<Answer, AllocError>
+        requires few { self.old.steps < MOST_LINES }
+        ensures reply { (g : model.Cell) → Stands self.old.cell g → IfOk result (λ a. IsReply a self.new.cell g (line.Question question.now)) }
+        ensures steps { self.new.steps ≤ self.old.steps + 1 }
+    {
+        match reply_to_question(alloc, &self.cell, question)? {
+            Reply::Answer(answer) => Ok(answer),
+            Reply::Updates(updates) => self.accept(alloc, &updates),
+        }
+    }
+
+    /// Updates at a house that is up, unless memory ran out before. A list of more than MOST_UPDATES counts as that.
+    pub fn accept(&mut self, alloc: Global, updates: &Updates) -> Result<Answer, AllocError>
+        requires few { self.old.steps < MOST_LINES }
+        requires up { is_up_state (option_map (λ h. h.state) (house_of self.old.cell.houses.items updates.now.house.0)) ≡ true }
+        ensures done { (g : model.Cell) → Stands self.old.cell g → IfOk result (λ a. IsDone a self.new.cell g (does g (Ok (changes_in updates.now)))) }
+        ensures steps { self.new.steps ≤ self.old.steps + 1 }
+    {
+        accepted_updates_are_commands();
+        if self.cell.is_spent() || updates.list.len() > MOST_UPDATES {
+            return Err(AllocError);
+        }
+        self.steps += 1;
+        self.updates += updates.list.len() as u64;
+        let done = self
+            .cell
+            .accept_all(alloc, updates.house, updates.dir, &updates.list)?;
+        Ok(answer_to_updates(alloc, done))
+    }
+    /// The octets of the image that a house would have after a command, as by `Cell::image_after`.
+    pub fn image_after(
+        &self,
+        alloc: Global,
+        house: HouseNo,
+        command: &Command,
+    ) -> Result<Option<Vec<u8>>, AllocError>
+        requires few { self.now.steps < MOST_LINES }
+        requires made { is_some (house_of self.now.cell.houses.items house.0) ≡ true }
+        ensures { (g : model.Cell) → Stands self.now.cell g
+            → IfOk result (λ o. option_map (λ v. v.items) o ≡ image_after g house.0 (step_of command.now)) }
+    {
+        if self.cell.is_spent() {
+            return Err(AllocError);
+        }
+        self.cell.image_after(alloc, house, command)
+    }
+
+    /// A start of a house from these octets, which is a step, unless memory ran out before.
+    pub fn start_from(
+        &mut self,
+        alloc: Global,
+        house: HouseNo,
+        octets: &[u8],
+    ) -> Result<Answer, AllocError>
+        requires few { self.old.steps < MOST_LINES }
+        ensures step { (g : model.Cell) → Stands self.old.cell g → octets.now ≡ octets_at g house.0
+            → IfOk result (λ a. IsStep a self.new.cell (outcome g (command.Start house.0))) }
+        ensures steps { self.new.steps ≤ self.old.steps + 1 }
+    {
+        self.steps += 1;
+        self.cell.start_from(alloc, house, octets)
+    }
+
+    /// A house crashes, and all messages are lost but the first ones, so many. It is no step more.
+    pub fn crash_after(
+        &mut self,
+        alloc: Global,
+        house: HouseNo,
+        kept: u64,
+    ) -> Result<(), AllocError>
+        ensures crash { (g : model.Cell) → Stands self.old.cell g
+            → OnOk result (Stands self.new.cell (replay_from g (crash_losing g house.0 kept))) }
+        ensures steps { self.new.steps ≡ self.old.steps }
+    {
+        self.cell.crash_after(alloc, house, kept)
+    }
+}
