@@ -29,7 +29,10 @@ pub struct AttrCell {
 
 impl Drop for AttrCell {
     fn drop(self) {
-        let AttrCell { cleared: _cleared, values: _values } = self;
+        let AttrCell {
+            cleared: _cleared,
+            values: _values,
+        } = self;
     }
 }
 
@@ -77,9 +80,12 @@ impl AttrCell {
 
     /// Adds a present mark of a value, in place.
     pub fn add(&mut self, alloc: Global, value: &Value, stamp: Stamp) -> Result<(), AllocError>
-        ensures ok { OnOk result (IsValidCell self.old → self.new ≡ join_cells self.old (cell_of (Marked value.now (present_at stamp) ∷ []))) }
+        ensures ok { OnOk result (IsValidCell self.old
+            → self.new ≡ join_cells self.old (cell_of (Marked value.now (present_at stamp) ∷ []))) }
         ensures cleared { self.new.cleared ≡ self.old.cleared }
-        ensures values { OnOk result (RaisesKept self.old.cleared self.old.values self.new.values value.now (present_at stamp)) }
+        ensures values { OnOk result
+            (RaisesKept self.old.cleared self.old.values self.new.values value.now
+            (present_at stamp)) }
         ensures err { OnErr result (self.new ≡ self.old) }
     {
         self.mark(
@@ -94,9 +100,12 @@ impl AttrCell {
 
     /// Adds an absent mark of a value, whether it is there or not, in place.
     pub fn remove(&mut self, alloc: Global, value: &Value, stamp: Stamp) -> Result<(), AllocError>
-        ensures ok { OnOk result (IsValidCell self.old → self.new ≡ join_cells self.old (cell_of (Marked value.now (absent_at stamp) ∷ []))) }
+        ensures ok { OnOk result (IsValidCell self.old
+            → self.new ≡ join_cells self.old (cell_of (Marked value.now (absent_at stamp) ∷ []))) }
         ensures cleared { self.new.cleared ≡ self.old.cleared }
-        ensures values { OnOk result (RaisesKept self.old.cleared self.old.values self.new.values value.now (absent_at stamp)) }
+        ensures values { OnOk result
+            (RaisesKept self.old.cleared self.old.values self.new.values value.now
+            (absent_at stamp)) }
         ensures err { OnErr result (self.new ≡ self.old) }
     {
         self.mark(
@@ -111,7 +120,9 @@ impl AttrCell {
 
     /// Adds a clear and a present mark of a value with one stamp, in place: the value alone is left of what was before.
     pub fn put(&mut self, alloc: Global, value: &Value, stamp: Stamp) -> Result<(), AllocError>
-        ensures ok { OnOk result (self.new ≡ join_cells self.old (cell_of (Cleared stamp ∷ Marked value.now (present_at stamp) ∷ []))) }
+        ensures ok { OnOk result
+            (self.new ≡ join_cells self.old
+            (cell_of (Cleared stamp ∷ Marked value.now (present_at stamp) ∷ []))) }
         ensures err { OnErr result (self.new ≡ self.old) }
     {
         let stamp = &stamp;
@@ -134,7 +145,8 @@ impl AttrCell {
         change: &CellChange,
         stamp: Stamp,
     ) -> Result<(), AllocError>
-        ensures ok { OnOk result (IsValidCell self.old → self.new ≡ join_cells self.old (cell_of (change_marks change.now stamp))) }
+        ensures ok { OnOk result (IsValidCell self.old
+            → self.new ≡ join_cells self.old (cell_of (change_marks change.now stamp))) }
         ensures any { OnOk result (ChangesCell change.now stamp self.old self.new) }
         ensures clear { change.now ≡ Clear → IsOk result }
         ensures cleared { let made = cell_of (change_marks change.now stamp) in
@@ -177,8 +189,10 @@ impl AttrCell {
     pub fn join_logged(&mut self, alloc: Global, other: &AttrCell) -> Result<CellUndo, AllocError>
         ensures ok { OnOk result (IsValidCell self.old → self.new ≡ join_cells self.old other.now) }
         ensures any { OnOk result (TakesCell self.old other.now self.new) }
-        ensures cleared { OnOk result (self.new.cleared ≡ maybe later_stamp self.old.cleared other.now.cleared) }
-        ensures values { OnOk result (AgreesOnKept self.new.cleared self.old.values other.now.values self.new.values) }
+        ensures cleared { OnOk result
+            (self.new.cleared ≡ maybe later_stamp self.old.cleared other.now.cleared) }
+        ensures values { OnOk result
+            (AgreesOnKept self.new.cleared self.old.values other.now.values self.new.values) }
         ensures back { IfOk result (λ undo. undo_cell undo self.new ≡ self.old) }
         ensures err { OnErr result (self.new ≡ self.old) }
     {
@@ -260,9 +274,11 @@ impl AttrCell {
     }
 
     fn mark(&mut self, alloc: Global, value: &Value, mark: ValueMark) -> Result<(), AllocError>
-        ensures ok { OnOk result (IsValidCell self.old → self.new ≡ join_cells self.old (cell_of (Marked value.now mark ∷ []))) }
+        ensures ok { OnOk result (IsValidCell self.old
+            → self.new ≡ join_cells self.old (cell_of (Marked value.now mark ∷ []))) }
         ensures cleared { self.new.cleared ≡ self.old.cleared }
-        ensures values { OnOk result (RaisesKept self.old.cleared self.old.values self.new.values value.now mark) }
+        ensures values { OnOk result
+            (RaisesKept self.old.cleared self.old.values self.new.values value.now mark) }
         ensures err { OnErr result (self.new ≡ self.old) }
     {
         self.values
@@ -273,7 +289,9 @@ impl AttrCell {
     /// Keeps the later clear, and drops the marks that are earlier than it.
     fn join_clear(&mut self, clear: Option<Stamp>)
         ensures cleared { self.new.cleared ≡ maybe later_stamp self.old.cleared clear }
-        ensures values { (q : List ℕ) → map.get self.new.values q ≡ mark_after_clear self.new.cleared (map.get self.old.values q) }
+        ensures values { (q : List ℕ)
+            → map.get self.new.values q
+            ≡ mark_after_clear self.new.cleared (map.get self.old.values q) }
     {
         self.cleared = later_of(self.cleared, clear);
         self.keep();
@@ -282,7 +300,9 @@ impl AttrCell {
     /// Drops the marks that are earlier than the clear.
     fn keep(&mut self)
         ensures cleared { self.new.cleared ≡ self.old.cleared }
-        ensures values { (q : List ℕ) → map.get self.new.values q ≡ mark_after_clear self.old.cleared (map.get self.old.values q) }
+        ensures values { (q : List ℕ)
+            → map.get self.new.values q
+            ≡ mark_after_clear self.old.cleared (map.get self.old.values q) }
     {
         if let Some(clear) = self.cleared {
             self.values.keep_from(clear);
@@ -304,11 +324,15 @@ impl Lattice for AttrCell {
     ghost idempotent = { λ x valid. join_cells-idem x valid };
 
     fn join(&mut self, alloc: Global, other: &Self) -> Result<(), AllocError>
-        ensures ok { OnOk result (IsValidCell self.old → IsValidCell other.now → self.new ≡ join_cells self.old other.now) }
-        ensures own { OnOk result (IsValidCell self.old → self.new ≡ join_cells self.old other.now) }
+        ensures ok { OnOk result (IsValidCell self.old → IsValidCell other.now
+            → self.new ≡ join_cells self.old other.now) }
+        ensures own { OnOk result (IsValidCell self.old
+            → self.new ≡ join_cells self.old other.now) }
         ensures any { OnOk result (TakesCell self.old other.now self.new) }
-        ensures cleared { OnOk result (self.new.cleared ≡ maybe later_stamp self.old.cleared other.now.cleared) }
-        ensures values { OnOk result (AgreesOnKept self.new.cleared self.old.values other.now.values self.new.values) }
+        ensures cleared { OnOk result
+            (self.new.cleared ≡ maybe later_stamp self.old.cleared other.now.cleared) }
+        ensures values { OnOk result
+            (AgreesOnKept self.new.cleared self.old.values other.now.values self.new.values) }
         ensures err { OnErr result (self.new ≡ self.old) }
     {
         if covers_clear(&self.cleared, &other.cleared) {
@@ -323,7 +347,8 @@ impl Lattice for AttrCell {
 
 /// Whether the other clear is not later.
 fn covers_clear(own: &Option<Stamp>, other: &Option<Stamp>) -> bool
-    ensures { MatchBool result (maybe later_stamp own.now other.now ≡ own.now) (maybe later_stamp own.now other.now ≢ own.now) }
+    ensures { MatchBool result (maybe later_stamp own.now other.now ≡ own.now)
+        (maybe later_stamp own.now other.now ≢ own.now) }
 {
     match (own, other) {
         (Some(a), Some(b)) => *b <= *a,

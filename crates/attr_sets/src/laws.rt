@@ -43,19 +43,27 @@ pub fn shown_values_ascend()
 /// alone, and after a clear none does. The other values show as before an addition and a removal.
 pub fn later_updates_show()
     ensures added { (h : List AttrMark) (v : List ℕ) (s : Stamp) → IsBefore h s →
-        (w : List ℕ) → Contains (shown_values (h ++ Marked v (present_at s) ∷ [])) w ↔ ((w ≡ v) ⊎ Contains (shown_values h) w) }
+        (w : List ℕ)
+        → Contains (shown_values (h ++ Marked v (present_at s) ∷ [])) w
+        ↔ ((w ≡ v) ⊎ Contains (shown_values h) w) }
     ensures removed { (h : List AttrMark) (v : List ℕ) (s : Stamp) → IsBefore h s →
-        (w : List ℕ) → Contains (shown_values (h ++ Marked v (absent_at s) ∷ [])) w ↔ ((¬ (w ≡ v)) × Contains (shown_values h) w) }
+        (w : List ℕ)
+        → Contains (shown_values (h ++ Marked v (absent_at s) ∷ [])) w
+        ↔ ((¬ (w ≡ v)) × Contains (shown_values h) w) }
     ensures put { (h : List AttrMark) (v : List ℕ) (s : Stamp) → IsBefore h s →
-        (w : List ℕ) → Contains (shown_values (h ++ Cleared s ∷ Marked v (present_at s) ∷ [])) w ↔ (w ≡ v) }
-    ensures cleared { (h : List AttrMark) (s : Stamp) → IsBefore h s → (w : List ℕ) → ¬ Contains (shown_values (h ++ Cleared s ∷ [])) w }
+        (w : List ℕ)
+        → Contains (shown_values (h ++ Cleared s ∷ Marked v (present_at s) ∷ [])) w ↔ (w ≡ v) }
+    ensures cleared { (h : List AttrMark) (s : Stamp) → IsBefore h s → (w : List ℕ)
+        → ¬ Contains (shown_values (h ++ Cleared s ∷ [])) w }
 {}
 
 /// What is left of a cell up to t, joined with what is later of the cell of a history of which it has all marks up to t,
 /// is what is left of the cell of both histories.
 pub fn purged_cells_merge()
-    ensures { (t : Stamp) (g h : List AttrMark) → ((m : AttrMark) → Contains h m → is_up_to t (attr_stamp m) ≡ true → Contains g m) →
-        join_cells (purged_cell t (cell_of g)) (after_cell t (cell_of h)) ≡ purged_cell t (cell_of (g ++ h)) }
+    ensures { (t : Stamp) (g h : List AttrMark)
+        → ((m : AttrMark) → Contains h m → is_up_to t (attr_stamp m) ≡ true → Contains g m) →
+        join_cells (purged_cell t (cell_of g)) (after_cell t (cell_of h))
+        ≡ purged_cell t (cell_of (g ++ h)) }
 {}
 
 /// A cell shows the same values when its deletions are dropped.

@@ -7,7 +7,8 @@ use std::alloc::{AllocError, Global};
 
 /// The values in ascending order of their octets, each once. Takes no memory.
 pub fn in_order<'a>(mut values: Vec<&'a Value>) -> Vec<&'a Value>
-    ensures { map (λ v. v.now) result.items ≡ in_ascending_order (map (λ v. v.now) values.entry.items) }
+    ensures { map (λ v. v.now) result.items
+        ≡ in_ascending_order (map (λ v. v.now) values.entry.items) }
 {
     values.sort_unstable();
     values.dedup();

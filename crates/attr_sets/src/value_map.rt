@@ -134,7 +134,9 @@ impl ValueMap {
 
     /// Its one mark, if it has one only.
     fn only(&self) -> Option<(&Value, &ValueMark)>
-        ensures { IfSome result (λ p. (q : List ℕ) → map.get self.now q ≡ (if eq_by_cmp octets_cmp q p.0.now then Some p.1.now else None)) }
+        ensures { IfSome result (λ p. (q : List ℕ)
+            → map.get self.now q
+            ≡ (if eq_by_cmp octets_cmp q p.0.now then Some p.1.now else None)) }
     {
         if self.marks.len() == 1 {
             self.marks.first_key_value()
@@ -151,7 +153,8 @@ impl ValueMap {
         mark: ValueMark,
     ) -> Result<Option<ValueMark>, AllocError>
         ensures ok { OnOk result (RaisesAt later self.old self.new value.now mark) }
-        ensures back { IfOk result (λ before. TakesBack put_back self.old self.new ((value.now, before) ∷ [])) }
+        ensures back { IfOk result
+            (λ before. TakesBack put_back self.old self.new ((value.now, before) ∷ [])) }
         ensures err { OnErr result (self.new ≡ self.old) }
     {
         let mark = &mark;
@@ -165,8 +168,10 @@ impl ValueMap {
 
     /// Joins a mark in where the value has one. That one.
     fn raise_here(&mut self, value: &Value, mark: ValueMark) -> Option<ValueMark>
-        ensures { MatchOption result ((map.get self.old value.now ≡ None) × (self.new ≡ self.old)) (λ before.
-            RaisesAt later self.old self.new value.now mark × TakesBack put_back self.old self.new ((value.now, Some before) ∷ [])) }
+        ensures { MatchOption result ((map.get self.old value.now ≡ None)
+            × (self.new ≡ self.old)) (λ before.
+            RaisesAt later self.old self.new value.now mark
+            × TakesBack put_back self.old self.new ((value.now, Some before) ∷ [])) }
     {
         match self.marks.get_mut(value) {
             Some(own) => {
@@ -216,7 +221,9 @@ impl ValueMap {
 
     /// Whether the value has a mark that this one does not change.
     fn outdates(&self, value: &Value, mark: &ValueMark) -> bool
-        ensures { IsTrue result → maybe later (map.get self.now value.now) (Some mark.now) ≡ map.get self.now value.now }
+        ensures { IsTrue result
+            → maybe later (map.get self.now value.now) (Some mark.now)
+            ≡ map.get self.now value.now }
     {
         match self.get(value) {
             Some(own) => own.later(*mark) == *own,
@@ -341,13 +348,16 @@ impl ValueMap {
 
     /// Takes the changes of a log back.
     pub(crate) fn take_back(&mut self, log: MarkLog)
-        ensures { (q : List ℕ) → map.get self.new q ≡ back_at octets_cmp put_back log q (map.get self.old q) }
+        ensures { (q : List ℕ)
+            → map.get self.new q ≡ back_at octets_cmp put_back log q (map.get self.old q) }
     {
         self.take_changes_back(log.changes);
     }
 
     fn take_changes_back(&mut self, changes: Vec<(Value, Option<ValueMark>)>)
-        ensures { (q : List ℕ) → map.get self.new q ≡ back_at octets_cmp put_back changes.items q (map.get self.old q) }
+        ensures { (q : List ℕ)
+            → map.get self.new q
+            ≡ back_at octets_cmp put_back changes.items q (map.get self.old q) }
     {
         let mut changes = changes;
         while let Some((value, before)) = changes.pop() {
@@ -372,7 +382,8 @@ impl ValueMap {
 
     /// Whether no mark is earlier than the clear.
     pub(crate) fn is_kept(&self, clear: &Option<Stamp>) -> bool
-        ensures { IsTrue result ↔ EachValue (λ m. mark_after_clear clear.now (Some m) ≡ Some m) self.now }
+        ensures { IsTrue result
+            ↔ EachValue (λ m. mark_after_clear clear.now (Some m) ≡ Some m) self.now }
     {
         for (_, mark) in self.marks.iter() {
             if covers(clear, mark) {
@@ -384,7 +395,8 @@ impl ValueMap {
 
     /// Drops the marks that are earlier than the clear.
     pub(crate) fn keep_from(&mut self, clear: Stamp)
-        ensures { (q : List ℕ) → map.get self.new q ≡ mark_after_clear (Some clear) (map.get self.old q) }
+        ensures { (q : List ℕ)
+            → map.get self.new q ≡ mark_after_clear (Some clear) (map.get self.old q) }
     {
         keep_marks_from(&mut self.marks, clear);
     }
@@ -423,20 +435,25 @@ impl ValueMap {
 }
 
 fn keep_marks_from(marks: &mut CompactMap<Value, ValueMark>, clear: Stamp)
-    ensures { (q : List ℕ) → entries.get octets_cmp marks.new q ≡ mark_after_clear (Some clear) (entries.get octets_cmp marks.old q) }
+    ensures { (q : List ℕ)
+        → entries.get octets_cmp marks.new q
+        ≡ mark_after_clear (Some clear) (entries.get octets_cmp marks.old q) }
 {
     marks.retain(|_, mark| !(mark.stamp < clear));
 }
 
 fn drop_marks_up_to(marks: &mut CompactMap<Value, ValueMark>, t: Stamp)
-    ensures { (q : List ℕ) → entries.get octets_cmp marks.new q ≡ option_and_then (mark_left t) (entries.get octets_cmp marks.old q) }
+    ensures { (q : List ℕ)
+        → entries.get octets_cmp marks.new q
+        ≡ option_and_then (mark_left t) (entries.get octets_cmp marks.old q) }
 {
     marks.retain(|_, mark| mark.present || t < mark.stamp);
 }
 
 /// Whether the mark is earlier than the clear.
 pub(crate) fn covers(clear: &Option<Stamp>, mark: &ValueMark) -> bool
-    ensures { mark_after_clear clear.now (Some mark.now) ≡ (if result then None else Some mark.now) }
+    ensures { mark_after_clear clear.now (Some mark.now)
+        ≡ (if result then None else Some mark.now) }
 {
     match clear {
         Some(clear) => mark.stamp < *clear,

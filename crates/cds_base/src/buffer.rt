@@ -24,7 +24,9 @@ fn read_from<S: Source>(octets: &mut Vec<u8>, at: usize, source: &mut S) -> Resu
     ensures front { take at octets.new.items ≡ take at octets.old.items }
     ensures len { vec_len octets.new ≡ vec_len octets.old }
     ensures bound { IfOk result (λ n. at + n ≤ length octets.new.items) }
-    ensures bytes { IfOk result (λ n. Consumes (S.left source.old) (S.left source.new) (slice_range octets.new.items at (at + n))) }
+    ensures bytes { IfOk result
+        (λ n. Consumes (S.left source.old) (S.left source.new)
+        (slice_range octets.new.items at (at + n))) }
     ensures end { IfOk result (λ n. n ≡ 0 → IsAtEnd (S.left source.new)) }
     ensures err { OnErr result (Keeps (S.left source.old) (S.left source.new)) }
     ensures cause { HasCause (S.faults source.old) (S.faults source.new) result }
@@ -99,8 +101,10 @@ impl Buffer {
     /// Reads once, and answers how many octets came: none is the end of the input.
     pub(crate) fn read_more<S: Source>(&mut self, source: &mut S) -> Result<usize, Failed>
         requires { length (octets_in self.old) < room_of self.old }
-        ensures reads { GrowsByReading (S.left source.old) (S.left source.new) (octets_in self.old) (octets_in self.new) }
-        ensures count { IfOk result (λ n. length (octets_in self.new) ≡ length (octets_in self.old) + n) }
+        ensures reads { GrowsByReading (S.left source.old) (S.left source.new) (octets_in self.old)
+            (octets_in self.new) }
+        ensures count { IfOk result
+            (λ n. length (octets_in self.new) ≡ length (octets_in self.old) + n) }
         ensures end { IfOk result (λ n. n ≡ 0 → IsAtEnd (S.left source.new)) }
         ensures err { OnErr result (octets_in self.new ≡ octets_in self.old) }
         ensures room { room_of self.new ≡ room_of self.old }
@@ -118,11 +122,14 @@ impl Buffer {
 
     /// Reads until the buffer is full or the input ends, which it answers.
     pub(crate) fn fill<S: Source>(&mut self, source: &mut S) -> Result<bool, Failed>
-        ensures reads { GrowsByReading (S.left source.old) (S.left source.new) (octets_in self.old) (octets_in self.new) }
-        ensures short { IfOk result (λ ended. IsTrue ended ↔ (length (octets_in self.new) < room_of self.new)) }
+        ensures reads { GrowsByReading (S.left source.old) (S.left source.new) (octets_in self.old)
+            (octets_in self.new) }
+        ensures short { IfOk result (λ ended. IsTrue ended
+            ↔ (length (octets_in self.new) < room_of self.new)) }
         ensures end { IfOk result (λ ended. IsTrue ended → IsAtEnd (S.left source.new)) }
         ensures err { OnErr result (length (octets_in self.new) < room_of self.new) }
-        ensures full { length (octets_in self.old) ≡ room_of self.old → (result ≡ Ok false) × (source.new ≡ source.old) }
+        ensures full { length (octets_in self.old) ≡ room_of self.old
+            → (result ≡ Ok false) × (source.new ≡ source.old) }
         ensures room { room_of self.new ≡ room_of self.old }
         ensures cause { HasCause (S.faults source.old) (S.faults source.new) result }
     {

@@ -53,7 +53,8 @@ pub struct PutFault(pub usize);
 /// Writes the whole piece, in as many writes as it takes.
 pub fn put_all<K: Sink>(sink: &mut K, piece: &[u8]) -> Result<(), PutFault>
     ensures ok { OnOk result (Appends (K.written sink.old) (K.written sink.new) piece.now) }
-    ensures err { IfErr result (λ e. Appends (K.written sink.old) (K.written sink.new) (take e.0 piece.now)) }
+    ensures err { IfErr result
+        (λ e. Appends (K.written sink.old) (K.written sink.new) (take e.0 piece.now)) }
     ensures part { IfErr result (λ e. e.0 < length piece.now) }
     ensures cause { HasCause (K.faults sink.old) (K.faults sink.new) result }
 {

@@ -80,7 +80,8 @@ impl Lines {
 
     /// The next line, or nothing at the end of the input. After a fault each later call answers it again.
     pub fn next<S: Source>(&mut self, source: &mut S) -> Result<Option<Line<'_>>, LineFault>
-        ensures* after { sem 𝓛 (LeavesNext S.left S.faults self.entry source.old source.new (seen_line result)) }
+        ensures* after { sem 𝓛 (LeavesNext S.left S.faults self.entry source.old source.new
+            (seen_line result)) }
     {
         if let Some(fault) = self.fault {
             return Err(fault);
@@ -98,9 +99,11 @@ impl Lines {
     // Gives the next line: its place and its length in the buffer.
     fn advance<S: Source>(&mut self, source: &mut S) -> Result<Option<(usize, usize)>, LineFault>
         requires { fault_of_lines self.old ≡ None }
-        ensures next { IsNext (S.left source.old) (S.left source.new) self.old self.new (found_line self.new result) }
+        ensures next { IsNext (S.left source.old) (S.left source.new) self.old self.new
+            (found_line self.new result) }
         ensures cause { HasLineCause (S.faults source.old) (S.faults source.new) result }
-        ensures ready { ShowsAnswer (lines_so_far self.old + 1) (octets_ahead self.old) → (source.new ≡ source.old) × (result ≢ Err LineFault.ReadFault) }
+        ensures ready { ShowsAnswer (lines_so_far self.old + 1) (octets_ahead self.old)
+            → (source.new ≡ source.old) × (result ≢ Err LineFault.ReadFault) }
         ensures within { IfOk result (λ o. IfSome o (λ p. p.0 + p.1 ≤ MOST_HELD)) }
     {
         match self.find_line(source) {
@@ -121,10 +124,13 @@ impl Lines {
 
     // The length of the next line, or nothing at the end of the input.
     fn find_line<S: Source>(&mut self, source: &mut S) -> Result<Option<usize>, LineFault>
-        ensures reads { GrowsByReading (S.left source.old) (S.left source.new) (octets_ahead self.old) (octets_ahead self.new) }
-        ensures found { FindsLine (lines_so_far self.old + 1) (octets_ahead self.new) (S.left source.new) result }
+        ensures reads { GrowsByReading (S.left source.old) (S.left source.new)
+            (octets_ahead self.old) (octets_ahead self.new) }
+        ensures found { FindsLine (lines_so_far self.old + 1) (octets_ahead self.new)
+            (S.left source.new) result }
         ensures cause { HasLineCause (S.faults source.old) (S.faults source.new) result }
-        ensures ready { ShowsAnswer (lines_so_far self.old + 1) (octets_ahead self.old) → (source.new ≡ source.old) × (result ≢ Err LineFault.ReadFault) }
+        ensures ready { ShowsAnswer (lines_so_far self.old + 1) (octets_ahead self.old)
+            → (source.new ≡ source.old) × (result ≢ Err LineFault.ReadFault) }
         ensures number { lines_so_far self.new ≡ lines_so_far self.old }
         ensures fault { fault_of_lines self.new ≡ fault_of_lines self.old }
     {
@@ -145,8 +151,10 @@ impl Lines {
     // Reads once, and answers how many octets came.
     fn read_more<S: Source>(&mut self, source: &mut S) -> Result<usize, Failed>
         requires { length (octets_ahead self.old) ≤ LONGEST_LINE }
-        ensures reads { GrowsByReading (S.left source.old) (S.left source.new) (octets_ahead self.old) (octets_ahead self.new) }
-        ensures count { IfOk result (λ n. length (octets_ahead self.new) ≡ length (octets_ahead self.old) + n) }
+        ensures reads { GrowsByReading (S.left source.old) (S.left source.new)
+            (octets_ahead self.old) (octets_ahead self.new) }
+        ensures count { IfOk result
+            (λ n. length (octets_ahead self.new) ≡ length (octets_ahead self.old) + n) }
         ensures end { IfOk result (λ n. n ≡ 0 → IsAtEnd (S.left source.new)) }
         ensures err { OnErr result (octets_ahead self.new ≡ octets_ahead self.old) }
         ensures number { lines_so_far self.new ≡ lines_so_far self.old }

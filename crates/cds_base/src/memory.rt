@@ -69,10 +69,12 @@ impl Source for MemSource {
 
         // A call fails exactly where its number is among the failing ones.
         ensures fails { IsErr result ↔ Contains self.old.failing (next_count self.old.calls) }
-        ensures count { IfOk result (λ n. n ≡ min (min self.old.most (length buf.old)) (length self.old.left)) }
+        ensures count { IfOk result
+            (λ n. n ≡ min (min self.old.most (length buf.old)) (length self.old.left)) }
 
         ensures calls { self.new.calls ≡ next_count self.old.calls }
-        ensures faults { self.new.faults ≡ (if is_err result then next_count self.old.faults else self.old.faults) }
+        ensures faults { self.new.faults
+            ≡ (if is_err result then next_count self.old.faults else self.old.faults) }
         ensures failing { self.new.failing ≡ self.old.failing }
         ensures most { self.new.most ≡ self.old.most }
     {
@@ -121,7 +123,8 @@ impl MemSink {
         most: usize,
     ) -> Result<Self, AllocError>
         requires { 0 < most }
-        ensures { IfOk result (λ s. s ≡ record { written = []; room = room; failing = failing.items; most = most; calls = 0; faults = 0 }) }
+        ensures { IfOk result
+            (λ s. s ≡ record { written = []; room = room; failing = failing.items; most = most; calls = 0; faults = 0 }) }
     {
         Ok(MemSink {
             octets: Vec::with_capacity(alloc, room)?,
@@ -149,16 +152,20 @@ impl Sink for MemSink {
     fn write(&mut self, piece: &[u8]) -> Result<usize, Failed>
         ensures bound { WritesAtMost result piece.now }
         ensures moves { IfOk result (λ n. 0 < length piece.now → 0 < n) }
-        ensures bytes { WriteAppends (Some self.old.written) (Some self.new.written) result piece.now }
+        ensures bytes { WriteAppends (Some self.old.written)
+            (Some self.new.written) result piece.now }
         ensures cause { HasCause self.old.faults self.new.faults result }
 
         // A call fails exactly where its number is among the failing ones, or the room is full.
         ensures fails { IsErr result ↔ (Contains self.old.failing (next_count self.old.calls)
             ⊎ ((0 < length piece.now) × (length self.old.written ≡ self.old.room))) }
-        ensures count { IfOk result (λ n. n ≡ min (min self.old.most (length piece.now)) (self.old.room - length self.old.written)) }
+        ensures count { IfOk result
+            (λ n. n ≡ min (min self.old.most (length piece.now))
+            (self.old.room - length self.old.written)) }
 
         ensures calls { self.new.calls ≡ next_count self.old.calls }
-        ensures faults { self.new.faults ≡ (if is_err result then next_count self.old.faults else self.old.faults) }
+        ensures faults { self.new.faults
+            ≡ (if is_err result then next_count self.old.faults else self.old.faults) }
         ensures room { self.new.room ≡ self.old.room }
         ensures failing { self.new.failing ≡ self.old.failing }
         ensures most { self.new.most ≡ self.old.most }

@@ -35,9 +35,12 @@ impl<R: Read> Source for StdSource<R> {
 
     fn read(&mut self, buf: &mut [u8]) -> Result<usize, Failed>
         ensures bound { ReadsAtMost result buf.new }
-        ensures bytes { ReadConsumes (R.remaining (reader_of self.old)) (R.remaining (reader_of self.new)) result buf.new }
+        ensures bytes { ReadConsumes (R.remaining (reader_of self.old))
+            (R.remaining (reader_of self.new)) result buf.new }
         ensures cause { HasCause (failed_reads self.old) (failed_reads self.new) result }
-        ensures faults { failed_reads self.new ≡ (if is_err result then next_count (failed_reads self.old) else failed_reads self.old) }
+        ensures faults { failed_reads self.new
+            ≡ (if is_err result then next_count
+            (failed_reads self.old) else failed_reads self.old) }
     {
         match self.reader.read(buf) {
             Ok(count) => Ok(count),
@@ -79,9 +82,12 @@ impl<W: Write> Sink for StdSink<W> {
     fn write(&mut self, piece: &[u8]) -> Result<usize, Failed>
         ensures bound { WritesAtMost result piece.now }
         ensures moves { IfOk result (λ n. 0 < length piece.now → 0 < n) }
-        ensures bytes { WriteAppends (W.contents (writer_of self.old)) (W.contents (writer_of self.new)) result piece.now }
+        ensures bytes { WriteAppends (W.contents (writer_of self.old))
+            (W.contents (writer_of self.new)) result piece.now }
         ensures cause { HasCause (failed_writes self.old) (failed_writes self.new) result }
-        ensures faults { failed_writes self.new ≡ (if is_err result then next_count (failed_writes self.old) else failed_writes self.old) }
+        ensures faults { failed_writes self.new
+            ≡ (if is_err result then next_count
+            (failed_writes self.old) else failed_writes self.old) }
     {
         match self.writer.write(piece) {
             Ok(count) if count > 0 || piece.is_empty() => Ok(count),

@@ -40,11 +40,14 @@ impl Window {
     /// read the octets that came before it are held, and the next call goes on behind them. A window
     /// that is full is not read into.
     pub fn fill<S: Source>(&mut self, source: &mut S) -> Result<bool, Failed>
-        ensures reads { GrowsByReading (S.left source.old) (S.left source.new) self.old.octets self.new.octets }
-        ensures short { IfOk result (λ ended. IsTrue ended ↔ (length self.new.octets < self.new.room)) }
+        ensures reads { GrowsByReading (S.left source.old)
+            (S.left source.new) self.old.octets self.new.octets }
+        ensures short { IfOk result (λ ended. IsTrue ended
+            ↔ (length self.new.octets < self.new.room)) }
         ensures end { IfOk result (λ ended. IsTrue ended → IsAtEnd (S.left source.new)) }
         ensures err { OnErr result (length self.new.octets < self.new.room) }
-        ensures full { length self.old.octets ≡ self.old.room → (result ≡ Ok false) × (source.new ≡ source.old) }
+        ensures full { length self.old.octets ≡ self.old.room
+            → (result ≡ Ok false) × (source.new ≡ source.old) }
         ensures room { self.new.room ≡ self.old.room }
         ensures within { length self.new.octets ≤ self.new.room }
         ensures cause { HasCause (S.faults source.old) (S.faults source.new) result }

@@ -18,7 +18,8 @@ pub enum WordsFault {
 
 // Why std gives no words.
 fn fault_of(error: &Error) -> WordsFault
-    ensures memory { error_kind error.now ≡ ErrorKind.OutOfMemory → result ≡ WordsFault.OutOfMemory }
+    ensures memory { error_kind error.now ≡ ErrorKind.OutOfMemory
+        → result ≡ WordsFault.OutOfMemory }
     ensures text { error_kind error.now ≢ ErrorKind.OutOfMemory → result ≡ WordsFault.NoText }
 {
     match error.kind() {

@@ -33,7 +33,8 @@ impl Cell {
     pub(crate) fn act(&mut self, alloc: Global, step: Step) -> Result<Answer, AllocError>
         requires room { HasRoom self.old }
         ensures leaves { Leaves self.old self.new result }
-        ensures step { (g : model.Cell) → Stands self.old g → first_refusal (refusals_of g (step_meant step)) ≡ None
+        ensures step { (g : model.Cell) → Stands self.old g
+            → first_refusal (refusals_of g (step_meant step)) ≡ None
             → ComesTo result self.new (effect g (step_meant step)) }
     {
         match step {
@@ -66,8 +67,11 @@ impl Cell {
     ) -> Result<Answer, AllocError>
         requires room { HasRoom self.old }
         ensures leaves { Leaves self.old self.new result }
-        ensures step { (g : model.Cell) → Stands self.old g → first_refusal (refusals_of g (command.Accept house.0 dir.0 (change_of update.now))) ≡ None
-            → ComesTo result self.new (effect g (command.Accept house.0 dir.0 (change_of update.now))) }
+        ensures step { (g : model.Cell) → Stands self.old g
+            → first_refusal (refusals_of g (command.Accept house.0 dir.0 (change_of update.now)))
+            ≡ None
+            → ComesTo result self.new
+            (effect g (command.Accept house.0 dir.0 (change_of update.now))) }
     {
         let Some(at) = self.position(house) else {
             return Ok(Answer::Refused(ScriptRefusal::NoHouse));
@@ -93,7 +97,9 @@ impl Cell {
         ensures rest { KeepsRest self.old self.new }
         ensures few { OnOk result (self.new.bag.posted ≤ self.old.bag.posted + 64) }
         ensures refused { IfOk result (λ r. OnErr r (self.new ≡ self.old)) }
-        ensures acts { (now : model.House) → IfOk result (λ r. ActsAt self.old self.new at serials.old serials.new (IsStampAnswer r) now
+        ensures acts { (now : model.House)
+            → IfOk result
+            (λ r. ActsAt self.old self.new at serials.old serials.new (IsStampAnswer r) now
             (λ house. turns.accept house now dir.0 (change_of update.now))) }
     {
         let turn = self.houses[at].accept(alloc, dir, update)?;
@@ -117,7 +123,8 @@ impl Cell {
         ensures few { OnOk result (self.new.bag.posted ≤ self.old.bag.posted + 64) }
         ensures none { outgoing ≡ None → self.new ≡ self.old }
         ensures posts { (h : CellHouse) → slice_get self.old.houses.items at ≡ Some h
-            → OnOk result (Posts self.old.bag self.new.bag serials.old serials.new (posted_at h dir outgoing)) }
+            → OnOk result
+            (Posts self.old.bag self.new.bag serials.old serials.new (posted_at h dir outgoing)) }
     {
         let Some(outgoing) = outgoing else {
             return Ok(());
@@ -137,7 +144,8 @@ impl Cell {
     ) -> Result<Answer, AllocError>
         requires room { HasRoom self.old }
         ensures leaves { Leaves self.old self.new result }
-        ensures step { (g : model.Cell) → Stands self.old g → first_refusal (refusals_of g (command.Skulk house.0 dir.0)) ≡ None
+        ensures step { (g : model.Cell) → Stands self.old g
+            → first_refusal (refusals_of g (command.Skulk house.0 dir.0)) ≡ None
             → ComesTo result self.new (effect g (command.Skulk house.0 dir.0)) }
     {
         let Some(at) = self.position(house) else {
@@ -161,7 +169,9 @@ impl Cell {
         ensures rest { KeepsRest self.old self.new }
         ensures few { OnOk result (self.new.bag.posted ≤ self.old.bag.posted + 64) }
         ensures refused { IfOk result (λ r. OnErr r (self.new ≡ self.old)) }
-        ensures acts { (now : model.House) → IfOk result (λ r. ActsAt self.old self.new at serials.old serials.new (IsBegunAnswer r) now
+        ensures acts { (now : model.House)
+            → IfOk result
+            (λ r. ActsAt self.old self.new at serials.old serials.new (IsBegunAnswer r) now
             (λ house. turns.skulk house now dir.0)) }
     {
         let turn = self.houses[at].begin_skulk(dir)?;
@@ -222,9 +232,14 @@ impl Cell {
         ensures rest { KeepsRest self.old self.new }
         ensures few { OnOk result (self.new.bag.posted ≤ self.old.bag.posted + 128) }
         ensures refused { IfOk result (λ r. OnErr r (self.new ≡ self.old)) }
-        ensures acts { (now : model.House) → IsPlaceOf self.old.houses.items (master_of (members_of members.now)) at → IsNewEpoch epoch.0 (now.slots dir.0)
-            → IfOk result (λ r. ActsAt self.old self.new at serials.old serials.new (IsEpochAnswer epoch.0 (result_err r)) now
-            (λ house. turns.new_epoch house now dir.0 epoch.0 (members_of members.now) (numbers_of left.now))) }
+        ensures acts { (now : model.House)
+            → IsPlaceOf self.old.houses.items (master_of (members_of members.now)) at
+            → IsNewEpoch epoch.0 (now.slots dir.0)
+            → IfOk result
+            (λ r. ActsAt self.old self.new at serials.old serials.new
+            (IsEpochAnswer epoch.0 (result_err r)) now
+            (λ house. turns.new_epoch house now dir.0 epoch.0 (members_of members.now)
+            (numbers_of left.now))) }
     {
         match self.houses[at].enter_epoch(alloc, dir, epoch, members)? {
             Err(refusal) => Ok(Err(refusal)),
@@ -252,7 +267,9 @@ impl Cell {
         ensures rest { KeepsRest self.old self.new }
         ensures few { OnOk result (self.new.bag.posted ≤ self.old.bag.posted + length left.now) }
         ensures posts { (h : CellHouse) → slice_get self.old.houses.items at ≡ Some h
-            → OnOk result (Posts self.old.bag self.new.bag serials.old serials.new (leaves_by h.state dir epoch left.now)) }
+            → OnOk result
+            (Posts self.old.bag self.new.bag serials.old serials.new
+            (leaves_by h.state dir epoch left.now)) }
     {
         let Some(letters) = self.houses[at].leaves(alloc, dir, epoch, left)? else {
             return Ok(());

@@ -34,7 +34,8 @@ pub(crate) fn begun_in_script(
     posted: Serials,
 ) -> Answer
     ensures same { (old new : Cell) → OnErr begun (new ≡ old) → UnlessDone result (new ≡ old) }
-    ensures answer { (a : command.Answer) → IsBegunAnswer begun a → Tells a posted → answer_of a ≡ Some result }
+    ensures answer { (a : command.Answer) → IsBegunAnswer begun a → Tells a posted
+        → answer_of a ≡ Some result }
 {
     match begun {
         Ok(Begun::Started(stamp)) => Answer::Stamped(stamp, posted),
@@ -45,7 +46,8 @@ pub(crate) fn begun_in_script(
 
 /// Why a new epoch is refused. A console gives each epoch a number above all that its directory had, so none is stale.
 pub(crate) fn epoch_refusal_in_script(refusal: EpochRefusal) -> ScriptRefusal
-    ensures { (k : ℕ) (a : command.Answer) → IsEpochAnswer k (Some refusal) a → answer_of a ≡ Some (answer.Refused result) }
+    ensures { (k : ℕ) (a : command.Answer) → IsEpochAnswer k (Some refusal) a
+        → answer_of a ≡ Some (answer.Refused result) }
 {
     match refusal {
         EpochRefusal::NoReplica => ScriptRefusal::NoReplica,
@@ -56,8 +58,10 @@ pub(crate) fn epoch_refusal_in_script(refusal: EpochRefusal) -> ScriptRefusal
 
 /// What comes of a message, and the messages that were posted for it. No message of a cell is from a house that is no member.
 pub(crate) fn taken_in_script(taken: Taken, posted: Serials) -> Answer
-    ensures same { (old new : Cell) → UnlessTaken taken (new ≡ old) → UnlessDone result (new ≡ old) }
-    ensures answer { (a : command.Answer) → IsTakeAnswer taken a → a ≢ command.Foreign → Tells a posted → answer_of a ≡ Some result }
+    ensures same { (old new : Cell) → UnlessTaken taken (new ≡ old)
+        → UnlessDone result (new ≡ old) }
+    ensures answer { (a : command.Answer) → IsTakeAnswer taken a → a ≢ command.Foreign
+        → Tells a posted → answer_of a ≡ Some result }
 {
     match taken {
         Taken::Taken => Answer::Taken(posted),

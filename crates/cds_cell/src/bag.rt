@@ -64,7 +64,8 @@ impl Bag {
     /// Posts the same octets to each receiver, and adds the serial numbers of these messages behind others.
     pub(crate) fn post(&mut self, letters: Letters, serials: &mut Serials) -> Result<(), AllocError>
         requires room { self.old.posted + length letters.receivers.items ≤ 2 ^ 63 }
-        ensures { (ps : List Posted) → AreLetters letters ps → OnOk result (Posts self.old self.new serials.old serials.new ps) }
+        ensures { (ps : List Posted) → AreLetters letters ps
+            → OnOk result (Posts self.old self.new serials.old serials.new ps) }
     {
         let Letters { receivers, octets } = letters;
         let shared = RcSlice::from_vec(octets)?;
@@ -93,7 +94,8 @@ impl Bag {
     /// Loses a message. The others stay.
     pub(crate) fn lose(&mut self, serial: u64)
         ensures posted { self.new.posted ≡ self.old.posted }
-        ensures letters { (n : ℕ) → letter_at self.new n ≡ (if n == serial then None else letter_at self.old n) }
+        ensures letters { (n : ℕ) → letter_at self.new n
+            ≡ (if n == serial then None else letter_at self.old n) }
     {
         self.letters.swap_remove(&serial);
     }

@@ -80,7 +80,8 @@ impl Cell {
 
     /// What there is of a house, if it was made.
     pub fn house(&self, house: HouseNo) -> Option<&HouseState>
-        ensures { option_copied result ≡ option_map (λ h. h.state) (house_of self.now.houses.items house.0) }
+        ensures { option_copied result
+            ≡ option_map (λ h. h.state) (house_of self.now.houses.items house.0) }
     {
         let at = self.position(house)?;
         Some(&self.houses[at].state)
@@ -88,8 +89,11 @@ impl Cell {
 
     /// The octets of the message of a serial number, if it was posted and not lost.
     pub fn message(&self, serial: u64) -> Option<&[u8]>
-        ensures found { option_map (λ octets. octets.now) result ≡ option_map (λ l. rc_slice_items l.shared) (letter_at self.now.bag serial) }
-        ensures model { (g : model.Cell) → Stands self.now g → option_map (λ octets. octets.now) result ≡ option_and_then octets_of (message_at g serial) }
+        ensures found { option_map (λ octets. octets.now) result
+            ≡ option_map (λ l. rc_slice_items l.shared) (letter_at self.now.bag serial) }
+        ensures model { (g : model.Cell) → Stands self.now g
+            → option_map (λ octets. octets.now) result
+            ≡ option_and_then octets_of (message_at g serial) }
     {
         Some(self.bag.letter(serial)?.octets())
     }
@@ -97,7 +101,8 @@ impl Cell {
     /// The house that the message of a serial number is for, if it was posted and not lost. Takes no memory.
     pub fn receiver(&self, serial: u64) -> Option<HouseNo>
         ensures found { result ≡ option_map (λ l. l.to) (letter_at self.now.bag serial) }
-        ensures model { (g : model.Cell) → Stands self.now g → option_map (λ h. h.0) result ≡ option_map (λ m. m.receiver) (message_at g serial) }
+        ensures model { (g : model.Cell) → Stands self.now g
+            → option_map (λ h. h.0) result ≡ option_map (λ m. m.receiver) (message_at g serial) }
     {
         Some(self.bag.letter(serial)?.to)
     }
@@ -124,7 +129,8 @@ impl Cell {
         ensures call { IsCall self.old self.new result }
         ensures grows { OnOk result (GrowsBy self.old self.new) }
         ensures same { IfOk result (λ a. UnlessDone a (self.new ≡ self.old)) }
-        ensures step { (g : model.Cell) → Stands self.old g → IfOk result (λ a. IsStep a self.new (outcome g (step_of command))) }
+        ensures step { (g : model.Cell) → Stands self.old g
+            → IfOk result (λ a. IsStep a self.new (outcome g (step_of command))) }
     {
         self.usable()?;
         let done = self.take(alloc, step_in(command));
@@ -143,11 +149,14 @@ impl Cell {
     ) -> Result<AcceptedAll, AllocError>
         requires room { HasRoom self.old }
         requires few { length updates.now ≤ 2 ^ 32 }
-        requires up { is_up_state (option_map (λ h. h.state) (house_of self.old.houses.items house.0)) ≡ true }
+        requires up { is_up_state
+            (option_map (λ h. h.state) (house_of self.old.houses.items house.0)) ≡ true }
         ensures call { IsCall self.old self.new result }
         ensures grows { OnOk result (GrowsByUpdates (length updates.now) self.old self.new) }
         ensures same { IfOk result (λ a. a.count ≡ 0 → self.new ≡ self.old) }
-        ensures all { (g : model.Cell) → Stands self.old g → IfOk result (λ a. IsAccepting a self.new (accept_in_turn g house.0 dir.0 (changes updates.now))) }
+        ensures all { (g : model.Cell) → Stands self.old g
+            → IfOk result
+            (λ a. IsAccepting a self.new (accept_in_turn g house.0 dir.0 (changes updates.now))) }
     {
         self.usable()?;
         let Some(at) = self.position(house) else {
@@ -174,7 +183,8 @@ impl Cell {
         ensures spent { self.new.spent ≡ self.old.spent }
         ensures grows { OnOk result (GrowsBy self.old self.new) }
         ensures same { IfOk result (λ a. UnlessDone a (self.new ≡ self.old)) }
-        ensures step { (g : model.Cell) → Stands self.old g → IfOk result (λ a. IsStep a self.new (outcome g (step_meant step))) }
+        ensures step { (g : model.Cell) → Stands self.old g
+            → IfOk result (λ a. IsStep a self.new (outcome g (step_meant step))) }
     {
         match self.allows(&step) {
             Ok(()) => self.act(alloc, step),
@@ -184,7 +194,8 @@ impl Cell {
 
     // Where a house stands in the list.
     pub(crate) fn position(&self, house: HouseNo) -> Option<usize>
-        ensures { MatchOption result (house_of self.now.houses.items house.0 ≡ None) (IsPlaceOf self.now.houses.items house.0) }
+        ensures { MatchOption result (house_of self.now.houses.items house.0 ≡ None)
+            (IsPlaceOf self.now.houses.items house.0) }
     {
         self.houses.iter().position(|h| h.house == house)
     }

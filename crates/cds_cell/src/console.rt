@@ -19,7 +19,8 @@ impl Cell {
     /// The last epoch that the console gave a directory, and its members in that; None exactly where there is no such directory.
     pub fn listing(&self, dir: DirId) -> Option<(EpochNo, &Members)>
         ensures { (g : model.Cell) → Stands self.now g
-            → MatchOption result (g.top dir.0 ≡ 0) (λ l. IsListed g dir.0 l.0.0 (members_of l.1.now)) }
+            → MatchOption result (g.top dir.0 ≡ 0)
+            (λ l. IsListed g dir.0 l.0.0 (members_of l.1.now)) }
     {
         match self.directory_place(dir) {
             Some(at) => {

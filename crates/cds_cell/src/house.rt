@@ -61,9 +61,13 @@ impl CellHouse {
     ) -> Result<Option<Outgoing>, AllocError>
         ensures who { IsSameHouse self.old self.new }
         ensures none { IfOk result (λ o. IfNone o (self.new ≡ self.old)) }
-        ensures step { (now : model.House) → StandsAtHouse self.old now → now.up ≡ true → now.slots dir.0 ≡ model.Absent
+        ensures step { (now : model.House) → StandsAtHouse self.old now → now.up ≡ true
+            → now.slots dir.0 ≡ model.Absent
             → master_of (members_of members.now) ≡ self.old.house.0
-            → IfOk result (λ o. IsTurnAt (turns.found_directory self.old.house.0 now dir.0 (members_of members.now)) self.new (posted_at self.new dir o)) }
+            → IfOk result
+            (λ o. IsTurnAt
+            (turns.found_directory self.old.house.0 now dir.0 (members_of members.now)) self.new
+            (posted_at self.new dir o)) }
     {
         match &mut self.state {
             HouseState::Up(home)
@@ -82,9 +86,12 @@ impl CellHouse {
         update: &Update,
     ) -> Result<Turn<Result<Stamp, UpdateRefusal>>, AllocError>
         ensures who { IsSameHouse self.old self.new }
-        ensures refused { IfOk result (λ turn. OnErr turn.answer ((self.new ≡ self.old) × (turn.outgoing ≡ None))) }
+        ensures refused { IfOk result
+            (λ turn. OnErr turn.answer ((self.new ≡ self.old) × (turn.outgoing ≡ None))) }
         ensures step { (now : model.House) → StandsAtHouse self.old now → now.up ≡ true
-            → IfOk result (λ turn. Asks (IsStampAnswer turn.answer) (turns.accept self.old.house.0 now dir.0 (change_of update.now)) self.old self.new
+            → IfOk result
+            (λ turn. Asks (IsStampAnswer turn.answer)
+            (turns.accept self.old.house.0 now dir.0 (change_of update.now)) self.old self.new
             (posted_at self.new dir turn.outgoing)) }
     {
         match &mut self.state {
@@ -99,9 +106,12 @@ impl CellHouse {
         dir: DirId,
     ) -> Result<Turn<Result<Begun, UpdateRefusal>>, AllocError>
         ensures who { IsSameHouse self.old self.new }
-        ensures refused { IfOk result (λ turn. OnErr turn.answer ((self.new ≡ self.old) × (turn.outgoing ≡ None))) }
+        ensures refused { IfOk result
+            (λ turn. OnErr turn.answer ((self.new ≡ self.old) × (turn.outgoing ≡ None))) }
         ensures step { (now : model.House) → StandsAtHouse self.old now → now.up ≡ true
-            → IfOk result (λ turn. Asks (IsBegunAnswer turn.answer) (turns.skulk self.old.house.0 now dir.0) self.old self.new
+            → IfOk result
+            (λ turn. Asks (IsBegunAnswer turn.answer)
+            (turns.skulk self.old.house.0 now dir.0) self.old self.new
             (posted_at self.new dir turn.outgoing)) }
     {
         match &mut self.state {
@@ -120,10 +130,13 @@ impl CellHouse {
     ) -> Result<Result<(), EpochRefusal>, AllocError>
         ensures who { IsSameHouse self.old self.new }
         ensures refused { IfOk result (λ e. OnErr e (self.new ≡ self.old)) }
-        ensures step { (now : model.House) (leaving : List house_no.HouseNo) → StandsAtHouse self.old now → now.up ≡ true
-            → master_of (members_of members.now) ≡ self.old.house.0 → IsNewEpoch epoch.0 (now.slots dir.0)
+        ensures step { (now : model.House) (leaving : List house_no.HouseNo)
+            → StandsAtHouse self.old now → now.up ≡ true
+            → master_of (members_of members.now) ≡ self.old.house.0
+            → IsNewEpoch epoch.0 (now.slots dir.0)
             → IfOk result (λ e. Asks (IsEpochAnswer epoch.0 (result_err e))
-            (turns.new_epoch self.old.house.0 now dir.0 epoch.0 (members_of members.now) (numbers_of leaving)) self.old self.new
+            (turns.new_epoch self.old.house.0 now dir.0 epoch.0 (members_of members.now)
+            (numbers_of leaving)) self.old self.new
             (epoch_posted_by self.new.state dir epoch leaving (result_err e))) }
     {
         match &mut self.state {
@@ -141,10 +154,15 @@ impl CellHouse {
         message: &Message,
     ) -> Result<Turn<Taken>, AllocError>
         ensures who { IsSameHouse self.old self.new }
-        ensures same { IfOk result (λ turn. UnlessTaken turn.answer ((self.new ≡ self.old) × (turn.outgoing ≡ None))) }
-        ensures step { (now : model.House) (m : model.Message) → StandsAtHouse self.old now → now.up ≡ true
-            → StandsMessage self.old.house.0 message.now m → IsValidMessage message.now → CanTake now m
-            → IfOk result (λ turn. Asks (IsTakeAnswer turn.answer) (turns.take now m) self.old self.new (posted_at self.new message.now.dir turn.outgoing)) }
+        ensures same { IfOk result
+            (λ turn. UnlessTaken turn.answer ((self.new ≡ self.old) × (turn.outgoing ≡ None))) }
+        ensures step { (now : model.House) (m : model.Message) → StandsAtHouse self.old now
+            → now.up ≡ true
+            → StandsMessage self.old.house.0 message.now m → IsValidMessage message.now
+            → CanTake now m
+            → IfOk result
+            (λ turn. Asks (IsTakeAnswer turn.answer) (turns.take now m) self.old self.new
+            (posted_at self.new message.now.dir turn.outgoing)) }
     {
         match &mut self.state {
             HouseState::Up(home) => home.take_message(alloc, message),
@@ -163,7 +181,8 @@ impl CellHouse {
         outgoing: &Outgoing,
     ) -> Result<Option<Letters>, AllocError>
         ensures few { IfOk result (λ o. IfSome o (λ l. length l.receivers.items ≤ most_members)) }
-        ensures posts { IfOk result (λ o. MatchOption o (posted_at self.now dir (Some outgoing.now) ≡ [])
+        ensures posts { IfOk result
+            (λ o. MatchOption o (posted_at self.now dir (Some outgoing.now) ≡ [])
             (λ l. AreLetters l (posted_at self.now dir (Some outgoing.now)))) }
     {
         match &self.state {
@@ -180,8 +199,10 @@ impl CellHouse {
         epoch: EpochNo,
         leaving: &[HouseNo],
     ) -> Result<Option<Letters>, AllocError>
-        ensures few { IfOk result (λ o. IfSome o (λ l. length l.receivers.items ≡ length leaving.now)) }
-        ensures posts { IfOk result (λ o. MatchOption o (leaves_by self.now.state dir epoch leaving.now ≡ [])
+        ensures few { IfOk result
+            (λ o. IfSome o (λ l. length l.receivers.items ≡ length leaving.now)) }
+        ensures posts { IfOk result
+            (λ o. MatchOption o (leaves_by self.now.state dir epoch leaving.now ≡ [])
             (λ l. AreLetters l (leaves_by self.now.state dir epoch leaving.now))) }
     {
         match &self.state {
@@ -193,7 +214,8 @@ impl CellHouse {
     /// Goes down: what is kept is its image.
     pub(crate) fn crash(&mut self, alloc: Global) -> Result<(), AllocError>
         ensures who { IsSameHouse self.old self.new }
-        ensures step { OnOk result ((now : model.House) → StandsAtHouse self.old now → now.up ≡ true → StandsAtHouse self.new (turns.crashed_house now)) }
+        ensures step { OnOk result ((now : model.House) → StandsAtHouse self.old now → now.up ≡ true
+            → StandsAtHouse self.new (turns.crashed_house now)) }
     {
         if let HouseState::Up(home) = &self.state {
             let image = home.image(alloc)?;
@@ -205,7 +227,8 @@ impl CellHouse {
     /// Starts of its image. Octets that are no image leave it down.
     pub fn start(&mut self, alloc: Global) -> Result<(), AllocError>
         ensures who { IsSameHouse self.old self.new }
-        ensures step { OnOk result ((now : model.House) → StandsAtHouse self.old now → now.up ≡ false → StandsAtHouse self.new (turns.started_house now)) }
+        ensures step { OnOk result ((now : model.House) → StandsAtHouse self.old now
+            → now.up ≡ false → StandsAtHouse self.new (turns.started_house now)) }
     {
         if let HouseState::Down(image) = &self.state {
             if let Some(home) = home_of(alloc, image.list())? {
@@ -218,7 +241,8 @@ impl CellHouse {
     /// Starts of these octets, if it is down. Octets that are no image leave it down.
     pub fn start_from(&mut self, alloc: Global, octets: &[u8]) -> Result<(), AllocError>
         ensures who { IsSameHouse self.old self.new }
-        ensures step { OnOk result ((now : model.House) → StandsAtHouse self.old now → now.up ≡ false → octets.now ≡ octets_in self.old.state
+        ensures step { OnOk result ((now : model.House) → StandsAtHouse self.old now
+            → now.up ≡ false → octets.now ≡ octets_in self.old.state
             → StandsAtHouse self.new (turns.started_house now)) }
     {
         if let HouseState::Down(_) = &self.state {

@@ -39,7 +39,8 @@ impl Cell {
         requires made { is_some (house_of self.now.houses.items house.0) ≡ true }
         requires room { HasRoom self.now }
         ensures { (g : model.Cell) → Stands self.now g
-            → IfOk result (λ o. option_map (λ v. v.items) o ≡ image_after g house.0 (step_of command.now)) }
+            → IfOk result
+            (λ o. option_map (λ v. v.items) o ≡ image_after g house.0 (step_of command.now)) }
     {
         let step = step_lent(alloc, command)?;
         if !self.acts(house, &step) {
@@ -60,9 +61,11 @@ impl Cell {
     ) -> Result<Option<Vec<u8>>, AllocError>
         requires made { is_some (house_of self.now.houses.items house.0) ≡ true }
         requires room { HasRoom self.now }
-        ensures { (g : model.Cell) → Stands self.now g → has house.0 (actors g (step_meant step.now)) ≡ true
+        ensures { (g : model.Cell) → Stands self.now g
+            → has house.0 (actors g (step_meant step.now)) ≡ true
             → first_refusal (refusals_of g (step_meant step.now)) ≡ None
-            → IfOk result (λ o. option_map (λ v. v.items) o ≡ image_after g house.0 (step_meant step.now)) }
+            → IfOk result
+            (λ o. option_map (λ v. v.items) o ≡ image_after g house.0 (step_meant step.now)) }
     {
         let Some(at) = self.position(house) else {
             unreachable!()
@@ -79,7 +82,8 @@ impl Cell {
 
     // Whether a house acts in a step.
     fn acts(&self, house: HouseNo, step: &Step) -> bool
-        ensures { (g : model.Cell) → Stands self.now g → result ≡ has house.0 (actors g (step_meant step.now)) }
+        ensures { (g : model.Cell) → Stands self.now g
+            → result ≡ has house.0 (actors g (step_meant step.now)) }
     {
         match step {
             Step::House(actor, _) => house == *actor,
@@ -101,9 +105,12 @@ impl Cell {
     fn act_on(&self, alloc: Global, twin: &mut CellHouse, step: &Step) -> Result<(), AllocError>
         requires twin { house_of self.now.houses.items twin.old.house.0 ≡ Some twin.old }
         requires room { HasRoom self.now }
-        ensures { (g : model.Cell) → Stands self.now g → has twin.old.house.0 (actors g (step_meant step.now)) ≡ true
+        ensures { (g : model.Cell) → Stands self.now g
+            → has twin.old.house.0 (actors g (step_meant step.now)) ≡ true
             → first_refusal (refusals_of g (step_meant step.now)) ≡ None
-            → OnOk result (octets_in twin.new.state ≡ octets_at (effect g (step_meant step.now)).cell twin.old.house.0) }
+            → OnOk result
+            (octets_in twin.new.state
+            ≡ octets_at (effect g (step_meant step.now)).cell twin.old.house.0) }
     {
         match step {
             Step::Root(master, others) => self.root_on(alloc, twin, *master, others),
@@ -133,7 +140,9 @@ impl Cell {
         requires twin { house_of self.now.houses.items twin.old.house.0 ≡ Some twin.old }
         ensures { (g : model.Cell) → Stands self.now g → master.0 ≡ twin.old.house.0
             → let root = command.Root master.0 (numbers_of (houses_in others.now)) (numbers_of (secondaries_in others.now)) in
-            first_refusal (refusals_of g root) ≡ None → OnOk result (octets_in twin.new.state ≡ octets_at (effect g root).cell twin.old.house.0) }
+            first_refusal (refusals_of g root) ≡ None
+            → OnOk result
+            (octets_in twin.new.state ≡ octets_at (effect g root).cell twin.old.house.0) }
     {
         let Some(members) = listing(alloc, &[], EpochNo(1), master, others)? else {
             return Ok(());
@@ -157,8 +166,10 @@ impl Cell {
         requires room { HasRoom self.now }
         ensures { (g : model.Cell) → Stands self.now g
             → let mkdir = command.Mkdir house.0 dir.0 name.now master.0 (numbers_of (houses_in others.now)) (numbers_of (secondaries_in others.now)) in
-            has twin.old.house.0 (house.0 ∷ master.0 ∷ []) ≡ true → first_refusal (refusals_of g mkdir) ≡ None
-            → OnOk result (octets_in twin.new.state ≡ octets_at (effect g mkdir).cell twin.old.house.0) }
+            has twin.old.house.0 (house.0 ∷ master.0 ∷ []) ≡ true
+            → first_refusal (refusals_of g mkdir) ≡ None
+            → OnOk result
+            (octets_in twin.new.state ≡ octets_at (effect g mkdir).cell twin.old.house.0) }
     {
         let child = self.next_directory();
         let Some(members) = listing(alloc, &[], EpochNo(1), master, others)? else {
@@ -188,8 +199,12 @@ impl Cell {
         update: &Update,
     ) -> Result<bool, AllocError>
         requires twin { house_of self.now.houses.items twin.old.house.0 ≡ Some twin.old }
-        ensures { (g : model.Cell) → Stands self.now g → has house.0 g.made ≡ true → (g.house house.0).up ≡ true
-            → IfOk result (λ b. IsAfter twin.new twin.old.house (at_house g house.0 (accept house.0 (g.house house.0) dir.0 (change_of update.now))) b) }
+        ensures { (g : model.Cell) → Stands self.now g → has house.0 g.made ≡ true
+            → (g.house house.0).up ≡ true
+            → IfOk result
+            (λ b. IsAfter twin.new twin.old.house
+            (at_house g house.0
+            (accept house.0 (g.house house.0) dir.0 (change_of update.now))) b) }
     {
         if twin.house == house {
             return Ok(twin.accept(alloc, dir, update)?.answer.is_ok());
@@ -214,7 +229,9 @@ impl Cell {
         requires twin { house_of self.now.houses.items twin.old.house.0 ≡ Some twin.old }
         ensures { (g : model.Cell) → Stands self.now g
             → let repoint = command.Repoint twin.old.house.0 dir.0 name.now master.0 (numbers_of others.now) in
-            first_refusal (refusals_of g repoint) ≡ None → OnOk result (octets_in twin.new.state ≡ octets_at (effect g repoint).cell twin.old.house.0) }
+            first_refusal (refusals_of g repoint) ≡ None
+            → OnOk result
+            (octets_in twin.new.state ≡ octets_at (effect g repoint).cell twin.old.house.0) }
     {
         let Some(houses) = house_list(alloc, master, others)? else {
             return Ok(());
@@ -238,7 +255,9 @@ impl Cell {
         requires twin { house_of self.now.houses.items twin.old.house.0 ≡ Some twin.old }
         ensures { (g : model.Cell) → Stands self.now g
             → let accept = command.Accept twin.old.house.0 dir.0 (change_of update.now) in
-            first_refusal (refusals_of g accept) ≡ None → OnOk result (octets_in twin.new.state ≡ octets_at (effect g accept).cell twin.old.house.0) }
+            first_refusal (refusals_of g accept) ≡ None
+            → OnOk result
+            (octets_in twin.new.state ≡ octets_at (effect g accept).cell twin.old.house.0) }
     {
         twin.accept(alloc, dir, update)?;
         Ok(())
@@ -257,7 +276,9 @@ impl Cell {
         requires room { HasRoom self.now }
         ensures { (g : model.Cell) → Stands self.now g → master.0 ≡ twin.old.house.0
             → let epoch = command.Epoch dir.0 master.0 (numbers_of (houses_in others.now)) (numbers_of (secondaries_in others.now)) in
-            first_refusal (refusals_of g epoch) ≡ None → OnOk result (octets_in twin.new.state ≡ octets_at (effect g epoch).cell twin.old.house.0) }
+            first_refusal (refusals_of g epoch) ≡ None
+            → OnOk result
+            (octets_in twin.new.state ≡ octets_at (effect g epoch).cell twin.old.house.0) }
     {
         let Some(place) = self.directory_place(dir) else {
             return Ok(());
@@ -276,7 +297,9 @@ impl Cell {
         requires twin { house_of self.now.houses.items twin.old.house.0 ≡ Some twin.old }
         ensures { (g : model.Cell) → Stands self.now g
             → let skulk = command.Skulk twin.old.house.0 dir.0 in
-            first_refusal (refusals_of g skulk) ≡ None → OnOk result (octets_in twin.new.state ≡ octets_at (effect g skulk).cell twin.old.house.0) }
+            first_refusal (refusals_of g skulk) ≡ None
+            → OnOk result
+            (octets_in twin.new.state ≡ octets_at (effect g skulk).cell twin.old.house.0) }
     {
         twin.begin_skulk(dir)?;
         Ok(())
@@ -285,8 +308,11 @@ impl Cell {
     // The message of a serial number comes to a house, its receiver.
     fn deliver_on(&self, alloc: Global, twin: &mut CellHouse, serial: u64) -> Result<(), AllocError>
         requires twin { house_of self.now.houses.items twin.old.house.0 ≡ Some twin.old }
-        ensures { (g : model.Cell) → Stands self.now g → has twin.old.house.0 (receivers_of (message_at g serial)) ≡ true
-            → OnOk result (octets_in twin.new.state ≡ octets_at (effect g (command.Deliver serial)).cell twin.old.house.0) }
+        ensures { (g : model.Cell) → Stands self.now g
+            → has twin.old.house.0 (receivers_of (message_at g serial)) ≡ true
+            → OnOk result
+            (octets_in twin.new.state
+            ≡ octets_at (effect g (command.Deliver serial)).cell twin.old.house.0) }
     {
         if let Ok(delivery) = self.delivery(alloc, serial)? {
             twin.take(alloc, &delivery.message)?;

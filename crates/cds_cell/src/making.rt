@@ -34,8 +34,11 @@ pub(crate) fn child_of(
     master: HouseNo,
     others: &[HouseNo],
 ) -> Result<Option<Update>, AllocError>
-    ensures { IfOk result (λ o. MatchOption o (is_bad_list (master.0 ∷ numbers_of others.now) ≡ true)
-        (λ u. change_of u ≡ updates.MakeChild name (record { dir = child.0; master = master.0; others = sorted_houses (numbers_of others.now) }))) }
+    ensures { IfOk result
+        (λ o. MatchOption o (is_bad_list (master.0 ∷ numbers_of others.now) ≡ true)
+        (λ u. change_of u
+        ≡ updates.MakeChild name
+        (record { dir = child.0; master = master.0; others = sorted_houses (numbers_of others.now) }))) }
 {
     let Some(houses) = house_list(alloc, master, others)? else {
         return Ok(None);
@@ -53,7 +56,8 @@ impl Cell {
     ) -> Result<Answer, AllocError>
         requires room { HasRoom self.old }
         ensures leaves { Leaves self.old self.new result }
-        ensures step { (g : model.Cell) → Stands self.old g → first_refusal (refusals_of g (command.House house.0 node)) ≡ None
+        ensures step { (g : model.Cell) → Stands self.old g
+            → first_refusal (refusals_of g (command.House house.0 node)) ≡ None
             → ComesTo result self.new (effect g (command.House house.0 node)) }
     {
         self.houses.push(CellHouse {
@@ -68,7 +72,8 @@ impl Cell {
     /// Another time at a house, up or down.
     pub(crate) fn set_clock(&mut self, house: HouseNo, time: u64) -> Answer
         ensures leaves { Leaves self.old self.new (Ok result) }
-        ensures step { (g : model.Cell) → Stands self.old g → first_refusal (refusals_of g (command.Clock house.0 time)) ≡ None
+        ensures step { (g : model.Cell) → Stands self.old g
+            → first_refusal (refusals_of g (command.Clock house.0 time)) ≡ None
             → IsStepAs result self.new (effect g (command.Clock house.0 time)) }
     {
         if let Some(at) = self.position(house) {
@@ -109,8 +114,10 @@ impl Cell {
         requires room { self.old.bag.posted + 64 ≤ 2 ^ 63 }
         ensures spent { self.new.spent ≡ self.old.spent }
         ensures grows { OnOk result (GrowsByOne self.old self.new) }
-        ensures founds { (g : model.Cell) → StandsAs self.old g → CanFound g dir.0 (master_of (members_of members))
-            → dir.0 ≡ length self.old.directories.items + 1 → OnOk result (Founds self.new g dir.0 (members_of members) serials.old serials.new) }
+        ensures founds { (g : model.Cell) → StandsAs self.old g
+            → CanFound g dir.0 (master_of (members_of members))
+            → dir.0 ≡ length self.old.directories.items + 1
+            → OnOk result (Founds self.new g dir.0 (members_of members) serials.old serials.new) }
     {
         self.found_at_master(alloc, dir, &members, serials)?;
         self.directories.push(Listing {
@@ -131,8 +138,10 @@ impl Cell {
         requires room { self.old.bag.posted + 64 ≤ 2 ^ 63 }
         ensures rest { KeepsRest self.old self.new }
         ensures few { OnOk result (self.new.bag.posted ≤ self.old.bag.posted + 64) }
-        ensures founds { (g : model.Cell) → StandsAs self.old g → CanFound g dir.0 (master_of (members_of members.now))
-            → OnOk result (MasterFounds self.new g dir.0 (members_of members.now) serials.old serials.new) }
+        ensures founds { (g : model.Cell) → StandsAs self.old g
+            → CanFound g dir.0 (master_of (members_of members.now))
+            → OnOk result
+            (MasterFounds self.new g dir.0 (members_of members.now) serials.old serials.new) }
     {
         let Some(at) = self.position(members.master()) else {
             return Ok(());
@@ -184,9 +193,12 @@ impl Cell {
         requires house { at < length self.old.houses.items }
         requires room { HasRoom self.old }
         ensures leaves { Leaves self.old self.new result }
-        ensures step { (g : model.Cell) (x : ℕ) → StandsAs self.old g → IsPlaceOf self.old.houses.items x at → (g.house x).up ≡ true
-            → child.0 ≢ dir.0 → child.0 ≡ length self.old.directories.items + 1 → CanFound g child.0 (master_of (members_of members))
-            → ComesTo result self.new (child_outcome g x dir.0 (change_of update.now) child.0 (members_of members)) }
+        ensures step { (g : model.Cell) (x : ℕ) → StandsAs self.old g
+            → IsPlaceOf self.old.houses.items x at → (g.house x).up ≡ true
+            → child.0 ≢ dir.0 → child.0 ≡ length self.old.directories.items + 1
+            → CanFound g child.0 (master_of (members_of members))
+            → ComesTo result self.new
+            (child_outcome g x dir.0 (change_of update.now) child.0 (members_of members)) }
     {
         let mut serials = Serials::new(alloc);
         match self.accept_at(alloc, at, dir, update, &mut serials)? {
@@ -219,8 +231,11 @@ impl Cell {
         requires room { HasRoom self.old }
         ensures leaves { Leaves self.old self.new result }
         ensures step { (g : model.Cell) → Stands self.old g
-            → first_refusal (refusals_of g (command.Repoint house.0 dir.0 name master.0 (numbers_of others.now))) ≡ None
-            → ComesTo result self.new (effect g (command.Repoint house.0 dir.0 name master.0 (numbers_of others.now))) }
+            → first_refusal
+            (refusals_of g (command.Repoint house.0 dir.0 name master.0 (numbers_of others.now)))
+            ≡ None
+            → ComesTo result self.new
+            (effect g (command.Repoint house.0 dir.0 name master.0 (numbers_of others.now))) }
     {
         let Some(houses) = house_list(alloc, master, others)? else {
             return Ok(Answer::Refused(ScriptRefusal::BadMembers));

@@ -41,8 +41,10 @@ pub(crate) fn listing(
     master: HouseNo,
     others: &Listeds,
 ) -> Result<Option<Members>, AllocError>
-    ensures { IfOk result (λ o. let rs = numbers_of (houses_in others.now) in let ss = numbers_of (secondaries_in others.now) in
-        MatchOption o (model.is_bad_list (master.0 ∷ rs) ≡ true) (λ ms. (model.is_bad_list (master.0 ∷ rs) ≡ false)
+    ensures { IfOk result (λ o. let rs = numbers_of (houses_in others.now) in
+        let ss = numbers_of (secondaries_in others.now) in
+        MatchOption o (model.is_bad_list (master.0 ∷ rs) ≡ true)
+        (λ ms. (model.is_bad_list (master.0 ∷ rs) ≡ false)
         × (members_of ms ≡ model.member_list_of (members_of before.now) epoch.0 master.0 rs ss))) }
 {
     if is_bad_list(master, others.houses()) {
@@ -65,7 +67,8 @@ fn all_in_order(
     master: HouseNo,
     others: &[HouseNo],
 ) -> Result<Vec<HouseNo>, AllocError>
-    ensures { IfOk result (λ v. numbers_of v.items ≡ model.sorted_houses (master.0 ∷ numbers_of others.now)) }
+    ensures { IfOk result
+        (λ v. numbers_of v.items ≡ model.sorted_houses (master.0 ∷ numbers_of others.now)) }
 {
     let mut all = Vec::new(alloc);
     all.push(master)?;
@@ -122,7 +125,9 @@ pub(crate) fn leaving(
     now: &Members,
 ) -> Result<Vec<HouseNo>, AllocError>
     ensures few { IfOk result (λ v. length v.items ≤ length before.now) }
-    ensures houses { IfOk result (λ v. numbers_of v.items ≡ model.left_members (members_of before.now) (members_of now.now)) }
+    ensures houses { IfOk result
+        (λ v. numbers_of v.items
+        ≡ model.left_members (members_of before.now) (members_of now.now)) }
 {
     let mut left = Vec::new(alloc);
     for member in before {

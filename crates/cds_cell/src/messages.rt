@@ -36,7 +36,8 @@ impl Cell {
     pub(crate) fn deliver(&mut self, alloc: Global, serial: u64) -> Result<Answer, AllocError>
         requires room { HasRoom self.old }
         ensures leaves { Leaves self.old self.new result }
-        ensures step { (g : model.Cell) → Stands self.old g → ComesTo result self.new (effect g (command.Deliver serial)) }
+        ensures step { (g : model.Cell) → Stands self.old g
+            → ComesTo result self.new (effect g (command.Deliver serial)) }
     {
         match self.delivery(alloc, serial)? {
             Ok(delivery) => self.take_message(alloc, delivery.at, &delivery.message),
@@ -51,7 +52,8 @@ impl Cell {
         serial: u64,
     ) -> Result<Result<Delivery, ScriptRefusal>, AllocError>
         ensures place { IfOk result (λ r. IfOk r (λ d. d.at < length self.now.houses.items)) }
-        ensures comes { (g : model.Cell) → Stands self.now g → IfOk result (λ r. MatchResult r (λ d. Delivers self.now g serial d.at d.message)
+        ensures comes { (g : model.Cell) → Stands self.now g
+            → IfOk result (λ r. MatchResult r (λ d. Delivers self.now g serial d.at d.message)
             (λ why. IsStepAs (answer.Refused why) self.now (effect g (command.Deliver serial)))) }
     {
         let Some(letter) = self.bag.letter(serial) else {
@@ -80,7 +82,8 @@ impl Cell {
         requires house { at < length self.old.houses.items }
         requires room { HasRoom self.old }
         ensures leaves { Leaves self.old self.new result }
-        ensures step { (g : model.Cell) (n : ℕ) → Stands self.old g → Delivers self.old g n at message.now
+        ensures step { (g : model.Cell) (n : ℕ) → Stands self.old g
+            → Delivers self.old g n at message.now
             → ComesTo result self.new (effect g (command.Deliver n)) }
     {
         let mut serials = Serials::new(alloc);
@@ -101,9 +104,12 @@ impl Cell {
         ensures rest { KeepsRest self.old self.new }
         ensures few { OnOk result (self.new.bag.posted ≤ self.old.bag.posted + 64) }
         ensures same { IfOk result (λ t. UnlessTaken t (self.new ≡ self.old)) }
-        ensures acts { (now : model.House) (m : model.Message) → IsPlaceOf self.old.houses.items m.receiver at → StandsMessage m.receiver message.now m
+        ensures acts { (now : model.House) (m : model.Message)
+            → IsPlaceOf self.old.houses.items m.receiver at → StandsMessage m.receiver message.now m
             → IsValidMessage message.now → CanTake now m
-            → IfOk result (λ t. ActsAt self.old self.new at serials.old serials.new (IsTakeAnswer t) now (λ house. turns.take now m)) }
+            → IfOk result
+            (λ t. ActsAt self.old self.new at serials.old serials.new (IsTakeAnswer t) now
+            (λ house. turns.take now m)) }
     {
         let turn = self.houses[at].take(alloc, message)?;
         self.post(alloc, at, message.dir, turn.outgoing, serials)?;
@@ -113,7 +119,8 @@ impl Cell {
     /// The message of a serial number is lost, if it is in the bag.
     pub(crate) fn lose(&mut self, serial: u64) -> Answer
         ensures leaves { Leaves self.old self.new (Ok result) }
-        ensures step { (g : model.Cell) → Stands self.old g → IsStepAs result self.new (effect g (command.Lose serial)) }
+        ensures step { (g : model.Cell) → Stands self.old g
+            → IsStepAs result self.new (effect g (command.Lose serial)) }
     {
         if self.bag.letter(serial).is_none() {
             return Answer::Refused(ScriptRefusal::NoMessage);
@@ -127,7 +134,8 @@ impl Cell {
         ensures houses { self.new.houses ≡ self.old.houses }
         ensures rest { KeepsRest self.old self.new }
         ensures posted { self.new.bag.posted ≡ self.old.bag.posted }
-        ensures lost { (g : model.Cell) → Stands self.old g → Stands self.new (replay_from g (map command.Lose (serials_after kept g))) }
+        ensures lost { (g : model.Cell) → Stands self.old g
+            → Stands self.new (replay_from g (map command.Lose (serials_after kept g))) }
     {
         'messages: for lost in kept..self.bag.posted() {
             self.bag.lose(lost + 1);
@@ -139,7 +147,8 @@ impl Cell {
         ensures leaves { Leaves self.old self.new result }
         ensures rest { KeepsRest self.old self.new }
         ensures bag { self.new.bag ≡ self.old.bag }
-        ensures step { (g : model.Cell) → Stands self.old g → first_refusal (refusals_of g (command.Crash house.0)) ≡ None
+        ensures step { (g : model.Cell) → Stands self.old g
+            → first_refusal (refusals_of g (command.Crash house.0)) ≡ None
             → ComesTo result self.new (effect g (command.Crash house.0)) }
     {
         let Some(at) = self.position(house) else {
@@ -152,7 +161,8 @@ impl Cell {
     /// A house that is down starts again.
     pub(crate) fn start(&mut self, alloc: Global, house: HouseNo) -> Result<Answer, AllocError>
         ensures leaves { Leaves self.old self.new result }
-        ensures step { (g : model.Cell) → Stands self.old g → first_refusal (refusals_of g (command.Start house.0)) ≡ None
+        ensures step { (g : model.Cell) → Stands self.old g
+            → first_refusal (refusals_of g (command.Start house.0)) ≡ None
             → ComesTo result self.new (effect g (command.Start house.0)) }
     {
         let Some(at) = self.position(house) else {

@@ -14,7 +14,8 @@ pub(crate) fn house_list(
     master: HouseNo,
     others: &[HouseNo],
 ) -> Result<Option<HouseList>, AllocError>
-    ensures { IfOk result (λ o. MatchOption o (is_bad_list (master.0 ∷ numbers_of others.now) ≡ true)
+    ensures { IfOk result
+        (λ o. MatchOption o (is_bad_list (master.0 ∷ numbers_of others.now) ≡ true)
         (λ h. (is_bad_list (master.0 ∷ numbers_of others.now) ≡ false)
         × (h ≡ record { master = master.0; others = sorted_houses (numbers_of others.now) }))) }
 {

@@ -86,7 +86,8 @@ impl EntryReader for CellReader<'_> {
 // The houses of a member list: the master, and the others.
 fn houses_in(alloc: Global, members: &Members) -> Result<HouseList, AllocError>
     ensures { let ms = members_of members.now in
-        IfOk result (λ houses. houses ≡ record { master = master_of ms; others = others_of (master_of ms) ms }) }
+        IfOk result (λ houses. houses
+        ≡ record { master = master_of ms; others = others_of (master_of ms) ms }) }
 {
     let others = others_in(alloc, members)?;
     match HouseList::new(alloc, members.master(), &others) {
@@ -120,7 +121,8 @@ fn asked<'a>(
     high: bool,
 ) -> Option<Holder<'a>>
     ensures { option_map asked_of result
-        ≡ house_to_ask (told_views cell.now) at.now.dir.0 (option_map (λ h. h.0) prefer) high (at.now.houses.master ∷ at.now.houses.others) }
+        ≡ house_to_ask (told_views cell.now) at.now.dir.0 (option_map (λ h. h.0) prefer) high
+        (at.now.houses.master ∷ at.now.houses.others) }
 {
     match prefer {
         Some(house) if !high && is_listed(&at.houses, house) => {
@@ -143,7 +145,8 @@ fn is_listed(houses: &HouseList, house: HouseNo) -> bool
 // The first of the listed houses that answers.
 fn first_answering<'a>(cell: &'a Cell, at: &ChildPointer, high: bool) -> Option<Holder<'a>>
     ensures { option_map asked_of result
-        ≡ first_some (answer_of_house (told_views cell.now) high at.now.dir.0) (at.now.houses.master ∷ at.now.houses.others) }
+        ≡ first_some (answer_of_house (told_views cell.now) high at.now.dir.0)
+        (at.now.houses.master ∷ at.now.houses.others) }
 {
     match answering(cell, at.dir, at.houses.master(), high) {
         Some(holder) => Some(holder),
@@ -166,7 +169,8 @@ fn first_of<'a>(cell: &'a Cell, dir: DirId, houses: &[HouseNo], high: bool) -> O
 
 // What a house answers with: at high confidence only a master does.
 fn answering<'a>(cell: &'a Cell, dir: DirId, house: HouseNo, high: bool) -> Option<Holder<'a>>
-    ensures { option_map asked_of result ≡ answer_of_house (told_views cell.now) high dir.0 house.0 }
+    ensures { option_map asked_of result
+        ≡ answer_of_house (told_views cell.now) high dir.0 house.0 }
 {
     let held = held(cell, dir, house)?;
     if !high || held.members.master() == house {
@@ -191,7 +195,8 @@ fn held(cell: &Cell, dir: DirId, house: HouseNo) -> Option<&Held>
 
 // What a house shows of a name.
 fn see(alloc: Global, house: HouseNo, table: &Table, name: &SimpleName) -> Result<Seen, AllocError>
-    ensures { IfOk result (λ seen. sight_of seen ≡ shown_sight house.0 (shown_in table.now name.now)) }
+    ensures { IfOk result
+        (λ seen. sight_of seen ≡ shown_sight house.0 (shown_in table.now name.now)) }
 {
     match table.get(name) {
         Some(entry) => see_entry(alloc, house, entry),
@@ -217,7 +222,8 @@ fn see_led(
     kind: Kind,
     lead: Option<&Value>,
 ) -> Result<Seen, AllocError>
-    ensures { IfOk result (λ seen. sight_of seen ≡ led_sight kind house.0 (option_copied lead.entry)) }
+    ensures { IfOk result
+        (λ seen. sight_of seen ≡ led_sight kind house.0 (option_copied lead.entry)) }
 {
     match (kind, lead) {
         (Kind::Object, _) => Ok(Seen::Object(house)),
@@ -255,7 +261,8 @@ fn values_in(
     name: &SimpleName,
     attr: &AttrName,
 ) -> Result<Vec<Value>, AllocError>
-    ensures { IfOk result (λ found. found.items ≡ values_of attr.now (shown_in table.now name.now)) }
+    ensures { IfOk result
+        (λ found. found.items ≡ values_of attr.now (shown_in table.now name.now)) }
 {
     match table.values(alloc, name, attr)? {
         Some(values) => Ok(values),

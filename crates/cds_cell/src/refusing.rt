@@ -21,7 +21,8 @@ use script_answers::ScriptRefusal;
 impl Cell {
     /// That a step is allowed, or the first reason against it.
     pub(crate) fn allows(&self, step: &Step) -> Result<(), ScriptRefusal>
-        ensures { (g : model.Cell) → Stands self.now g → IsAllowed result (refusals_of g (step_meant step.now)) }
+        ensures { (g : model.Cell) → Stands self.now g
+            → IsAllowed result (refusals_of g (step_meant step.now)) }
     {
         match step {
             Step::House(house, node) => self.untaken(*house, *node),
@@ -43,7 +44,8 @@ impl Cell {
     }
 
     fn allows_root(&self, master: HouseNo, others: &[HouseNo]) -> Result<(), ScriptRefusal>
-        ensures { (g : model.Cell) → Stands self.now g → IsAllowed result (refusals_of g (command.Root master.0 (numbers_of others.now) [])) }
+        ensures { (g : model.Cell) → Stands self.now g
+            → IsAllowed result (refusals_of g (command.Root master.0 (numbers_of others.now) [])) }
     {
         if !self.is_unknown(DirId::ROOT) {
             return Err(ScriptRefusal::DirectoryExists);
@@ -60,7 +62,8 @@ impl Cell {
         others: &[HouseNo],
     ) -> Result<(), ScriptRefusal>
         ensures { (g : model.Cell) → Stands self.now g
-            → IsAllowed result (refusals_of g (command.Mkdir house.0 dir.0 [] master.0 (numbers_of others.now) [])) }
+            → IsAllowed result
+            (refusals_of g (command.Mkdir house.0 dir.0 [] master.0 (numbers_of others.now) [])) }
     {
         self.pointed(house, dir, master, others)?;
         self.up(house)?;
@@ -75,7 +78,8 @@ impl Cell {
         others: &[HouseNo],
     ) -> Result<(), ScriptRefusal>
         ensures { (g : model.Cell) → Stands self.now g
-            → IsAllowed result (refusals_of g (command.Repoint house.0 dir.0 [] master.0 (numbers_of others.now))) }
+            → IsAllowed result
+            (refusals_of g (command.Repoint house.0 dir.0 [] master.0 (numbers_of others.now))) }
     {
         self.pointed(house, dir, master, others)?;
         self.up(house)
@@ -83,7 +87,8 @@ impl Cell {
 
     // An update or a skulk.
     fn allows_at(&self, house: HouseNo, dir: DirId) -> Result<(), ScriptRefusal>
-        ensures { (g : model.Cell) → Stands self.now g → IsAllowed result (refusals_of g (command.Skulk house.0 dir.0)) }
+        ensures { (g : model.Cell) → Stands self.now g
+            → IsAllowed result (refusals_of g (command.Skulk house.0 dir.0)) }
     {
         self.placed(house, dir)?;
         self.up(house)
@@ -95,7 +100,9 @@ impl Cell {
         master: HouseNo,
         others: &[HouseNo],
     ) -> Result<(), ScriptRefusal>
-        ensures { (g : model.Cell) → Stands self.now g → IsAllowed result (refusals_of g (command.Epoch dir.0 master.0 (numbers_of others.now) [])) }
+        ensures { (g : model.Cell) → Stands self.now g
+            → IsAllowed result
+            (refusals_of g (command.Epoch dir.0 master.0 (numbers_of others.now) [])) }
     {
         self.known(dir)?;
         self.listable(master, others)?;
@@ -106,14 +113,16 @@ impl Cell {
     }
 
     fn allows_crash(&self, house: HouseNo) -> Result<(), ScriptRefusal>
-        ensures { (g : model.Cell) → Stands self.now g → IsAllowed result (refusals_of g (command.Crash house.0)) }
+        ensures { (g : model.Cell) → Stands self.now g
+            → IsAllowed result (refusals_of g (command.Crash house.0)) }
     {
         self.made(house, &[])?;
         self.up(house)
     }
 
     fn allows_start(&self, house: HouseNo) -> Result<(), ScriptRefusal>
-        ensures { (g : model.Cell) → Stands self.now g → IsAllowed result (refusals_of g (command.Start house.0)) }
+        ensures { (g : model.Cell) → Stands self.now g
+            → IsAllowed result (refusals_of g (command.Start house.0)) }
     {
         self.made(house, &[])?;
         if !self.is_down(house) {
@@ -124,7 +133,8 @@ impl Cell {
 
     // Neither the number nor the node is another house's.
     fn untaken(&self, house: HouseNo, node: Node) -> Result<(), ScriptRefusal>
-        ensures { (g : model.Cell) → Stands self.now g → IsAllowed result ((is_taken g house.0 node, command.HouseExists) ∷ []) }
+        ensures { (g : model.Cell) → Stands self.now g
+            → IsAllowed result ((is_taken g house.0 node, command.HouseExists) ∷ []) }
     {
         if self.is_taken(house, node) {
             return Err(ScriptRefusal::HouseExists);
@@ -135,7 +145,8 @@ impl Cell {
     // These houses were made.
     fn made(&self, first: HouseNo, others: &[HouseNo]) -> Result<(), ScriptRefusal>
         ensures { (g : model.Cell) → Stands self.now g
-            → IsAllowed result ((is_missing g (first.0 ∷ numbers_of others.now), command.NoHouse) ∷ []) }
+            → IsAllowed result
+            ((is_missing g (first.0 ∷ numbers_of others.now), command.NoHouse) ∷ []) }
     {
         if self.lacks(first, others) {
             return Err(ScriptRefusal::NoHouse);
@@ -145,7 +156,8 @@ impl Cell {
 
     // The house is up.
     fn up(&self, house: HouseNo) -> Result<(), ScriptRefusal>
-        ensures { (g : model.Cell) → Stands self.now g → IsAllowed result ((is_down g house.0, command.Down) ∷ []) }
+        ensures { (g : model.Cell) → Stands self.now g
+            → IsAllowed result ((is_down g house.0, command.Down) ∷ []) }
     {
         if self.is_down(house) {
             return Err(ScriptRefusal::Down);
@@ -155,7 +167,8 @@ impl Cell {
 
     // There is such a directory.
     fn known(&self, dir: DirId) -> Result<(), ScriptRefusal>
-        ensures { (g : model.Cell) → Stands self.now g → IsAllowed result ((is_unknown g dir.0, command.NoDirectory) ∷ []) }
+        ensures { (g : model.Cell) → Stands self.now g
+            → IsAllowed result ((is_unknown g dir.0, command.NoDirectory) ∷ []) }
     {
         if self.is_unknown(dir) {
             return Err(ScriptRefusal::NoDirectory);
@@ -166,7 +179,9 @@ impl Cell {
     // There are such a directory and such a house.
     fn placed(&self, house: HouseNo, dir: DirId) -> Result<(), ScriptRefusal>
         ensures { (g : model.Cell) → Stands self.now g
-            → IsAllowed result ((is_unknown g dir.0, command.NoDirectory) ∷ (is_missing g (house.0 ∷ []), command.NoHouse) ∷ []) }
+            → IsAllowed result
+            ((is_unknown g dir.0, command.NoDirectory)
+            ∷ (is_missing g (house.0 ∷ []), command.NoHouse) ∷ []) }
     {
         self.known(dir)?;
         self.made(house, &[])
@@ -174,8 +189,10 @@ impl Cell {
 
     // These houses were made, and can be a list.
     fn listable(&self, master: HouseNo, others: &[HouseNo]) -> Result<(), ScriptRefusal>
-        ensures { (g : model.Cell) → Stands self.now g → let hs = master.0 ∷ numbers_of others.now in
-            IsAllowed result ((is_missing g hs, command.NoHouse) ∷ (is_bad_list hs, command.BadMembers) ∷ []) }
+        ensures { (g : model.Cell) → Stands self.now g
+            → let hs = master.0 ∷ numbers_of others.now in
+            IsAllowed result
+            ((is_missing g hs, command.NoHouse) ∷ (is_bad_list hs, command.BadMembers) ∷ []) }
     {
         self.made(master, others)?;
         if is_bad_list(master, others) {
@@ -192,8 +209,11 @@ impl Cell {
         master: HouseNo,
         others: &[HouseNo],
     ) -> Result<(), ScriptRefusal>
-        ensures { (g : model.Cell) → Stands self.now g → let hs = master.0 ∷ numbers_of others.now in
-            IsAllowed result ((is_unknown g dir.0, command.NoDirectory) ∷ (is_missing g (house.0 ∷ hs), command.NoHouse)
+        ensures { (g : model.Cell) → Stands self.now g
+            → let hs = master.0 ∷ numbers_of others.now in
+            IsAllowed result
+            ((is_unknown g dir.0, command.NoDirectory)
+            ∷ (is_missing g (house.0 ∷ hs), command.NoHouse)
             ∷ (is_bad_list hs, command.BadMembers) ∷ []) }
     {
         self.placed(house, dir)?;
@@ -219,7 +239,8 @@ impl Cell {
 
     // Whether the console lists the house as a member of the directory.
     fn is_listed(&self, dir: DirId, house: HouseNo) -> bool
-        ensures { (g : model.Cell) → Stands self.now g → result ≡ is_listed house.0 (g.present dir.0) }
+        ensures { (g : model.Cell) → Stands self.now g
+            → result ≡ is_listed house.0 (g.present dir.0) }
     {
         match self.directory_place(dir) {
             Some(at) => self.directories[at].members.place(house).is_some(),
@@ -229,15 +250,18 @@ impl Cell {
 
     // Whether one of these houses was not made.
     fn lacks(&self, first: HouseNo, others: &[HouseNo]) -> bool
-        ensures found { result ≡ list_any (λ x. not (is_some (house_of self.now.houses.items x))) (first.0 ∷ numbers_of others.now) }
-        ensures model { (g : model.Cell) → Stands self.now g → result ≡ is_missing g (first.0 ∷ numbers_of others.now) }
+        ensures found { result ≡ list_any (λ x. not (is_some (house_of self.now.houses.items x)))
+            (first.0 ∷ numbers_of others.now) }
+        ensures model { (g : model.Cell) → Stands self.now g
+            → result ≡ is_missing g (first.0 ∷ numbers_of others.now) }
     {
         !self.has_house(first) || others.iter().any(|house| !self.has_house(*house))
     }
 
     /// Whether a house is not up.
     pub fn is_down(&self, house: HouseNo) -> bool
-        ensures found { result ≡ not (is_up_state (option_map (λ h. h.state) (house_of self.now.houses.items house.0))) }
+        ensures found { result ≡ not
+            (is_up_state (option_map (λ h. h.state) (house_of self.now.houses.items house.0))) }
         ensures model { (g : model.Cell) → Stands self.now g → result ≡ is_down g house.0 }
     {
         match self.house(house) {

@@ -62,7 +62,8 @@ impl Cell {
         octets: &[u8],
     ) -> Result<Answer, AllocError>
         ensures leaves { Leaves self.old self.new result }
-        ensures step { (g : model.Cell) → Stands self.old g → octets.now ≡ octets_at g house.0 → first_refusal (refusals_of g (command.Start house.0)) ≡ None
+        ensures step { (g : model.Cell) → Stands self.old g → octets.now ≡ octets_at g house.0
+            → first_refusal (refusals_of g (command.Start house.0)) ≡ None
             → ComesTo result self.new (effect g (command.Start house.0)) }
     {
         let Some(at) = self.position(house) else {
@@ -83,7 +84,8 @@ impl Cell {
         ensures call { IsCall self.old self.new result }
         ensures posted { self.new.bag.posted ≡ self.old.bag.posted }
         ensures directories { self.new.directories ≡ self.old.directories }
-        ensures crash { (g : model.Cell) → Stands self.old g → OnOk result (Stands self.new (replay_from g (crash_losing g house.0 kept))) }
+        ensures crash { (g : model.Cell) → Stands self.old g
+            → OnOk result (Stands self.new (replay_from g (crash_losing g house.0 kept))) }
     {
         self.usable()?;
         self.lose_after(kept);
@@ -96,7 +98,8 @@ impl Cell {
     fn crash_if_up(&mut self, alloc: Global, house: HouseNo) -> Result<(), AllocError>
         ensures rest { KeepsRest self.old self.new }
         ensures bag { self.new.bag ≡ self.old.bag }
-        ensures crash { (g : model.Cell) → Stands self.old g → OnOk result (Stands self.new (outcome g (command.Crash house.0)).cell) }
+        ensures crash { (g : model.Cell) → Stands self.old g
+            → OnOk result (Stands self.new (outcome g (command.Crash house.0)).cell) }
     {
         match self.allows(&Step::Crash(house)) {
             Ok(()) => {

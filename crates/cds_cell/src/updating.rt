@@ -36,10 +36,13 @@ impl Cell {
         requires house { at < length self.old.houses.items }
         requires room { self.old.bag.posted + 64 * length updates.now ≤ 2 ^ 63 }
         ensures rest { KeepsRest self.old self.new }
-        ensures few { OnOk result (self.new.bag.posted ≤ self.old.bag.posted + 64 * length updates.now) }
+        ensures few { OnOk result
+            (self.new.bag.posted ≤ self.old.bag.posted + 64 * length updates.now) }
         ensures same { IfOk result (λ a. a.count ≡ 0 → self.new ≡ self.old) }
-        ensures all { (g : model.Cell) (x : ℕ) → Stands self.old g → IsPlaceOf self.old.houses.items x at → (g.house x).up ≡ true
-            → IfOk result (λ a. IsAccepting a self.new (accept_in_turn g x dir.0 (changes updates.now))) }
+        ensures all { (g : model.Cell) (x : ℕ) → Stands self.old g
+            → IsPlaceOf self.old.houses.items x at → (g.house x).up ≡ true
+            → IfOk result
+            (λ a. IsAccepting a self.new (accept_in_turn g x dir.0 (changes updates.now))) }
     {
         let mut posted = Serials::new(alloc);
         for (count, update) in updates.iter().enumerate() {

@@ -21,7 +21,13 @@ pub struct Message {
 
 impl Drop for Message {
     fn drop(self) {
-        let Message { dir: _dir, from: _from, epoch: _epoch, floor: _floor, body: _body } = self;
+        let Message {
+            dir: _dir,
+            from: _from,
+            epoch: _epoch,
+            floor: _floor,
+            body: _body,
+        } = self;
     }
 }
 

@@ -69,7 +69,8 @@ pub fn whole_image(alloc: Global, octets: &[u8]) -> Result<Image, AllocOr<Record
 
 /// The octets in format 2 of the image of either format that the octets are. Else the fault of `whole_image`.
 pub fn migrate_image(alloc: Global, octets: &[u8]) -> Result<Vec<u8>, AllocOr<RecordFault>>
-    ensures answer { Answers (result_map_both (λ v. v.items) (λ e. e) result) (migration.migrated_image octets.now) }
+    ensures answer { Answers (result_map_both (λ v. v.items) (λ e. e) result)
+        (migration.migrated_image octets.now) }
     ensures format_2 { IfOk result (λ v. (i : Image) × IsWhole image i v.items) }
     ensures wanting { IfWant (WantsForImage 1 2 octets.now) result }
 {

@@ -30,7 +30,8 @@ const USUAL_MESSAGE: usize = 128;
 /// The octets of a message. They are the whole of it if its entries, tables and deltas are valid.
 pub fn encode(alloc: Global, message: &Message) -> Result<Vec<u8>, AllocError>
     ensures octets { IfOk result (λ v. v.items ≡ message_octets message.now) }
-    ensures whole { IfOk result (λ v. IsValidMessage message.now → IsWhole records.message message.now v.items) }
+    ensures whole { IfOk result (λ v. IsValidMessage message.now
+        → IsWhole records.message message.now v.items) }
 {
     let mut out = begin(alloc, &message.head(), message.body.tag())?;
     put_body(&mut out, &message.body)?;
@@ -39,9 +40,11 @@ pub fn encode(alloc: Global, message: &Message) -> Result<Vec<u8>, AllocError>
 
 /// The octets of an Update with this head, from borrowed marks. They are the whole of it if its entry is valid.
 pub fn encode_update(alloc: Global, head: &Head, fragment: &Fragment) -> Result<Vec<u8>, AllocError>
-    ensures octets { IfOk result (λ v. v.items ≡ message_octets (message_with head.now (bodies.Update fragment.now))) }
+    ensures octets { IfOk result
+        (λ v. v.items ≡ message_octets (message_with head.now (bodies.Update fragment.now))) }
     ensures whole { IfOk result (λ v.
-        IsValidEntry fragment.now.entry → IsWhole records.message (message_with head.now (bodies.Update fragment.now)) v.items) }
+        IsValidEntry fragment.now.entry
+        → IsWhole records.message (message_with head.now (bodies.Update fragment.now)) v.items) }
 {
     let mut out = begin(alloc, head, UPDATE)?;
     put_fragment(&mut out, fragment)?;
@@ -55,9 +58,12 @@ pub fn encode_gathered(
     t: &Stamp,
     delta: &Delta,
 ) -> Result<Vec<u8>, AllocError>
-    ensures octets { IfOk result (λ v. v.items ≡ message_octets (message_with head.now (bodies.Gathered t.now delta.now))) }
+    ensures octets { IfOk result
+        (λ v. v.items ≡ message_octets (message_with head.now (bodies.Gathered t.now delta.now))) }
     ensures whole { IfOk result (λ v.
-        IsDelta delta.now → IsWhole records.message (message_with head.now (bodies.Gathered t.now delta.now)) v.items) }
+        IsDelta delta.now
+        → IsWhole records.message
+        (message_with head.now (bodies.Gathered t.now delta.now)) v.items) }
 {
     let mut out = begin(alloc, head, GATHERED)?;
     put_copied(&mut out, t, delta)?;
@@ -71,9 +77,11 @@ pub fn encode_spread(
     t: &Stamp,
     delta: &Delta,
 ) -> Result<Vec<u8>, AllocError>
-    ensures octets { IfOk result (λ v. v.items ≡ message_octets (message_with head.now (bodies.Spread t.now delta.now))) }
+    ensures octets { IfOk result
+        (λ v. v.items ≡ message_octets (message_with head.now (bodies.Spread t.now delta.now))) }
     ensures whole { IfOk result (λ v.
-        IsDelta delta.now → IsWhole records.message (message_with head.now (bodies.Spread t.now delta.now)) v.items) }
+        IsDelta delta.now
+        → IsWhole records.message (message_with head.now (bodies.Spread t.now delta.now)) v.items) }
 {
     let mut out = begin(alloc, head, SPREAD)?;
     put_copied(&mut out, t, delta)?;
@@ -87,9 +95,13 @@ pub fn encode_join(
     members: &Members,
     replica: &Replica,
 ) -> Result<Vec<u8>, AllocError>
-    ensures octets { IfOk result (λ v. v.items ≡ message_octets (message_with head.now (bodies.Join members.now replica.now))) }
+    ensures octets { IfOk result
+        (λ v. v.items
+        ≡ message_octets (message_with head.now (bodies.Join members.now replica.now))) }
     ensures whole { IfOk result (λ v.
-        IsValidTable replica.now.table → IsWhole records.message (message_with head.now (bodies.Join members.now replica.now)) v.items) }
+        IsValidTable replica.now.table
+        → IsWhole records.message
+        (message_with head.now (bodies.Join members.now replica.now)) v.items) }
 {
     let mut out = begin(alloc, head, JOIN)?;
     put_joined(&mut out, members, replica)?;
@@ -132,8 +144,10 @@ fn put_body(out: &mut Vec<u8>, body: &Body) -> Result<(), AllocError>
 /// The marks of an update: the name of its entry, and the entry.
 fn put_fragment(out: &mut Vec<u8>, fragment: &Fragment) -> Result<(), AllocError>
     ensures octets { OnOk result (
-        out.new.items ≡ out.old.items ++ (name_octets fragment.now.name ++ entry_octets fragment.now.entry)) }
-    ensures fits { OnOk result ((simple_name_fault fragment.now.name ≡ None) × FitsEntry fragment.now.entry) }
+        out.new.items
+        ≡ out.old.items ++ (name_octets fragment.now.name ++ entry_octets fragment.now.entry)) }
+    ensures fits { OnOk result ((simple_name_fault fragment.now.name ≡ None)
+        × FitsEntry fragment.now.entry) }
 {
     put_simple_name(out, &fragment.name)?;
     put_entry(out, &fragment.entry)?;
@@ -142,7 +156,8 @@ fn put_fragment(out: &mut Vec<u8>, fragment: &Fragment) -> Result<(), AllocError
 
 /// The stamp of a skulk, and a delta.
 fn put_copied(out: &mut Vec<u8>, stamp: &Stamp, delta: &Delta) -> Result<(), AllocError>
-    ensures octets { OnOk result (out.new.items ≡ out.old.items ++ (stamp_octets stamp.now ++ delta_octets delta.now)) }
+    ensures octets { OnOk result
+        (out.new.items ≡ out.old.items ++ (stamp_octets stamp.now ++ delta_octets delta.now)) }
     ensures fits { OnOk result (FitsStamp stamp.now × FitsDelta delta.now) }
 {
     put_stamp(out, stamp)?;
@@ -152,7 +167,9 @@ fn put_copied(out: &mut Vec<u8>, stamp: &Stamp, delta: &Delta) -> Result<(), All
 
 /// The members of an epoch, and the master's replica.
 fn put_joined(out: &mut Vec<u8>, members: &Members, replica: &Replica) -> Result<(), AllocError>
-    ensures octets { OnOk result (out.new.items ≡ out.old.items ++ (members_octets members.now ++ replica_octets replica.now)) }
+    ensures octets { OnOk result
+        (out.new.items
+        ≡ out.old.items ++ (members_octets members.now ++ replica_octets replica.now)) }
     ensures fits { OnOk result (FitsMembers members.now × FitsReplica replica.now) }
 {
     put_members(out, members.list())?;

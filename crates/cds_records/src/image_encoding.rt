@@ -24,7 +24,8 @@ use std::marker::Model;
 /// The octets of an image. They are the whole of it if its tables are valid.
 pub fn encode_image(alloc: Global, image: &Image) -> Result<Vec<u8>, AllocError>
     ensures octets { IfOk result (λ v. v.items ≡ image_octets image.now) }
-    ensures whole { IfOk result (λ v. IsValidImage image.now → IsWhole images.image image.now v.items) }
+    ensures whole { IfOk result (λ v. IsValidImage image.now
+        → IsWhole images.image image.now v.items) }
 {
     let count = image.dirs.len() as u64;
     let mut out = begin_image(alloc, image.house, image.node, image.floor, count)?;
@@ -63,8 +64,11 @@ fn put_held(
     replica: &Replica,
 ) -> Result<(), AllocError>
     ensures octets { OnOk result (
-        out.new.items ≡ out.old.items ++ (dir_octets dir ++ kept_octets (states.Held epoch members.now replica.now))) }
-    ensures fits { OnOk result ((dir.0 < 2 ^ 32) × FitsDir (states.Held epoch members.now replica.now)) }
+        out.new.items
+        ≡ out.old.items
+        ++ (dir_octets dir ++ kept_octets (states.Held epoch members.now replica.now))) }
+    ensures fits { OnOk result ((dir.0 < 2 ^ 32)
+        × FitsDir (states.Held epoch members.now replica.now)) }
 {
     put_u32(out, dir.0)?;
     put_octet(out, HELD)?;
@@ -77,7 +81,8 @@ fn put_held(
 
 /// A directory that the house has left: its number, and the epoch of that.
 fn put_gone(out: &mut Vec<u8>, dir: DirId, epoch: EpochNo) -> Result<(), AllocError>
-    ensures octets { OnOk result (out.new.items ≡ out.old.items ++ (dir_octets dir ++ kept_octets (states.Gone epoch))) }
+    ensures octets { OnOk result
+        (out.new.items ≡ out.old.items ++ (dir_octets dir ++ kept_octets (states.Gone epoch))) }
     ensures fits { OnOk result ((dir.0 < 2 ^ 32) × FitsDir (states.Gone epoch)) }
 {
     put_u32(out, dir.0)?;
@@ -88,7 +93,8 @@ fn put_gone(out: &mut Vec<u8>, dir: DirId, epoch: EpochNo) -> Result<(), AllocEr
 
 /// A directory.
 fn put_dir(out: &mut Vec<u8>, dir: &DirId, kept: &ImageDir) -> Result<(), AllocError>
-    ensures octets { OnOk result (out.new.items ≡ out.old.items ++ (dir_octets dir.now ++ kept_octets kept.now)) }
+    ensures octets { OnOk result
+        (out.new.items ≡ out.old.items ++ (dir_octets dir.now ++ kept_octets kept.now)) }
     ensures fits { OnOk result ((dir.now.0 < 2 ^ 32) × FitsDir kept.now) }
 {
     match kept {
@@ -99,8 +105,10 @@ fn put_dir(out: &mut Vec<u8>, dir: &DirId, kept: &ImageDir) -> Result<(), AllocE
 
 /// The directories of an image.
 fn put_dirs(out: &mut Vec<u8>, dirs: &ImageDirs) -> Result<(), AllocError>
-    ensures octets { OnOk result (out.new.items ≡ out.old.items ++ each_octets dir_octets kept_octets dirs.now) }
-    ensures fits { OnOk result (ItemsFit (λ (d : number.DirId). d.0 < 2 ^ 32) FitsDir (entries dirs.now)) }
+    ensures octets { OnOk result
+        (out.new.items ≡ out.old.items ++ each_octets dir_octets kept_octets dirs.now) }
+    ensures fits { OnOk result
+        (ItemsFit (λ (d : number.DirId). d.0 < 2 ^ 32) FitsDir (entries dirs.now)) }
 {
     for (dir, kept) in dirs.iter() {
         put_dir(out, dir, kept)?;
@@ -149,15 +157,18 @@ impl ImageWriter {
         replica: &Replica,
     ) -> Result<(), AllocError>
         ensures octets { OnOk result (
-            self.new ≡ self.old ++ (dir_octets dir ++ kept_octets (states.Held epoch members.now replica.now))) }
-        ensures fits { OnOk result ((dir.0 < 2 ^ 32) × FitsDir (states.Held epoch members.now replica.now)) }
+            self.new ≡ self.old
+            ++ (dir_octets dir ++ kept_octets (states.Held epoch members.now replica.now))) }
+        ensures fits { OnOk result ((dir.0 < 2 ^ 32)
+            × FitsDir (states.Held epoch members.now replica.now)) }
     {
         put_held(&mut self.out, dir, epoch, members, replica)
     }
 
     /// The next directory, which the house has left.
     pub fn gone(&mut self, dir: DirId, epoch: EpochNo) -> Result<(), AllocError>
-        ensures octets { OnOk result (self.new ≡ self.old ++ (dir_octets dir ++ kept_octets (states.Gone epoch))) }
+        ensures octets { OnOk result
+            (self.new ≡ self.old ++ (dir_octets dir ++ kept_octets (states.Gone epoch))) }
         ensures fits { OnOk result ((dir.0 < 2 ^ 32) × FitsDir (states.Gone epoch)) }
     {
         put_gone(&mut self.out, dir, epoch)

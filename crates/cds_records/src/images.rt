@@ -89,7 +89,8 @@ fn add_dir(
     dirs: &mut ImageDirs,
     before: Option<DirId>,
 ) -> Result<DirId, ReadError>
-    ensures { Adds (λ x. x) (item dir_number (dir_state format) before) dirs.old dirs.new reader.old reader.new result }
+    ensures { Adds (λ x. x)
+        (item dir_number (dir_state format) before) dirs.old dirs.new reader.old reader.new result }
 {
     let own = read_dir_number(reader, before)?;
     let state = read_dir_state(reader, alloc, format)?;
@@ -104,7 +105,8 @@ fn read_dirs(
     format: u8,
     count: u64,
 ) -> Result<ImageDirs, ReadError>
-    ensures { Reads (λ x. x) (map_of {R = dir_cmp} dir_number (dir_state format) count) reader.old reader.new result }
+    ensures { Reads (λ x. x)
+        (map_of {R = dir_cmp} dir_number (dir_state format) count) reader.old reader.new result }
 {
     let mut dirs = ImageDirs::new(alloc);
     let mut before = None;
@@ -143,7 +145,8 @@ pub(crate) fn read_image(
 
 /// Whether a directory is not above the one before it.
 fn is_unordered_dir(number: u32, before: Option<DirId>) -> bool
-    ensures { number_order (option_map (λ d. d.0) before) number ≡ (if result then Some OutOfOrder else None) }
+    ensures { number_order (option_map (λ d. d.0) before) number
+        ≡ (if result then Some OutOfOrder else None) }
 {
     match before {
         Some(before) => number <= before.0,

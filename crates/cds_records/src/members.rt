@@ -33,7 +33,8 @@ fn read_member_kind(
     following: u8,
     master: bool,
 ) -> Result<MemberKind, Broken>
-    ensures { ReadsSurely (λ x. x) (member_kind secondary following master) reader.old reader.new result }
+    ensures { ReadsSurely (λ x. x)
+        (member_kind secondary following master) reader.old reader.new result }
 {
     let left = reader.left();
     let number = reader.octet()?;
@@ -52,7 +53,8 @@ fn read_member(
     before: Option<u8>,
     master: bool,
 ) -> Result<Member, Broken>
-    ensures { ReadsSurely (λ x. x) (member secondary following before master) reader.old reader.new result }
+    ensures { ReadsSurely (λ x. x)
+        (member secondary following before master) reader.old reader.new result }
 {
     let house = house_above(reader, before)?;
     let since = reader.u64()?;
@@ -71,7 +73,8 @@ fn read_listed(
     secondary: bool,
     count: u8,
 ) -> Result<Vec<Member>, ReadError>
-    ensures { Reads (λ v. v.items) (member_list secondary count None false) reader.old reader.new result }
+    ensures { Reads (λ v. v.items)
+        (member_list secondary count None false) reader.old reader.new result }
 {
     let mut list = Vec::new(alloc);
     let mut before = None;

@@ -26,7 +26,9 @@ fn add_attr<'a>(
     above: &Option<Stamp>,
     before: Option<&[u8]>,
 ) -> Result<&'a [u8], ReadError>
-    ensures { Adds (λ x. x.now) (item attr_name (cell above.now) (option_map (λ b. b.now) before.entry)) attrs.old attrs.new reader.old reader.new result }
+    ensures { Adds (λ x. x.now)
+        (item attr_name (cell above.now)
+        (option_map (λ b. b.now) before.entry)) attrs.old attrs.new reader.old reader.new result }
 {
     let own = reader.attr_name(before)?;
     let cell = reader.cell(alloc, above)?;
@@ -42,7 +44,8 @@ fn read_attrs(
     above: &Option<Stamp>,
     count: u64,
 ) -> Result<AttrMap, ReadError>
-    ensures { Reads (λ x. x) (map_of attr_name (cell above.now) count) reader.old reader.new result }
+    ensures { Reads (λ x. x)
+        (map_of attr_name (cell above.now) count) reader.old reader.new result }
 {
     let mut attrs = AttrMap::new(alloc);
     let mut before = None;
@@ -103,7 +106,8 @@ fn push_entry<'a>(
     above: &Option<Stamp>,
     before: Option<&[u8]>,
 ) -> Result<&'a [u8], ReadError>
-    ensures { Puts (λ x. x.now) (item simple_name (entry above.now) (option_map (λ b. b.now) before.entry))
+    ensures { Puts (λ x. x.now)
+        (item simple_name (entry above.now) (option_map (λ b. b.now) before.entry))
         entries.old.items entries.new.items reader.old reader.new result }
 {
     let own = reader.simple_name(before)?;
@@ -120,7 +124,8 @@ fn read_entries(
     above: &Option<Stamp>,
     count: u64,
 ) -> Result<Vec<(SimpleName, EntryCell)>, ReadError>
-    ensures { Reads (λ v. v.items) (ascending_items simple_name (entry above.now) count None) reader.old reader.new result }
+    ensures { Reads (λ v. v.items)
+        (ascending_items simple_name (entry above.now) count None) reader.old reader.new result }
 {
     let mut entries = Vec::new(alloc);
     let mut before = None;
@@ -140,7 +145,8 @@ fn read_table(
     above: &Option<Stamp>,
     count: u64,
 ) -> Result<Table, ReadError>
-    ensures { Reads (λ x. x) (map_of simple_name (entry above.now) count) reader.old reader.new result }
+    ensures { Reads (λ x. x)
+        (map_of simple_name (entry above.now) count) reader.old reader.new result }
 {
     let entries = read_entries(reader, alloc, above, count)?;
     let table = Table::from_pairs(alloc, entries)?;

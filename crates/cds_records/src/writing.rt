@@ -20,7 +20,8 @@ use std::alloc::AllocError;
 
 /// An attribute and its cell.
 fn put_attr(out: &mut Vec<u8>, name: &AttrName, cell: &AttrCell) -> Result<(), AllocError>
-    ensures octets { OnOk result (out.new.items ≡ out.old.items ++ (name_octets name.now ++ cell_octets cell.now)) }
+    ensures octets { OnOk result
+        (out.new.items ≡ out.old.items ++ (name_octets name.now ++ cell_octets cell.now)) }
     ensures fits { OnOk result ((attr_fault name.now ≡ None) × FitsCell cell.now) }
 {
     put_attr_name(out, name)?;
@@ -30,7 +31,8 @@ fn put_attr(out: &mut Vec<u8>, name: &AttrName, cell: &AttrCell) -> Result<(), A
 
 /// The attributes of an entry.
 fn put_attrs(out: &mut Vec<u8>, attrs: &AttrMap) -> Result<(), AllocError>
-    ensures octets { OnOk result (out.new.items ≡ out.old.items ++ each_octets name_octets cell_octets attrs.now) }
+    ensures octets { OnOk result
+        (out.new.items ≡ out.old.items ++ each_octets name_octets cell_octets attrs.now) }
     ensures fits { OnOk result (ItemsFit (λ n. attr_fault n ≡ None) FitsCell (entries attrs.now)) }
 {
     for (name, cell) in attrs.iter() {
@@ -65,7 +67,8 @@ pub(crate) fn put_entry(out: &mut Vec<u8>, entry: &EntryCell) -> Result<(), Allo
 
 /// A name and its entry.
 fn put_named(out: &mut Vec<u8>, name: &SimpleName, entry: &EntryCell) -> Result<(), AllocError>
-    ensures octets { OnOk result (out.new.items ≡ out.old.items ++ (name_octets name.now ++ entry_octets entry.now)) }
+    ensures octets { OnOk result
+        (out.new.items ≡ out.old.items ++ (name_octets name.now ++ entry_octets entry.now)) }
     ensures fits { OnOk result ((simple_name_fault name.now ≡ None) × FitsEntry entry.now) }
 {
     put_simple_name(out, name)?;
@@ -75,8 +78,10 @@ fn put_named(out: &mut Vec<u8>, name: &SimpleName, entry: &EntryCell) -> Result<
 
 /// The entries of a table.
 fn put_entries(out: &mut Vec<u8>, table: &Table) -> Result<(), AllocError>
-    ensures octets { OnOk result (out.new.items ≡ out.old.items ++ each_octets name_octets entry_octets table.now) }
-    ensures fits { OnOk result (ItemsFit (λ n. simple_name_fault n ≡ None) FitsEntry (entries table.now)) }
+    ensures octets { OnOk result
+        (out.new.items ≡ out.old.items ++ each_octets name_octets entry_octets table.now) }
+    ensures fits { OnOk result
+        (ItemsFit (λ n. simple_name_fault n ≡ None) FitsEntry (entries table.now)) }
 {
     for (name, entry) in table.iter() {
         put_named(out, name, entry)?;
@@ -86,7 +91,8 @@ fn put_entries(out: &mut Vec<u8>, table: &Table) -> Result<(), AllocError>
 
 /// A stamp or none, and the entries of a table behind their number.
 fn put_table(out: &mut Vec<u8>, stamp: &Option<Stamp>, table: &Table) -> Result<(), AllocError>
-    ensures octets { OnOk result (out.new.items ≡ out.old.items ++ stamped_table_octets stamp.now table.now) }
+    ensures octets { OnOk result
+        (out.new.items ≡ out.old.items ++ stamped_table_octets stamp.now table.now) }
     ensures stamp { OnOk result (IfSome stamp.now FitsStamp) }
     ensures table { OnOk result (FitsMap (λ n. simple_name_fault n ≡ None) FitsEntry table.now) }
 {

@@ -13,7 +13,8 @@ pub trait Lattice: Sized {
 
     /// Joins another value into this one. After want of memory this one is as it was.
     fn join(&mut self, alloc: Global, other: &Self) -> Result<(), AllocError>
-        ensures ok { OnOk result (valid self.old → valid other.now → self.new ≡ joined self.old other.now) }
+        ensures ok { OnOk result (valid self.old → valid other.now
+            → self.new ≡ joined self.old other.now) }
         ensures err { OnErr result (self.new ≡ self.old) };
 
     ghost keeps_valid: { (x y : Self) → valid x → valid y → valid (joined x y) };

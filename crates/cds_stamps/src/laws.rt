@@ -26,11 +26,16 @@ pub fn simple_names_have_no_fault()
 /// A fault of a simple name is at the first place at which the octets stop being the front of one: no octet at all, an
 /// octet that no name has, or an octet of names that is one too many.
 pub fn faults_of_simple_names_are_at_the_first_place()
-    ensures empty { (octets : List ℕ) (place : ℕ) → simple_name_fault octets ≡ Some (Empty place) → EndsEarly IsSimpleName octets place }
-    ensures octet { (octets : List ℕ) (place : ℕ) → simple_name_fault octets ≡ Some (BadOctet place) →
-        IsFirstBad IsSimpleName octets place × (is_name_octet (get_or octets (place - 1) 0) ≡ false) }
-    ensures too_long { (octets : List ℕ) (place : ℕ) → simple_name_fault octets ≡ Some (ComponentTooLong place) →
-        IsFirstBad IsSimpleName octets place × (is_name_octet (get_or octets (place - 1) 0) ≡ true) }
+    ensures empty { (octets : List ℕ) (place : ℕ) → simple_name_fault octets ≡ Some (Empty place)
+        → EndsEarly IsSimpleName octets place }
+    ensures octet { (octets : List ℕ) (place : ℕ) → simple_name_fault octets ≡ Some (BadOctet place)
+        →
+        IsFirstBad IsSimpleName octets place
+        × (is_name_octet (get_or octets (place - 1) 0) ≡ false) }
+    ensures too_long { (octets : List ℕ) (place : ℕ)
+        → simple_name_fault octets ≡ Some (ComponentTooLong place) →
+        IsFirstBad IsSimpleName octets place
+        × (is_name_octet (get_or octets (place - 1) 0) ≡ true) }
 {}
 
 /// No fault is found exactly where the octets are an attribute name.
@@ -54,7 +59,8 @@ pub fn member_lists_have_no_fault()
 /// with which no list in ascending order goes on; and where all ascend, the masters are not one. The place is told of
 /// the order alone, since a list whose members ascend may still have no master, or two.
 pub fn faults_of_member_lists_are_at_the_first_place()
-    ensures count { (ms : List Member) → members_fault ms ≡ Some BadCount → ¬ ((0 < length ms) × (length ms ≤ most_members)) }
+    ensures count { (ms : List Member) → members_fault ms ≡ Some BadCount
+        → ¬ ((0 < length ms) × (length ms ≤ most_members)) }
     ensures order { (ms : List Member) (place : ℕ) → members_fault ms ≡ Some (NotAscending place) →
         (0 < length ms) × (length ms ≤ most_members) × IsFirstBad IsAscending ms place }
     ensures master { (ms : List Member) → members_fault ms ≡ Some BadMaster →
@@ -63,7 +69,8 @@ pub fn faults_of_member_lists_are_at_the_first_place()
 
 /// The test at each of the first n places is the test at every place below n.
 pub fn each_place_is_every_place()
-    ensures { (n : ℕ) (test : ℕ → Bool) → (each_place n test ≡ true) ↔ ((p : ℕ) → p < n → test p ≡ true) }
+    ensures { (n : ℕ) (test : ℕ → Bool)
+        → (each_place n test ≡ true) ↔ ((p : ℕ) → p < n → test p ≡ true) }
 {}
 
 /// The limits and numbers that the code names are those of the definitions.
@@ -78,13 +85,15 @@ pub fn named_numbers_are_those_of_the_definitions()
 /// Octets in ascending order ascend, each once, and are those that were given; and no other list does and has them.
 pub fn octets_ascend_once()
     ensures rises { (all : List (List ℕ)) → IsStrictlySortedBy octets_cmp (in_ascending_order all) }
-    ensures same { (all : List (List ℕ)) (o : List ℕ) → Contains (in_ascending_order all) o ↔ Contains all o }
+    ensures same { (all : List (List ℕ)) (o : List ℕ)
+        → Contains (in_ascending_order all) o ↔ Contains all o }
     ensures only { (all once : List (List ℕ)) → IsStrictlySortedBy octets_cmp once
         → ((o : List ℕ) → Contains once o ↔ Contains all o) → once ≡ in_ascending_order all }
 {}
 
 /// The first places of a list have its items, each once.
 pub fn first_places_stand_once()
-    ensures same { (all : List (List ℕ)) (o : List ℕ) → has is_octets o (firsts is_octets [] all) ≡ has is_octets o all }
+    ensures same { (all : List (List ℕ)) (o : List ℕ)
+        → has is_octets o (firsts is_octets [] all) ≡ has is_octets o all }
     ensures once { (all : List (List ℕ)) → IsDistinct is_octets (firsts is_octets [] all) }
 {}

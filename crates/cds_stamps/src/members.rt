@@ -72,7 +72,8 @@ impl Members {
     /// asked for where there is a fault.
     pub fn new(alloc: Global, list: &[Member]) -> Result<Members, AllocOr<MembersFault>>
         ensures answer { Answers result (ok_unless (members_fault (members_of list.now)) list.now) }
-        ensures faulty { IfSome (members_fault (members_of list.now)) (λ fault. result ≡ Err (Fault fault)) }
+        ensures faulty { IfSome (members_fault (members_of list.now))
+            (λ fault. result ≡ Err (Fault fault)) }
     {
         check_members(list).map_err(AllocOr::Fault)?;
         Ok(Members::known(alloc, list)?)

@@ -115,7 +115,8 @@ impl SimpleName {
     /// is a fault.
     pub fn parse(alloc: Global, octets: &[u8]) -> Result<SimpleName, AllocOr<NameFault>>
         ensures answer { Answers result (ok_unless (simple_name_fault octets.now) octets.now) }
-        ensures faulty { IfSome (simple_name_fault octets.now) (λ fault. result ≡ Err (Fault fault)) }
+        ensures faulty { IfSome (simple_name_fault octets.now)
+            (λ fault. result ≡ Err (Fault fault)) }
     {
         check_simple_name(octets).map_err(AllocOr::Fault)?;
         Ok(SimpleName::known(alloc, octets)?)

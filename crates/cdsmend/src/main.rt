@@ -2,8 +2,8 @@
 #![tactic(auto)]
 
 use cds_base::{StdSink, StdSource, words_of};
-use mend_program::run;
 use cell_replay::Status;
+use mend_program::run;
 use std::process::ExitCode;
 
 fn main(rt: HostRuntime) -> ExitCode {

@@ -32,7 +32,8 @@ pub fn merges()
 /// No time stands above its house's floor or its message's, and each stamp is issued once, above all of them.
 pub fn floors()
     ensures held { (commands : List Command) → FloorsHold (replay commands) }
-    ensures rise { (commands : List Command) (c : Command) → FloorsRise (replay commands) (outcome (replay commands) c).cell }
+    ensures rise { (commands : List Command) (c : Command)
+        → FloorsRise (replay commands) (outcome (replay commands) c).cell }
     ensures above { (commands : List Command) (c : Command) → IssuesAbove commands c }
     ensures once { (commands : List Command) → IssuesOnce commands }
 {}
@@ -50,7 +51,8 @@ pub fn completion()
 /// The convergence invariant, part by part: where messages, epochs and histories come from; the first round; the second
 /// from its start on; what spreading brings about, and a completed skulk leaves; and what each AllUpTo tells.
 pub fn invariant()
-    ensures provenance { (commands : List Command) (c : Command) → ProvenanceHolds (replay commands) c (outcome (replay commands) c).cell }
+    ensures provenance { (commands : List Command) (c : Command)
+        → ProvenanceHolds (replay commands) c (outcome (replay commands) c).cell }
     ensures gathering { (commands : List Command) → GatheringHolds commands }
     ensures second { (commands : List Command) → SecondHolds commands }
     ensures spreading { (commands : List Command) → SpreadingHolds commands }

@@ -48,7 +48,9 @@ pub struct FullName {
 
 impl Drop for FullName {
     fn drop(self) {
-        let FullName { components: _components } = self;
+        let FullName {
+            components: _components,
+        } = self;
     }
 }
 
@@ -113,7 +115,8 @@ impl FullName {
     /// The full name of these octets, or their fault, which is that of `check`. No memory is asked for where there is a
     /// fault.
     pub fn parse(alloc: Global, octets: &[u8]) -> Result<FullName, AllocOr<NameFault>>
-        ensures answer { Answers result (ok_unless (name_fault octets.now) (components_of octets.now)) }
+        ensures answer { Answers result
+            (ok_unless (name_fault octets.now) (components_of octets.now)) }
         ensures faulty { IfSome (name_fault octets.now) (λ fault. result ≡ Err (Fault fault)) }
     {
         FullName::check(octets).map_err(AllocOr::Fault)?;
@@ -166,8 +169,10 @@ impl FullName {
 
     /// Puts the octets that spell the name behind others. After want of memory some of them may be there.
     pub fn append_spelling(&self, octets: &mut Vec<u8>) -> Result<(), AllocError>
-        ensures ok { OnOk result (octets.new.items ≡ octets.old.items ++ full_name_octets self.now) }
-        ensures err { OnErr result (take (length octets.old.items) octets.new.items ≡ octets.old.items) }
+        ensures ok { OnOk result
+            (octets.new.items ≡ octets.old.items ++ full_name_octets self.now) }
+        ensures err { OnErr result
+            (take (length octets.old.items) octets.new.items ≡ octets.old.items) }
     {
         octets.extend_from_slice(ROOT)?;
         let components = self.components();
@@ -209,8 +214,10 @@ impl FullName {
         alloc: Global,
         rest: &[SimpleName],
     ) -> Result<FullName, AllocOr<SpliceFault>>
-        ensures answer { let all = self.now ++ rest.now in Answers result (ok_unless (splice_fault all) all) }
-        ensures faulty { IfSome (splice_fault (self.now ++ rest.now)) (λ fault. result ≡ Err (Fault fault)) }
+        ensures answer { let all = self.now ++ rest.now in
+            Answers result (ok_unless (splice_fault all) all) }
+        ensures faulty { IfSome (splice_fault (self.now ++ rest.now))
+            (λ fault. result ≡ Err (Fault fault)) }
     {
         self.check_splice(rest).map_err(AllocOr::Fault)?;
         Ok(FullName {
@@ -293,7 +300,8 @@ fn append_copies(
 #[tactic(auto, using(crate::proofs::Spellings::spelled_more))]
 // What is left of so much room behind these components, each with its slash; none where they don't fit.
 fn room_behind(room: usize, components: &[SimpleName]) -> Option<usize>
-    ensures left { let taken = length (behind_slashes components.now) in SomeIff result (taken ≤ room) (room - taken) }
+    ensures left { let taken = length (behind_slashes components.now) in
+        SomeIff result (taken ≤ room) (room - taken) }
     ensures simple { OnSome result (All IsSimpleName components.now) }
 {
     let mut room = room;
@@ -305,7 +313,8 @@ fn room_behind(room: usize, components: &[SimpleName]) -> Option<usize>
 
 // Whether octets behind the first slash are components with a slash between any two.
 fn check_components(octets: &[u8]) -> Result<(), NameFault>
-    ensures { result ≡ ok_unless (components_fault first_component (slice_split (λ b. b == slash) octets.now)) tt }
+    ensures { result ≡ ok_unless
+        (components_fault first_component (slice_split (λ b. b == slash) octets.now)) tt }
 {
     let mut taken = 0;
     for (i, octet) in octets.iter().enumerate() {

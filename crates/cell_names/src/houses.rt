@@ -35,7 +35,10 @@ pub struct HouseList {
 
 impl Drop for HouseList {
     fn drop(self) {
-        let HouseList { master: _master, others: _others } = self;
+        let HouseList {
+            master: _master,
+            others: _others,
+        } = self;
     }
 }
 
@@ -84,8 +87,11 @@ impl HouseList {
         others: &[HouseNo],
     ) -> Result<HouseList, AllocOr<HousesFault>>
         ensures answer { let numbers = map (λ h. h.0) others.now in
-            Answers result (ok_unless (list_fault master.0 numbers) (record { master = master.0; others = numbers })) }
-        ensures faulty { IfSome (list_fault master.0 (map (λ h. h.0) others.now)) (λ fault. result ≡ Err (Fault fault)) }
+            Answers result
+            (ok_unless (list_fault master.0 numbers)
+            (record { master = master.0; others = numbers })) }
+        ensures faulty { IfSome (list_fault master.0 (map (λ h. h.0) others.now))
+            (λ fault. result ≡ Err (Fault fault)) }
     {
         check_others(master, others).map_err(AllocOr::Fault)?;
         Ok(HouseList {

@@ -23,21 +23,27 @@ pub fn full_names_have_no_fault()
 pub fn faults_of_full_names_are_at_the_first_place()
     ensures empty { (octets : List ℕ) (place : ℕ) → name_fault octets ≡ Some (Empty place) →
         IsFirstBad IsNameOfAnyLength octets place ⊎ EndsEarly IsNameOfAnyLength octets place }
-    ensures octet { (octets : List ℕ) (place : ℕ) → name_fault octets ≡ Some (BadOctet place) → IsFirstBad IsNameOfAnyLength octets place }
-    ensures too_long { (octets : List ℕ) (place : ℕ) → name_fault octets ≡ Some (ComponentTooLong place) →
+    ensures octet { (octets : List ℕ) (place : ℕ) → name_fault octets ≡ Some (BadOctet place)
+        → IsFirstBad IsNameOfAnyLength octets place }
+    ensures too_long { (octets : List ℕ) (place : ℕ)
+        → name_fault octets ≡ Some (ComponentTooLong place) →
         IsFirstBad IsNameOfAnyLength octets place }
 {}
 
 /// Octets without a fault spell their components, and what components spell has these components.
 pub fn full_names_read_back()
-    ensures spelled { (octets : List ℕ) → name_fault octets ≡ None → octets ≡ full_name_octets (components_of octets) }
-    ensures lawful { (octets : List ℕ) → name_fault octets ≡ None → IsComponentList (components_of octets) }
-    ensures read { (components : List (List ℕ)) → IsComponentList components → components_of (full_name_octets components) ≡ components }
+    ensures spelled { (octets : List ℕ) → name_fault octets ≡ None
+        → octets ≡ full_name_octets (components_of octets) }
+    ensures lawful { (octets : List ℕ) → name_fault octets ≡ None
+        → IsComponentList (components_of octets) }
+    ensures read { (components : List (List ℕ)) → IsComponentList components
+        → components_of (full_name_octets components) ≡ components }
 {}
 
 /// No fault is found exactly where simple names are the components of a full name.
 pub fn spliced_names_have_no_fault()
-    ensures { (components : List (List ℕ)) → All IsSimpleName components → (splice_fault components ≡ None) ↔ IsComponentList components }
+    ensures { (components : List (List ℕ)) → All IsSimpleName components
+        → (splice_fault components ≡ None) ↔ IsComponentList components }
 {}
 
 /// Two names are found the same exactly where they have the same components.
@@ -47,12 +53,15 @@ pub fn same_names_are_one()
 
 /// No fault is found exactly where houses are those of a directory.
 pub fn houses_have_no_fault()
-    ensures { (master : ℕ) (others : List ℕ) → (list_fault master others ≡ None) ↔ IsHouses (record { master = master; others = others }) }
+    ensures { (master : ℕ) (others : List ℕ)
+        → (list_fault master others ≡ None)
+        ↔ IsHouses (record { master = master; others = others }) }
 {}
 
 /// A fault is at the first place up to which the houses are not those of a directory.
 pub fn bad_houses_are_at_the_first_place()
-    ensures { (master : ℕ) (others : List ℕ) (place : ℕ) → list_fault master others ≡ Some (BadHouses place) →
+    ensures { (master : ℕ) (others : List ℕ) (place : ℕ)
+        → list_fault master others ≡ Some (BadHouses place) →
         (1 ≤ place) × (place ≤ length others)
         × IsHouses (record { master = master; others = take (place - 1) others })
         × ¬ IsHouses (record { master = master; others = take place others }) }
@@ -65,14 +74,17 @@ pub fn same_houses_are_one()
 
 /// No fault is found exactly where the octets are those of a child pointer.
 pub fn child_pointers_have_no_fault()
-    ensures { (octets : List ℕ) → All (λ b. b < 2 ^ 8) octets → (pointer_fault octets ≡ None) ↔ IsChildPointer octets }
+    ensures { (octets : List ℕ) → All (λ b. b < 2 ^ 8) octets
+        → (pointer_fault octets ≡ None) ↔ IsChildPointer octets }
 {}
 
 /// What is written of a child pointer is read as that pointer, and what is read was written of it.
 pub fn child_pointers_read_back()
     ensures read { (p : Pointer) → IsPointer p → pointer_of (pointer_octets p) ≡ Some p }
-    ensures lawful { (octets : List ℕ) (p : Pointer) → All (λ b. b < 2 ^ 8) octets → pointer_of octets ≡ Some p → IsPointer p }
-    ensures written { (octets : List ℕ) (p : Pointer) → All (λ b. b < 2 ^ 8) octets → pointer_of octets ≡ Some p → octets ≡ pointer_octets p }
+    ensures lawful { (octets : List ℕ) (p : Pointer) → All (λ b. b < 2 ^ 8) octets
+        → pointer_of octets ≡ Some p → IsPointer p }
+    ensures written { (octets : List ℕ) (p : Pointer) → All (λ b. b < 2 ^ 8) octets
+        → pointer_of octets ≡ Some p → octets ≡ pointer_octets p }
 {}
 
 /// The root and the limits that the code names are those of the definitions.

@@ -35,7 +35,10 @@ pub struct ChildPointer {
 
 impl Drop for ChildPointer {
     fn drop(self) {
-        let ChildPointer { dir: _dir, houses: _houses } = self;
+        let ChildPointer {
+            dir: _dir,
+            houses: _houses,
+        } = self;
     }
 }
 

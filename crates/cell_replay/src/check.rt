@@ -28,7 +28,8 @@ impl Tally {
     pub(crate) fn count(&mut self, number: u32, has_command: bool)
         requires { self.old.lines < number }
         ensures lines { self.new.lines ≡ number }
-        ensures commands { self.new.commands ≡ (if has_command then self.old.commands + 1 else self.old.commands) }
+        ensures commands { self.new.commands
+            ≡ (if has_command then self.old.commands + 1 else self.old.commands) }
     {
         let commands = self.commands + u32::from(has_command);
         *self = Tally {
@@ -39,7 +40,8 @@ impl Tally {
 
     /// The line that tells the counts.
     pub(crate) fn print(&self, alloc: Global) -> Result<Vec<u8>, AllocError>
-        ensures { IfOk result (λ text. text.items ≡ end_text (Checking self.now.lines self.now.commands)) }
+        ensures { IfOk result
+            (λ text. text.items ≡ end_text (Checking self.now.lines self.now.commands)) }
     {
         let lines = self.lines;
         let commands = self.commands;

@@ -4,8 +4,8 @@ ghost use Rattle.cell_replay.specs.Runs.{code_of};
 ghost use Rattle.cell_replay.specs.PrivateEndings.{Finishes, IsQueued, StopsWith, side_of};
 
 use cds_base::{Sink, WordsFault};
-use std::alloc::AllocError;
 use reply_buffer::Waiting;
+use std::alloc::AllocError;
 
 /// How a run ends.
 #[derive(Clone, Copy, Debug, PartialEq, Eq)]
@@ -50,7 +50,8 @@ impl Status {
 
 /// Flushes what waits, and ends.
 pub(crate) fn finish<K: Sink>(waiting: &mut Waiting, sink: &mut K, status: Status) -> Status
-    ensures { Finishes (side_of K.written K.faults sink.old) (side_of K.written K.faults sink.new) waiting.old status result }
+    ensures { Finishes (side_of K.written K.faults sink.old)
+        (side_of K.written K.faults sink.new) waiting.old status result }
 {
     match waiting.write_out(sink) {
         Ok(()) => status,
@@ -60,7 +61,8 @@ pub(crate) fn finish<K: Sink>(waiting: &mut Waiting, sink: &mut K, status: Statu
 
 // A text waits behind the others; the status then.
 fn queue(text: Result<Vec<u8>, AllocError>, waiting: &mut Waiting, status: Status) -> Status
-    ensures { (octets : List ℕ) → IfOk text (λ t. t.items ≡ octets) → IsQueued status octets waiting.old waiting.new result }
+    ensures { (octets : List ℕ) → IfOk text (λ t. t.items ≡ octets)
+        → IsQueued status octets waiting.old waiting.new result }
 {
     match add_text(text, waiting) {
         Ok(()) => status,
@@ -69,7 +71,8 @@ fn queue(text: Result<Vec<u8>, AllocError>, waiting: &mut Waiting, status: Statu
 }
 
 fn add_text(text: Result<Vec<u8>, AllocError>, waiting: &mut Waiting) -> Result<(), AllocError>
-    ensures ok { (octets : List ℕ) → IfOk text (λ t. t.items ≡ octets) → OnOk result (waiting.new ≡ waiting.old ++ octets) }
+    ensures ok { (octets : List ℕ) → IfOk text (λ t. t.items ≡ octets)
+        → OnOk result (waiting.new ≡ waiting.old ++ octets) }
     ensures err { OnErr result (waiting.new ≡ waiting.old) }
 {
     let text = text?;
@@ -83,7 +86,8 @@ pub(crate) fn stop_with<K: Sink>(
     sink: &mut K,
     status: Status,
 ) -> Status
-    ensures { (octets : List ℕ) → IfOk text (λ t. t.items ≡ octets) → StopsWith (side_of K.written K.faults sink.old)
+    ensures { (octets : List ℕ) → IfOk text (λ t. t.items ≡ octets)
+        → StopsWith (side_of K.written K.faults sink.old)
         (side_of K.written K.faults sink.new) status octets waiting.old result }
 {
     let status = queue(text, waiting, status);

@@ -20,10 +20,10 @@ use clerk_replay::ClerkReplayer;
 use house_journal::MemDisk;
 use inquire_replay::replay_inquiry;
 use journal_replay::Journals;
-use script_replay::Replayer;
 use mend_replay::Mender;
-use std::alloc::{AllocError, Global};
 use reply_buffer::{LineEnd, Speller, Waiting, print_line_fault, reply_to_fault};
+use script_replay::Replayer;
+use std::alloc::{AllocError, Global};
 
 /// A form of the program.
 #[derive(Clone, Copy, Debug, PartialEq, Eq)]
@@ -85,7 +85,8 @@ fn form_by_name(word: &String) -> Option<Form>
 }
 
 fn form_by_number(word: &String, number: &String) -> Option<Form>
-    ensures form { form_numbered (string_bytes word.now) (string_bytes number.now) ≡ option_map start_of result }
+    ensures form { form_numbered (string_bytes word.now) (string_bytes number.now)
+        ≡ option_map start_of result }
     ensures sound { IfSome result IsForm }
 {
     match word.as_str() {
@@ -127,9 +128,12 @@ impl LineForm {
     ) -> LineEnd
         requires fewer { counted self.old < number }
         requires most { number ≤ MOST_LINES }
-        ensures reply { (state : LineState) → IsAt self.old state → Replies result (response number state line.now) waiting.old waiting.new self.new }
-        ensures kept { (state : LineState) → IsAt self.old state → result ≡ end.Stops → IsKept self.new state }
-        ensures broken { (state : LineState) → IsAt self.old state → IsShort result → IsBroken self.new number state line.now }
+        ensures reply { (state : LineState) → IsAt self.old state
+            → Replies result (response number state line.now) waiting.old waiting.new self.new }
+        ensures kept { (state : LineState) → IsAt self.old state → result ≡ end.Stops
+            → IsKept self.new state }
+        ensures broken { (state : LineState) → IsAt self.old state → IsShort result
+            → IsBroken self.new number state line.now }
         ensures counted { counted self.new ≤ number }
     {
         match self {
@@ -145,7 +149,8 @@ impl LineForm {
 
     /// What is said at the end of the input.
     pub(crate) fn print_end(&self, alloc: Global) -> Result<Vec<u8>, AllocError>
-        ensures { (state : LineState) → IsAt self.now state → IfOk result (λ text. text.items ≡ end_text state) }
+        ensures { (state : LineState) → IsAt self.now state
+            → IfOk result (λ text. text.items ≡ end_text state) }
     {
         match self {
             LineForm::Run(_) => Ok(Vec::new(alloc)),
@@ -160,7 +165,8 @@ impl LineForm {
 
     /// The line of a fault of octets; `untowers` writes none.
     pub(crate) fn print_fault(&self, alloc: Global, fault: LineFault) -> Result<Vec<u8>, AllocError>
-        ensures { (state : LineState) → IsAt self.now state → IfOk result (λ text. text.items ≡ told_fault state fault) }
+        ensures { (state : LineState) → IsAt self.now state
+            → IfOk result (λ text. text.items ≡ told_fault state fault) }
     {
         match self {
             LineForm::Run(_) => print_line_fault(alloc, fault),
@@ -201,7 +207,9 @@ fn check_line(
     waiting: &mut Waiting,
 ) -> LineEnd
     requires { tally.old.lines < number }
-    ensures reply { Counts result (line_check number tally.old.commands (said_in (words_of line.now))) waiting.old waiting.new tally.new }
+    ensures reply { Counts result
+        (line_check number tally.old.commands
+        (said_in (words_of line.now))) waiting.old waiting.new tally.new }
     ensures counted { tally.new.lines ≤ number }
 {
     match says_command(alloc, line) {

@@ -23,71 +23,91 @@ ghost use Rattle.cell_replay.specs.Scripts.{IsScript, IsScriptOf, text_of};
 use crate::limits::{MOST_KEPT, MOST_ROUNDS, MOST_TOWERS, MOST_WHOLE, TOWER_SIGHT, WHOLE_SIGHT};
 use cds_cell::laws::{asked_houses_accept, masters_refuse_for_stamps_alone};
 use cell_model::holdings;
-use script_replay::MOST_UPDATES;
 use ns_groups::laws::group_updates_are_accepted;
 use ns_profiles::laws::profile_updates_are_accepted;
-use server_entries::laws::server_updates_are_accepted;
 use reply_buffer::{LONGEST_TOWER, MOST_WAITING};
+use script_replay::MOST_UPDATES;
+use server_entries::laws::server_updates_are_accepted;
 
 /// A script demands its transcript by the model, and nothing else.
 pub fn scripts_demand_transcripts()
     ensures run { (g : Cell) (lines : List (List ℕ)) (said : List Numbered) → IsScript 1 lines said
         → line_demand (Replaying g) (text_of lines) ≡ whole (transcript g said) }
-    ensures inquire { (g : Cell) (lines : List (List ℕ)) (said : List (NumberedOf InquireLine)) → IsScriptOf inquired_in 1 lines said
-        → line_demand (Inquiring g) (text_of lines) ≡ whole (transcript_by inquire_dialogue g said) }
-    ensures clerk { (s : Clerked) (lines : List (List ℕ)) (said : List Numbered) → IsScript 1 lines said
+    ensures inquire { (g : Cell) (lines : List (List ℕ)) (said : List (NumberedOf InquireLine))
+        → IsScriptOf inquired_in 1 lines said
+        → line_demand (Inquiring g) (text_of lines)
+        ≡ whole (transcript_by inquire_dialogue g said) }
+    ensures clerk { (s : Clerked) (lines : List (List ℕ)) (said : List Numbered)
+        → IsScript 1 lines said
         → line_demand (Clerking s) (text_of lines) ≡ whole (transcript_by clerk_dialogue s said) }
 {}
 
 /// An input in which nothing is faulty is a script.
 pub fn inputs_without_faults_are_scripts()
     ensures run { (g : Cell) (octets : List ℕ) → (line_demand (Replaying g) octets).verdict ≡ Sound
-        → (lines : List (List ℕ)) × (said : List Numbered) × (octets ≡ text_of lines) × IsScript 1 lines said }
-    ensures inquire { (g : Cell) (octets : List ℕ) → (line_demand (Inquiring g) octets).verdict ≡ Sound
-        → (lines : List (List ℕ)) × (said : List (NumberedOf InquireLine)) × (octets ≡ text_of lines) × IsScriptOf inquired_in 1 lines said }
-    ensures clerk { (s : Clerked) (octets : List ℕ) → (line_demand (Clerking s) octets).verdict ≡ Sound
-        → (lines : List (List ℕ)) × (said : List Numbered) × (octets ≡ text_of lines) × IsScript 1 lines said }
+        → (lines : List (List ℕ)) × (said : List Numbered) × (octets ≡ text_of lines)
+        × IsScript 1 lines said }
+    ensures inquire { (g : Cell) (octets : List ℕ)
+        → (line_demand (Inquiring g) octets).verdict ≡ Sound
+        → (lines : List (List ℕ)) × (said : List (NumberedOf InquireLine))
+        × (octets ≡ text_of lines) × IsScriptOf inquired_in 1 lines said }
+    ensures clerk { (s : Clerked) (octets : List ℕ)
+        → (line_demand (Clerking s) octets).verdict ≡ Sound
+        → (lines : List (List ℕ)) × (said : List Numbered) × (octets ≡ text_of lines)
+        × IsScript 1 lines said }
 {}
 
 /// Octets demand one thing of a form: they demand something, and nothing else. So it counts for nothing in
 /// which pieces they were read.
 pub fn one_demand()
-    ensures some { (state : FormState) (octets : List ℕ) → IsBytes octets → (d : Demand) × Demands state octets d }
-    ensures only { (state : FormState) (octets : List ℕ) (d e : Demand) → Demands state octets d → Demands state octets e → d ≡ e }
+    ensures some { (state : FormState) (octets : List ℕ) → IsBytes octets
+        → (d : Demand) × Demands state octets d }
+    ensures only { (state : FormState) (octets : List ℕ) (d e : Demand) → Demands state octets d
+        → Demands state octets e → d ≡ e }
 {}
 
 /// What is due is due whatever follows.
 pub fn bodies_stay()
-    ensures { (state : FormState) (xs ys : List ℕ) (d e : Demand) → Demands state xs d → Demands state (xs ++ ys) e → IsFront d.body e.body }
+    ensures { (state : FormState) (xs ys : List ℕ) (d e : Demand) → Demands state xs d
+        → Demands state (xs ++ ys) e → IsFront d.body e.body }
 {}
 
 /// A fault that shows ends what is due.
 pub fn shown_faults_stay()
-    ensures { (state : FormState) (xs ys : List ℕ) (d : Demand) → Demands state xs d → d.verdict ≡ Faulty → Demands state (xs ++ ys) d }
+    ensures { (state : FormState) (xs ys : List ℕ) (d : Demand) → Demands state xs d
+        → d.verdict ≡ Faulty → Demands state (xs ++ ys) d }
 {}
 
 /// A run in which neither count of failures rose ends as one in which no call failed.
 pub fn calm_runs_meet_no_failed_call()
-    ensures { (form : FormState) (run : Run) (status : Status') → Ended form run status → ¬ (Rose run.reads run.reads')
+    ensures { (form : FormState) (run : Run) (status : Status') → Ended form run status
+        → ¬ (Rose run.reads run.reads')
         → ¬ (Rose run.writes run.writes') → NoCallFailed status }
 {}
 
 /// `untowers` gives back the octets whose text `towers` wrote.
 pub fn towers_come_back()
-    ensures { (octets : List ℕ) (d : Demand) → IsBytes octets → Demands ByTowers octets d → d.verdict ≡ Sound
+    ensures { (octets : List ℕ) (d : Demand) → IsBytes octets → Demands ByTowers octets d
+        → d.verdict ≡ Sound
         → Demands (ByLines Spelling) (d.body ++ d.end) (whole octets) }
 {}
 
 /// In a cell that commands lead to, a command of the name service meets no refusal of its updates but want of stamps.
 pub fn name_commands_lack_stamps_alone()
-    ensures exports { (g : Cell) (name : List (List ℕ)) (interface : Interface) (bindings : List StringBinding) (objects : List (List ℕ))
-        → IsReached g → LacksStampsAlone g (export (trusted_reader g) name interface bindings objects) }
-    ensures unexports { (g : Cell) (name : List (List ℕ)) (interface : Option Interface) (objects : List (List ℕ))
+    ensures exports { (g : Cell) (name : List (List ℕ)) (interface : Interface)
+        (bindings : List StringBinding) (objects : List (List ℕ))
+        → IsReached g
+        → LacksStampsAlone g (export (trusted_reader g) name interface bindings objects) }
+    ensures unexports { (g : Cell) (name : List (List ℕ)) (interface : Option Interface)
+        (objects : List (List ℕ))
         → IsReached g → LacksStampsAlone g (unexport (trusted_reader g) name interface objects) }
     ensures members { (g : Cell) (name member : List (List ℕ)) → IsReached g
-        → LacksStampsAlone g (add_member (trusted_reader g) name member) × LacksStampsAlone g (delete_member (trusted_reader g) name member) }
-    ensures elements { (g : Cell) (name : List (List ℕ)) (interface : Option Interface) (member : List (List ℕ)) (priority : ℕ) (note : List ℕ)
-        → IsReached g → LacksStampsAlone g (add_element (trusted_reader g) name interface member priority note)
+        → LacksStampsAlone g (add_member (trusted_reader g) name member)
+        × LacksStampsAlone g (delete_member (trusted_reader g) name member) }
+    ensures elements { (g : Cell) (name : List (List ℕ)) (interface : Option Interface)
+        (member : List (List ℕ)) (priority : ℕ) (note : List ℕ)
+        → IsReached g
+        → LacksStampsAlone g (add_element (trusted_reader g) name interface member priority note)
         × LacksStampsAlone g (delete_element (trusted_reader g) name interface member) }
 {
     holdings();

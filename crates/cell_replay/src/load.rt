@@ -8,9 +8,9 @@ ghost use Rattle.cell_replay.specs.declared.limits.TheConstants.{MOST_ROUNDS};
 use crate::endings::{Status, stop_with};
 use cds_base::Sink;
 use cell_script::script_of;
+use reply_buffer::Waiting;
 use script_replay::Loader;
 use std::alloc::{AllocError, Global};
-use reply_buffer::Waiting;
 
 /// The line of the script with so many rounds.
 fn summary_line(alloc: Global, rounds: u32) -> Result<Vec<u8>, AllocError>

@@ -12,7 +12,8 @@ use std::alloc::Global;
 
 /// Reads a script, and writes the lines that mend the directory behind it, or why none do.
 pub fn mend<S: Source, K: Sink>(alloc: Global, dir: DirId, source: &mut S, sink: &mut K) -> Status
-    ensures { Ended (mend_form dir.0) (run_of S.left S.faults K.written K.faults source.old source.new sink.old sink.new) result }
+    ensures { Ended (mend_form dir.0)
+        (run_of S.left S.faults K.written K.faults source.old source.new sink.old sink.new) result }
 {
     serve_lines(alloc, LineForm::Mend(Mender::new(alloc, dir)), source, sink)
 }

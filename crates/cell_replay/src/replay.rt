@@ -27,9 +27,9 @@ use cds_base::{LineFault, Lines, Sink, Source};
 use clerk_replay::ClerkReplayer;
 use house_journal::MemDisk;
 use journal_replay::Journals;
+use reply_buffer::{LineEnd, Speller, Waiting};
 use script_replay::Replayer;
 use std::alloc::{AllocError, Global};
-use reply_buffer::{LineEnd, Speller, Waiting};
 
 // Ends a run at the end of the input.
 fn stop_at_end<K: Sink>(
@@ -38,7 +38,8 @@ fn stop_at_end<K: Sink>(
     waiting: &mut Waiting,
     sink: &mut K,
 ) -> Status
-    ensures { (state : LineState) → IsAt form.now state → StopsWith (side_of K.written K.faults sink.old)
+    ensures { (state : LineState) → IsAt form.now state
+        → StopsWith (side_of K.written K.faults sink.old)
         (side_of K.written K.faults sink.new) Status.Ok (end_text state) waiting.old result }
 {
     stop_with(form.print_end(alloc), waiting, sink, Status::Ok)
@@ -52,9 +53,12 @@ fn stop_at<K: Sink>(
     waiting: &mut Waiting,
     sink: &mut K,
 ) -> Status
-    ensures read { fault ≡ LineFault.ReadFault → (result ≡ Status.ReadFault) × (sink.new ≡ sink.old) }
+    ensures read { fault ≡ LineFault.ReadFault
+        → (result ≡ Status.ReadFault) × (sink.new ≡ sink.old) }
     ensures other { (state : LineState) → IsAt form.now state → fault ≢ LineFault.ReadFault
-        → StopsWith (side_of K.written K.faults sink.old) (side_of K.written K.faults sink.new) Status.BadInput (told_fault state fault) waiting.old result }
+        → StopsWith (side_of K.written K.faults sink.old)
+        (side_of K.written K.faults sink.new) Status.BadInput
+        (told_fault state fault) waiting.old result }
 {
     match fault {
         LineFault::ReadFault => Status::ReadFault,
@@ -79,7 +83,8 @@ fn answer_lines<S: Source, K: Sink>(
     requires start { counted form.old ≡ 0 }
     ensures ends { (state : LineState) → IsAt form.old state → Ended (ByLines state)
         (run_of S.left S.faults K.written K.faults source.old source.new sink.old sink.new) result }
-    ensures leaves { (state : LineState) → IsAt form.old state → Leaves (IsKept form.new) (IsBroken form.new) state
+    ensures leaves { (state : LineState) → IsAt form.old state
+        → Leaves (IsKept form.new) (IsBroken form.new) state
         (run_of S.left S.faults K.written K.faults source.old source.new sink.old sink.new) result }
 {
     let mut waiting = Waiting::new(alloc);
@@ -111,7 +116,8 @@ fn serve_form<S: Source, K: Sink>(
     requires start { counted form.old ≡ 0 }
     ensures ends { (state : LineState) → IsAt form.old state → Ended (ByLines state)
         (run_of S.left S.faults K.written K.faults source.old source.new sink.old sink.new) result }
-    ensures leaves { (state : LineState) → IsAt form.old state → Leaves (IsKept form.new) (IsBroken form.new) state
+    ensures leaves { (state : LineState) → IsAt form.old state
+        → Leaves (IsKept form.new) (IsBroken form.new) state
         (run_of S.left S.faults K.written K.faults source.old source.new sink.old sink.new) result }
 {
     match Lines::new(alloc) {
@@ -143,9 +149,13 @@ pub fn run_journal<S: Source, K: Sink>(
     disks: &mut Vec<MemDisk>,
 ) -> Status
     requires { AreNew disks.old.items }
-    ensures ends { Ended with_journals (run_of S.left S.faults K.written K.faults source.old source.new sink.old sink.new) result }
-    ensures transcript { result ≡ Status.Ok → IsJournalReplay (run_of S.left S.faults K.written K.faults source.old source.new sink.old sink.new) }
-    ensures disks { Leaves (AreOnDisks disks.new.items) (ArePut disks.new.items) (Journaling empty_state)
+    ensures ends { Ended with_journals
+        (run_of S.left S.faults K.written K.faults source.old source.new sink.old sink.new) result }
+    ensures transcript { result ≡ Status.Ok
+        → IsJournalReplay
+        (run_of S.left S.faults K.written K.faults source.old source.new sink.old sink.new) }
+    ensures disks { Leaves (AreOnDisks disks.new.items) (ArePut disks.new.items)
+        (Journaling empty_state)
         (run_of S.left S.faults K.written K.faults source.old source.new sink.old sink.new) result }
 {
     match Journals::new(alloc, disks) {
@@ -179,7 +189,8 @@ fn serve_by_clerk<S: Source, K: Sink>(
 
 /// The form `journal` over disks of its own.
 fn journal_over_new_disks<S: Source, K: Sink>(alloc: Global, source: &mut S, sink: &mut K) -> Status
-    ensures { Ended with_journals (run_of S.left S.faults K.written K.faults source.old source.new sink.old sink.new) result }
+    ensures { Ended with_journals
+        (run_of S.left S.faults K.written K.faults source.old source.new sink.old sink.new) result }
 {
     match new_disks(alloc) {
         Ok(mut disks) => run_journal(alloc, source, sink, &mut disks),
@@ -239,13 +250,17 @@ pub fn run<S: Source, K: Sink>(
         (run_of S.left S.faults K.written K.faults source.old source.new sink.old sink.new) result) }
     ensures transcript { form_of (map string_bytes words.now) ≡ Some run_form → result ≡ Status.Ok
         → IsReplay (run_of S.left S.faults K.written K.faults source.old source.new sink.old sink.new) }
-    ensures inquired { form_of (map string_bytes words.now) ≡ Some inquiring_form → result ≡ Status.Ok → IsReplayBy inquire_dialogue empty_cell
+    ensures inquired { form_of (map string_bytes words.now) ≡ Some inquiring_form
+        → result ≡ Status.Ok → IsReplayBy inquire_dialogue empty_cell
         (run_of S.left S.faults K.written K.faults source.old source.new sink.old sink.new) }
-    ensures clerked { (room : ℕ) → form_of (map string_bytes words.now) ≡ Some (clerking_with room) → result ≡ Status.Ok
+    ensures clerked { (room : ℕ) → form_of (map string_bytes words.now) ≡ Some (clerking_with room)
+        → result ≡ Status.Ok
         → IsReplayBy clerk_dialogue (start room)
         (run_of S.left S.faults K.written K.faults source.old source.new sink.old sink.new) }
-    ensures journaled { form_of (map string_bytes words.now) ≡ Some with_journals → result ≡ Status.Ok
-        → IsJournalReplay (run_of S.left S.faults K.written K.faults source.old source.new sink.old sink.new) }
+    ensures journaled { form_of (map string_bytes words.now) ≡ Some with_journals
+        → result ≡ Status.Ok
+        → IsJournalReplay
+        (run_of S.left S.faults K.written K.faults source.old source.new sink.old sink.new) }
 {
     match form_in(words) {
         Some(form) => serve(alloc, form, source, sink),

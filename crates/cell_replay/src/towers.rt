@@ -13,10 +13,10 @@ ghost use Rattle.cell_replay.specs.PrivateSights.{Sees, seen_fault};
 use crate::endings::{Status, finish, stop_with};
 use crate::limits::{MOST_TOWERS, TOWER_SIGHT};
 use cds_base::{Failed, Sink, Source, Window};
+use reply_buffer::{LONGEST_TOWER, Waiting};
 use script_answers::print_fault;
 use std::alloc::{AllocError, Global};
 use tower_codec::{TowerFault, TowerView};
-use reply_buffer::{LONGEST_TOWER, Waiting};
 
 /// Why there is no further tower.
 #[derive(Clone, Copy, Debug, PartialEq, Eq)]
@@ -50,7 +50,8 @@ fn print_stream_fault(alloc: Global, number: u32, fault: StreamFault) -> Result<
 }
 
 fn print_tower_fault(alloc: Global, number: u32, fault: TowerFault) -> Result<Vec<u8>, AllocError>
-    ensures { IfOk result (λ text. text.items ≡ stream_fault_text number (StreamFault.Tower fault)) }
+    ensures { IfOk result
+        (λ text. text.items ≡ stream_fault_text number (StreamFault.Tower fault)) }
 {
     match fault {
         TowerFault::ShortCount(place) => print_fault(alloc, number, "ShortCount", place),
@@ -108,8 +109,10 @@ fn are_octets(octets: &[u8])
 
 // Fills the window.
 fn refill<S: Source>(window: &mut Window, source: &mut S) -> Result<bool, Failed>
-    ensures reads { GrowsByReading (S.left source.old) (S.left source.new) window.old.octets window.new.octets }
-    ensures short { IfOk result (λ ended. IsTrue ended ↔ (length window.new.octets < window.new.room)) }
+    ensures reads { GrowsByReading (S.left source.old)
+        (S.left source.new) window.old.octets window.new.octets }
+    ensures short { IfOk result (λ ended. IsTrue ended
+        ↔ (length window.new.octets < window.new.room)) }
     ensures end { IfOk result (λ ended. IsTrue ended → IsAtEnd (S.left source.new)) }
     ensures err { OnErr result (length window.new.octets < window.new.room) }
     ensures room { window.new.room ≡ window.old.room }
@@ -130,7 +133,8 @@ fn stop_at<K: Sink>(
     waiting: &mut Waiting,
     sink: &mut K,
 ) -> Status
-    ensures { StopsWith (side_of K.written K.faults sink.old) (side_of K.written K.faults sink.new) Status.BadInput
+    ensures { StopsWith (side_of K.written K.faults sink.old)
+        (side_of K.written K.faults sink.new) Status.BadInput
         (stream_fault_text number fault) waiting.old result }
 {
     stop_with(

@@ -75,7 +75,8 @@ fn too_long(alloc: Global, whole: Whole) -> Result<Said, AllocError>
 
 // Ends with a text, and nothing else is written.
 fn end_with<K: Sink>(text: Vec<u8>, sink: &mut K, status: Status) -> Status
-    ensures { Finishes (side_of K.written K.faults sink.old) (side_of K.written K.faults sink.new) text.items status result }
+    ensures { Finishes (side_of K.written K.faults sink.old)
+        (side_of K.written K.faults sink.new) text.items status result }
 {
     match put_all(sink, &text) {
         Ok(()) => status,
@@ -85,7 +86,8 @@ fn end_with<K: Sink>(text: Vec<u8>, sink: &mut K, status: Status) -> Status
 
 // Ends with what is said, where there was memory for it.
 fn end_saying<K: Sink>(said: Result<Said, AllocError>, sink: &mut K) -> Status
-    ensures { SaysEnd said (side_of K.written K.faults sink.old) (side_of K.written K.faults sink.new) result }
+    ensures { SaysEnd said (side_of K.written K.faults sink.old)
+        (side_of K.written K.faults sink.new) result }
 {
     match said {
         Ok(Said::Text(text)) => end_with(text, sink, Status::Ok),

@@ -26,7 +26,9 @@ impl Fates {
         requires step { step ≤ 2 }
         requires deliveries { deliveries ≤ 10 }
         requires losses { losses ≤ 10 }
-        ensures { fates_of result ≡ map command.Deliver (numbers_by_steps first step deliveries) ++ map command.Lose (range_with_len first losses) }
+        ensures { fates_of result
+            ≡ map command.Deliver (numbers_by_steps first step deliveries)
+            ++ map command.Lose (range_with_len first losses) }
     {
         Fates {
             deliver: first,

@@ -71,7 +71,10 @@ pub struct Listeds {
 
 impl Drop for Listeds {
     fn drop(self) {
-        let Listeds { list: _list, houses: _houses } = self;
+        let Listeds {
+            list: _list,
+            houses: _houses,
+        } = self;
     }
 }
 

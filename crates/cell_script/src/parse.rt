@@ -191,7 +191,8 @@ fn said_behind(alloc: Global, word: &[u8], words: &mut Words<'_>) -> Parsed<Opti
     requires { words.old.read ≡ 1 }
     ensures answer { Answers result (said_in (word.now ∷ words.old.rest)) }
     ensures passed_over { said_in (word.now ∷ words.old.rest) ≡ Ok None → result ≡ Ok None }
-    ensures early { IfSome (early_fault (word.now ∷ words.old.rest)) (λ fault. result ≡ Err (Fault fault)) }
+    ensures early { IfSome (early_fault (word.now ∷ words.old.rest))
+        (λ fault. result ≡ Err (Fault fault)) }
 {
     if word.starts_with(b"#") {
         return Ok(None);

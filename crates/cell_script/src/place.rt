@@ -56,10 +56,12 @@ impl Place {
         requires deliveries { deliveries ≤ 10 }
         requires losses { losses ≤ 10 }
         requires serial { self.serial + losses ≤ most_serial self.entries self.round }
-        requires skulk { self.skulk_is_due ≡ true → self.serial + losses + 10 ≤ most_serial self.entries self.round }
+        requires skulk { self.skulk_is_due ≡ true
+            → self.serial + losses + 10 ≤ most_serial self.entries self.round }
         ensures work { result.work ≡ work }
         ensures fates { fates_of result.fates ≡
-            map command.Deliver (numbers_by_steps self.serial step deliveries) ++ map command.Lose (range_with_len self.serial losses) }
+            map command.Deliver (numbers_by_steps self.serial step deliveries)
+            ++ map command.Lose (range_with_len self.serial losses) }
         ensures behind { behind result ≡ laid_out (self.serial + losses) (parts_left self) }
     {
         let mut begun = self;

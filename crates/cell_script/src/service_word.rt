@@ -120,7 +120,8 @@ impl Said for Uuid {
 // The first text of a list, and the list behind its comma, if there is one.
 #[tactic(auto, using(crate::proofs::ListedTexts::texts_at_cut, crate::proofs::ListedTexts::texts_uncut))]
 fn split_first_text(list: &[u8]) -> (&[u8], Option<&[u8]>)
-    ensures { texts_of list.now ≡ result.0.now ∷ option_map_or (λ rest. texts_of rest.now) result.1 [] }
+    ensures { texts_of list.now
+        ≡ result.0.now ∷ option_map_or (λ rest. texts_of rest.now) result.1 [] }
 {
     match split_at_mark(list, b',') {
         Some((text, rest)) => (text, Some(rest)),
@@ -131,7 +132,8 @@ fn split_first_text(list: &[u8]) -> (&[u8], Option<&[u8]>)
 // What the texts of a word say, with commas between.
 #[inline(never)]
 fn all_said<T: Said>(alloc: Global, word: &[u8]) -> Result<Option<Vec<T>>, AllocError>
-    ensures { IfOk result (λ list. option_map (λ l. l.items) list ≡ all_said T.says (texts_of word.now)) }
+    ensures { IfOk result
+        (λ list. option_map (λ l. l.items) list ≡ all_said T.says (texts_of word.now)) }
 {
     let mut list = Vec::new(alloc);
     let mut rest = Some(word);

@@ -82,7 +82,8 @@ fn word_len(octets: &[u8]) -> usize
 // one octet lets many octets be looked at together.
 fn words_begun(octets: &[u8], in_word: bool) -> (u8, bool)
     requires { length octets.now ≤ STRIDE }
-    ensures begun { (rest : List ℕ) → result.0 + words_behind result.1 rest ≡ words_behind in_word (octets.now ++ rest) }
+    ensures begun { (rest : List ℕ)
+        → result.0 + words_behind result.1 rest ≡ words_behind in_word (octets.now ++ rest) }
     ensures few { result.0 ≤ length octets.now }
 {
     let mut count = 0;
@@ -203,7 +204,8 @@ impl<'a> Words<'a> {
 
     // The same of a form whose values are kept in memory.
     fn kept<T, E: Drop>(&self, value: Result<T, AllocOr<E>>) -> Parsed<T>
-        ensures answer { (expected : Result T E) → Answers value expected → Answers result (said_at self.now.read (result_ok expected)) }
+        ensures answer { (expected : Result T E) → Answers value expected
+            → Answers result (said_at self.now.read (result_ok expected)) }
         ensures memory { result ≡ Err OutOfMemory → value ≡ Err OutOfMemory }
     {
         match value {

@@ -146,7 +146,8 @@ impl Work {
 /// What a number says of its round, where a value is changed.
 pub(crate) fn value_changed(draw: u64) -> Work
     requires { drawn_change draw < 7 }
-    ensures commands { commands_of result ≡ script.value_changed (drawn_change draw) (drawn_entry draw) (drawn_value draw) ∷ [] }
+    ensures commands { commands_of result
+        ≡ script.value_changed (drawn_change draw) (drawn_entry draw) (drawn_value draw) ∷ [] }
     ensures sound { IsTrue (is_work result) }
 {
     let entry = (draw / 256 % 16) as u8;

@@ -119,7 +119,9 @@ impl Clearinghouse {
         ensures held { OnOk result (self.new ≡ with_new_directory self.old dir members.now) }
         ensures posts { IfOk result (λ posted. posted ≡ posts_at self.new dir (Some out.Join)) }
         ensures step { (now : model.House) → StandsHouse self.old now
-            → IfOk result (λ posted. IsTurn (found_directory self.old.house.0 now dir.0 (members_of members.now)) self.new posted) }
+            → IfOk result
+            (λ posted. IsTurn
+            (found_directory self.old.house.0 now dir.0 (members_of members.now)) self.new posted) }
     {
         let outgoing = self.found(alloc, dir, members)?;
         self.posted(alloc, dir, Some(&outgoing))
@@ -140,7 +142,10 @@ impl Clearinghouse {
         ensures held { OnOk result (self.new ≡ with_new_directory self.old dir members.now) }
         ensures posts { IfOk result (λ outgoing. outgoing ≡ out.Join) }
         ensures step { (now : model.House) → StandsHouse self.old now
-            → IfOk result (λ outgoing. IsTurn (found_directory self.old.house.0 now dir.0 (members_of members.now)) self.new (posts_at self.new dir (Some outgoing))) }
+            → IfOk result
+            (λ outgoing. IsTurn
+            (found_directory self.old.house.0 now dir.0 (members_of members.now)) self.new
+            (posts_at self.new dir (Some outgoing))) }
     {
         self.usable()?;
         let done = self.insert_first(alloc, dir, members);
@@ -155,7 +160,8 @@ impl Clearinghouse {
         members: &Members,
     ) -> Result<Outgoing, AllocError>
         ensures join { IfOk result (λ o. o ≡ out.Join) }
-        ensures held { OnOk result (self.new ≡ record self.old { dirs = map.insert self.old.dirs dir (state.Held (first_held members.now)) }) }
+        ensures held { OnOk result
+            (self.new ≡ record self.old { dirs = map.insert self.old.dirs dir (state.Held (first_held members.now)) }) }
         ensures err { OnErr result (self.new ≡ self.old) }
     {
         let held = Held::first(alloc, members)?;
@@ -175,12 +181,16 @@ impl Clearinghouse {
         ensures call { IsCall self.old self.new result }
         ensures kept { IsLawful self.old → IsLawful self.new }
         ensures answer { IfOk result (λ a. accept_result a
-            ≡ accept_answer self.old.house.0 (next_stamp clock self.old.floor.time self.old.node) (change_of update.now) (map.get self.old.dirs dir)) }
+            ≡ accept_answer self.old.house.0 (next_stamp clock self.old.floor.time self.old.node)
+            (change_of update.now) (map.get self.old.dirs dir)) }
         ensures refused { IfOk result (λ a. OnErr (accept_result a) (self.new ≡ self.old)) }
         ensures takes { IfOk result (λ a. IfOk (accept_result a) (λ s.
             PostsUpdate dir (change_of update.now) s self.old self.new (accept_posts a))) }
         ensures step { (now : model.House) → StandsHouse self.old now → now.clock ≡ clock
-            → IfOk result (λ a. IsStep (IsAcceptAnswer a) (accept self.old.house.0 now dir.0 (change_of update.now)) self.old self.new (accept_posts a)) }
+            → IfOk result
+            (λ a. IsStep (IsAcceptAnswer a)
+            (accept self.old.house.0 now dir.0 (change_of update.now)) self.old self.new
+            (accept_posts a)) }
     {
         let Turn { answer, outgoing } = self.accept_update(alloc, clock, dir, update)?;
         let posted = self.posted(alloc, dir, outgoing.as_ref())?;
@@ -201,12 +211,16 @@ impl Clearinghouse {
         ensures call { IsCall self.old self.new result }
         ensures kept { IsLawful self.old → IsLawful self.new }
         ensures answer { IfOk result (λ turn. turn.answer
-            ≡ accept_answer self.old.house.0 (next_stamp clock self.old.floor.time self.old.node) (change_of update.now) (map.get self.old.dirs dir)) }
-        ensures refused { IfOk result (λ turn. OnErr turn.answer ((self.new ≡ self.old) × (turn.outgoing ≡ None))) }
+            ≡ accept_answer self.old.house.0 (next_stamp clock self.old.floor.time self.old.node)
+            (change_of update.now) (map.get self.old.dirs dir)) }
+        ensures refused { IfOk result
+            (λ turn. OnErr turn.answer ((self.new ≡ self.old) × (turn.outgoing ≡ None))) }
         ensures takes { IfOk result (λ turn. IfOk turn.answer (λ s.
             TakesUpdate dir (change_of update.now) s self.old self.new turn.outgoing)) }
         ensures step { (now : model.House) → StandsHouse self.old now → now.clock ≡ clock
-            → IfOk result (λ turn. IsStep (IsStampAnswer turn.answer) (accept self.old.house.0 now dir.0 (change_of update.now))
+            → IfOk result
+            (λ turn. IsStep (IsStampAnswer turn.answer)
+            (accept self.old.house.0 now dir.0 (change_of update.now))
             self.old self.new (posts_at self.new dir turn.outgoing)) }
     {
         self.usable()?;
@@ -225,12 +239,16 @@ impl Clearinghouse {
         ensures who { SameHouse self.old self.new }
         ensures kept { IsLawful self.old → IsLawful self.new }
         ensures answer { IfOk result (λ turn. turn.answer
-            ≡ accept_answer self.old.house.0 (next_stamp clock self.old.floor.time self.old.node) (change_of update.now) (map.get self.old.dirs dir)) }
-        ensures refused { IfOk result (λ turn. OnErr turn.answer ((self.new ≡ self.old) × (turn.outgoing ≡ None))) }
+            ≡ accept_answer self.old.house.0 (next_stamp clock self.old.floor.time self.old.node)
+            (change_of update.now) (map.get self.old.dirs dir)) }
+        ensures refused { IfOk result
+            (λ turn. OnErr turn.answer ((self.new ≡ self.old) × (turn.outgoing ≡ None))) }
         ensures takes { IfOk result (λ turn. IfOk turn.answer (λ s.
             TakesUpdate dir (change_of update.now) s self.old self.new turn.outgoing)) }
         ensures step { (now : model.House) → StandsHouse self.old now → now.clock ≡ clock
-            → IfOk result (λ turn. IsStep (IsStampAnswer turn.answer) (accept self.old.house.0 now dir.0 (change_of update.now))
+            → IfOk result
+            (λ turn. IsStep (IsStampAnswer turn.answer)
+            (accept self.old.house.0 now dir.0 (change_of update.now))
             self.old self.new (posts_at self.new dir turn.outgoing)) }
     {
         let by = self.issuer(clock);
@@ -251,12 +269,17 @@ impl Clearinghouse {
         ensures call { IsCall self.old self.new result }
         ensures kept { IsLawful self.old → IsLawful self.new }
         ensures answer { IfOk result (λ s. skulk_result s
-            ≡ skulk_answer self.old.house.0 (next_stamp clock self.old.floor.time self.old.node) (map.get self.old.dirs dir)) }
+            ≡ skulk_answer self.old.house.0 (next_stamp clock self.old.floor.time self.old.node)
+            (map.get self.old.dirs dir)) }
         ensures refused { IfOk result (λ s. OnErr (skulk_result s) (self.new ≡ self.old)) }
-        ensures begins { IfOk result (λ s. IfOk (skulk_result s) (λ b. BeginsSkulk dir b self.old self.new)) }
-        ensures posts { IfOk result (λ s. skulk_posts s ≡ posts_at self.new dir (begun_outgoing (skulk_result s))) }
+        ensures begins { IfOk result
+            (λ s. IfOk (skulk_result s) (λ b. BeginsSkulk dir b self.old self.new)) }
+        ensures posts { IfOk result
+            (λ s. skulk_posts s ≡ posts_at self.new dir (begun_outgoing (skulk_result s))) }
         ensures step { (now : model.House) → StandsHouse self.old now → now.clock ≡ clock
-            → IfOk result (λ s. IsStep (IsSkulkAnswer s) (skulk self.old.house.0 now dir.0) self.old self.new (skulk_posts s)) }
+            → IfOk result
+            (λ s. IsStep (IsSkulkAnswer s) (skulk self.old.house.0 now dir.0) self.old self.new
+            (skulk_posts s)) }
     {
         let Turn { answer, outgoing } = self.begin_skulk(clock, dir)?;
         let posted = self.posted(alloc, dir, outgoing.as_ref())?;
@@ -277,12 +300,16 @@ impl Clearinghouse {
         ensures usable { is_err result ≡ self.old.spent }
         ensures kept { IsLawful self.old → IsLawful self.new }
         ensures answer { IfOk result (λ turn. turn.answer
-            ≡ skulk_answer self.old.house.0 (next_stamp clock self.old.floor.time self.old.node) (map.get self.old.dirs dir)) }
+            ≡ skulk_answer self.old.house.0 (next_stamp clock self.old.floor.time self.old.node)
+            (map.get self.old.dirs dir)) }
         ensures posts { IfOk result (λ turn. turn.outgoing ≡ begun_outgoing turn.answer) }
-        ensures begins { IfOk result (λ turn. IfOk turn.answer (λ b. BeginsSkulk dir b self.old self.new)) }
-        ensures refused { IfOk result (λ turn. OnErr turn.answer ((self.new ≡ self.old) × (turn.outgoing ≡ None))) }
+        ensures begins { IfOk result
+            (λ turn. IfOk turn.answer (λ b. BeginsSkulk dir b self.old self.new)) }
+        ensures refused { IfOk result
+            (λ turn. OnErr turn.answer ((self.new ≡ self.old) × (turn.outgoing ≡ None))) }
         ensures step { (now : model.House) → StandsHouse self.old now → now.clock ≡ clock
-            → IfOk result (λ turn. IsStep (IsBegunAnswer turn.answer) (skulk self.old.house.0 now dir.0)
+            → IfOk result
+            (λ turn. IsStep (IsBegunAnswer turn.answer) (skulk self.old.house.0 now dir.0)
             self.old self.new (posts_at self.new dir turn.outgoing)) }
     {
         self.usable()?;
@@ -293,12 +320,16 @@ impl Clearinghouse {
     fn begin_at(&mut self, clock: u64, dir: DirId) -> Turn<Result<Begun, UpdateRefusal>>
         ensures who { SameHouse self.old self.new }
         ensures kept { IsLawful self.old → IsLawful self.new }
-        ensures answer { result.answer ≡ skulk_answer self.old.house.0 (next_stamp clock self.old.floor.time self.old.node) (map.get self.old.dirs dir) }
+        ensures answer { result.answer
+            ≡ skulk_answer self.old.house.0 (next_stamp clock self.old.floor.time self.old.node)
+            (map.get self.old.dirs dir) }
         ensures posts { result.outgoing ≡ begun_outgoing result.answer }
         ensures begins { IfOk result.answer (λ b. BeginsSkulk dir b self.old self.new) }
         ensures refused { OnErr result.answer ((self.new ≡ self.old) × (result.outgoing ≡ None)) }
         ensures step { (now : model.House) → StandsHouse self.old now → now.clock ≡ clock
-            → IsStep (IsBegunAnswer result.answer) (skulk self.old.house.0 now dir.0) self.old self.new (posts_at self.new dir result.outgoing) }
+            → IsStep (IsBegunAnswer result.answer)
+            (skulk self.old.house.0 now dir.0) self.old self.new
+            (posts_at self.new dir result.outgoing) }
     {
         let by = self.issuer(clock);
         match self.dirs.held_mut(dir) {
@@ -321,13 +352,20 @@ impl Clearinghouse {
         ensures call { IsCall self.old self.new result }
         ensures floor { self.new.floor ≡ self.old.floor }
         ensures kept { IsLawful self.old → IsLawful self.new }
-        ensures answer { IfOk result (λ e. epoch_result e ≡ epoch_refused self.old.house.0 epoch.0 (members_of members.now) (map.get self.old.dirs dir)) }
+        ensures answer { IfOk result
+            (λ e. epoch_result e
+            ≡ epoch_refused self.old.house.0 epoch.0 (members_of members.now)
+            (map.get self.old.dirs dir)) }
         ensures refused { IfOk result (λ e. IfSome (epoch_result e) (λ _. self.new ≡ self.old)) }
-        ensures held { IfOk result (λ e. IfNone (epoch_result e) (Enters self.old self.new dir epoch members.now)) }
-        ensures posts { IfOk result (λ e. epoch_posts e ≡ epoch_posts_at self.new dir epoch leaving.now (epoch_result e)) }
-        ensures step { (now : model.House) → StandsHouse self.old now → IsLater epoch.0 (map.get self.old.dirs dir)
+        ensures held { IfOk result
+            (λ e. IfNone (epoch_result e) (Enters self.old self.new dir epoch members.now)) }
+        ensures posts { IfOk result
+            (λ e. epoch_posts e ≡ epoch_posts_at self.new dir epoch leaving.now (epoch_result e)) }
+        ensures step { (now : model.House) → StandsHouse self.old now
+            → IsLater epoch.0 (map.get self.old.dirs dir)
             → IfOk result (λ e. IsStep (IsEpochAnswer epoch.0 (epoch_result e))
-            (new_epoch self.old.house.0 now dir.0 epoch.0 (members_of members.now) (numbers_of leaving.now)) self.old self.new (epoch_posts e)) }
+            (new_epoch self.old.house.0 now dir.0 epoch.0 (members_of members.now)
+            (numbers_of leaving.now)) self.old self.new (epoch_posts e)) }
     {
         if let Err(refusal) = self.enter_epoch(alloc, dir, epoch, members)? {
             return Ok(EpochSet::Refused(refusal));
@@ -351,12 +389,17 @@ impl Clearinghouse {
         ensures call { IsCall self.old self.new result }
         ensures floor { self.new.floor ≡ self.old.floor }
         ensures kept { IsLawful self.old → IsLawful self.new }
-        ensures answer { IfOk result (λ e. result_err e ≡ epoch_refused self.old.house.0 epoch.0 (members_of members.now) (map.get self.old.dirs dir)) }
+        ensures answer { IfOk result
+            (λ e. result_err e
+            ≡ epoch_refused self.old.house.0 epoch.0 (members_of members.now)
+            (map.get self.old.dirs dir)) }
         ensures refused { IfOk result (λ e. OnErr e (self.new ≡ self.old)) }
         ensures held { IfOk result (λ e. OnOk e (Enters self.old self.new dir epoch members.now)) }
-        ensures step { (now : model.House) (leaving : List house_no.HouseNo) → StandsHouse self.old now → IsLater epoch.0 (map.get self.old.dirs dir)
+        ensures step { (now : model.House) (leaving : List house_no.HouseNo)
+            → StandsHouse self.old now → IsLater epoch.0 (map.get self.old.dirs dir)
             → IfOk result (λ e. IsStep (IsEpochAnswer epoch.0 (result_err e))
-            (new_epoch self.old.house.0 now dir.0 epoch.0 (members_of members.now) (numbers_of leaving))
+            (new_epoch self.old.house.0 now dir.0 epoch.0 (members_of members.now)
+            (numbers_of leaving))
             self.old self.new (epoch_posts_at self.new dir epoch leaving (result_err e))) }
     {
         self.usable()?;
@@ -373,7 +416,10 @@ impl Clearinghouse {
         members: &Members,
     ) -> Result<Result<(), EpochRefusal>, AllocError>
         ensures who { SameHouse self.old self.new }
-        ensures answer { IfOk result (λ e. result_err e ≡ epoch_refused self.old.house.0 epoch.0 (members_of members.now) (map.get self.old.dirs dir)) }
+        ensures answer { IfOk result
+            (λ e. result_err e
+            ≡ epoch_refused self.old.house.0 epoch.0 (members_of members.now)
+            (map.get self.old.dirs dir)) }
         ensures refused { IfOk result (λ e. OnErr e (self.new ≡ self.old)) }
         ensures held { IfOk result (λ e. OnOk e (Enters self.old self.new dir epoch members.now)) }
         ensures err { OnErr result (self.new ≡ self.old) }
@@ -392,7 +438,8 @@ impl Clearinghouse {
         dir: DirId,
         outgoing: Option<&Outgoing>,
     ) -> Result<PostedList, AllocError>
-        ensures posts { IfOk result (λ p. p ≡ posts_at self.old dir (option_copied outgoing.entry)) }
+        ensures posts { IfOk result
+            (λ p. p ≡ posts_at self.old dir (option_copied outgoing.entry)) }
         ensures heeds { Heeds self.old self.new result }
     {
         let posted = self.posts(alloc, dir, outgoing);

@@ -45,7 +45,8 @@ fn started(kept: ImageDir) -> DirState
 
 /// The directories of a house that starts.
 fn started_dirs(alloc: Global, kept: ImageDirs) -> Result<DirStates, AllocError>
-    ensures { IfOk result (λ d. d ≡ map.from_entries (list_map (λ e. (e.0, started_of e.1)) (map.entries kept))) }
+    ensures { IfOk result
+        (λ d. d ≡ map.from_entries (list_map (λ e. (e.0, started_of e.1)) (map.entries kept))) }
 {
     let mut dirs = DirStates::new(alloc);
     for (dir, state) in kept.into_entries() {
@@ -56,7 +57,8 @@ fn started_dirs(alloc: Global, kept: ImageDirs) -> Result<DirStates, AllocError>
 
 /// Writes what is kept of the directory of this number behind the others of an image.
 fn write_state(state: &DirState, image: &mut ImageWriter, dir: DirId) -> Result<(), AllocError>
-    ensures octets { OnOk result (image.new ≡ image.old ++ (dir_octets dir ++ kept_octets (kept_of state.now))) }
+    ensures octets { OnOk result
+        (image.new ≡ image.old ++ (dir_octets dir ++ kept_octets (kept_of state.now))) }
     ensures fits { OnOk result ((dir.0 < 2 ^ 32) × FitsDir (kept_of state.now)) }
 {
     match state {
@@ -67,8 +69,12 @@ fn write_state(state: &DirState, image: &mut ImageWriter, dir: DirId) -> Result<
 
 /// Writes what is kept of the directories behind the head of an image.
 fn write_states(states: &DirStates, image: &mut ImageWriter) -> Result<(), AllocError>
-    ensures octets { OnOk result (image.new ≡ image.old ++ items_octets dir_octets (λ s. kept_octets (kept_of s)) (map.entries states.now)) }
-    ensures fits { OnOk result (ItemsFit (λ (d : number.DirId). d.0 < 2 ^ 32) (λ s. FitsDir (kept_of s)) (map.entries states.now)) }
+    ensures octets { OnOk result
+        (image.new ≡ image.old
+        ++ items_octets dir_octets (λ s. kept_octets (kept_of s)) (map.entries states.now)) }
+    ensures fits { OnOk result
+        (ItemsFit (λ (d : number.DirId). d.0 < 2 ^ 32) (λ s. FitsDir (kept_of s))
+        (map.entries states.now)) }
 {
     for (dir, state) in states.iter() {
         write_state(state, image, *dir)?;
@@ -82,7 +88,8 @@ impl Clearinghouse {
         ensures usable { IfOk result (λ _. self.now.spent ≡ false) }
         ensures octets { IfOk result (λ v. v.items ≡ image_octets (image_of self.now)) }
         ensures fits { IfOk result (λ _. FitsImage (image_of self.now)) }
-        ensures starts { IfOk result (λ v. IsLawful self.now → start_of_octets v.items ≡ Ok (house_after_restart self.now)) }
+        ensures starts { IfOk result (λ v. IsLawful self.now
+            → start_of_octets v.items ≡ Ok (house_after_restart self.now)) }
     {
         self.usable()?;
         let count = self.dirs.len() as u64;

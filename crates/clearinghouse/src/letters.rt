@@ -33,7 +33,8 @@ impl Clearinghouse {
         ensures usable { IfOk result (λ _. self.now.spent ≡ false) }
         ensures some { IfOk result (λ o. IfSome o (λ l. 0 < length l.receivers.items)) }
         ensures few { IfOk result (λ o. IfSome o (λ l. length l.receivers.items ≤ most_members)) }
-        ensures posts { IfOk result (λ o. MatchOption o (posts_at self.now dir (Some outgoing.now) ≡ [])
+        ensures posts { IfOk result
+            (λ o. MatchOption o (posts_at self.now dir (Some outgoing.now) ≡ [])
             (λ l. AreLetters l (posts_at self.now dir (Some outgoing.now)))) }
     {
         self.usable()?;
@@ -53,8 +54,11 @@ impl Clearinghouse {
     ) -> Result<Letters, AllocError>
         ensures usable { IfOk result (λ _. self.now.spent ≡ false) }
         ensures few { IfOk result (λ l. length l.receivers.items ≡ length leaving.now) }
-        ensures octets { IfOk result (λ l. l.octets.items ≡ message_octets (leave_of (sender_of self.now dir) epoch)) }
-        ensures posts { IfOk result (λ l. AreLetters l (posts_to (numbers_of leaving.now) (leave_of (sender_of self.now dir) epoch))) }
+        ensures octets { IfOk result
+            (λ l. l.octets.items ≡ message_octets (leave_of (sender_of self.now dir) epoch)) }
+        ensures posts { IfOk result
+            (λ l. AreLetters l
+            (posts_to (numbers_of leaving.now) (leave_of (sender_of self.now dir) epoch))) }
     {
         self.usable()?;
         let receivers = Vec::from_slice(alloc, leaving)?;
@@ -107,8 +111,10 @@ fn encoded_of(
     head: &Head,
     outgoing: &Outgoing,
 ) -> Result<Vec<u8>, AllocError>
-    ensures octets { IfOk result (λ v. v.items ≡ message_octets (message_with head.now (body_of held.now outgoing.now))) }
-    ensures whole { IfOk result (λ v. IsValidMessage (message_with head.now (body_of held.now outgoing.now))
+    ensures octets { IfOk result
+        (λ v. v.items ≡ message_octets (message_with head.now (body_of held.now outgoing.now))) }
+    ensures whole { IfOk result
+        (λ v. IsValidMessage (message_with head.now (body_of held.now outgoing.now))
         → IsWhole records.message (message_with head.now (body_of held.now outgoing.now)) v.items) }
 {
     match outgoing {

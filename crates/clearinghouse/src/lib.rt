@@ -7,10 +7,10 @@ pub mod laws;
 mod letters;
 mod taking;
 
+pub use house::Clearinghouse;
 pub use house_directory::{
     Accepted, Begun, DirState, DirStates, EpochRefusal, EpochSet, Held, Outgoing, Posted,
     PostedList, Skulked, Taken, Took, Turn,
 };
-pub use house::Clearinghouse;
 pub use images::StartFault;
 pub use letters::Letters;

@@ -35,14 +35,23 @@ impl Clearinghouse {
     pub fn take(&mut self, alloc: Global, message: &Message) -> Result<Took, AllocError>
         ensures call { IsCall self.old self.new result }
         ensures kept { IsValidMessage message.now → IsLawful self.old → IsLawful self.new }
-        ensures same { IfOk result (λ took. UnlessTaken took.taken ((self.new ≡ self.old) × (took.posted ≡ []))) }
-        ensures floor { IfOk result (λ took. IfTaken took.taken (self.new.floor.time ≡ max self.old.floor.time (latest_in_message message.now))) }
-        ensures others { OnOk result ((dir : number.DirId) → dir ≢ message.now.dir → map.get self.new.dirs dir ≡ map.get self.old.dirs dir) }
-        ensures does { IfOk result (λ took. TakesPosting message.now self.old self.new took.taken took.posted) }
-        ensures looks { (now : model.House) (m : model.Message) → LooksHouse self.old message.now.dir now → LooksMessage self.old.house.0 message.now m
-            → IfOk result (λ took. LooksStep (IsTakeAnswer took.taken) (take now m) message.now.dir self.new) }
-        ensures step { (now : model.House) (m : model.Message) → StandsHouse self.old now → StandsMessage self.old.house.0 message.now m → CanTake now m
-            → IfOk result (λ took. IsStep (IsTakeAnswer took.taken) (take now m) self.old self.new took.posted) }
+        ensures same { IfOk result
+            (λ took. UnlessTaken took.taken ((self.new ≡ self.old) × (took.posted ≡ []))) }
+        ensures floor { IfOk result
+            (λ took. IfTaken took.taken
+            (self.new.floor.time ≡ max self.old.floor.time (latest_in_message message.now))) }
+        ensures others { OnOk result ((dir : number.DirId) → dir ≢ message.now.dir
+            → map.get self.new.dirs dir ≡ map.get self.old.dirs dir) }
+        ensures does { IfOk result
+            (λ took. TakesPosting message.now self.old self.new took.taken took.posted) }
+        ensures looks { (now : model.House) (m : model.Message)
+            → LooksHouse self.old message.now.dir now → LooksMessage self.old.house.0 message.now m
+            → IfOk result
+            (λ took. LooksStep (IsTakeAnswer took.taken) (take now m) message.now.dir self.new) }
+        ensures step { (now : model.House) (m : model.Message) → StandsHouse self.old now
+            → StandsMessage self.old.house.0 message.now m → CanTake now m
+            → IfOk result
+            (λ took. IsStep (IsTakeAnswer took.taken) (take now m) self.old self.new took.posted) }
     {
         let turn = self.take_message(alloc, message)?;
         let posted = self.posted(alloc, message.dir, turn.outgoing.as_ref())?;
@@ -60,14 +69,24 @@ impl Clearinghouse {
     ) -> Result<Turn<Taken>, AllocError>
         ensures call { IsCall self.old self.new result }
         ensures kept { IsValidMessage message.now → IsLawful self.old → IsLawful self.new }
-        ensures same { IfOk result (λ turn. UnlessTaken turn.answer ((self.new ≡ self.old) × (turn.outgoing ≡ None))) }
-        ensures floor { IfOk result (λ turn. IfTaken turn.answer (self.new.floor.time ≡ max self.old.floor.time (latest_in_message message.now))) }
-        ensures others { OnOk result ((dir : number.DirId) → dir ≢ message.now.dir → map.get self.new.dirs dir ≡ map.get self.old.dirs dir) }
-        ensures does { IfOk result (λ turn. Takes message.now self.old self.new turn.answer turn.outgoing) }
-        ensures looks { (now : model.House) (m : model.Message) → LooksHouse self.old message.now.dir now → LooksMessage self.old.house.0 message.now m
-            → IfOk result (λ turn. LooksStep (IsTakeAnswer turn.answer) (take now m) message.now.dir self.new) }
-        ensures step { (now : model.House) (m : model.Message) → StandsHouse self.old now → StandsMessage self.old.house.0 message.now m → CanTake now m
-            → IfOk result (λ turn. IsStep (IsTakeAnswer turn.answer) (take now m) self.old self.new (posts_at self.new message.now.dir turn.outgoing)) }
+        ensures same { IfOk result
+            (λ turn. UnlessTaken turn.answer ((self.new ≡ self.old) × (turn.outgoing ≡ None))) }
+        ensures floor { IfOk result
+            (λ turn. IfTaken turn.answer
+            (self.new.floor.time ≡ max self.old.floor.time (latest_in_message message.now))) }
+        ensures others { OnOk result ((dir : number.DirId) → dir ≢ message.now.dir
+            → map.get self.new.dirs dir ≡ map.get self.old.dirs dir) }
+        ensures does { IfOk result
+            (λ turn. Takes message.now self.old self.new turn.answer turn.outgoing) }
+        ensures looks { (now : model.House) (m : model.Message)
+            → LooksHouse self.old message.now.dir now → LooksMessage self.old.house.0 message.now m
+            → IfOk result
+            (λ turn. LooksStep (IsTakeAnswer turn.answer) (take now m) message.now.dir self.new) }
+        ensures step { (now : model.House) (m : model.Message) → StandsHouse self.old now
+            → StandsMessage self.old.house.0 message.now m → CanTake now m
+            → IfOk result
+            (λ turn. IsStep (IsTakeAnswer turn.answer) (take now m) self.old self.new
+            (posts_at self.new message.now.dir turn.outgoing)) }
     {
         self.usable()?;
         let done = match &message.body {
@@ -80,7 +99,8 @@ impl Clearinghouse {
 
     /// Any message but a Join or a Leave.
     fn take_other(&mut self, alloc: Global, message: &Message) -> Result<Turn<Taken>, AllocError>
-        ensures ok { IfOk result (λ turn. TakesOther message.now self.old self.new turn.answer turn.outgoing) }
+        ensures ok { IfOk result
+            (λ turn. TakesOther message.now self.old self.new turn.answer turn.outgoing) }
         ensures err { OnErr result (self.new ≡ self.old) }
     {
         let house = self.house;
@@ -102,7 +122,8 @@ impl Clearinghouse {
         members: &Members,
         replica: &Replica,
     ) -> Result<Turn<Taken>, AllocError>
-        ensures ok { IfOk result (λ turn. TakesJoin message.now members.now replica.now self.old self.new turn.answer turn.outgoing) }
+        ensures ok { IfOk result
+            (λ turn. TakesJoin message.now members.now replica.now self.old self.new turn.answer turn.outgoing) }
         ensures err { OnErr result (self.new ≡ self.old) }
     {
         if let Some(answer) = self.bars_join(message, members) {
@@ -115,7 +136,8 @@ impl Clearinghouse {
 
     /// Why a Join with these members is not taken.
     fn bars_join(&self, message: &Message, members: &Members) -> Option<Taken>
-        ensures { result ≡ join_bar self.now.house.0 message.now (members_of members.now) (map.get self.now.dirs message.now.dir) }
+        ensures { result ≡ join_bar self.now.house.0 message.now (members_of members.now)
+            (map.get self.now.dirs message.now.dir) }
     {
         if let Some(passed) = self.passes_join(message) {
             return Some(Taken::Late(message.epoch, passed));
@@ -182,7 +204,8 @@ impl Clearinghouse {
 
     /// A Leave, by what the house has of the directory.
     fn take_leave(&mut self, message: &Message) -> Result<Turn<Taken>, AllocError>
-        ensures ok { IfOk result (λ turn. TakesLeave message.now self.old self.new turn.answer turn.outgoing) }
+        ensures ok { IfOk result
+            (λ turn. TakesLeave message.now self.old self.new turn.answer turn.outgoing) }
         ensures err { OnErr result (self.new ≡ self.old) }
     {
         if let Some(passed) = self.passes_leave(message) {

@@ -20,7 +20,12 @@ pub struct Query {
 
 impl Drop for Query {
     fn drop(self) {
-        let Query { prefer: _prefer, at: _at, name: _name, attr: _attr } = self;
+        let Query {
+            prefer: _prefer,
+            at: _at,
+            name: _name,
+            attr: _attr,
+        } = self;
     }
 }
 
@@ -49,7 +54,10 @@ pub struct Kept {
 
 impl Drop for Kept {
     fn drop(self) {
-        let Kept { told: _told, line: _line } = self;
+        let Kept {
+            told: _told,
+            line: _line,
+        } = self;
     }
 }
 

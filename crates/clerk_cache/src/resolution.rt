@@ -26,7 +26,8 @@ impl Clerk {
         now: u32,
         name: &FullName,
     ) -> Result<(ChildPointer, Found), AllocOr<Refusal>>
-        ensures answer { IsResolution (clerk_reader now (R.tells reader.now)) self.old name.now result self.new }
+        ensures answer { IsResolution
+            (clerk_reader now (R.tells reader.now)) self.old name.now result self.new }
         ensures root { name.now ≡ [] → result ≡ Err (Fault RootName) }
     {
         if name.len() == 0 {

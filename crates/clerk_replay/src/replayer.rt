@@ -6,10 +6,10 @@ use cds_cell::laws::cells_tell_the_model;
 use cds_stamps::{AllocOr, HouseNo};
 use cell_script::{ScriptLine, parse_line};
 use clerk_cache::Clerk;
-use script_replay::Replayer;
-use script_answers::{Answer, ScriptRefusal};
-use std::alloc::{AllocError, Global};
 use reply_buffer::{LineEnd, Waiting, reply_to_fault};
+use script_answers::{Answer, ScriptRefusal};
+use script_replay::Replayer;
+use std::alloc::{AllocError, Global};
 
 /// A cell that is replayed, and the clerk through which it is read at low confidence.
 #[derive(Drop)]
@@ -52,7 +52,9 @@ impl ClerkReplayer {
         requires fewer { self.old.replayer.steps < number }
         requires most { number ≤ MOST_LINES }
         ensures reply { (s : Clerked) → Stands self.old s
-            → Replays result (reply_of clerk_dialogue number s (said_in (words_of line.now))) waiting.old waiting.new self.new }
+            → Replays result
+            (reply_of clerk_dialogue number s
+            (said_in (words_of line.now))) waiting.old waiting.new self.new }
         ensures steps { self.new.replayer.steps ≤ number }
     {
         match parse_line(alloc, line) {
@@ -72,7 +74,8 @@ impl ClerkReplayer {
     ) -> LineEnd
         requires few { self.old.replayer.steps < MOST_LINES }
         ensures reply { (s : Clerked) → Stands self.old s
-            → Replays result (reply_of clerk_dialogue number s (Ok (Some line))) waiting.old waiting.new self.new }
+            → Replays result
+            (reply_of clerk_dialogue number s (Ok (Some line))) waiting.old waiting.new self.new }
         ensures steps { self.new.replayer.steps ≤ self.old.replayer.steps + 1 }
     {
         match self.answer(alloc, number, line, waiting) {
@@ -90,7 +93,8 @@ impl ClerkReplayer {
         waiting: &mut Waiting,
     ) -> Result<(), AllocError>
         requires few { self.old.replayer.steps < MOST_LINES }
-        ensures ok { (s : Clerked) → Stands self.old s → OnOk result ((waiting.new ≡ waiting.old ++ reply_text number s line)
+        ensures ok { (s : Clerked) → Stands self.old s
+            → OnOk result ((waiting.new ≡ waiting.old ++ reply_text number s line)
             × Stands self.new (clerked_after number s line)) }
         ensures err { OnErr result (waiting.new ≡ waiting.old) }
         ensures steps { self.new.replayer.steps ≤ self.old.replayer.steps + 1 }
@@ -102,7 +106,8 @@ impl ClerkReplayer {
     // What the cell replies to a line, or the clerk.
     fn reply(&mut self, alloc: Global, number: u32, line: ScriptLine) -> Result<Answer, AllocError>
         requires few { self.old.replayer.steps < MOST_LINES }
-        ensures reply { (s : Clerked) → Stands self.old s → IfOk result (λ a. IsAnswer a self.new number s line) }
+        ensures reply { (s : Clerked) → Stands self.old s
+            → IfOk result (λ a. IsAnswer a self.new number s line) }
         ensures steps { self.new.replayer.steps ≤ self.old.replayer.steps + 1 }
     {
         match low_read(&line) {

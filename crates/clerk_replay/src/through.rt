@@ -21,7 +21,8 @@ pub(crate) fn read_through<R: EntryReader>(
     name: &FullName,
     attr: &AttrName,
 ) -> Result<Answer, AllocError>
-    ensures { IfOk result (λ a. (a, clerk.new) ≡ read_by_clerk now (R.tells reader.now) name.now attr.now clerk.old) }
+    ensures { IfOk result
+        (λ a. (a, clerk.new) ≡ read_by_clerk now (R.tells reader.now) name.now attr.now clerk.old) }
 {
     match clerk.resolve(alloc, reader, now, name) {
         Ok((at, found)) => values_through(alloc, clerk, reader, now, &at, &found.name, attr),

@@ -106,7 +106,8 @@ impl<K: Ord, V> CompactMap<K, V> {
     /// The value of a key, to write.
     #[inline]
     pub fn get_mut(&mut self, key: &K) -> Option<&mut V>
-        ensures* writes_back { sem 𝓛 (lends_get K.row V.row K.Ord self.entry (K.cmp key.now) result) }
+        ensures* writes_back { sem 𝓛 (lends_get K.row V.row K.Ord self.entry
+            (K.cmp key.now) result) }
         ensures value { option_copied_mut result ≡ get K.cmp self.old key.now }
         ensures ordered { IsOrdered K.cmp self.old }
     {

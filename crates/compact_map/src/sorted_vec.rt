@@ -146,7 +146,8 @@ impl<K: Ord, V> SortedVec<K, V> {
     }
 
     pub(crate) fn get_mut(&mut self, key: &K) -> Option<&mut V>
-        ensures* writes_back { sem 𝓛 (vec_lends_get K.row V.row K.Ord self.entry (K.cmp key.now) result) }
+        ensures* writes_back { sem 𝓛 (vec_lends_get K.row V.row K.Ord self.entry
+            (K.cmp key.now) result) }
         ensures value { option_copied_mut result ≡ get K.cmp self.old key.now }
         ensures ordered { IsOrdered K.cmp self.old }
     {
@@ -185,7 +186,8 @@ impl<K: Ord, V> SortedVec<K, V> {
     where
         K: Drop,
         V: Drop,
-        ensures moved { MatchOption result (self.new ≡ self.old) (λ tree. (tree.entries ≡ self.old) × (self.new ≡ [])) }
+        ensures moved { MatchOption result (self.new ≡ self.old) (λ tree. (tree.entries ≡ self.old)
+            × (self.new ≡ [])) }
         ensures was_ordered { IsOrdered K.cmp self.old }
     {
         let mut tree = BTreeMap::new(*self.entries.allocator());

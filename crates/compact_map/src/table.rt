@@ -19,7 +19,8 @@ impl<K: Ord, V> Table<K, V> {
     ghost use Rattle.compact_map.specs.TableLent.{table_lends_get};
 
     pub(crate) fn get_mut(&mut self, key: &K) -> Option<&mut V>
-        ensures* writes_back { sem 𝓛 (table_lends_get K.row V.row K.Ord self.entry (K.cmp key.now) result) }
+        ensures* writes_back { sem 𝓛 (table_lends_get K.row V.row K.Ord self.entry
+            (K.cmp key.now) result) }
         ensures value { option_copied_mut result ≡ get K.cmp (entries_of self.old) key.now }
         ensures ordered { IsOrdered K.cmp (entries_of self.old) }
     {

@@ -150,7 +150,9 @@ impl AttrMap {
 
     /// Its one cell, if it has one only.
     fn only(&self) -> Option<(&AttrName, &AttrCell)>
-        ensures { IfSome result (λ p. (q : List ℕ) → map.get self.now q ≡ (if eq_by_cmp octets_cmp q p.0.now then Some p.1.now else None)) }
+        ensures { IfSome result (λ p. (q : List ℕ)
+            → map.get self.now q
+            ≡ (if eq_by_cmp octets_cmp q p.0.now then Some p.1.now else None)) }
     {
         if self.cells.len() == 1 {
             self.cells.first_key_value()
@@ -167,7 +169,8 @@ impl AttrMap {
         change: &CellChange,
         stamp: Stamp,
     ) -> Result<(), AllocError>
-        ensures ok { OnOk result (TakesMarks self.old self.new name.now (change_marks change.now stamp)) }
+        ensures ok { OnOk result
+            (TakesMarks self.old self.new name.now (change_marks change.now stamp)) }
         ensures err { OnErr result (self.new ≡ self.old) }
     {
         let stamp = &stamp;
@@ -230,7 +233,8 @@ impl AttrMap {
         cell: &AttrCell,
     ) -> Result<bool, AllocError>
         ensures ok { IfOk result (λ here. MatchBool here
-            (JoinsCell self.old self.new name.now cell.now) ((map.get self.old name.now ≡ None) × (self.new ≡ self.old))) }
+            (JoinsCell self.old self.new name.now cell.now) ((map.get self.old name.now ≡ None)
+            × (self.new ≡ self.old))) }
         ensures err { OnErr result (self.new ≡ self.old) }
     {
         match self.cells.get_mut(name) {
@@ -244,7 +248,8 @@ impl AttrMap {
 
     /// Joins another map in; a map of one cell with no log.
     pub(crate) fn join(&mut self, alloc: Global, other: &AttrMap) -> Result<(), AllocError>
-        ensures ok { OnOk result (EachValue IsHeldCell self.old → EachValue IsHeldCell other.now → self.new ≡ join_maps join_cells self.old other.now) }
+        ensures ok { OnOk result (EachValue IsHeldCell self.old → EachValue IsHeldCell other.now
+            → self.new ≡ join_maps join_cells self.old other.now) }
         ensures err { OnErr result (self.new ≡ self.old) }
     {
         if let Some((name, cell)) = other.only() {
@@ -263,7 +268,8 @@ impl AttrMap {
         cell: &AttrCell,
     ) -> Result<Option<CellUndo>, AllocError>
         ensures ok { OnOk result (JoinsCell self.old self.new name.now cell.now) }
-        ensures back { IfOk result (λ undo. TakesBack undo_cell self.old self.new ((name.now, undo) ∷ [])) }
+        ensures back { IfOk result
+            (λ undo. TakesBack undo_cell self.old self.new ((name.now, undo) ∷ [])) }
         ensures err { OnErr result (self.new ≡ self.old) }
     {
         let here = self.raise_here(alloc, name, cell)?;
@@ -282,8 +288,11 @@ impl AttrMap {
         name: &AttrName,
         cell: &AttrCell,
     ) -> Result<Option<CellUndo>, AllocError>
-        ensures ok { IfOk result (λ undo. MatchOption undo ((map.get self.old name.now ≡ None) × (self.new ≡ self.old)) (λ undo.
-            JoinsCell self.old self.new name.now cell.now × TakesBack undo_cell self.old self.new ((name.now, Some undo) ∷ []))) }
+        ensures ok { IfOk result
+            (λ undo. MatchOption undo ((map.get self.old name.now ≡ None)
+            × (self.new ≡ self.old)) (λ undo.
+            JoinsCell self.old self.new name.now cell.now
+            × TakesBack undo_cell self.old self.new ((name.now, Some undo) ∷ []))) }
         ensures err { OnErr result (self.new ≡ self.old) }
     {
         match self.cells.get_mut(name) {
@@ -302,7 +311,8 @@ impl AttrMap {
         other: &AttrMap,
         log: &mut Vec<(AttrName, Option<CellUndo>)>,
     ) -> Result<(), AllocError>
-        ensures ok { OnOk result (EachValue IsHeldCell self.old → EachValue IsHeldCell other.now → self.new ≡ join_maps join_cells self.old other.now) }
+        ensures ok { OnOk result (EachValue IsHeldCell self.old → EachValue IsHeldCell other.now
+            → self.new ≡ join_maps join_cells self.old other.now) }
         ensures back { LogsChange undo_cell self.old self.new log.old.items log.new.items }
     {
         for (name, cell) in other.cells.iter() {
@@ -323,7 +333,8 @@ impl AttrMap {
 
     /// Whether joining another map in changes nothing. It takes no memory.
     pub(crate) fn outdates_all(&self, other: &AttrMap) -> bool
-        ensures { IsTrue result → EachValue IsHeldCell self.now → EachValue IsHeldCell other.now → join_maps join_cells self.now other.now ≡ self.now }
+        ensures { IsTrue result → EachValue IsHeldCell self.now → EachValue IsHeldCell other.now
+            → join_maps join_cells self.now other.now ≡ self.now }
     {
         for (name, cell) in other.cells.iter() {
             let outdated = self.outdates(name, cell);
@@ -358,7 +369,8 @@ impl AttrMap {
         alloc: Global,
         other: &AttrMap,
     ) -> Result<CellLog, AllocError>
-        ensures ok { OnOk result (EachValue IsHeldCell self.old → EachValue IsHeldCell other.now → self.new ≡ join_maps join_cells self.old other.now) }
+        ensures ok { OnOk result (EachValue IsHeldCell self.old → EachValue IsHeldCell other.now
+            → self.new ≡ join_maps join_cells self.old other.now) }
         ensures back { IfOk result (λ log. TakesBack undo_cell self.old self.new log) }
         ensures err { OnErr result (self.new ≡ self.old) }
     {
@@ -372,13 +384,16 @@ impl AttrMap {
 
     /// Takes the changes of a log back, with no memory.
     pub(crate) fn take_back(&mut self, log: CellLog)
-        ensures { (q : List ℕ) → map.get self.new q ≡ back_at octets_cmp undo_cell log q (map.get self.old q) }
+        ensures { (q : List ℕ)
+            → map.get self.new q ≡ back_at octets_cmp undo_cell log q (map.get self.old q) }
     {
         self.take_changes_back(log.changes);
     }
 
     fn take_changes_back(&mut self, changes: Vec<(AttrName, Option<CellUndo>)>)
-        ensures { (q : List ℕ) → map.get self.new q ≡ back_at octets_cmp undo_cell changes.items q (map.get self.old q) }
+        ensures { (q : List ℕ)
+            → map.get self.new q
+            ≡ back_at octets_cmp undo_cell changes.items q (map.get self.old q) }
     {
         let mut changes = changes;
         while let Some((name, undo)) = changes.pop() {
@@ -413,7 +428,8 @@ impl AttrMap {
 
     /// Whether an attribute was cleared at the stamp.
     pub(crate) fn is_cleared_at(&self, name: &AttrName, stamp: Stamp) -> bool
-        ensures { result ≡ is_at (option_and_then (λ c. c.cleared) (map.get self.now name.now)) stamp }
+        ensures { result ≡ is_at
+            (option_and_then (λ c. c.cleared) (map.get self.now name.now)) stamp }
     {
         match self.get(name) {
             Some(cell) => cell.cleared == Some(stamp),
@@ -423,7 +439,8 @@ impl AttrMap {
 
     /// Whether a value of an attribute is absent since the stamp.
     pub(crate) fn is_absent_at(&self, name: &AttrName, value: &Value, stamp: Stamp) -> bool
-        ensures { result ≡ is_absent (option_and_then (λ c. map.get c.values value.now) (map.get self.now name.now)) stamp }
+        ensures { result ≡ is_absent
+            (option_and_then (λ c. map.get c.values value.now) (map.get self.now name.now)) stamp }
     {
         match self.get(name) {
             Some(cell) => is_absent_at(cell, value, stamp),
@@ -458,7 +475,8 @@ impl AttrMap {
 
     /// Drops the mark of a value of an attribute, and the attribute, if nothing is left of it.
     pub(crate) fn drop_value(&mut self, name: &AttrName, value: &Value)
-        ensures { self.new ≡ change_at self.old name.now (cell_without (Absent name.now value.now)) }
+        ensures { self.new ≡ change_at self.old name.now
+            (cell_without (Absent name.now value.now)) }
     {
         if let Some(cell) = self.cells.get_mut(name) {
             cell.values.remove(value);
@@ -488,7 +506,8 @@ impl AttrMap {
         name: &AttrName,
         cell: AttrCell,
     ) -> Result<(), AllocError>
-        ensures { OnOk result (self.new ≡ (if is_empty_cell cell then self.old else map.insert self.old name.now cell)) }
+        ensures { OnOk result
+            (self.new ≡ (if is_empty_cell cell then self.old else map.insert self.old name.now cell)) }
     {
         if !cell.is_empty() {
             self.insert(name.copy(alloc)?, cell)?;

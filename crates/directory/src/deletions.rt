@@ -47,7 +47,11 @@ pub struct Deletion {
 
 impl Drop for Deletion {
     fn drop(self) {
-        let Deletion { stamp: _stamp, name: _name, what: _what } = self;
+        let Deletion {
+            stamp: _stamp,
+            name: _name,
+            what: _what,
+        } = self;
     }
 }
 
@@ -130,7 +134,8 @@ impl Deletions {
 
     /// The first deletion that it knows of.
     pub(crate) fn first(&self) -> Option<&Deletion>
-        ensures first { IfSome result (λ d. (is_indexed self.now d.now ≡ true) × ((e : Deletion) → is_indexed self.now e ≡ true → is_before e d.now ≡ false)) }
+        ensures first { IfSome result (λ d. (is_indexed self.now d.now ≡ true)
+            × ((e : Deletion) → is_indexed self.now e ≡ true → is_before e d.now ≡ false)) }
         ensures none { IfNone result ((d : Deletion) → is_indexed self.now d ≡ false) }
     {
         self.known.first()
@@ -138,9 +143,12 @@ impl Deletions {
 
     /// Takes the first deletion out.
     pub(crate) fn pop_first(&mut self) -> Option<Deletion>
-        ensures first { IfSome result (λ d. (is_indexed self.old d ≡ true) × ((e : Deletion) → is_indexed self.old e ≡ true → is_before e d ≡ false)) }
-        ensures rest { IfSome result (λ d. (e : Deletion) → is_indexed self.new e ≡ (if is_deletion e d then false else is_indexed self.old e)) }
-        ensures none { IfNone result ((self.new ≡ self.old) × ((d : Deletion) → is_indexed self.old d ≡ false)) }
+        ensures first { IfSome result (λ d. (is_indexed self.old d ≡ true)
+            × ((e : Deletion) → is_indexed self.old e ≡ true → is_before e d ≡ false)) }
+        ensures rest { IfSome result (λ d. (e : Deletion)
+            → is_indexed self.new e ≡ (if is_deletion e d then false else is_indexed self.old e)) }
+        ensures none { IfNone result ((self.new ≡ self.old)
+            × ((d : Deletion) → is_indexed self.old d ≡ false)) }
         ensures room { self.new.most ≡ self.old.most }
     {
         self.known.pop_first()
@@ -148,10 +156,13 @@ impl Deletions {
 
     /// Takes the first deletion out, if it is stamped at most t.
     pub(crate) fn pop_up_to(&mut self, t: Stamp) -> Option<Deletion>
-        ensures first { IfSome result (λ d. (is_indexed self.old d ≡ true) × (is_up_to t d.stamp ≡ true)) }
+        ensures first { IfSome result (λ d. (is_indexed self.old d ≡ true)
+            × (is_up_to t d.stamp ≡ true)) }
         ensures shorter { IfSome result (λ _. deletion_count self.new < deletion_count self.old) }
-        ensures rest { IfSome result (λ d. (e : Deletion) → is_indexed self.new e ≡ (if is_deletion e d then false else is_indexed self.old e)) }
-        ensures none { IfNone result ((self.new ≡ self.old) × ((d : Deletion) → is_indexed self.old d ≡ true → is_up_to t d.stamp ≡ false)) }
+        ensures rest { IfSome result (λ d. (e : Deletion)
+            → is_indexed self.new e ≡ (if is_deletion e d then false else is_indexed self.old e)) }
+        ensures none { IfNone result ((self.new ≡ self.old)
+            × ((d : Deletion) → is_indexed self.old d ≡ true → is_up_to t d.stamp ≡ false)) }
         ensures room { self.new.most ≡ self.old.most }
     {
         match self.known.first() {
@@ -162,8 +173,11 @@ impl Deletions {
 
     /// Adds a deletion.
     pub(crate) fn add(&mut self, deletion: Deletion) -> Result<(), AllocError>
-        ensures ok { OnOk result ((e : Deletion) → is_indexed self.new e ≡ (if is_deletion e deletion then true else is_indexed self.old e)) }
-        ensures err { OnErr result ((e : Deletion) → is_indexed self.new e ≡ is_indexed self.old e) }
+        ensures ok { OnOk result ((e : Deletion)
+            → is_indexed self.new e
+            ≡ (if is_deletion e deletion then true else is_indexed self.old e)) }
+        ensures err { OnErr result ((e : Deletion)
+            → is_indexed self.new e ≡ is_indexed self.old e) }
         ensures same { OnErr result (deletion_count self.new ≡ deletion_count self.old) }
         ensures room { self.new.most ≡ self.old.most }
     {
@@ -179,8 +193,10 @@ impl Deletions {
         stamp: Stamp,
     ) -> Result<(), AllocError>
         ensures adds { AddsOnly (deleted_by (change_of update.now) stamp) self.old self.new }
-        ensures ok { OnOk result (IfSome (deleted_by (change_of update.now) stamp) (λ d. is_indexed self.new d ≡ true)) }
-        ensures err { OnErr result ((e : Deletion) → is_indexed self.new e ≡ is_indexed self.old e) }
+        ensures ok { OnOk result
+            (IfSome (deleted_by (change_of update.now) stamp) (λ d. is_indexed self.new d ≡ true)) }
+        ensures err { OnErr result ((e : Deletion)
+            → is_indexed self.new e ≡ is_indexed self.old e) }
         ensures same { OnErr result (deletion_count self.new ≡ deletion_count self.old) }
         ensures room { self.new.most ≡ self.old.most }
     {
@@ -199,7 +215,8 @@ impl Deletions {
         what: What,
     ) -> Result<(), AllocError>
         ensures adds { AddsAt name.now self.old self.new }
-        ensures ok { OnOk result (is_indexed self.new (record { stamp = stamp; name = name.now; what = what }) ≡ true) }
+        ensures ok { OnOk result
+            (is_indexed self.new (record { stamp = stamp; name = name.now; what = what }) ≡ true) }
         ensures room { self.new.most ≡ self.old.most }
     {
         let name = name.copy(alloc)?;
@@ -296,7 +313,8 @@ impl Deletions {
     /// Settles after a change of the entry of this name alone: where another name comes first, that is no less a deletion than before.
     pub(crate) fn settle_at(&mut self, entries: &EntryMap, name: &SimpleName)
         ensures all { KnowsAll self.old entries.now → KnowsAll self.new entries.now }
-        ensures first { BeginsWellElsewhere name.now self.old entries.now → BeginsWell self.new entries.now }
+        ensures first { BeginsWellElsewhere name.now self.old entries.now
+            → BeginsWell self.new entries.now }
         ensures settled { IsSettled self.old self.new entries.now }
     {
         if self.known.len() > self.most || self.begins_at(name) {
@@ -307,7 +325,8 @@ impl Deletions {
     /// Whether what comes first is a deletion in the entry of this name.
     fn begins_at(&self, name: &SimpleName) -> bool
         ensures { IsFalse result → (d : Deletion) → is_indexed self.now d ≡ true →
-            ((e : Deletion) → is_indexed self.now e ≡ true → is_before e d ≡ false) → d.name ≢ name.now }
+            ((e : Deletion) → is_indexed self.now e ≡ true → is_before e d ≡ false)
+            → d.name ≢ name.now }
     {
         match self.first() {
             Some(first) => first.name == *name,
@@ -318,7 +337,8 @@ impl Deletions {
     /// Settles after an update: where what comes first is a deletion that it cannot undo, that is no less one than before.
     pub(crate) fn settle_after(&mut self, entries: &EntryMap, update: &Update)
         ensures all { KnowsAll self.old entries.now → KnowsAll self.new entries.now }
-        ensures first { BeginsWellBeside (change_of update.now) self.old entries.now → BeginsWell self.new entries.now }
+        ensures first { BeginsWellBeside (change_of update.now) self.old entries.now
+            → BeginsWell self.new entries.now }
         ensures settled { IsSettled self.old self.new entries.now }
     {
         if self.known.len() > self.most || self.begins_touched(update) {
@@ -329,7 +349,8 @@ impl Deletions {
     /// Whether what comes first is a deletion that the update may undo.
     fn begins_touched(&self, update: &Update) -> bool
         ensures { IsFalse result → (d : Deletion) → is_indexed self.now d ≡ true →
-            ((e : Deletion) → is_indexed self.now e ≡ true → is_before e d ≡ false) → touches (change_of update.now) d ≡ false }
+            ((e : Deletion) → is_indexed self.now e ≡ true → is_before e d ≡ false)
+            → touches (change_of update.now) d ≡ false }
     {
         match self.first() {
             Some(first) => first.name == *update.name() && reaches(update, &first.what),
@@ -342,7 +363,8 @@ impl Deletions {
         ensures all { KnowsAll self.old entries.now → KnowsAll self.new entries.now }
         ensures fewer { Keeps self.new self.old }
         ensures first { MatchBool result (deletion_count self.new < deletion_count self.old)
-            ((deletion_count self.new ≡ deletion_count self.old) × BeginsWell self.new entries.now) }
+            ((deletion_count self.new ≡ deletion_count self.old)
+            × BeginsWell self.new entries.now) }
         ensures room { self.new.most ≡ self.old.most }
     {
         match self.known.first() {
@@ -356,7 +378,8 @@ impl Deletions {
 
     /// Throws away all that is no deletion of the entries any more. From then on it may keep twice as many as are left.
     fn sweep(&mut self, entries: &EntryMap)
-        ensures left { (d : Deletion) → is_indexed self.new d ≡ (is_indexed self.old d && has_deletion entries.now d) }
+        ensures left { (d : Deletion)
+            → is_indexed self.new d ≡ (is_indexed self.old d && has_deletion entries.now d) }
         ensures within { deletion_count self.new ≤ self.new.most }
         ensures room { self.new.most ≤ max few (2 * held_in entries.now) }
     {

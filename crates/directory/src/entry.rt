@@ -66,7 +66,12 @@ pub struct EntryCell {
 
 impl Drop for EntryCell {
     fn drop(self) {
-        let EntryCell { birth: _birth, kind: _kind, death: _death, attrs: _attrs } = self;
+        let EntryCell {
+            birth: _birth,
+            kind: _kind,
+            death: _death,
+            attrs: _attrs,
+        } = self;
     }
 }
 
@@ -108,7 +113,8 @@ impl EntryCell {
 
     /// The entry itself, if it shows.
     pub(crate) fn if_live(&self) -> Option<&EntryCell>
-        ensures { option_copied result ≡ (if is_some (shown_entry self.now) then Some self.now else None) }
+        ensures { option_copied result
+            ≡ (if is_some (shown_entry self.now) then Some self.now else None) }
     {
         if self.is_live() { Some(self) } else { None }
     }
@@ -159,7 +165,8 @@ impl EntryCell {
 
     /// The value that is present in an attribute and reads by the entry's kind, if it is the only one.
     fn only_readable(&self, attr: &[u8]) -> Option<&Value>
-        ensures { option_copied result ≡ only_one (filter (is_readable self.now.kind) (entry_values self.now attr.now)) }
+        ensures { option_copied result
+            ≡ only_one (filter (is_readable self.now.kind) (entry_values self.now attr.now)) }
     {
         match self.attrs.find(attr) {
             Some(cell) => only_readable(self.kind, cell),
@@ -175,7 +182,9 @@ impl EntryCell {
         change: &CellChange,
         stamp: Stamp,
     ) -> Result<(), AllocError>
-        ensures ok { OnOk result (IsValidEntry self.old → self.new ≡ join_entries self.old (changed_entry self.old attr.now (change_marks change.now stamp))) }
+        ensures ok { OnOk result (IsValidEntry self.old
+            → self.new ≡ join_entries self.old
+            (changed_entry self.old attr.now (change_marks change.now stamp))) }
         ensures err { OnErr result (self.new ≡ self.old) }
     {
         self.attrs.change(alloc, attr, change, stamp)?;
@@ -196,7 +205,8 @@ impl EntryCell {
         update: &OwnUpdate,
         stamp: Stamp,
     ) -> Result<(), AllocError>
-        ensures ok { OnOk result (IsValidEntry self.old → self.new ≡ join_entries self.old (own_made update.now self.old stamp)) }
+        ensures ok { OnOk result (IsValidEntry self.old
+            → self.new ≡ join_entries self.old (own_made update.now self.old stamp)) }
         ensures deletes { update.now ≡ Delete → IsOk result }
         ensures err { OnErr result (self.new ≡ self.old) }
     {
@@ -233,7 +243,8 @@ impl EntryCell {
     ) -> Result<Result<Fragment, UpdateRefusal>, AllocError>
         ensures accepts { AcceptsEntry self.old self.new update.now stamp result }
         ensures name { IfOk result (λ answer. IfOk answer (λ f. f.name ≡ name.now)) }
-        ensures entry { IfOk result (λ answer. IfOk answer (λ f. f.entry ≡ own_made update.now self.old stamp)) }
+        ensures entry { IfOk result
+            (λ answer. IfOk answer (λ f. f.entry ≡ own_made update.now self.old stamp)) }
     {
         if let Err(refusal) = self.check(update) {
             return Ok(Err(refusal));
@@ -285,7 +296,8 @@ impl EntryCell {
         stamp: Stamp,
     ) -> Result<Fragment, AllocError>
         ensures name { IfOk result (λ f. f.name ≡ name.now) }
-        ensures entry { IfOk result (λ f. f.entry ≡ changed_entry self.now attr.now (change_marks change.now stamp)) }
+        ensures entry { IfOk result
+            (λ f. f.entry ≡ changed_entry self.now attr.now (change_marks change.now stamp)) }
     {
         let cell = AttrCell::changed(alloc, change, stamp)?;
         let attrs = one_attr(alloc, attr.copy(alloc)?, cell)?;
@@ -301,7 +313,9 @@ impl EntryCell {
         attrs: AttrMap,
     ) -> Result<Fragment, AllocError>
         ensures name { IfOk result (λ f. f.name ≡ name.now) }
-        ensures entry { IfOk result (λ f. f.entry ≡ record { birth = self.now.birth; kind = self.now.kind; death = death; attrs = attrs }) }
+        ensures entry { IfOk result
+            (λ f. f.entry
+            ≡ record { birth = self.now.birth; kind = self.now.kind; death = death; attrs = attrs }) }
     {
         Ok(Fragment {
             name: name.copy(alloc)?,
@@ -316,7 +330,8 @@ impl EntryCell {
 
     /// Whether joining another entry in changes nothing. It takes no memory.
     pub(crate) fn outdates(&self, other: &EntryCell) -> bool
-        ensures { IsTrue result → IsValidEntry self.now → IsValidEntry other.now → join_entries self.now other.now ≡ self.now }
+        ensures { IsTrue result → IsValidEntry self.now → IsValidEntry other.now
+            → join_entries self.now other.now ≡ self.now }
     {
         match self.birth.cmp(&other.birth) {
             Ordering::Less => false,
@@ -328,7 +343,8 @@ impl EntryCell {
     /// The same of an entry of the same birth.
     #[tactic(auto, using(crate::proofs::EntryUnchanged::tied_unchanged))]
     fn outdates_tied(&self, other: &EntryCell) -> bool
-        ensures { IsTrue result → IsValidEntry self.now → IsValidEntry other.now → join_tied self.now other.now ≡ self.now }
+        ensures { IsTrue result → IsValidEntry self.now → IsValidEntry other.now
+            → join_tied self.now other.now ≡ self.now }
     {
         let kind = greater_kind(self.kind, other.kind);
         let death = earlier_of(self.death, other.death);
@@ -345,11 +361,13 @@ impl EntryCell {
         alloc: Global,
         other: &EntryCell,
     ) -> Result<EntryUndo, AllocError>
-        ensures ok { OnOk result (IsValidEntry self.old → IsValidEntry other.now → self.new ≡ join_entries self.old other.now) }
+        ensures ok { OnOk result (IsValidEntry self.old → IsValidEntry other.now
+            → self.new ≡ join_entries self.old other.now) }
         ensures birth { OnOk result (self.new.birth ≡ (join_entries self.old other.now).birth) }
         ensures kind { OnOk result (self.new.kind ≡ (join_entries self.old other.now).kind) }
         ensures death { OnOk result (self.new.death ≡ (join_entries self.old other.now).death) }
-        ensures whole { OnOk result (self.old.birth ≢ other.now.birth → self.new ≡ join_entries self.old other.now) }
+        ensures whole { OnOk result (self.old.birth ≢ other.now.birth
+            → self.new ≡ join_entries self.old other.now) }
         ensures stays { is_earlier other.now.birth self.old.birth ≡ true → IsOk result }
         ensures back { IfOk result (λ undo. undo_entry undo self.new ≡ self.old) }
         ensures err { OnErr result (self.new ≡ self.old) }
@@ -369,10 +387,12 @@ impl EntryCell {
 
     /// Joins an entry of the same birth in.
     fn join_tied(&mut self, alloc: Global, other: &EntryCell) -> Result<(), AllocError>
-        ensures ok { OnOk result (IsValidEntry self.old → IsValidEntry other.now → self.new ≡ join_tied self.old other.now) }
+        ensures ok { OnOk result (IsValidEntry self.old → IsValidEntry other.now
+            → self.new ≡ join_tied self.old other.now) }
         ensures birth { OnOk result (self.new.birth ≡ self.old.birth) }
         ensures kind { OnOk result (self.new.kind ≡ greater kind_cmp self.old.kind other.now.kind) }
-        ensures death { OnOk result (self.new.death ≡ maybe earlier_stamp self.old.death other.now.death) }
+        ensures death { OnOk result
+            (self.new.death ≡ maybe earlier_stamp self.old.death other.now.death) }
         ensures err { OnErr result (self.new ≡ self.old) }
     {
         self.attrs.join(alloc, &other.attrs)?;
@@ -389,10 +409,12 @@ impl EntryCell {
         alloc: Global,
         other: &EntryCell,
     ) -> Result<EntryUndo, AllocError>
-        ensures ok { OnOk result (IsValidEntry self.old → IsValidEntry other.now → self.new ≡ join_tied self.old other.now) }
+        ensures ok { OnOk result (IsValidEntry self.old → IsValidEntry other.now
+            → self.new ≡ join_tied self.old other.now) }
         ensures birth { OnOk result (self.new.birth ≡ self.old.birth) }
         ensures kind { OnOk result (self.new.kind ≡ greater kind_cmp self.old.kind other.now.kind) }
-        ensures death { OnOk result (self.new.death ≡ maybe earlier_stamp self.old.death other.now.death) }
+        ensures death { OnOk result
+            (self.new.death ≡ maybe earlier_stamp self.old.death other.now.death) }
         ensures back { IfOk result (λ undo. undo_entry undo self.new ≡ self.old) }
         ensures err { OnErr result (self.new ≡ self.old) }
     {
@@ -516,11 +538,13 @@ impl Lattice for EntryCell {
 
     // Where the other birth is earlier no memory is asked for.
     fn join(&mut self, alloc: Global, other: &Self) -> Result<(), AllocError>
-        ensures ok { OnOk result (IsValidEntry self.old → IsValidEntry other.now → self.new ≡ join_entries self.old other.now) }
+        ensures ok { OnOk result (IsValidEntry self.old → IsValidEntry other.now
+            → self.new ≡ join_entries self.old other.now) }
         ensures birth { OnOk result (self.new.birth ≡ (join_entries self.old other.now).birth) }
         ensures kind { OnOk result (self.new.kind ≡ (join_entries self.old other.now).kind) }
         ensures death { OnOk result (self.new.death ≡ (join_entries self.old other.now).death) }
-        ensures whole { OnOk result (self.old.birth ≢ other.now.birth → self.new ≡ join_entries self.old other.now) }
+        ensures whole { OnOk result (self.old.birth ≢ other.now.birth
+            → self.new ≡ join_entries self.old other.now) }
         ensures stays { is_earlier other.now.birth self.old.birth ≡ true → IsOk result }
         ensures err { OnErr result (self.new ≡ self.old) }
     {

@@ -22,7 +22,8 @@ pub(crate) fn born(
     stamp: Stamp,
 ) -> Result<Fragment, AllocError>
     ensures name { IfOk result (λ f. f.name ≡ name.now) }
-    ensures entry { IfOk result (λ f. f.entry ≡ record { birth = stamp; kind = kind; death = None; attrs = attrs }) }
+    ensures entry { IfOk result
+        (λ f. f.entry ≡ record { birth = stamp; kind = kind; death = None; attrs = attrs }) }
 {
     Ok(Fragment {
         name: name.copy(alloc)?,

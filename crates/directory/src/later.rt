@@ -23,7 +23,8 @@ pub(crate) fn take_later(
     t: Stamp,
 ) -> Result<(), AllocError>
     requires { IsValidTable other.now }
-    ensures ok { OnOk result (IsValidTable entries.old → entries.new ≡ take_table t entries.old other.now) }
+    ensures ok { OnOk result (IsValidTable entries.old
+        → entries.new ≡ take_table t entries.old other.now) }
     ensures err { OnErr result (entries.new ≡ entries.old) }
     ensures index { IsIndexed deletions.old entries.old → IsIndexed deletions.new entries.new }
 {
@@ -60,8 +61,10 @@ fn later_part(
     other: &EntryMap,
     t: Stamp,
 ) -> Result<EntryMap, AllocError>
-    ensures valid { IfOk result (λ later. IsValidTable own.now → IsValidTable other.now → IsValidTable later) }
-    ensures joined { IfOk result (λ later. IsValidTable own.now → IsValidTable other.now → join_tables own.now later ≡ take_table t own.now other.now) }
+    ensures valid { IfOk result (λ later. IsValidTable own.now → IsValidTable other.now
+        → IsValidTable later) }
+    ensures joined { IfOk result (λ later. IsValidTable own.now → IsValidTable other.now
+        → join_tables own.now later ≡ take_table t own.now other.now) }
 {
     let t = &t;
     let mut later = Vec::new(alloc);
@@ -121,12 +124,16 @@ fn put_later(
     entry: &EntryCell,
     t: Stamp,
 ) -> Result<(), AllocError>
-    ensures valid { OnOk result (map.get (insert_each later.old.items) name.now ≡ None → IsValidEntry entry.now →
+    ensures valid { OnOk result (map.get (insert_each later.old.items) name.now ≡ None
+        → IsValidEntry entry.now →
         IfSome (map.get (insert_each later.new.items) name.now) IsValidEntry) }
     ensures joined { let own = map.get own.now name.now in
-        OnOk result (map.get (insert_each later.old.items) name.now ≡ None → IfSome own IsValidEntry → IsValidEntry entry.now →
-        maybe join_entries own (map.get (insert_each later.new.items) name.now) ≡ take_entry t own (Some entry.now)) }
-    ensures others { LeavesOthers (insert_each later.old.items) (insert_each later.new.items) name.now }
+        OnOk result (map.get (insert_each later.old.items) name.now ≡ None → IfSome own IsValidEntry
+        → IsValidEntry entry.now →
+        maybe join_entries own (map.get (insert_each later.new.items) name.now)
+        ≡ take_entry t own (Some entry.now)) }
+    ensures others { LeavesOthers (insert_each later.old.items)
+        (insert_each later.new.items) name.now }
 {
     let t = &t;
     if !is_known(own.get(name), entry, *t) {
@@ -137,7 +144,8 @@ fn put_later(
 
 /// Whether nothing is taken up to t of an entry, beside the one that its name has: it is passed by, or changes nothing.
 fn is_known(own: Option<&EntryCell>, entry: &EntryCell, t: Stamp) -> bool
-    ensures known { IsTrue result → IfSome (option_copied own.entry) IsValidEntry → IsValidEntry entry.now →
+    ensures known { IsTrue result → IfSome (option_copied own.entry) IsValidEntry
+        → IsValidEntry entry.now →
         take_entry t (option_copied own.entry) (Some entry.now) ≡ option_copied own.entry }
     ensures new { result ≡ false → is_passed t (option_copied own.entry) entry.now ≡ false }
 {
@@ -163,7 +171,8 @@ fn holds(own: Option<&EntryCell>, birth: Stamp) -> bool
 
 /// Whether joining an entry into the one that a name has, if any, changes nothing.
 fn outdates(own: Option<&EntryCell>, entry: &EntryCell) -> bool
-    ensures { IsTrue result → IfSome (option_copied own.entry) IsValidEntry → IsValidEntry entry.now →
+    ensures { IsTrue result → IfSome (option_copied own.entry) IsValidEntry → IsValidEntry entry.now
+        →
         maybe join_entries (option_copied own.entry) (Some entry.now) ≡ option_copied own.entry }
 {
     match own {

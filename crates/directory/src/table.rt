@@ -42,7 +42,10 @@ pub struct Table {
 
 impl Drop for Table {
     fn drop(self) {
-        let Table { entries: _entries, deletions: _deletions } = self;
+        let Table {
+            entries: _entries,
+            deletions: _deletions,
+        } = self;
     }
 }
 
@@ -149,7 +152,9 @@ impl Table {
         name: &SimpleName,
         attr: &AttrName,
     ) -> Result<Option<Vec<Value>>, AllocError>
-        ensures values { IfOk result (λ found. option_map (λ v. v.items) found ≡ option_map (λ e. e.values attr.now) (shown_in self.now name.now)) }
+        ensures values { IfOk result
+            (λ found. option_map (λ v. v.items) found
+            ≡ option_map (λ e. e.values attr.now) (shown_in self.now name.now)) }
         ensures none { shown_in self.now name.now ≡ None → IsOk result }
     {
         match self.live(name) {
@@ -170,7 +175,9 @@ impl Table {
 impl Table {
     /// Whether an update is accepted by what shows of its name, or why not. It takes no memory.
     pub fn check(&self, update: &Update) -> Result<(), UpdateRefusal>
-        ensures { result ≡ ok_unless (refusal_of (shown_in self.now (changed_name (change_of update.now))) (change_of update.now)) tt }
+        ensures { result ≡ ok_unless
+            (refusal_of (shown_in self.now (changed_name (change_of update.now)))
+            (change_of update.now)) tt }
     {
         self.entries.check(update)
     }
@@ -182,10 +189,12 @@ impl Table {
         update: &Update,
         stamp: Stamp,
     ) -> Result<Fragment, AllocError>
-        requires { refusal_of (shown_in self.now (changed_name (change_of update.now))) (change_of update.now) ≡ None }
+        requires { refusal_of (shown_in self.now (changed_name (change_of update.now)))
+            (change_of update.now) ≡ None }
         ensures name { IfOk result (λ f. f.name ≡ changed_name (change_of update.now)) }
         ensures entry { IfOk result (λ f. let u = change_of update.now in
-            entry_of (marks_of (shown_in self.now (changed_name u)) u stamp) f.name ≡ Some f.entry) }
+            entry_of (marks_of (shown_in self.now (changed_name u)) u stamp) f.name
+            ≡ Some f.entry) }
     {
         self.entries.fragment(alloc, update, stamp)
     }
@@ -193,9 +202,11 @@ impl Table {
     /// Adds the marks of an accepted update with this stamp, in place: what joining its fragment in would do. Of a change of an
     /// attribute nothing is copied but what is new to the table.
     pub fn apply(&mut self, alloc: Global, update: &Update, stamp: Stamp) -> Result<(), AllocError>
-        requires { refusal_of (shown_in self.old (changed_name (change_of update.now))) (change_of update.now) ≡ None }
+        requires { refusal_of (shown_in self.old (changed_name (change_of update.now)))
+            (change_of update.now) ≡ None }
         ensures ok { let n = changed_name (change_of update.now) in
-            OnOk result (TakesIn self.old self.new n (marks_of (shown_in self.old n) (change_of update.now) stamp)) }
+            OnOk result (TakesIn self.old self.new n
+            (marks_of (shown_in self.old n) (change_of update.now) stamp)) }
         ensures others { LeavesOthers self.old self.new (changed_name (change_of update.now)) }
         ensures err { OnErr result (self.new ≡ self.old) }
     {
@@ -212,9 +223,13 @@ impl Table {
         stamp: Stamp,
     ) -> Result<Result<(), UpdateRefusal>, AllocError>
         ensures answer { IfOk result (λ answer.
-            answer ≡ ok_unless (refusal_of (shown_in self.old (changed_name (change_of update.now))) (change_of update.now)) tt) }
+            answer ≡ ok_unless
+            (refusal_of (shown_in self.old (changed_name (change_of update.now)))
+            (change_of update.now)) tt) }
         ensures ok { let n = changed_name (change_of update.now) in
-            IfOk result (λ answer. OnOk answer (TakesIn self.old self.new n (marks_of (shown_in self.old n) (change_of update.now) stamp))) }
+            IfOk result (λ answer. OnOk answer
+            (TakesIn self.old self.new n
+            (marks_of (shown_in self.old n) (change_of update.now) stamp))) }
         ensures others { LeavesOthers self.old self.new (changed_name (change_of update.now)) }
         ensures refused { IfOk result (λ answer. OnErr answer (self.new ≡ self.old)) }
         ensures err { OnErr result (self.new ≡ self.old) }
@@ -233,12 +248,18 @@ impl Table {
         stamp: Stamp,
     ) -> Result<Result<Fragment, UpdateRefusal>, AllocError>
         ensures answer { IfOk result (λ answer.
-            result_err answer ≡ refusal_of (shown_in self.old (changed_name (change_of update.now))) (change_of update.now)) }
+            result_err answer
+            ≡ refusal_of (shown_in self.old (changed_name (change_of update.now)))
+            (change_of update.now)) }
         ensures ok { let n = changed_name (change_of update.now) in
-            IfOk result (λ answer. OnOk answer (TakesIn self.old self.new n (marks_of (shown_in self.old n) (change_of update.now) stamp))) }
-        ensures name { IfOk result (λ answer. IfOk answer (λ f. f.name ≡ changed_name (change_of update.now))) }
+            IfOk result (λ answer. OnOk answer
+            (TakesIn self.old self.new n
+            (marks_of (shown_in self.old n) (change_of update.now) stamp))) }
+        ensures name { IfOk result
+            (λ answer. IfOk answer (λ f. f.name ≡ changed_name (change_of update.now))) }
         ensures entry { IfOk result (λ answer. IfOk answer (λ f. let u = change_of update.now in
-            entry_of (marks_of (shown_in self.old (changed_name u)) u stamp) f.name ≡ Some f.entry)) }
+            entry_of (marks_of (shown_in self.old (changed_name u)) u stamp) f.name
+            ≡ Some f.entry)) }
         ensures others { LeavesOthers self.old self.new (changed_name (change_of update.now)) }
         ensures refused { IfOk result (λ answer. OnErr answer (self.new ≡ self.old)) }
         ensures err { OnErr result (self.new ≡ self.old) }
@@ -249,9 +270,11 @@ impl Table {
     /// Joins what an update adds in, in place, with at most one insertion at each level of the entry: of one mark the cost
     /// grows with the logarithm of the number of entries, attributes and values. An entry that is not valid is left out.
     pub fn join_entry(&mut self, alloc: Global, fragment: &Fragment) -> Result<(), AllocError>
-        ensures ok { OnOk result (JoinsEntry self.old self.new fragment.now.name fragment.now.entry) }
+        ensures ok { OnOk result
+            (JoinsEntry self.old self.new fragment.now.name fragment.now.entry) }
         ensures others { OnOk result (LeavesOthers self.old self.new fragment.now.name) }
-        ensures left_out { OnOk result ((IsValidEntry fragment.now.entry → ⊥) → self.new ≡ self.old) }
+        ensures left_out { OnOk result ((IsValidEntry fragment.now.entry → ⊥)
+            → self.new ≡ self.old) }
         ensures err { OnErr result (self.new ≡ self.old) }
     {
         if !fragment.entry.is_valid() {
@@ -292,7 +315,8 @@ impl Table {
     /// looks at no entry but those.
     pub fn drop_up_to(&mut self, t: Stamp)
         ensures dropped { self.new ≡ purged_table t self.old }
-        ensures histories { (h : List Mark) (a : Option Stamp) → maybe later_stamp a (Some t) ≡ Some t →
+        ensures histories { (h : List Mark) (a : Option Stamp)
+            → maybe later_stamp a (Some t) ≡ Some t →
             self.old ≡ purged_entries h a → self.new ≡ purged_entries h (Some t) }
         ensures valid { IsValidTable self.old → IsValidTable self.new }
     {
@@ -359,9 +383,11 @@ fn apply_update(
     update: &Update,
     stamp: Stamp,
 ) -> Result<(), AllocError>
-    requires { refusal_of (shown_in entries.old (changed_name (change_of update.now))) (change_of update.now) ≡ None }
+    requires { refusal_of (shown_in entries.old (changed_name (change_of update.now)))
+        (change_of update.now) ≡ None }
     ensures ok { let n = changed_name (change_of update.now) in
-        OnOk result (TakesIn entries.old entries.new n (marks_of (shown_in entries.old n) (change_of update.now) stamp)) }
+        OnOk result (TakesIn entries.old entries.new n
+        (marks_of (shown_in entries.old n) (change_of update.now) stamp)) }
     ensures others { LeavesOthers entries.old entries.new (changed_name (change_of update.now)) }
     ensures err { OnErr result (entries.new ≡ entries.old) }
     ensures index { IsIndexed deletions.old entries.old → IsIndexed deletions.new entries.new }
@@ -417,7 +443,8 @@ fn join_fragment(
     fragment: &Fragment,
 ) -> Result<(), AllocError>
     requires { IsValidEntry fragment.now.entry }
-    ensures ok { OnOk result (JoinsEntry entries.old entries.new fragment.now.name fragment.now.entry) }
+    ensures ok { OnOk result
+        (JoinsEntry entries.old entries.new fragment.now.name fragment.now.entry) }
     ensures others { OnOk result (LeavesOthers entries.old entries.new fragment.now.name) }
     ensures err { OnErr result (entries.new ≡ entries.old) }
     ensures index { IsIndexed deletions.old entries.old → IsIndexed deletions.new entries.new }
@@ -439,7 +466,8 @@ fn join_all(
     others: &Deletions,
 ) -> Result<(), AllocError>
     requires { IsIndexed others.now other.now }
-    ensures ok { OnOk result (IsValidTable entries.old → entries.new ≡ join_tables entries.old other.now) }
+    ensures ok { OnOk result (IsValidTable entries.old
+        → entries.new ≡ join_tables entries.old other.now) }
     ensures err { OnErr result (entries.new ≡ entries.old) }
     ensures index { IsIndexed deletions.old entries.old → IsIndexed deletions.new entries.new }
 {
@@ -470,7 +498,8 @@ fn drop_first_deletion(entries: &mut EntryMap, deletions: &mut Deletions) -> u64
 
 /// Drops deletions up to t, and takes them out of the index.
 fn drop_deletions_up_to(entries: &mut EntryMap, deletions: &mut Deletions, t: Stamp)
-    ensures dropped { IsIndexed deletions.old entries.old → entries.new ≡ purged_table t entries.old }
+    ensures dropped { IsIndexed deletions.old entries.old
+        → entries.new ≡ purged_table t entries.old }
     ensures index { IsIndexed deletions.old entries.old → IsIndexed deletions.new entries.new }
 {
     let t = &t;

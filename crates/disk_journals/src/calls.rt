@@ -40,10 +40,13 @@ pub fn put(
 ) -> Result<(), Unkept>
     requires { IsOpen journal.old disk.old }
     ensures open { OnOk result (IsOpen journal.new disk.new) }
-    ensures images { OnOk result (images disk.new.octets ≡ images disk.old.octets ++ image.now ∷ []) }
-    ensures crash { HoldsEither disk.new (images disk.old.octets) (images disk.old.octets ++ image.now ∷ []) }
+    ensures images { OnOk result
+        (images disk.new.octets ≡ images disk.old.octets ++ image.now ∷ []) }
+    ensures crash { HoldsEither disk.new (images disk.old.octets)
+        (images disk.old.octets ++ image.now ∷ []) }
     ensures room { OnOk result (size_of (images disk.old.octets ++ image.now ∷ []) ≤ 2 ^ 40) }
-    ensures full { result ≡ Err why.Full → 2 ^ 40 < size_of (images disk.old.octets ++ image.now ∷ []) }
+    ensures full { result ≡ Err why.Full
+        → 2 ^ 40 < size_of (images disk.old.octets ++ image.now ∷ []) }
 {
     match journal.put(alloc, disk, image) {
         Ok(()) => Ok(()),
@@ -70,9 +73,11 @@ pub fn stopped_put(
     ensures images { OnOk result (images disk.new.octets ≡ (if stops_after call leave
         then images disk.old.octets ++ image.now ∷ [] else images disk.old.octets)) }
     ensures last { IfOk result (λ r. option_map (λ v. v.items) r.1 ≡ last_image disk.new.octets) }
-    ensures crash { HoldsEither disk.new (images disk.old.octets) (images disk.old.octets ++ image.now ∷ []) }
+    ensures crash { HoldsEither disk.new (images disk.old.octets)
+        (images disk.old.octets ++ image.now ∷ []) }
     ensures room { OnOk result (size_of (images disk.old.octets ++ image.now ∷ []) ≤ 2 ^ 40) }
-    ensures full { result ≡ Err why.Full → 2 ^ 40 < size_of (images disk.old.octets ++ image.now ∷ []) }
+    ensures full { result ≡ Err why.Full
+        → 2 ^ 40 < size_of (images disk.old.octets ++ image.now ∷ []) }
 {
     a_put_is_told_by_its_calls();
     a_stop_comes_at_its_call();

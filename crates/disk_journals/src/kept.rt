@@ -26,8 +26,10 @@ pub fn keep(
 ) -> Result<(), Unkept>
     requires { IsKept house.old disk.old }
     ensures kept { OnOk result (IsKept house.new disk.new) }
-    ensures images { OnOk result (images disk.new.octets ≡ noted_image image.items (images disk.old.octets)) }
-    ensures crash { HoldsEither disk.new (images disk.old.octets) (noted_image image.items (images disk.old.octets)) }
+    ensures images { OnOk result
+        (images disk.new.octets ≡ noted_image image.items (images disk.old.octets)) }
+    ensures crash { HoldsEither disk.new (images disk.old.octets)
+        (noted_image image.items (images disk.old.octets)) }
     ensures room { OnOk result (is_last image.items (images disk.old.octets) ≡ false
         → size_of (images disk.old.octets ++ image.items ∷ []) ≤ 2 ^ 40) }
     ensures full { result ≡ Err why.Full → (is_last image.items (images disk.old.octets) ≡ false)
@@ -46,10 +48,13 @@ pub fn keep(
 fn keep_first(alloc: Global, disk: &mut MemDisk, image: Vec<u8>) -> Result<KeptHouse, Unkept>
     requires { IsNew disk.old }
     ensures kept { IfOk result (λ k. IsKept (Some k) disk.new) }
-    ensures images { OnOk result (images disk.new.octets ≡ images disk.old.octets ++ image.items ∷ []) }
-    ensures crash { HoldsEither disk.new (images disk.old.octets) (images disk.old.octets ++ image.items ∷ []) }
+    ensures images { OnOk result
+        (images disk.new.octets ≡ images disk.old.octets ++ image.items ∷ []) }
+    ensures crash { HoldsEither disk.new (images disk.old.octets)
+        (images disk.old.octets ++ image.items ∷ []) }
     ensures room { OnOk result (size_of (images disk.old.octets ++ image.items ∷ []) ≤ 2 ^ 40) }
-    ensures full { result ≡ Err why.Full → 2 ^ 40 < size_of (images disk.old.octets ++ image.items ∷ []) }
+    ensures full { result ≡ Err why.Full
+        → 2 ^ 40 < size_of (images disk.old.octets ++ image.items ∷ []) }
 {
     let (mut journal, _) = open(alloc, disk)?;
     put(alloc, &mut journal, disk, &image)?;
@@ -65,8 +70,10 @@ fn keep_next(
 ) -> Result<(), Unkept>
     requires { IsKept (Some kept.old) disk.old }
     ensures kept { OnOk result (IsKept (Some kept.new) disk.new) }
-    ensures images { OnOk result (images disk.new.octets ≡ noted_image image.items (images disk.old.octets)) }
-    ensures crash { HoldsEither disk.new (images disk.old.octets) (noted_image image.items (images disk.old.octets)) }
+    ensures images { OnOk result
+        (images disk.new.octets ≡ noted_image image.items (images disk.old.octets)) }
+    ensures crash { HoldsEither disk.new (images disk.old.octets)
+        (noted_image image.items (images disk.old.octets)) }
     ensures room { OnOk result (is_last image.items (images disk.old.octets) ≡ false
         → size_of (images disk.old.octets ++ image.items ∷ []) ≤ 2 ^ 40) }
     ensures full { result ≡ Err why.Full → (is_last image.items (images disk.old.octets) ≡ false)

@@ -31,7 +31,8 @@ pub fn script_is_never_refused()
 /// lines gives to that question. That line is a `read` at low confidence that prefers the question's house, and the clerk kept its number.
 pub fn kept_answers_are_honest()
     ensures { (room : ℕ) (said : List Numbered) (e : Query × Kept)
-        → Contains (dialogue_state clerk_dialogue (start room) said).clerk.kept.entries e → IsHonest said e }
+        → Contains (dialogue_state clerk_dialogue (start room) said).clerk.kept.entries e
+        → IsHonest said e }
 {}
 
 /// The cell goes on as that of `run`, and each line that does not read at low confidence is answered as `run` answers it.

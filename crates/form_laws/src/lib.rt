@@ -4,4 +4,7 @@
 
 mod laws;
 
-pub use laws::{a_last_answer_completes, all_else_is_as_by_run, kept_answers_are_honest, script_is_never_refused};
+pub use laws::{
+    a_last_answer_completes, all_else_is_as_by_run, kept_answers_are_honest,
+    script_is_never_refused,
+};

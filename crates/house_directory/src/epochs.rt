@@ -79,9 +79,13 @@ impl Held {
         epoch: EpochNo,
         members: &Members,
     ) -> Result<Result<(), EpochRefusal>, AllocError>
-        ensures answer { IfOk result (λ e. result_err e ≡ epoch_fault self.old.epoch.0 epoch.0 (since_in (members_of members.now) house.0 0)) }
+        ensures answer { IfOk result
+            (λ e. result_err e
+            ≡ epoch_fault self.old.epoch.0 epoch.0 (since_in (members_of members.now) house.0 0)) }
         ensures refused { IfOk result (λ e. OnErr e (self.new ≡ self.old)) }
-        ensures entered { IfOk result (λ e. OnOk e (self.new ≡ record self.old { epoch = epoch; members = members.now; skulk = skulk.Idle })) }
+        ensures entered { IfOk result
+            (λ e. OnOk e
+            (self.new ≡ record self.old { epoch = epoch; members = members.now; skulk = skulk.Idle })) }
         ensures err { OnErr result (self.new ≡ self.old) }
     {
         let since = since_in(members, house);
@@ -112,7 +116,8 @@ pub fn post_leaves(
     epoch: EpochNo,
     leaving: &[HouseNo],
 ) -> Result<(), AllocError>
-    ensures { OnOk result (posted.new ≡ posted.old ++ posts_to (numbers_of leaving.now) (leave_of sender epoch)) }
+    ensures { OnOk result
+        (posted.new ≡ posted.old ++ posts_to (numbers_of leaving.now) (leave_of sender epoch)) }
 {
     for house in leaving {
         let message = Message {

@@ -96,7 +96,8 @@ impl Held {
         to: HouseNo,
         outgoing: &Outgoing,
     ) -> Result<PostedList, AllocError>
-        ensures { IfOk result (λ p. p ≡ posts_to (to.0 ∷ []) (message_of sender self.now outgoing.now)) }
+        ensures { IfOk result
+            (λ p. p ≡ posts_to (to.0 ∷ []) (message_of sender self.now outgoing.now)) }
     {
         let mut posted = PostedList::new(alloc);
         let message = self.message(alloc, sender, outgoing)?;
@@ -111,7 +112,9 @@ impl Held {
         sender: Sender,
         outgoing: &Outgoing,
     ) -> Result<PostedList, AllocError>
-        ensures { IfOk result (λ p. p ≡ posts_to (others_of sender.house.0 (members_of self.now.members)) (message_of sender self.now outgoing.now)) }
+        ensures { IfOk result
+            (λ p. p ≡ posts_to (others_of sender.house.0 (members_of self.now.members))
+            (message_of sender self.now outgoing.now)) }
     {
         let mut posted = PostedList::new(alloc);
         for member in self.members.list() {
@@ -170,7 +173,10 @@ impl Held {
         house: HouseNo,
         outgoing: &Outgoing,
     ) -> Result<Vec<HouseNo>, AllocError>
-        ensures houses { IfOk result (λ v. numbers_of v.items ≡ receivers_of (receiver_of outgoing.now) (others_of house.0 (members_of self.now.members))) }
+        ensures houses { IfOk result
+            (λ v. numbers_of v.items
+            ≡ receivers_of (receiver_of outgoing.now)
+            (others_of house.0 (members_of self.now.members))) }
         ensures few { IfOk result (λ v. length v.items ≤ most_members) }
     {
         match outgoing.receiver() {
@@ -181,7 +187,8 @@ impl Held {
 
     /// The members but this house.
     fn others(&self, alloc: Global, house: HouseNo) -> Result<Vec<HouseNo>, AllocError>
-        ensures houses { IfOk result (λ v. numbers_of v.items ≡ others_of house.0 (members_of self.now.members)) }
+        ensures houses { IfOk result
+            (λ v. numbers_of v.items ≡ others_of house.0 (members_of self.now.members)) }
         ensures few { IfOk result (λ v. length v.items ≤ most_members) }
     {
         let mut others = Vec::new(alloc);

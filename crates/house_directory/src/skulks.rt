@@ -46,13 +46,19 @@ impl Held {
         floor: &mut Floor,
     ) -> Turn<Result<Begun, UpdateRefusal>>
         ensures answer { result.answer
-            ≡ begun_among self.old.members (stamp_unless (not_master by.house.0 self.old) (next_stamp by.clock floor.old.time by.node)) }
-        ensures refused { OnErr result.answer ((self.new ≡ self.old) × (floor.new ≡ floor.old) × (result.outgoing ≡ None)) }
+            ≡ begun_among self.old.members
+            (stamp_unless (not_master by.house.0 self.old)
+            (next_stamp by.clock floor.old.time by.node)) }
+        ensures refused { OnErr result.answer ((self.new ≡ self.old) × (floor.new ≡ floor.old)
+            × (result.outgoing ≡ None)) }
         ensures posts { result.outgoing ≡ begun_outgoing result.answer }
-        ensures begins { IfOk result.answer (λ b. HeldBegins by.house b self.old self.new × (floor.new.time ≡ (stamp_of b).time)) }
+        ensures begins { IfOk result.answer (λ b. HeldBegins by.house b self.old self.new
+            × (floor.new.time ≡ (stamp_of b).time)) }
         ensures rises { floor.old.time ≤ floor.new.time }
-        ensures kept { IsLawfulHeld by.house.0 floor.old.time self.old → IsLawfulHeld by.house.0 floor.new.time self.new }
-        ensures step { (now : model.House) (dir : number.DirId) (r : model.Replica) → IssuesAt now by floor.old.time dir self.old r
+        ensures kept { IsLawfulHeld by.house.0 floor.old.time self.old
+            → IsLawfulHeld by.house.0 floor.new.time self.new }
+        ensures step { (now : model.House) (dir : number.DirId) (r : model.Replica)
+            → IssuesAt now by floor.old.time dir self.old r
             → HeldStep (IsBegunAnswer result.answer) (skulk_in by.house.0 now dir.0 (model.Held r))
             now by.house dir self.old self.new floor.new.time result.outgoing }
     {
@@ -70,10 +76,14 @@ impl Held {
         requires master { master_of (members_of self.old.members) ≡ by.house.0 }
         ensures answer { result.answer ≡ begun_among self.old.members (Ok t.now) }
         ensures posts { result.outgoing ≡ begun_outgoing result.answer }
-        ensures begins { IfOk result.answer (λ b. HeldBegins by.house b self.old self.new × (stamp_of b ≡ t.now)) }
-        ensures kept { IsLawfulHeld by.house.0 t.now.time self.old → IsLawfulHeld by.house.0 t.now.time self.new }
-        ensures step { (now : model.House) (dir : number.DirId) (r : model.Replica) → IssuesAt now by now.floor dir self.old r → now.floor < t.now.time
-            → HeldStep (IsBegunAnswer result.answer) (begin by.house.0 now dir.0 r t.now (others_of by.house.0 r.members))
+        ensures begins { IfOk result.answer (λ b. HeldBegins by.house b self.old self.new
+            × (stamp_of b ≡ t.now)) }
+        ensures kept { IsLawfulHeld by.house.0 t.now.time self.old
+            → IsLawfulHeld by.house.0 t.now.time self.new }
+        ensures step { (now : model.House) (dir : number.DirId) (r : model.Replica)
+            → IssuesAt now by now.floor dir self.old r → now.floor < t.now.time
+            → HeldStep (IsBegunAnswer result.answer)
+            (begin by.house.0 now dir.0 r t.now (others_of by.house.0 r.members))
             now by.house dir self.old self.new t.now.time result.outgoing }
     {
         let me = self.own_place(by.house);

@@ -26,7 +26,12 @@ pub struct Held {
 
 impl Drop for Held {
     fn drop(self) {
-        let Held { epoch: _epoch, members: _members, replica: _replica, skulk: _skulk } = self;
+        let Held {
+            epoch: _epoch,
+            members: _members,
+            replica: _replica,
+            skulk: _skulk,
+        } = self;
     }
 }
 
@@ -207,7 +212,8 @@ impl Held {
 
     /// Whether no other house is a member.
     pub(crate) fn is_alone(&self, house: HouseNo) -> bool
-        ensures { result ≡ list_all (λ (m : declared.Member). m.house.0 == house.0) self.now.members }
+        ensures { result ≡ list_all
+            (λ (m : declared.Member). m.house.0 == house.0) self.now.members }
     {
         self.members
             .list()

@@ -106,7 +106,8 @@ impl Held {
         house: HouseNo,
         message: &Message,
     ) -> Result<Turn<Taken>, AllocError>
-        ensures ok { IfOk result (λ turn. TakesHere house message.now self.old self.new turn.answer turn.outgoing) }
+        ensures ok { IfOk result
+            (λ turn. TakesHere house message.now self.old self.new turn.answer turn.outgoing) }
         ensures err { OnErr result (self.new ≡ self.old) }
     {
         if message.epoch < self.epoch {
@@ -130,7 +131,8 @@ impl Held {
         message: &Message,
     ) -> Result<Turn<Taken>, AllocError>
         requires from { place_of message.now.from.0 (members_of self.old.members) ≡ Some from }
-        ensures ok { IfOk result (λ turn. TakesOwn house from message.now.from message.now.body self.old self.new turn.answer turn.outgoing) }
+        ensures ok { IfOk result
+            (λ turn. TakesOwn house from message.now.from message.now.body self.old self.new turn.answer turn.outgoing) }
         ensures err { OnErr result (self.new ≡ self.old) }
     {
         match &message.body {
@@ -163,7 +165,8 @@ impl Held {
         delta: &Delta,
     ) -> Result<Turn<Taken>, AllocError>
         requires from { from < length self.old.members }
-        ensures ok { IfOk result (λ turn. TakesFirst house from t.now delta.now self.old self.new turn.answer turn.outgoing) }
+        ensures ok { IfOk result
+            (λ turn. TakesFirst house from t.now delta.now self.old self.new turn.answer turn.outgoing) }
         ensures err { OnErr result (self.new ≡ self.old) }
     {
         let me = self.own_place(house);

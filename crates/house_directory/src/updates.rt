@@ -57,16 +57,24 @@ impl Held {
         update: &Update,
     ) -> Result<Turn<Result<Stamp, UpdateRefusal>>, AllocError>
         ensures answer { IfOk result (λ turn. turn.answer
-            ≡ stamp_unless (held_refusal by.house.0 (change_of update.now) self.old) (next_stamp by.clock floor.old.time by.node)) }
-        ensures refused { IfOk result (λ turn. OnErr turn.answer ((self.new ≡ self.old) × (floor.new ≡ floor.old) × (turn.outgoing ≡ None))) }
+            ≡ stamp_unless (held_refusal by.house.0 (change_of update.now) self.old)
+            (next_stamp by.clock floor.old.time by.node)) }
+        ensures refused { IfOk result
+            (λ turn. OnErr turn.answer ((self.new ≡ self.old) × (floor.new ≡ floor.old)
+            × (turn.outgoing ≡ None))) }
         ensures takes { IfOk result (λ turn. IfOk turn.answer (λ s.
-            HeldTakes by.house (change_of update.now) s self.old self.new turn.outgoing × (floor.new.time ≡ s.time))) }
+            HeldTakes by.house (change_of update.now) s self.old self.new turn.outgoing
+            × (floor.new.time ≡ s.time))) }
         ensures rises { floor.old.time ≤ floor.new.time }
-        ensures kept { OnOk result (IsLawfulHeld by.house.0 floor.old.time self.old → IsLawfulHeld by.house.0 floor.new.time self.new) }
+        ensures kept { OnOk result (IsLawfulHeld by.house.0 floor.old.time self.old
+            → IsLawfulHeld by.house.0 floor.new.time self.new) }
         ensures err { OnErr result (self.new ≡ self.old) }
         ensures err_floor { OnErr result (floor.new ≡ floor.old) }
-        ensures step { (now : model.House) (dir : number.DirId) (r : model.Replica) → IssuesAt now by floor.old.time dir self.old r
-            → IfOk result (λ turn. HeldStep (IsStampAnswer turn.answer) (accept_in by.house.0 now dir.0 (change_of update.now) (model.Held r))
+        ensures step { (now : model.House) (dir : number.DirId) (r : model.Replica)
+            → IssuesAt now by floor.old.time dir self.old r
+            → IfOk result
+            (λ turn. HeldStep (IsStampAnswer turn.answer)
+            (accept_in by.house.0 now dir.0 (change_of update.now) (model.Held r))
             now by.house dir self.old self.new floor.new.time turn.outgoing) }
     {
         if !self.accepts_from(by.house) {
@@ -99,12 +107,20 @@ impl Held {
         update: &Update,
     ) -> Result<Result<Option<Outgoing>, UpdateRefusal>, AllocError>
         ensures refusal { IfOk result (λ answer.
-            result_err answer ≡ refusal_of (shown_in self.old.replica.table (changed_name (change_of update.now))) (change_of update.now)) }
-        ensures takes { IfOk result (λ answer. IfOk answer (λ o. HeldTakes house (change_of update.now) stamp.now self.old self.new o)) }
-        ensures adds { (r : model.Replica) (floor : ℕ) → StandsHeld house.0 floor self.old r → floor < stamp.now.time
-            → IfOk result (λ answer. IfOk answer (λ o. AddsMarks house.0 r (change_of update.now) stamp.now self.new o)) }
+            result_err answer
+            ≡ refusal_of (shown_in self.old.replica.table (changed_name (change_of update.now)))
+            (change_of update.now)) }
+        ensures takes { IfOk result
+            (λ answer. IfOk answer
+            (λ o. HeldTakes house (change_of update.now) stamp.now self.old self.new o)) }
+        ensures adds { (r : model.Replica) (floor : ℕ) → StandsHeld house.0 floor self.old r
+            → floor < stamp.now.time
+            → IfOk result
+            (λ answer. IfOk answer
+            (λ o. AddsMarks house.0 r (change_of update.now) stamp.now self.new o)) }
         ensures kept { IfOk result (λ answer. OnOk answer
-            ((me floor : ℕ) → IsLawfulHeld me floor self.old → floor < stamp.now.time → IsLawfulHeld me stamp.now.time self.new)) }
+            ((me floor : ℕ) → IsLawfulHeld me floor self.old → floor < stamp.now.time
+            → IsLawfulHeld me stamp.now.time self.new)) }
         ensures refused { IfOk result (λ answer. OnErr answer (self.new ≡ self.old)) }
         ensures err { OnErr result (self.new ≡ self.old) }
     {

@@ -8,7 +8,8 @@ use cds_stamps::Stamp;
 
 /// Whether an attribute answers for this value, present at the stamp; none does not.
 pub(crate) fn is_answered(cell: Option<&AttrCell>, value: &Value, stamp: Stamp) -> bool
-    ensures { result ≡ option_map_or (answers_cell value.now stamp) (option_copied cell.entry) false }
+    ensures { result ≡ option_map_or (answers_cell value.now stamp)
+        (option_copied cell.entry) false }
 {
     match cell {
         Some(cell) => answers_value(cell, value, stamp),

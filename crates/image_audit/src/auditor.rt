@@ -52,8 +52,12 @@ fn tell(
     one: &Option<OpenFact<'_>>,
     two: &Option<OpenFact<'_>>,
 ) -> Result<Verdict, AllocError>
-    ensures verdict { IfOk result (λ v. v ≡ tell_verdict t (first_of (option_map fact_of one.now) (option_map fact_of two.now))) }
-    ensures no_memory { is_differ (tell_verdict t (first_of (option_map fact_of one.now) (option_map fact_of two.now))) ≡ false → IsOk result }
+    ensures verdict { IfOk result
+        (λ v. v ≡ tell_verdict t
+        (first_of (option_map fact_of one.now) (option_map fact_of two.now))) }
+    ensures no_memory { is_differ (tell_verdict t
+        (first_of (option_map fact_of one.now) (option_map fact_of two.now))) ≡ false
+        → IsOk result }
 {
     match (one, two) {
         (Some(one), Some(two)) if two.is_before(one) => differ(alloc, 2, two),

@@ -17,18 +17,23 @@ ghost use Rattle.image_audit.specs.LawWords.{HasReplica, HoldsUpTo, OpenIn, IsFi
 pub fn agreeing_replicas_are_never_told_to_differ()
     ensures { (first second : Image) (dir : DirId) (h g : List Mark) (a b : Option Stamp) →
         HasReplica first dir h a → HasReplica second dir g b → IsHistory h → IsHistory g →
-        SameMarks (up_to h (smaller a b)) (up_to g (smaller a b)) → verdict first second dir ≡ Agree (smaller a b) }
+        SameMarks (up_to h (smaller a b)) (up_to g (smaller a b))
+        → verdict first second dir ≡ Agree (smaller a b) }
 {}
 
 /// Where images with replicas of one AllUpTo are told to agree, each has each fact of the other up to it, or something in its place, and
 /// all that is in its place is later than that. Where the two AllUpTo differ, nothing is said of what the smaller side has alone.
 pub fn replicas_that_agree_hold_each_fact()
     ensures first { (first second : Image) (dir : DirId) (h g : List Mark) (t : Stamp) →
-        HasReplica first dir h (Some t) → HasReplica second dir g (Some t) → verdict first second dir ≡ Agree (Some t) →
-        (f : Fact) → Contains (facts (Some t) (purged_entries h (Some t))) f → HoldsUpTo t (purged_entries g (Some t)) f }
+        HasReplica first dir h (Some t) → HasReplica second dir g (Some t)
+        → verdict first second dir ≡ Agree (Some t) →
+        (f : Fact) → Contains (facts (Some t) (purged_entries h (Some t))) f
+        → HoldsUpTo t (purged_entries g (Some t)) f }
     ensures second { (first second : Image) (dir : DirId) (h g : List Mark) (t : Stamp) →
-        HasReplica first dir h (Some t) → HasReplica second dir g (Some t) → verdict first second dir ≡ Agree (Some t) →
-        (f : Fact) → Contains (facts (Some t) (purged_entries g (Some t))) f → HoldsUpTo t (purged_entries h (Some t)) f }
+        HasReplica first dir h (Some t) → HasReplica second dir g (Some t)
+        → verdict first second dir ≡ Agree (Some t) →
+        (f : Fact) → Contains (facts (Some t) (purged_entries g (Some t))) f
+        → HoldsUpTo t (purged_entries h (Some t)) f }
 {}
 
 /// Of two replicas that are told to differ the fact that is told is open, and comes before every other open one: by name, the birth before
@@ -36,8 +41,10 @@ pub fn replicas_that_agree_hold_each_fact()
 pub fn the_first_open_fact_is_told()
     ensures differ { (first second : Image) (dir : DirId) (one two : Replica) →
         replica_in first dir ≡ Some one → replica_in second dir ≡ Some two →
-        (image : ℕ) (f : Fact) → verdict first second dir ≡ Differ image f → IsFirstOpen one two image f }
+        (image : ℕ) (f : Fact) → verdict first second dir ≡ Differ image f
+        → IsFirstOpen one two image f }
     ensures agree { (first second : Image) (dir : DirId) (one two : Replica) →
         replica_in first dir ≡ Some one → replica_in second dir ≡ Some two →
-        (t : Option Stamp) → verdict first second dir ≡ Agree t → (image : ℕ) (f : Fact) → OpenIn one two image f → ⊥ }
+        (t : Option Stamp) → verdict first second dir ≡ Agree t → (image : ℕ) (f : Fact)
+        → OpenIn one two image f → ⊥ }
 {}

@@ -30,7 +30,8 @@ fn open_value<'a>(
     other: Option<&AttrCell>,
 ) -> Option<OpenFact<'a>>
     ensures { option_map fact_of result
-        ≡ open_value t at.now.name.now at.now.birth at.now.attr.now (option_copied other.entry) (value.now, mark.now) }
+        ≡ open_value t at.now.name.now at.now.birth at.now.attr.now (option_copied other.entry)
+        (value.now, mark.now) }
 {
     if mark.present && mark.stamp <= t && !is_answered(other, value, mark.stamp) {
         Some(OpenFact::Value(at.name, at.birth, at.attr, value, mark.stamp))
@@ -47,7 +48,9 @@ fn first_value<'a>(
     other: Option<&AttrCell>,
 ) -> Option<OpenFact<'a>>
     ensures { option_map fact_of result
-        ≡ first_some (open_value t at.now.name.now at.now.birth at.now.attr.now (option_copied other.entry)) (map.entries cell.now.values) }
+        ≡ first_some
+        (open_value t at.now.name.now at.now.birth at.now.attr.now (option_copied other.entry))
+        (map.entries cell.now.values) }
 {
     let t = &t;
     for (value, mark) in cell.values.iter() {
@@ -67,7 +70,8 @@ fn first_attr<'a>(
     same: Option<&EntryCell>,
 ) -> Option<OpenFact<'a>>
     ensures { option_map fact_of result
-        ≡ first_some (open_attr t name.now entry.now.birth (option_copied same.entry)) (map.entries entry.now.attrs) }
+        ≡ first_some (open_attr t name.now entry.now.birth (option_copied same.entry))
+        (map.entries entry.now.attrs) }
 {
     let t = &t;
     for (attr, cell) in entry.attrs.iter() {
@@ -86,7 +90,8 @@ fn first_attr<'a>(
 
 // The attribute of an entry, if there is one.
 fn attr_of<'a>(entry: Option<&'a EntryCell>, attr: &AttrName) -> Option<&'a AttrCell>
-    ensures { option_copied result ≡ option_and_then (λ o. map.get o.attrs attr.now) (option_copied entry.entry) }
+    ensures { option_copied result
+        ≡ option_and_then (λ o. map.get o.attrs attr.now) (option_copied entry.entry) }
 {
     entry?.attrs.get(attr)
 }
@@ -98,7 +103,8 @@ fn open_birth<'a>(
     entry: &EntryCell,
     same: Option<&EntryCell>,
 ) -> Option<OpenFact<'a>>
-    ensures { option_map fact_of result ≡ open_birth t name.now entry.now (option_copied same.entry) }
+    ensures { option_map fact_of result
+        ≡ open_birth t name.now entry.now (option_copied same.entry) }
 {
     match same {
         Some(other) if other.kind == entry.kind => None,
@@ -114,7 +120,8 @@ fn open_beside<'a>(
     entry: &'a EntryCell,
     same: Option<&EntryCell>,
 ) -> Option<OpenFact<'a>>
-    ensures { option_map fact_of result ≡ open_beside t name.now entry.now (option_copied same.entry) }
+    ensures { option_map fact_of result
+        ≡ open_beside t name.now entry.now (option_copied same.entry) }
 {
     let t = &t;
     match open_birth(*t, name, entry, same) {
@@ -130,7 +137,8 @@ fn open_entry<'a>(
     entry: &'a EntryCell,
     other: Option<&EntryCell>,
 ) -> Option<OpenFact<'a>>
-    ensures { option_map fact_of result ≡ open_entry t name.now entry.now (option_copied other.entry) }
+    ensures { option_map fact_of result
+        ≡ open_entry t name.now entry.now (option_copied other.entry) }
 {
     match other {
         Some(other) if entry.birth < other.birth => None,

@@ -73,7 +73,8 @@ pub(crate) fn elements(
     inquiry: &Inquiry,
 ) -> Result<InquireAnswer, AllocError>
     ensures { (g : model.Cell) → Stands cell.now g → IfOk result (λ a. inquired_answer a
-        ≡ asked_at g house.0 (elements_listed (cell_reader g (Some house.0) high) inquiry.now name.now)) }
+        ≡ asked_at g house.0
+        (elements_listed (cell_reader g (Some house.0) high) inquiry.now name.now)) }
 {
     cells_tell_the_model();
     if cell.has_house(house) {
@@ -96,7 +97,8 @@ pub(crate) fn batches(
 ) -> Result<InquireAnswer, AllocError>
     requires { 1 ≤ most }
     ensures { (g : model.Cell) → Stands cell.now g → IfOk result (λ a. inquired_answer a
-        ≡ asked_at g house.0 (batches_listed (cell_reader g (Some house.0) high) (objects_of g) wanted most name.now)) }
+        ≡ asked_at g house.0
+        (batches_listed (cell_reader g (Some house.0) high) (objects_of g) wanted most name.now)) }
 {
     cells_tell_the_model();
     if cell.has_house(house) {

@@ -11,6 +11,8 @@ ghost use Rattle.inquire_replay.specs.Inquiring.{inquire_dialogue, plain_lines};
 
 /// A line of a script says the same where lines may inquire, and each script is answered as it is by `run`.
 pub fn scripts_are_answered_as_before()
-    ensures lines { (words : List (List ℕ)) (l : ScriptLine) → said_in words ≡ Ok (Some l) → inquired_in words ≡ Ok (Some (line.Plain l)) }
-    ensures answers { (g : Cell) (said : List Numbered) → transcript_by inquire_dialogue g (plain_lines said) ≡ transcript g said }
+    ensures lines { (words : List (List ℕ)) (l : ScriptLine) → said_in words ≡ Ok (Some l)
+        → inquired_in words ≡ Ok (Some (line.Plain l)) }
+    ensures answers { (g : Cell) (said : List Numbered)
+        → transcript_by inquire_dialogue g (plain_lines said) ≡ transcript g said }
 {}

@@ -13,11 +13,11 @@ ghost use Rattle.inquire_replay.specs.PrivateInquiring.{IsReply};
 
 use crate::inquiries::{batches, elements, entry, members};
 use cds_stamps::AllocOr;
-use script_replay::Replayer;
+use reply_buffer::{LineEnd, Waiting, reply_to_fault};
 use script_forms::{InquireAnswer, InquireLine, parse_inquire_line, print_inquire_answer};
+use script_replay::Replayer;
 use server_entries::Wanted;
 use std::alloc::{AllocError, Global};
-use reply_buffer::{LineEnd, Waiting, reply_to_fault};
 
 /// Replays a line, or answers its inquiry: the reply waits behind the others.
 pub fn replay_inquiry(
@@ -30,7 +30,9 @@ pub fn replay_inquiry(
     requires fewer { replayer.old.steps < number }
     requires most { number ≤ MOST_LINES }
     ensures reply { (g : model.Cell) → Stands replayer.old.cell g
-        → Replays result (reply_of inquire_dialogue number g (inquired_in (words_of line.now))) waiting.old waiting.new replayer.new }
+        → Replays result
+        (reply_of inquire_dialogue number g
+        (inquired_in (words_of line.now))) waiting.old waiting.new replayer.new }
     ensures steps { replayer.new.steps ≤ number }
 {
     match parse_inquire_line(alloc, line) {
@@ -51,7 +53,8 @@ fn reply_to_line(
     requires few { replayer.old.steps < MOST_LINES }
     requires some { WantsSome line }
     ensures reply { (g : model.Cell) → Stands replayer.old.cell g
-        → Replays result (reply_of inquire_dialogue number g (Ok (Some line))) waiting.old waiting.new replayer.new }
+        → Replays result
+        (reply_of inquire_dialogue number g (Ok (Some line))) waiting.old waiting.new replayer.new }
     ensures steps { replayer.new.steps ≤ replayer.old.steps + 1 }
 {
     match answer(alloc, replayer, number, line, waiting) {
@@ -71,7 +74,8 @@ fn answer(
     requires few { replayer.old.steps < MOST_LINES }
     requires some { WantsSome line }
     ensures ok { (g : model.Cell) → Stands replayer.old.cell g
-        → OnOk result ((waiting.new ≡ waiting.old ++ reply_text number g line) × Stands replayer.new.cell (cell_after_inquiry g line)) }
+        → OnOk result ((waiting.new ≡ waiting.old ++ reply_text number g line)
+        × Stands replayer.new.cell (cell_after_inquiry g line)) }
     ensures err { OnErr result (waiting.new ≡ waiting.old) }
     ensures steps { replayer.new.steps ≤ replayer.old.steps + 1 }
 {
@@ -88,7 +92,8 @@ fn reply(
 ) -> Result<InquireAnswer, AllocError>
     requires few { replayer.old.steps < MOST_LINES }
     requires some { WantsSome line }
-    ensures reply { (g : model.Cell) → Stands replayer.old.cell g → IfOk result (λ a. IsReply a replayer.new.cell g line) }
+    ensures reply { (g : model.Cell) → Stands replayer.old.cell g
+        → IfOk result (λ a. IsReply a replayer.new.cell g line) }
     ensures steps { replayer.new.steps ≤ replayer.old.steps + 1 }
 {
     match line {

@@ -19,7 +19,8 @@ pub(crate) fn image_of(
     cell: &Cell,
     house: HouseNo,
 ) -> Result<Option<Vec<u8>>, AllocError>
-    ensures { (g : model.Cell) → Stands cell.now g → IfOk result (λ o. option_map (λ v. v.items) o ≡ image_in g house.0) }
+    ensures { (g : model.Cell) → Stands cell.now g
+        → IfOk result (λ o. option_map (λ v. v.items) o ≡ image_in g house.0) }
 {
     match cell.house(house) {
         Some(HouseState::Up(home)) => Ok(Some(home.image(alloc)?)),
@@ -30,7 +31,8 @@ pub(crate) fn image_of(
 
 /// The houses that act in a command: none, one or two, in the order in which they do.
 pub(crate) fn actors_of(cell: &Cell, command: &Command) -> (Option<HouseNo>, Option<HouseNo>)
-    ensures { (g : model.Cell) → Stands cell.now g → acts result.0 ++ acts result.1 ≡ actors g (step_of command.now) }
+    ensures { (g : model.Cell) → Stands cell.now g
+        → acts result.0 ++ acts result.1 ≡ actors g (step_of command.now) }
 {
     match command {
         Command::House(house, _)

@@ -7,11 +7,11 @@ ghost use Rattle.journal_replay.specs.KeptProofs.{kept_prop};
 
 use crate::keeper::Keeper;
 use cds_stamps::AllocOr;
-use house_journal::MemDisk;
 use disk_journals::Unkept;
+use house_journal::MemDisk;
+use reply_buffer::{LineEnd, Waiting, reply_to_fault};
 use script_forms::{JournalAnswer, JournalLine, parse_journal_line, print_journal_answer};
 use std::alloc::{AllocError, Global};
-use reply_buffer::{LineEnd, Waiting, reply_to_fault};
 
 /// A cell, the journals of its houses, and their disks: that of house H at place H - 1.
 #[derive(Drop)]
@@ -74,8 +74,10 @@ impl Journals {
         requires fewer { self.old.keeper.replayer.steps < number }
         requires most { number ≤ MOST_LINES }
         ensures reply { (s : JournaledCell) → StandsJournals self.old s
-            → Ends result (journal_response number s line.now) waiting.old waiting.new (StandsJournals self.new) }
-        ensures disks { (s : JournaledCell) → StandsJournals self.old s → LeavesDisks result s (said_in (words_of line.now)) self.new }
+            → Ends result (journal_response number s line.now) waiting.old waiting.new
+            (StandsJournals self.new) }
+        ensures disks { (s : JournaledCell) → StandsJournals self.old s
+            → LeavesDisks result s (said_in (words_of line.now)) self.new }
         ensures steps { self.new.keeper.replayer.steps ≤ number }
     {
         if self.spent {
@@ -100,8 +102,10 @@ impl Journals {
         requires few { self.old.keeper.replayer.steps < MOST_LINES }
         requires numbers { HasNumbers line }
         ensures reply { (s : JournaledCell) → StandsJournals self.old s
-            → Ends result (response_to number s (Ok (Some line))) waiting.old waiting.new (StandsJournals self.new) }
-        ensures disks { (s : JournaledCell) → StandsJournals self.old s → LeavesDisks result s (Ok (Some line)) self.new }
+            → Ends result (response_to number s (Ok (Some line))) waiting.old waiting.new
+            (StandsJournals self.new) }
+        ensures disks { (s : JournaledCell) → StandsJournals self.old s
+            → LeavesDisks result s (Ok (Some line)) self.new }
         ensures steps { self.new.keeper.replayer.steps ≤ self.old.keeper.replayer.steps + 1 }
     {
         match self.answer(alloc, number, line, waiting) {
@@ -122,8 +126,10 @@ impl Journals {
         requires ready { self.old.spent ≡ false }
         requires few { self.old.keeper.replayer.steps < MOST_LINES }
         requires numbers { HasNumbers line }
-        ensures ok { (s : JournaledCell) → StandsJournals self.old s → OnOk result ((waiting.new ≡ waiting.old ++ reply_text number s line)
-            × StandsJournals self.new (state_after s line) × (lacks_room s.lists (puts_in s line) ≡ false)) }
+        ensures ok { (s : JournaledCell) → StandsJournals self.old s
+            → OnOk result ((waiting.new ≡ waiting.old ++ reply_text number s line)
+            × StandsJournals self.new (state_after s line)
+            × (lacks_room s.lists (puts_in s line) ≡ false)) }
         ensures given_up { (s : JournaledCell) → StandsJournals self.old s
             → IfErr result (λ e. GivesUp e self.new.keeper.disks.items s.lists (puts_in s line)) }
         ensures err { OnErr result (waiting.new ≡ waiting.old) }

@@ -21,11 +21,11 @@ use crate::images::{actors_of, image_of};
 use cds_cell::laws::images_stay;
 use cds_stamps::HouseNo;
 use cell_script::{Command, Octets, Question, ScriptLine};
-use house_journal::MemDisk;
 use disk_journals::{KeptHouse, Unkept, keep, open};
-use script_replay::{Replayer, Reply, reply_to_question};
+use house_journal::MemDisk;
 use script_answers::{Answer, ScriptRefusal};
 use script_forms::{JournalAnswer, JournalLine};
+use script_replay::{Replayer, Reply, reply_to_question};
 use std::alloc::{AllocError, Global};
 use std::mem;
 
@@ -93,7 +93,8 @@ impl Keeper {
         requires few { self.old.replayer.steps < MOST_LINES }
         requires numbers { HasNumbers line }
         requires kept { AreKept self.old.houses.items self.old.disks.items }
-        ensures reply { (s : JournaledCell) → StandsKeeper self.old s → Replies result self.new s line }
+        ensures reply { (s : JournaledCell) → StandsKeeper self.old s
+            → Replies result self.new s line }
         ensures kept { OnOk result (AreKept self.new.houses.items self.new.disks.items) }
         ensures steps { self.new.replayer.steps ≤ self.old.replayer.steps + 1 }
     {
@@ -113,7 +114,8 @@ impl Keeper {
     fn reply_plain(&mut self, alloc: Global, line: ScriptLine) -> Result<Answer, Unkept>
         requires few { self.old.replayer.steps < MOST_LINES }
         requires kept { AreKept self.old.houses.items self.old.disks.items }
-        ensures does { (s : JournaledCell) → StandsKeeper self.old s → Does result self.new s (said_of s.cell line) }
+        ensures does { (s : JournaledCell) → StandsKeeper self.old s
+            → Does result self.new s (said_of s.cell line) }
         ensures kept { OnOk result (AreKept self.new.houses.items self.new.disks.items) }
         ensures steps { self.new.replayer.steps ≤ self.old.replayer.steps + 1 }
     {
@@ -128,7 +130,8 @@ impl Keeper {
     pub(crate) fn step(&mut self, alloc: Global, command: Command) -> Result<Answer, Unkept>
         requires few { self.old.replayer.steps < MOST_LINES }
         requires kept { AreKept self.old.houses.items self.old.disks.items }
-        ensures does { (s : JournaledCell) → StandsKeeper self.old s → Does result self.new s (said_of s.cell (script.Cell command)) }
+        ensures does { (s : JournaledCell) → StandsKeeper self.old s
+            → Does result self.new s (said_of s.cell (script.Cell command)) }
         ensures kept { OnOk result (AreKept self.new.houses.items self.new.disks.items) }
         ensures steps { self.new.replayer.steps ≤ self.old.replayer.steps + 1 }
     {
@@ -143,7 +146,8 @@ impl Keeper {
     fn ask(&mut self, alloc: Global, question: &Question) -> Result<Answer, Unkept>
         requires few { self.old.replayer.steps < MOST_LINES }
         requires kept { AreKept self.old.houses.items self.old.disks.items }
-        ensures does { (s : JournaledCell) → StandsKeeper self.old s → Does result self.new s (question_said s.cell question.now) }
+        ensures does { (s : JournaledCell) → StandsKeeper self.old s
+            → Does result self.new s (question_said s.cell question.now) }
         ensures kept { OnOk result (AreKept self.new.houses.items self.new.disks.items) }
         ensures steps { self.new.replayer.steps ≤ self.old.replayer.steps + 1 }
     {
@@ -168,8 +172,10 @@ impl Keeper {
         requires kept { AreKept self.old.houses.items self.old.disks.items }
         ensures same { self.new.replayer ≡ self.old.replayer }
         ensures kept { OnOk result (AreKept self.new.houses.items self.new.disks.items) }
-        ensures puts { (g : model.Cell) (lists : Lists) → Stands self.old.replayer.cell g → HoldAll self.old.disks.items lists
-            → PutsAll result self.new.disks.items lists (puts_of g (acts first ++ acts second) lists) }
+        ensures puts { (g : model.Cell) (lists : Lists) → Stands self.old.replayer.cell g
+            → HoldAll self.old.disks.items lists
+            → PutsAll result self.new.disks.items lists
+            (puts_of g (acts first ++ acts second) lists) }
     {
         self.keep_one(alloc, first)?;
         self.keep_one(alloc, second)
@@ -180,7 +186,8 @@ impl Keeper {
         requires kept { AreKept self.old.houses.items self.old.disks.items }
         ensures same { self.new.replayer ≡ self.old.replayer }
         ensures kept { OnOk result (AreKept self.new.houses.items self.new.disks.items) }
-        ensures puts { (g : model.Cell) (lists : Lists) → Stands self.old.replayer.cell g → HoldAll self.old.disks.items lists
+        ensures puts { (g : model.Cell) (lists : Lists) → Stands self.old.replayer.cell g
+            → HoldAll self.old.disks.items lists
             → PutsAll result self.new.disks.items lists (puts_of g (acts house) lists) }
     {
         let Some(house) = house else {
@@ -199,8 +206,10 @@ impl Keeper {
     fn reopened(&mut self, alloc: Global, house: HouseNo) -> Result<Option<Vec<u8>>, Unkept>
         requires kept { AreKept self.old.houses.items self.old.disks.items }
         ensures same { self.new.replayer ≡ self.old.replayer }
-        ensures given { (s : JournaledCell) → StandsKeeper self.old s → IfOk result (λ o. IsGiven (option_map (λ v. v.items) o) s.cell house.0) }
-        ensures disks { (lists : Lists) → HoldAll self.old.disks.items lists → HoldAll self.new.disks.items lists }
+        ensures given { (s : JournaledCell) → StandsKeeper self.old s
+            → IfOk result (λ o. IsGiven (option_map (λ v. v.items) o) s.cell house.0) }
+        ensures disks { (lists : Lists) → HoldAll self.old.disks.items lists
+            → HoldAll self.new.disks.items lists }
         ensures kept { OnOk result (AreKept self.new.houses.items self.new.disks.items) }
         ensures memory { result ≢ Err why.Full }
     {
@@ -223,8 +232,10 @@ impl Keeper {
         requires kept { AreKept self.old.houses.items self.old.disks.items }
         ensures same { self.new.replayer ≡ self.old.replayer }
         ensures answer { (s : JournaledCell) → StandsKeeper self.old s
-            → IfOk result (λ a. a ≡ asked_of s.cell house.0 (answer.Octets (octets_at s.cell house.0))) }
-        ensures disks { (lists : Lists) → HoldAll self.old.disks.items lists → HoldAll self.new.disks.items lists }
+            → IfOk result
+            (λ a. a ≡ asked_of s.cell house.0 (answer.Octets (octets_at s.cell house.0))) }
+        ensures disks { (lists : Lists) → HoldAll self.old.disks.items lists
+            → HoldAll self.new.disks.items lists }
         ensures kept { OnOk result (AreKept self.new.houses.items self.new.disks.items) }
         ensures memory { result ≢ Err why.Full }
     {
@@ -238,7 +249,8 @@ impl Keeper {
     fn start(&mut self, alloc: Global, house: HouseNo) -> Result<Answer, Unkept>
         requires few { self.old.replayer.steps < MOST_LINES }
         requires kept { AreKept self.old.houses.items self.old.disks.items }
-        ensures does { (s : JournaledCell) → StandsKeeper self.old s → Does result self.new s (said_of s.cell (script.Cell (command.Start house))) }
+        ensures does { (s : JournaledCell) → StandsKeeper self.old s
+            → Does result self.new s (said_of s.cell (script.Cell (command.Start house))) }
         ensures kept { OnOk result (AreKept self.new.houses.items self.new.disks.items) }
         ensures steps { self.new.replayer.steps ≤ self.old.replayer.steps + 1 }
     {

@@ -22,8 +22,8 @@ use crate::stops::{acts_alone, lacks_message};
 use cds_cell::laws::images_stay;
 use cds_stamps::HouseNo;
 use cell_script::Command;
-use house_journal::{Leave, MemDisk};
 use disk_journals::{KeptHouse, Unkept, stopped_put};
+use house_journal::{Leave, MemDisk};
 use script_answers::{Answer, ScriptRefusal};
 use script_forms::JournalAnswer;
 use std::alloc::{AllocError, Global};
@@ -38,7 +38,8 @@ enum Stopping {
 
 // Whether a journal gives this image.
 fn gives(given: Option<&Vec<u8>>, image: &[u8]) -> bool
-    ensures { result ≡ option_map_or (bytes_eq image.now) (option_map (λ v. v.items) (option_copied given.entry)) false }
+    ensures { result ≡ option_map_or (bytes_eq image.now)
+        (option_map (λ v. v.items) (option_copied given.entry)) false }
 {
     match given {
         Some(given) => image == given.as_slice(),
@@ -62,12 +63,15 @@ fn stop_kept(
     requires first { 1 ≤ call }
     requires last { call ≤ 4 }
     ensures kept { OnOk result (IsKept (Some kept.new) disk.new) }
-    ensures word { is_last image.items (images disk.old.octets) ≡ false → IfOk result (λ after. after ≡ stops_after call leave) }
+    ensures word { is_last image.items (images disk.old.octets) ≡ false
+        → IfOk result (λ after. after ≡ stops_after call leave) }
     ensures images { OnOk result (images disk.new.octets ≡ (if stops_after call leave
         then images disk.old.octets ++ image.items ∷ [] else images disk.old.octets)) }
-    ensures crash { HoldsEither disk.new (images disk.old.octets) (images disk.old.octets ++ image.items ∷ []) }
+    ensures crash { HoldsEither disk.new (images disk.old.octets)
+        (images disk.old.octets ++ image.items ∷ []) }
     ensures room { OnOk result (size_of (images disk.old.octets ++ image.items ∷ []) ≤ 2 ^ 40) }
-    ensures full { result ≡ Err why.Full → 2 ^ 40 < size_of (images disk.old.octets ++ image.items ∷ []) }
+    ensures full { result ≡ Err why.Full
+        → 2 ^ 40 < size_of (images disk.old.octets ++ image.items ∷ []) }
 {
     let (journal, given) = stopped_put(alloc, &mut kept.journal, disk, &image, call, leave)?;
     kept.journal = journal;
@@ -93,7 +97,8 @@ impl Keeper {
         requires first { 1 ≤ call }
         requires last { call ≤ 4 }
         requires kept { AreKept self.old.houses.items self.old.disks.items }
-        ensures reply { (s : JournaledCell) → StandsKeeper self.old s → Replies result self.new s (line.Stop house call leave command) }
+        ensures reply { (s : JournaledCell) → StandsKeeper self.old s
+            → Replies result self.new s (line.Stop house call leave command) }
         ensures kept { OnOk result (AreKept self.new.houses.items self.new.disks.items) }
         ensures steps { self.new.replayer.steps ≤ self.old.replayer.steps + 1 }
     {
@@ -119,7 +124,8 @@ impl Keeper {
         command: &Command,
     ) -> Result<Stopping, AllocError>
         requires few { self.now.replayer.steps < MOST_LINES }
-        ensures { (g : model.Cell) → Stands self.now.replayer.cell g → IfOk result (λ w. IsToStop w g house.0 (step_of command.now)) }
+        ensures { (g : model.Cell) → Stands self.now.replayer.cell g
+            → IfOk result (λ w. IsToStop w g house.0 (step_of command.now)) }
     {
         let cell = self.replayer.cell();
         if !cell.has_house(house) {
@@ -156,7 +162,8 @@ impl Keeper {
         requires first { 1 ≤ call }
         requires last { call ≤ 4 }
         requires kept { AreKept self.old.houses.items self.old.disks.items }
-        ensures reply { (s : JournaledCell) → StandsKeeper self.old s → IsToStop (stop.Put image) s.cell house.0 (step_of command)
+        ensures reply { (s : JournaledCell) → StandsKeeper self.old s
+            → IsToStop (stop.Put image) s.cell house.0 (step_of command)
             → Replies result self.new s (line.Stop house call leave command) }
         ensures kept { OnOk result (AreKept self.new.houses.items self.new.disks.items) }
         ensures steps { self.new.replayer.steps ≤ self.old.replayer.steps + 1 }
@@ -180,7 +187,8 @@ impl Keeper {
         requires few { self.old.replayer.steps < MOST_LINES }
         ensures houses { self.new.houses ≡ self.old.houses }
         ensures disks { self.new.disks ≡ self.old.disks }
-        ensures step { (g : model.Cell) → Stands self.old.replayer.cell g → OnOk result (Stands self.new.replayer.cell
+        ensures step { (g : model.Cell) → Stands self.old.replayer.cell g
+            → OnOk result (Stands self.new.replayer.cell
             (if wanted then (outcome g (step_of command)).cell else g)) }
         ensures steps { self.new.replayer.steps ≤ self.old.replayer.steps + 1 }
     {
@@ -206,8 +214,10 @@ impl Keeper {
         requires last { call ≤ 4 }
         requires kept { AreKept self.old.houses.items self.old.disks.items }
         ensures same { self.new.replayer ≡ self.old.replayer }
-        ensures puts { (lists : Lists) → HoldAll self.old.disks.items lists → is_last image.items (lists house.0) ≡ false → lists house.0 ≢ []
-            → StopsPut result self.new.disks.items lists (stops_after call leave) (record { house = house.0; image = image.items }) }
+        ensures puts { (lists : Lists) → HoldAll self.old.disks.items lists
+            → is_last image.items (lists house.0) ≡ false → lists house.0 ≢ []
+            → StopsPut result self.new.disks.items lists (stops_after call leave)
+            (record { house = house.0; image = image.items }) }
         ensures kept { OnOk result (AreKept self.new.houses.items self.new.disks.items) }
     {
         let Some(at) = place_of(house) else {

@@ -13,7 +13,8 @@ use cell_script::Command;
 
 /// Whether a command delivers a message that is not there.
 pub(crate) fn lacks_message(cell: &Cell, command: &Command) -> bool
-    ensures { (g : model.Cell) → Stands cell.now g → result ≡ lacks_message g (step_of command.now) }
+    ensures { (g : model.Cell) → Stands cell.now g
+        → result ≡ lacks_message g (step_of command.now) }
 {
     match command {
         Command::Deliver(serial) => cell.receiver(*serial).is_none(),
@@ -23,7 +24,8 @@ pub(crate) fn lacks_message(cell: &Cell, command: &Command) -> bool
 
 /// Whether a house acts in a command, and no other does.
 pub(crate) fn acts_alone(cell: &Cell, house: HouseNo, command: &Command) -> bool
-    ensures { (g : model.Cell) → Stands cell.now g → result ≡ is_only house.0 (actors g (step_of command.now)) }
+    ensures { (g : model.Cell) → Stands cell.now g
+        → result ≡ is_only house.0 (actors g (step_of command.now)) }
 {
     match actors_of(cell, command) {
         (Some(actor), None) | (None, Some(actor)) => actor == house,

@@ -71,7 +71,8 @@ impl EntryReader for Pair {
 impl Pair {
     // The values of an attribute.
     fn held(&self, alloc: Global, attr: &AttrName) -> Result<Vec<Value>, AllocError>
-        ensures { IfOk result (λ found. found.items ≡ value_of self.now.tower self.now.member attr.now) }
+        ensures { IfOk result
+            (λ found. found.items ≡ value_of self.now.tower self.now.member attr.now) }
     {
         let mut found = Vec::new(alloc);
         if attr.octets() == TOWERS {

@@ -13,7 +13,10 @@ ghost use Rattle.mend_program.specs.Mended.{IsMended};
 /// A script followed by the lines that mend a directory behind it mends it, wherever there is such a directory and its master has a stamp
 /// left.
 pub fn scripts_are_mended()
-    ensures { (lines : List (List ℕ)) (said : List Numbered) (d : ℕ) (t : Stamp) → IsScript 1 lines said → IsDirectory d
-        → 1 ≤ (cell_after_script said).top d → stamp_at ((cell_after_script said).house (master_of ((cell_after_script said).present d))) ≡ Some t
+    ensures { (lines : List (List ℕ)) (said : List Numbered) (d : ℕ) (t : Stamp)
+        → IsScript 1 lines said → IsDirectory d
+        → 1 ≤ (cell_after_script said).top d
+        → stamp_at ((cell_after_script said).house (master_of ((cell_after_script said).present d)))
+        ≡ Some t
         → IsMended lines said d t (mend_text d (cell_after_script said)) }
 {}

@@ -33,12 +33,16 @@ pub fn run<S: Source, K: Sink>(
     source: &mut S,
     sink: &mut K,
 ) -> Status
-    ensures usage { (result ≡ Status.Usage) ↔ (directory_named (map string_bytes words.now) ≡ None) }
+    ensures usage { (result ≡ Status.Usage)
+        ↔ (directory_named (map string_bytes words.now) ≡ None) }
     ensures unused { result ≡ Status.Usage → (source.new ≡ source.old) × (sink.new ≡ sink.old) }
-    ensures ends { IfSome (directory_named (map string_bytes words.now)) (λ dir. Ended (mend_form dir)
+    ensures ends { IfSome (directory_named (map string_bytes words.now))
+        (λ dir. Ended (mend_form dir)
         (run_of S.left S.faults K.written K.faults source.old source.new sink.old sink.new) result) }
-    ensures mends { (dir : ℕ) → directory_named (map string_bytes words.now) ≡ Some dir → result ≡ Status.Ok
-        → IsMending dir (run_of S.left S.faults K.written K.faults source.old source.new sink.old sink.new) }
+    ensures mends { (dir : ℕ) → directory_named (map string_bytes words.now) ≡ Some dir
+        → result ≡ Status.Ok
+        → IsMending dir
+        (run_of S.left S.faults K.written K.faults source.old source.new sink.old sink.new) }
 {
     match directory_in(words) {
         Some(dir) => mend(alloc, dir, source, sink),

@@ -17,7 +17,8 @@ use std::alloc::{AllocError, Global};
 /// The lines of the commands that mend a directory of a cell, or the line of the reason why none do.
 pub(crate) fn mend_text(alloc: Global, cell: &Cell, dir: DirId) -> Result<Vec<u8>, AllocError>
     requires room { cell.now.bag.posted ≤ 2 ^ 62 }
-    ensures { (g : model.Cell) → Stands cell.now g → IfOk result (λ text. text.items ≡ mend_text dir.0 g) }
+    ensures { (g : model.Cell) → Stands cell.now g
+        → IfOk result (λ text. text.items ≡ mend_text dir.0 g) }
 {
     match cell.listing(dir) {
         Some((epoch, members)) => listed_text(alloc, cell, dir, epoch, members),
@@ -34,7 +35,8 @@ fn listed_text(
     members: &Members,
 ) -> Result<Vec<u8>, AllocError>
     requires room { cell.now.bag.posted ≤ 2 ^ 62 }
-    ensures { (g : model.Cell) → Stands cell.now g → IsListed g dir.0 epoch.0 (members_of members.now)
+    ensures { (g : model.Cell) → Stands cell.now g
+        → IsListed g dir.0 epoch.0 (members_of members.now)
         → IfOk result (λ text. text.items ≡ mend_text dir.0 g) }
 {
     if !has_stamp(alloc, cell, members.master())? {
@@ -54,7 +56,8 @@ fn push_mends(
     members: &Members,
 ) -> Result<(), AllocError>
     requires room { cell.now.bag.posted ≤ 2 ^ 62 }
-    ensures { (g : model.Cell) → Stands cell.now g → IsListed g dir.0 epoch.0 (members_of members.now)
+    ensures { (g : model.Cell) → Stands cell.now g
+        → IsListed g dir.0 epoch.0 (members_of members.now)
         → OnOk result (IsScriptWith script.old.items script.new.items (mends g dir.0)) }
 {
     if is_held_by(cell, dir, epoch, members.list()) {
@@ -91,7 +94,8 @@ fn push_skulking(
 ) -> Result<(), AllocError>
     requires room { first ≤ 2 ^ 63 }
     ensures { OnOk result (let ms = members_of members.now in let m = master_of ms in
-        IsScriptWith script.old.items script.new.items (skulk_commands m dir.0 first (length (others_of m ms)))) }
+        IsScriptWith script.old.items script.new.items
+        (skulk_commands m dir.0 first (length (others_of m ms)))) }
 {
     let others = count_others(members.master(), members.list());
     push_skulk(script, members.master(), dir)?;
@@ -101,7 +105,9 @@ fn push_skulking(
 // `start` for each of these houses that is down.
 fn push_starts(script: &mut Vec<u8>, cell: &Cell, members: &[Member]) -> Result<(), AllocError>
     ensures { (g : model.Cell) → Stands cell.now g
-        → OnOk result (IsScriptWith script.old.items script.new.items (start_commands g (members_of members.now))) }
+        → OnOk result
+        (IsScriptWith script.old.items script.new.items
+        (start_commands g (members_of members.now))) }
 {
     for member in members {
         if cell.is_down(member.house) {

@@ -12,7 +12,8 @@ ghost use Rattle.mend_replay.specs.SayableCommands.{CanBeSaid, SaysCommand};
 /// The line of a command that mends is one that a script may have, and is read as that command.
 pub fn lines_read_back()
     ensures says { (c : Command) → CanBeSaid c → SaysCommand (command_line c) c }
-    ensures fits { (c : Command) (number : ℕ) → CanBeSaid c → number ≤ MOST_LINES → IsLine number (command_line c) }
+    ensures fits { (c : Command) (number : ℕ) → CanBeSaid c → number ≤ MOST_LINES
+        → IsLine number (command_line c) }
 {}
 
 /// The test whether the houses of a directory are ready tells what it is named after.

@@ -27,7 +27,8 @@ pub(crate) fn push_epoch(
     members: &Members,
 ) -> Result<(), AllocError>
     ensures { OnOk result (let ms = members_of members.now in
-        IsScriptWith script.old.items script.new.items (Epoch dir.0 (master_of ms) (others_of (master_of ms) ms) (secondaries_of ms) ∷ [])) }
+        IsScriptWith script.old.items script.new.items
+        (Epoch dir.0 (master_of ms) (others_of (master_of ms) ms) (secondaries_of ms) ∷ [])) }
 {
     script.extend_from_slice(b"epoch")?;
     push_word(script, u64::from(dir.0))?;
@@ -43,7 +44,8 @@ pub(crate) fn push_skulk(
     master: HouseNo,
     dir: DirId,
 ) -> Result<(), AllocError>
-    ensures { OnOk result (IsScriptWith script.old.items script.new.items (Skulk master.0 dir.0 ∷ [])) }
+    ensures { OnOk result
+        (IsScriptWith script.old.items script.new.items (Skulk master.0 dir.0 ∷ [])) }
 {
     script.extend_from_slice(b"skulk")?;
     push_word(script, u64::from(master.0))?;
@@ -59,7 +61,8 @@ pub(crate) fn push_deliveries(
     count: u64,
 ) -> Result<(), AllocError>
     requires { first + count < 2 ^ 64 }
-    ensures { OnOk result (IsScriptWith script.old.items script.new.items (deliver_commands first count)) }
+    ensures { OnOk result
+        (IsScriptWith script.old.items script.new.items (deliver_commands first count)) }
 {
     for serial in first..first + count {
         push_delivery(script, serial + 1)?;
@@ -79,7 +82,8 @@ fn push_delivery(script: &mut Vec<u8>, serial: u64) -> Result<(), AllocError>
 
 // The words of the members but the master.
 fn push_others(script: &mut Vec<u8>, master: HouseNo, members: &[Member]) -> Result<(), AllocError>
-    ensures { OnOk result (script.new.items ≡ script.old.items ++ listed_words master.0 (members_of members.now)) }
+    ensures { OnOk result
+        (script.new.items ≡ script.old.items ++ listed_words master.0 (members_of members.now)) }
 {
     for member in members {
         if member.house != master {
@@ -91,7 +95,10 @@ fn push_others(script: &mut Vec<u8>, master: HouseNo, members: &[Member]) -> Res
 
 // The word of a member, behind a space: its number, behind an `s` where it is secondary.
 fn push_member(script: &mut Vec<u8>, member: &Member) -> Result<(), AllocError>
-    ensures { OnOk result (script.new.items ≡ script.old.items ++ (32 ∷ member_word (is_secondary member.now.kind) member.now.house.0)) }
+    ensures { OnOk result
+        (script.new.items
+        ≡ script.old.items
+        ++ (32 ∷ member_word (is_secondary member.now.kind) member.now.house.0)) }
 {
     script.push(b' ')?;
     if member.kind == MemberKind::Secondary {

@@ -14,9 +14,9 @@ ghost use Rattle.mend_replay.specs.Quiet.{running_quietly};
 use crate::commands::mend_text;
 use cds_stamps::{AllocOr, DirId};
 use cell_script::{ScriptLine, parse_line};
+use reply_buffer::{LineEnd, Waiting, reply_to_fault};
 use script_replay::Replayer;
 use std::alloc::{AllocError, Global};
-use reply_buffer::{LineEnd, Waiting, reply_to_fault};
 
 /// How many messages a cell posted at most of which lines are made. More would count as out of memory, but no script posts so many.
 const MOST_POSTED: u64 = 4_611_686_018_427_387_904;
@@ -52,7 +52,9 @@ impl Mender {
         requires fewer { self.old.replayer.steps < number }
         requires most { number ≤ MOST_LINES }
         ensures reply { (g : model.Cell) → Stands self.old.replayer.cell g
-            → Mends result (reply_of running_quietly number g (said_in (words_of line.now))) waiting.old waiting.new self.new }
+            → Mends result
+            (reply_of running_quietly number g
+            (said_in (words_of line.now))) waiting.old waiting.new self.new }
         ensures dir { self.new.dir ≡ self.old.dir }
         ensures steps { self.new.replayer.steps ≤ number }
     {
@@ -80,7 +82,8 @@ impl Mender {
 
     /// The lines that mend the directory, or the line of the reason why none do.
     pub fn print_lines(&self, alloc: Global) -> Result<Vec<u8>, AllocError>
-        ensures { (g : model.Cell) → Stands self.now.replayer.cell g → IfOk result (λ text. text.items ≡ mend_text self.now.dir.0 g) }
+        ensures { (g : model.Cell) → Stands self.now.replayer.cell g
+            → IfOk result (λ text. text.items ≡ mend_text self.now.dir.0 g) }
     {
         let cell = self.replayer.cell();
         if cell.posted() > MOST_POSTED {

@@ -16,7 +16,8 @@ use std::alloc::{AllocError, Global};
 
 /// Whether each of these houses is up, and holds the directory at this epoch.
 pub(crate) fn is_held_by(cell: &Cell, dir: DirId, epoch: EpochNo, members: &[Member]) -> bool
-    ensures { (g : model.Cell) → Stands cell.now g → result ≡ is_held_by g dir.0 epoch.0 (members_of members.now) }
+    ensures { (g : model.Cell) → Stands cell.now g
+        → result ≡ is_held_by g dir.0 epoch.0 (members_of members.now) }
 {
     for member in members {
         if !holds(cell, member.house, dir, epoch) {
@@ -39,7 +40,8 @@ fn holds(cell: &Cell, house: HouseNo, dir: DirId, epoch: EpochNo) -> bool
 
 // Whether a house that is up holds the directory at this epoch.
 fn holds_at(home: &Clearinghouse, dir: DirId, epoch: EpochNo) -> bool
-    ensures { (x : number.HouseNo) (now : model.House) → StandsUp x home.now now → result ≡ holds_at (now.slots dir.0) epoch.0 }
+    ensures { (x : number.HouseNo) (now : model.House) → StandsUp x home.now now
+        → result ≡ holds_at (now.slots dir.0) epoch.0 }
 {
     match home.state(dir) {
         Some(DirState::Held(held)) => held.epoch == epoch,
@@ -50,7 +52,8 @@ fn holds_at(home: &Clearinghouse, dir: DirId, epoch: EpochNo) -> bool
 /// Whether a house has a stamp left: one at the last time of 64 bits has none. Of a house that is down, its floor is read from its
 /// image.
 pub(crate) fn has_stamp(alloc: Global, cell: &Cell, house: HouseNo) -> Result<bool, AllocError>
-    ensures { (g : model.Cell) → Stands cell.now g → IfOk result (λ left. left ≡ is_some (stamp_at (g.house house.0))) }
+    ensures { (g : model.Cell) → Stands cell.now g
+        → IfOk result (λ left. left ≡ is_some (stamp_at (g.house house.0))) }
 {
     match cell.house(house) {
         Some(state) => {
@@ -70,7 +73,8 @@ fn is_below_last(floor: u64) -> bool
 
 // The floor of a house. (The octets of a house that is down are always an image.)
 fn floor_of(alloc: Global, state: &HouseState) -> Result<u64, AllocError>
-    ensures { (x : number.HouseNo) (now : model.House) → StandsState x state.now now → IfOk result (λ floor. floor ≡ now.floor) }
+    ensures { (x : number.HouseNo) (now : model.House) → StandsState x state.now now
+        → IfOk result (λ floor. floor ≡ now.floor) }
 {
     match state {
         HouseState::Up(home) => Ok(home.floor()),

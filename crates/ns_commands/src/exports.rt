@@ -31,7 +31,8 @@ pub fn export<R: EntryReader>(
 ) -> Result<Updates, AllocOr<ScriptRefusal>>
     ensures answer { Answers (result_map_both changes_in (λ e. e) result)
         (export (R.tells reader.now) name.now interface.now bindings.now objects.now) }
-    ensures faulty { IfSome (export_fault bindings.now objects.now) (λ fault. result ≡ Err (Fault (refusal fault))) }
+    ensures faulty { IfSome (export_fault bindings.now objects.now)
+        (λ fault. result ≡ Err (Fault (refusal fault))) }
 {
     check_export(bindings, objects).map_err(|fault| AllocOr::Fault(refusal_of_export(fault)))?;
     let place = place_to_fill(alloc, reader, name)?;
@@ -71,7 +72,9 @@ fn losses(
     objects: &[Uuid],
 ) -> Result<Updates, AllocOr<ScriptRefusal>>
     ensures { Answers (result_map_both changes_in (λ e. e) result)
-        (unless_none entry.now (unexport_changes entry.now.name towers.now held.now (option_copied interface.entry) objects.now)) }
+        (unless_none entry.now
+        (unexport_changes entry.now.name towers.now held.now
+        (option_copied interface.entry) objects.now)) }
 {
     match server_entries::unexport(alloc, &entry.name, towers, held, interface, objects) {
         Ok(list) => Ok(Updates::of_found(entry, list)),

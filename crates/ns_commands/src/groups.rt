@@ -20,7 +20,8 @@ pub fn add_member<R: EntryReader>(
     name: &FullName,
     member: &FullName,
 ) -> Result<Updates, AllocOr<ScriptRefusal>>
-    ensures { Answers (result_map_both changes_in (λ e. e) result) (add_member (R.tells reader.now) name.now member.now) }
+    ensures { Answers (result_map_both changes_in (λ e. e) result)
+        (add_member (R.tells reader.now) name.now member.now) }
 {
     let place = place_to_fill(alloc, reader, name)?;
     let list = add(alloc, &place.name, place.kind.is_none(), member)?;
@@ -34,7 +35,8 @@ pub fn delete_member<R: EntryReader>(
     name: &FullName,
     member: &FullName,
 ) -> Result<Updates, AllocOr<ScriptRefusal>>
-    ensures { Answers (result_map_both changes_in (λ e. e) result) (delete_member (R.tells reader.now) name.now member.now) }
+    ensures { Answers (result_map_both changes_in (λ e. e) result)
+        (delete_member (R.tells reader.now) name.now member.now) }
 {
     let entry = object(alloc, reader, name)?;
     let values = values_of(alloc, reader, &entry, GROUP)?;

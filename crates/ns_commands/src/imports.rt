@@ -42,7 +42,8 @@ fn all_of<R: EntryReader>(
     alloc: Global,
     importer: &mut Importer<'_, R>,
 ) -> Result<StringBindings, AllocError>
-    ensures { (left : List StringBinding) → importer.old ≡ Some left → IfOk result (λ list. list ≡ left) }
+    ensures { (left : List StringBinding) → importer.old ≡ Some left
+        → IfOk result (λ list. list ≡ left) }
 {
     let mut bindings = StringBindings::new(alloc);
     while let Some(binding) = importer.next(alloc)? {

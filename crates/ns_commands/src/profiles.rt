@@ -33,8 +33,10 @@ pub fn add_element<R: EntryReader>(
 ) -> Result<Updates, AllocOr<ScriptRefusal>>
     requires { IsTrue (list_all is_annotation_octet annotation.now) }
     ensures answer { Answers (result_map_both changes_in (λ e. e) result)
-        (add_element (R.tells reader.now) name.now (option_copied interface.entry) member.now priority annotation.now) }
-    ensures faulty { IfSome (add_fault (option_copied interface.entry) member.now priority annotation.now)
+        (add_element (R.tells reader.now) name.now
+        (option_copied interface.entry) member.now priority annotation.now) }
+    ensures faulty { IfSome (add_fault
+        (option_copied interface.entry) member.now priority annotation.now)
         (λ fault. result ≡ Err (Fault (refusal fault))) }
 {
     check_new(interface, member, priority, annotation).map_err(|fault| AllocOr::Fault(

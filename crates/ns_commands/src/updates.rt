@@ -18,7 +18,8 @@ pub struct Updates {
 impl Updates {
     // Those of the entry of a place.
     pub(crate) fn of_place(place: &Place, list: Vec<Update>) -> Updates
-        ensures { changes_in result ≡ record { house = place.now.house.0; dir = place.now.dir.0; list = changes list.items } }
+        ensures { changes_in result
+            ≡ record { house = place.now.house.0; dir = place.now.dir.0; list = changes list.items } }
     {
         Updates {
             house: place.house,
@@ -29,7 +30,8 @@ impl Updates {
 
     // Those of an entry.
     pub(crate) fn of_found(entry: &Found, list: Vec<Update>) -> Updates
-        ensures { changes_in result ≡ record { house = entry.now.house.0; dir = entry.now.dir.0; list = changes list.items } }
+        ensures { changes_in result
+            ≡ record { house = entry.now.house.0; dir = entry.now.dir.0; list = changes list.items } }
     {
         Updates {
             house: entry.house,

@@ -20,7 +20,8 @@ pub fn member_values_have_no_fault()
 /// The members of a group are the one list of names that ascend by their octets, and are the full names whose octets are
 /// a value.
 pub fn members_are_one_list()
-    ensures { (values : List (List ℕ)) (names : List (List (List ℕ))) → IsMembers values names ↔ (names ≡ members_of values) }
+    ensures { (values : List (List ℕ)) (names : List (List (List ℕ)))
+        → IsMembers values names ↔ (names ≡ members_of values) }
 {}
 
 /// Values that ascend, as those that an entry shows, spell the members in their own order.
@@ -41,20 +42,33 @@ pub fn only_members_are_deleted()
 pub fn group_updates_are_accepted()
     ensures additions { (h : List Mark) (n : List ℕ) (member : List (List ℕ)) → IsHistory h
         → AreAccepted h (member_addition n (is_none (shown_of_name h n)) member) }
-    ensures deletions { (h : List Mark) (n : List ℕ) (e : Shown) (member : List (List ℕ)) → shown_of_name h n ≡ Some e
+    ensures deletions { (h : List Mark) (n : List ℕ) (e : Shown) (member : List (List ℕ))
+        → shown_of_name h n ≡ Some e
         → AreAccepted h (member_deletion n member) }
     ensures created { (n : List ℕ) → refusal_of None (Create n) ≡ None }
-    ensures added { (e : Shown) (n : List ℕ) (member : List (List ℕ)) → refusal_of (Some e) (Add n group (full_name_octets member)) ≡ None }
-    ensures removed { (e : Shown) (n : List ℕ) (member : List (List ℕ)) → refusal_of (Some e) (Remove n group (full_name_octets member)) ≡ None }
+    ensures added { (e : Shown) (n : List ℕ) (member : List (List ℕ))
+        → refusal_of (Some e) (Add n group (full_name_octets member)) ≡ None }
+    ensures removed { (e : Shown) (n : List ℕ) (member : List (List ℕ))
+        → refusal_of (Some e) (Remove n group (full_name_octets member)) ≡ None }
 {}
 
 /// An update that adds a member to an entry that shows leaves the members that were there and this one, and one that
 /// removes it leaves the others.
 pub fn group_updates_change_members()
-    ensures added { (h : List Mark) (n : List ℕ) (e : Shown) (s : Stamp) (member : List (List ℕ)) → shown_of_name h n ≡ Some e → IsBefore h s
-        → IsComponentList member → IsSomeAnd (shown_of_name (h ++ marks_of (shown_of_name h n) (Add n group (full_name_octets member)) s) n)
-        (λ f. (other : List (List ℕ)) → Contains (members_of (f.values group)) other ↔ ((other ≡ member) ⊎ Contains (members_of (e.values group)) other)) }
-    ensures removed { (h : List Mark) (n : List ℕ) (e : Shown) (s : Stamp) (member : List (List ℕ)) → shown_of_name h n ≡ Some e → IsBefore h s
-        → IsComponentList member → IsSomeAnd (shown_of_name (h ++ marks_of (shown_of_name h n) (Remove n group (full_name_octets member)) s) n)
-        (λ f. (other : List (List ℕ)) → Contains (members_of (f.values group)) other ↔ ((other ≢ member) × Contains (members_of (e.values group)) other)) }
+    ensures added { (h : List Mark) (n : List ℕ) (e : Shown) (s : Stamp) (member : List (List ℕ))
+        → shown_of_name h n ≡ Some e → IsBefore h s
+        → IsComponentList member
+        → IsSomeAnd (shown_of_name
+        (h ++ marks_of (shown_of_name h n) (Add n group (full_name_octets member)) s) n)
+        (λ f. (other : List (List ℕ))
+        → Contains (members_of (f.values group)) other
+        ↔ ((other ≡ member) ⊎ Contains (members_of (e.values group)) other)) }
+    ensures removed { (h : List Mark) (n : List ℕ) (e : Shown) (s : Stamp) (member : List (List ℕ))
+        → shown_of_name h n ≡ Some e → IsBefore h s
+        → IsComponentList member
+        → IsSomeAnd (shown_of_name
+        (h ++ marks_of (shown_of_name h n) (Remove n group (full_name_octets member)) s) n)
+        (λ f. (other : List (List ℕ))
+        → Contains (members_of (f.values group)) other
+        ↔ ((other ≢ member) × Contains (members_of (e.values group)) other)) }
 {}

@@ -48,7 +48,9 @@ pub fn members_in_order<'a>(
     alloc: Global,
     values: &[&'a Value],
 ) -> Result<Vec<LentName<'a>>, AllocError>
-    ensures { IfOk result (λ v. v.items ≡ map components_of (filter is_full_name (map (λ value. value.now) values.now))) }
+    ensures { IfOk result
+        (λ v. v.items
+        ≡ map components_of (filter is_full_name (map (λ value. value.now) values.now))) }
 {
     let mut names = Vec::with_capacity(alloc, values.len())?;
     for value in values {
@@ -59,7 +61,9 @@ pub fn members_in_order<'a>(
 
 // Puts the full name of these octets behind others, if they are one.
 fn push_if_readable<'a>(names: &mut Vec<LentName<'a>>, octets: &'a [u8]) -> Result<(), AllocError>
-    ensures { OnOk result (names.new.items ≡ names.old.items ++ map components_of (filter is_full_name (octets.now ∷ []))) }
+    ensures { OnOk result
+        (names.new.items
+        ≡ names.old.items ++ map components_of (filter is_full_name (octets.now ∷ []))) }
 {
     match LentName::of(octets) {
         Ok(name) => Ok(names.push(name)?),

@@ -44,7 +44,8 @@ pub fn delete(
 ) -> Result<Vec<Update>, AllocOr<GroupFault>>
     ensures answer { Answers (result_map_both (λ v. changes v.items) (λ e. e) result)
         (ok_unless (delete_fault values.now member.now) (member_deletion name.now member.now)) }
-    ensures faulty { IfSome (delete_fault values.now member.now) (λ fault. result ≡ Err (Fault fault)) }
+    ensures faulty { IfSome (delete_fault values.now member.now)
+        (λ fault. result ≡ Err (Fault fault)) }
 {
     match value_of(values, member) {
         Some(value) => Ok(removal(alloc, name, value)?),
@@ -80,8 +81,10 @@ fn spelled(alloc: Global, name: &FullName) -> Result<Value, AllocError>
 
 // The first of these values that spells a full name.
 fn value_of<'a>(values: &'a [Value], name: &FullName) -> Option<&'a Value>
-    ensures { MatchOption result (list_any (is_octets (full_name_octets name.now)) values.now ≡ false)
-        (λ value. (list_any (is_octets (full_name_octets name.now)) values.now ≡ true) × (value.now ≡ full_name_octets name.now)) }
+    ensures { MatchOption result
+        (list_any (is_octets (full_name_octets name.now)) values.now ≡ false)
+        (λ value. (list_any (is_octets (full_name_octets name.now)) values.now ≡ true)
+        × (value.now ≡ full_name_octets name.now)) }
 {
     for value in values {
         if name.is_spelled(value.octets()) {

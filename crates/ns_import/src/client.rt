@@ -60,8 +60,11 @@ impl<'a> Said<'a> {
         mut elements: Vec<Waiting<'a>>,
         mut bindings: Vec<StringBinding>,
     ) -> Result<Said<'a>, AllocError>
-        ensures names { IfOk result (λ element_of_octets. reverse element_of_octets.names.items ≡ members.entry.items ++ elements.entry.items) }
-        ensures bindings { IfOk result (λ element_of_octets. reverse element_of_octets.bindings.items ≡ bindings.items) }
+        ensures names { IfOk result
+            (λ element_of_octets. reverse element_of_octets.names.items
+            ≡ members.entry.items ++ elements.entry.items) }
+        ensures bindings { IfOk result
+            (λ element_of_octets. reverse element_of_octets.bindings.items ≡ bindings.items) }
     {
         members.reverse();
         elements.reverse();
@@ -95,8 +98,12 @@ impl Client {
         reader: &'a R,
         at: &Found,
     ) -> Result<Said<'a>, AllocError>
-        ensures names { IfOk result (λ element_of_octets. reverse element_of_octets.names.items ≡ names_of (R.tells reader.now) self.now.interface at.now) }
-        ensures bindings { IfOk result (λ element_of_octets. reverse element_of_octets.bindings.items ≡ bindings_at (R.tells reader.now) self.now at.now) }
+        ensures names { IfOk result
+            (λ element_of_octets. reverse element_of_octets.names.items
+            ≡ names_of (R.tells reader.now) self.now.interface at.now) }
+        ensures bindings { IfOk result
+            (λ element_of_octets. reverse element_of_octets.bindings.items
+            ≡ bindings_at (R.tells reader.now) self.now at.now) }
     {
         match reader.attributes(at) {
             Some(cells) => self.read_cells(alloc, cells),
@@ -106,8 +113,12 @@ impl Client {
 
     // What the cells of an entry's attributes say.
     fn read_cells<'a>(&self, alloc: Global, cells: &'a AttrMap) -> Result<Said<'a>, AllocError>
-        ensures names { IfOk result (λ element_of_octets. reverse element_of_octets.names.items ≡ names_in (values_by cells.now) self.now.interface) }
-        ensures bindings { IfOk result (λ element_of_octets. reverse element_of_octets.bindings.items ≡ bindings_in (values_by cells.now) self.now) }
+        ensures names { IfOk result
+            (λ element_of_octets. reverse element_of_octets.names.items
+            ≡ names_in (values_by cells.now) self.now.interface) }
+        ensures bindings { IfOk result
+            (λ element_of_octets. reverse element_of_octets.bindings.items
+            ≡ bindings_in (values_by cells.now) self.now) }
     {
         let towers = values_in(alloc, cells, &self.towers)?;
         let objects = values_in(alloc, cells, &self.objects)?;
@@ -126,8 +137,12 @@ impl Client {
         reader: &R,
         at: &Found,
     ) -> Result<Said<'a>, AllocError>
-        ensures names { IfOk result (λ element_of_octets. reverse element_of_octets.names.items ≡ names_of (R.tells reader.now) self.now.interface at.now) }
-        ensures bindings { IfOk result (λ element_of_octets. reverse element_of_octets.bindings.items ≡ bindings_at (R.tells reader.now) self.now at.now) }
+        ensures names { IfOk result
+            (λ element_of_octets. reverse element_of_octets.names.items
+            ≡ names_of (R.tells reader.now) self.now.interface at.now) }
+        ensures bindings { IfOk result
+            (λ element_of_octets. reverse element_of_octets.bindings.items
+            ≡ bindings_at (R.tells reader.now) self.now at.now) }
     {
         let towers = reader.values(alloc, at, &self.towers)?;
         let objects = reader.values(alloc, at, &self.objects)?;
@@ -143,7 +158,9 @@ impl Client {
 
 // The members that these values spell, in the order of the values, which keep their octets.
 fn lent_members<'a>(alloc: Global, values: &[&'a Value]) -> Result<Vec<Waiting<'a>>, AllocError>
-    ensures { IfOk result (λ v. v.items ≡ map components_of (filter is_full_name (map (λ value. value.now) values.now))) }
+    ensures { IfOk result
+        (λ v. v.items
+        ≡ map components_of (filter is_full_name (map (λ value. value.now) values.now))) }
 {
     Waiting::all_lent(alloc, members_in_order(alloc, values)?)
 }
@@ -155,7 +172,10 @@ fn lent_elements<'a>(
     values: &[&'a Value],
     interface: &Interface,
 ) -> Result<Vec<Waiting<'a>>, AllocError>
-    ensures { IfOk result (λ v. v.items ≡ map (λ octets. (element_of_octets octets).member) (filter (is_sought interface.now) (map (λ value. value.now) values.now))) }
+    ensures { IfOk result
+        (λ v. v.items
+        ≡ map (λ octets. (element_of_octets octets).member)
+        (filter (is_sought interface.now) (map (λ value. value.now) values.now))) }
 {
     Waiting::all_lent(alloc, elements_in_order(alloc, values, interface)?)
 }
@@ -184,7 +204,8 @@ fn values_in<'a>(
     cells: &'a AttrMap,
     attr: &AttrName,
 ) -> Result<Vec<&'a Value>, AllocError>
-    ensures { IfOk result (λ found. map (λ value. value.now) found.items ≡ values_by cells.now attr.now) }
+    ensures { IfOk result
+        (λ found. map (λ value. value.now) found.items ≡ values_by cells.now attr.now) }
 {
     match cells.get(attr) {
         Some(cell) => present(alloc, cell),

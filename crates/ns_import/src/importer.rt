@@ -50,7 +50,8 @@ impl<'a, R: EntryReader> Importer<'a, R> {
         wanted: Wanted,
     ) -> Result<Importer<'a, R>, AllocOr<ImportFault>>
         ensures { (objects : List Found) → ShowsOnly (R.tells reader.now) objects
-            → Answers result (begin_import (import_list (R.tells reader.now) objects wanted name.now)) }
+            → Answers result
+            (begin_import (import_list (R.tells reader.now) objects wanted name.now)) }
     {
         let entry = object(alloc, reader, name)?;
         let client = Client::new(alloc, wanted)?;

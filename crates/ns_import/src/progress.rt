@@ -52,7 +52,8 @@ impl<'a> Progress<'a> {
         requires { Knows (R.tells reader.now) self.old.near }
         ensures near { Knows (R.tells reader.now) self.new.near }
         ensures next { let left = bindings_to_come (R.tells reader.now) (R.objects reader.now) client.now in
-            IfOk result (λ next. (next ≡ slice_get (left self.old) 0) × (left self.new ≡ drop 1 (left self.old))) }
+            IfOk result (λ next. (next ≡ slice_get (left self.old) 0)
+            × (left self.new ≡ drop 1 (left self.old))) }
     {
         'entries: loop {
             if let Some(binding) = self.ready.pop() {
@@ -81,10 +82,13 @@ impl<'a> Progress<'a> {
     ) -> Result<(), AllocError>
         requires { has same_entry entry self.old.searched.keys ≡ false }
         ensures near { self.new.near ≡ self.old.near }
-        ensures searched { OnOk result (self.new.searched.keys ≡ self.old.searched.keys ++ entry ∷ []) }
+        ensures searched { OnOk result
+            (self.new.searched.keys ≡ self.old.searched.keys ++ entry ∷ []) }
         ensures names { OnOk result (reverse self.new.names.items
-            ≡ names_of (R.tells reader.now) client.now.interface entry ++ reverse self.old.names.items) }
-        ensures ready { OnOk result (reverse self.new.ready.items ≡ bindings_at (R.tells reader.now) client.now entry) }
+            ≡ names_of (R.tells reader.now) client.now.interface entry
+            ++ reverse self.old.names.items) }
+        ensures ready { OnOk result
+            (reverse self.new.ready.items ≡ bindings_at (R.tells reader.now) client.now entry) }
     {
         let Said {
             mut names,
@@ -107,8 +111,11 @@ fn next_object<R: EntryReader>(
 ) -> Result<Option<Found>, AllocError>
     requires { Knows (R.tells reader.now) near.old }
     ensures near { Knows (R.tells reader.now) near.new }
-    ensures next { IfOk result (λ next. option_to_list next ++ objects_of_names (R.tells reader.now) (reverse names.new.items)
-        ≡ behind_seen same_entry searched.now.keys (objects_of_names (R.tells reader.now) (reverse names.old.items))) }
+    ensures next { IfOk result
+        (λ next. option_to_list next
+        ++ objects_of_names (R.tells reader.now) (reverse names.new.items)
+        ≡ behind_seen same_entry searched.now.keys
+        (objects_of_names (R.tells reader.now) (reverse names.old.items))) }
     ensures end { IfOk result (λ next. IfNone next (names.new.items ≡ [])) }
 {
     'names: while let Some(name) = names.pop() {

@@ -116,7 +116,8 @@ pub(crate) fn object<R: EntryReader>(
 
 // What a walk found, if it is an object.
 fn object_found(found: Result<Found, AllocOr<Refusal>>) -> Result<Found, AllocOr<ImportFault>>
-    ensures answer { (walked : Result Found Refusal) → Answers found walked → Answers result (object_walked walked) }
+    ensures answer { (walked : Result Found Refusal) → Answers found walked
+        → Answers result (object_walked walked) }
     ensures memory { result ≡ Err OutOfMemory → found ≡ Err OutOfMemory }
 {
     match found {

@@ -52,7 +52,8 @@ impl<'a, R: EntryReader> Lookup<'a, R> {
     ) -> Result<Lookup<'a, R>, AllocOr<ImportFault>>
         requires { 1 ≤ most }
         ensures { (objects : List Found) → ShowsOnly (R.tells reader.now) objects
-            → Answers result (begin_lookup most (import_list (R.tells reader.now) objects wanted name.now)) }
+            → Answers result
+            (begin_lookup most (import_list (R.tells reader.now) objects wanted name.now)) }
     {
         let importer = Importer::begin(alloc, reader, name, wanted)?;
         Ok(Lookup {

@@ -78,7 +78,12 @@ pub struct Element {
 
 impl Drop for Element {
     fn drop(self) {
-        let Element { priority: _priority, interface: _interface, member: _member, annotation: _annotation } = self;
+        let Element {
+            priority: _priority,
+            interface: _interface,
+            member: _member,
+            annotation: _annotation,
+        } = self;
     }
 }
 
@@ -191,7 +196,8 @@ fn uuid_of(octets: &[u8]) -> Uuid
 /// Whether octets are an element, and else the place of the first field that breaks the layout, or of the first octet
 /// that is missing. Takes no memory.
 pub(crate) fn check(octets: &[u8]) -> Result<(), ProfileFault>
-    ensures found { MatchResult result (λ _. element_fault octets.now ≡ None) (λ fault. element_fault octets.now ≡ Some fault) }
+    ensures found { MatchResult result (λ _. element_fault octets.now ≡ None)
+        (λ fault. element_fault octets.now ≡ Some fault) }
     ensures known { OnOk result (element_of octets.now ≡ Some (element_of_octets octets.now)) }
     ensures lawful { OnOk result (IsElementOf octets.now (element_of_octets octets.now)) }
 {
@@ -216,7 +222,8 @@ fn field(octets: &[u8], from: usize, to: usize) -> Result<&[u8], ProfileFault>
     ensures value { IfOk result (λ x. x.now ≡ slice_range octets.now from to) }
     ensures whole { OnOk result (to ≤ length octets.now) }
     ensures wide { IfOk result (λ x. length x.now + from ≡ to) }
-    ensures short { IfErr result (λ f. (length octets.now < to) × (f ≡ BadElement (length octets.now + 1))) }
+    ensures short { IfErr result (λ f. (length octets.now < to)
+        × (f ≡ BadElement (length octets.now + 1))) }
 {
     if octets.len() < to {
         return Err(ProfileFault::BadElement(octets.len() + 1));
@@ -240,7 +247,8 @@ fn check_interface(octets: &[u8], from: usize, to: usize) -> Result<(), ProfileF
     requires order { from ≤ to }
     requires some { 0 < length octets.now }
     requires small { from < 100 }
-    ensures { result ≡ ok_unless (field_fault octets.now (interface_field (is_default octets.now) from (to - from))) tt }
+    ensures { result ≡ ok_unless
+        (field_fault octets.now (interface_field (is_default octets.now) from (to - from))) tt }
 {
     let own = field(octets, from, to)?;
     if octets[0] == DEFAULT && !are_zeros(own) {
@@ -258,7 +266,8 @@ fn are_zeros(octets: &[u8]) -> bool
 
 // Whether the length of the member's name, the name and the annotation are there.
 fn check_texts(octets: &[u8]) -> Result<(), ProfileFault>
-    ensures { result ≡ ok_unless (first_fault octets.now (length_field ∷ member_field (name_length octets.now)
+    ensures { result ≡ ok_unless
+        (first_fault octets.now (length_field ∷ member_field (name_length octets.now)
         ∷ annotation_field (name_length octets.now) (length octets.now) ∷ [])) tt }
 {
     let own_length = field(octets, NAME_LENGTH, NAME)?;

@@ -12,15 +12,18 @@ ghost use Rattle.ns_profiles.specs.Profiles.{profile, element_addition, element_
 
 /// No fault is found exactly where the octets are those of an element.
 pub fn elements_have_no_fault()
-    ensures { (octets : List ℕ) → All (λ b. b < 2 ^ 8) octets → (element_fault octets ≡ None) ↔ ((e : Element) × IsElementOf octets e) }
+    ensures { (octets : List ℕ) → All (λ b. b < 2 ^ 8) octets
+        → (element_fault octets ≡ None) ↔ ((e : Element) × IsElementOf octets e) }
 {}
 
 /// What is written of an element is read as that element, and what is read was written of it; so octets are those of one
 /// element at most.
 pub fn elements_read_back()
     ensures read { (e : Element) → IsElement e → element_of (element_octets e) ≡ Some e }
-    ensures known { (octets : List ℕ) (e : Element) → IsElementOf octets e → element_of octets ≡ Some e }
-    ensures written { (octets : List ℕ) (e : Element) → All (λ b. b < 2 ^ 8) octets → element_of octets ≡ Some e → IsElementOf octets e }
+    ensures known { (octets : List ℕ) (e : Element) → IsElementOf octets e
+        → element_of octets ≡ Some e }
+    ensures written { (octets : List ℕ) (e : Element) → All (λ b. b < 2 ^ 8) octets
+        → element_of octets ≡ Some e → IsElementOf octets e }
 {}
 
 /// The updates of profiles are accepted: a name that shows nothing can be created, and of an entry that shows, elements can be
@@ -29,8 +32,10 @@ pub fn elements_read_back()
 pub fn profile_updates_are_accepted()
     ensures additions { (h : List Mark) (n : List ℕ) (element : Element) → IsHistory h
         → AreAccepted h (element_addition n (is_none (shown_of_name h n)) element) }
-    ensures deletions { (h : List Mark) (n : List ℕ) (e : Shown) (interface : Option Interface) (member : List (List ℕ))
-        (values : List (List ℕ)) → shown_of_name h n ≡ Some e → AreAccepted h (element_deletion n interface member values) }
+    ensures deletions { (h : List Mark) (n : List ℕ) (e : Shown) (interface : Option Interface)
+        (member : List (List ℕ))
+        (values : List (List ℕ)) → shown_of_name h n ≡ Some e
+        → AreAccepted h (element_deletion n interface member values) }
     ensures created { (n : List ℕ) → refusal_of None (Create n) ≡ None }
     ensures added { (e : Shown) (n v : List ℕ) → refusal_of (Some e) (Add n profile v) ≡ None }
     ensures removed { (e : Shown) (n v : List ℕ) → refusal_of (Some e) (Remove n profile v) ≡ None }

@@ -33,7 +33,10 @@ pub fn elements_in_order<'a>(
     values: &[&'a Value],
     interface: &Interface,
 ) -> Result<Vec<LentName<'a>>, AllocError>
-    ensures { IfOk result (λ v. v.items ≡ map (λ octets. (element_of_octets octets).member) (filter (is_sought interface.now) (map (λ value. value.now) values.now))) }
+    ensures { IfOk result
+        (λ v. v.items
+        ≡ map (λ octets. (element_of_octets octets).member)
+        (filter (is_sought interface.now) (map (λ value. value.now) values.now))) }
 {
     let found = sought(alloc, values, interface)?;
     members_of(alloc, &found)
@@ -46,9 +49,14 @@ pub(crate) fn elements_of<'a>(
     interface: Option<&Interface>,
     member: &FullName,
 ) -> Result<Vec<&'a Value>, AllocError>
-    ensures found { IfOk result (λ v. map (λ value. value.now) v.items ≡ filter (is_element (option_copied interface.entry) member.now) values.now) }
-    ensures some { IfOk result (λ v. (vec_len v == 0) ≡ not (list_any (is_element (option_copied interface.entry) member.now) values.now)) }
-    ensures lacking { OnErr result (list_any (is_element (option_copied interface.entry) member.now) values.now ≡ true) }
+    ensures found { IfOk result
+        (λ v. map (λ value. value.now) v.items
+        ≡ filter (is_element (option_copied interface.entry) member.now) values.now) }
+    ensures some { IfOk result
+        (λ v. (vec_len v == 0)
+        ≡ not (list_any (is_element (option_copied interface.entry) member.now) values.now)) }
+    ensures lacking { OnErr result
+        (list_any (is_element (option_copied interface.entry) member.now) values.now ≡ true) }
 {
     let mut found = Vec::new(alloc);
     for value in values {
@@ -65,7 +73,9 @@ fn sought<'a>(
     values: &[&'a Value],
     interface: &Interface,
 ) -> Result<Vec<&'a Value>, AllocError>
-    ensures { IfOk result (λ v. map (λ value. value.now) v.items ≡ filter (is_sought interface.now) (map (λ value. value.now) values.now)) }
+    ensures { IfOk result
+        (λ v. map (λ value. value.now) v.items
+        ≡ filter (is_sought interface.now) (map (λ value. value.now) values.now)) }
 {
     let mut found = Vec::new(alloc);
     for value in values {
@@ -79,7 +89,8 @@ fn sought<'a>(
 // The members of values that are elements, in their order.
 fn members_of<'a>(alloc: Global, values: &[&'a Value]) -> Result<Vec<LentName<'a>>, AllocError>
     requires { All (λ value. element_fault value.now ≡ None) values.now }
-    ensures { IfOk result (λ v. v.items ≡ map (λ value. (element_of_octets value.now).member) values.now) }
+    ensures { IfOk result
+        (λ v. v.items ≡ map (λ value. (element_of_octets value.now).member) values.now) }
 {
     let mut members = Vec::with_capacity(alloc, values.len())?;
     for value in values {
@@ -127,7 +138,8 @@ fn is_element(octets: &[u8], interface: Option<&Interface>, member: &FullName) -
 // Whether the element of these octets is for this interface, and has this member.
 fn is_meant(octets: &[u8], interface: Option<&Interface>, member: &FullName) -> bool
     requires { element_fault octets.now ≡ None }
-    ensures { result ≡ is_meant (option_copied interface.entry) member.now (element_of_octets octets.now) }
+    ensures { result ≡ is_meant (option_copied interface.entry) member.now
+        (element_of_octets octets.now) }
 {
     is_for(octets, interface) && is_member(octets, member)
 }

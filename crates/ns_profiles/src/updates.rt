@@ -48,8 +48,11 @@ pub fn add(
     requires { IsTrue (list_all is_annotation_octet annotation.now) }
     ensures answer { Answers (result_map_both (λ v. changes v.items) (λ e. e) result)
         (ok_unless (add_fault (option_copied interface.entry) member.now priority annotation.now)
-        (element_addition name.now absent (new_element (option_copied interface.entry) member.now priority annotation.now))) }
-    ensures faulty { IfSome (add_fault (option_copied interface.entry) member.now priority annotation.now) (λ fault. result ≡ Err (Fault fault)) }
+        (element_addition name.now absent
+        (new_element (option_copied interface.entry) member.now priority annotation.now))) }
+    ensures faulty { IfSome (add_fault
+        (option_copied interface.entry) member.now priority annotation.now)
+        (λ fault. result ≡ Err (Fault fault)) }
     ensures readable { let element = new_element (option_copied interface.entry) member.now priority annotation.now in
         OnOk result (element_of (element_octets element) ≡ Some element) }
 {
@@ -76,7 +79,8 @@ pub fn delete(
     ensures answer { Answers (result_map_both (λ v. changes v.items) (λ e. e) result)
         (ok_unless (delete_fault (option_copied interface.entry) member.now values.now)
         (element_deletion name.now (option_copied interface.entry) member.now values.now)) }
-    ensures faulty { IfSome (delete_fault (option_copied interface.entry) member.now values.now) (λ fault. result ≡ Err (Fault fault)) }
+    ensures faulty { IfSome (delete_fault (option_copied interface.entry) member.now values.now)
+        (λ fault. result ≡ Err (Fault fault)) }
 {
     let found = elements_of(alloc, values, interface, member)?;
     if found.is_empty() {
@@ -96,7 +100,8 @@ pub fn check_new(
 ) -> Result<(), ProfileFault>
     ensures found { MatchResult result
         (λ _. add_fault (option_copied interface.entry) member.now priority annotation.now ≡ None)
-        (λ fault. add_fault (option_copied interface.entry) member.now priority annotation.now ≡ Some fault) }
+        (λ fault. add_fault (option_copied interface.entry) member.now priority annotation.now
+        ≡ Some fault) }
     ensures named { OnOk result (IsComponentList member.now) }
 {
     if !is_priority(interface, priority) {
@@ -180,7 +185,8 @@ fn additions(
     octets: &[u8],
 ) -> Result<Vec<Update>, AllocError>
     requires { value_fault octets.now ≡ None }
-    ensures { IfOk result (λ v. changes v.items ≡ creation name.now absent ++ Add name.now profile octets.now ∷ []) }
+    ensures { IfOk result
+        (λ v. changes v.items ≡ creation name.now absent ++ Add name.now profile octets.now ∷ []) }
 {
     let mut updates = creation(alloc, name, absent)?;
     updates.push(addition(alloc, name, octets)?)?;
@@ -198,7 +204,8 @@ fn addition(alloc: Global, name: &SimpleName, octets: &[u8]) -> Result<Update, A
 
 // The updates that remove values, in their order.
 fn removals(alloc: Global, name: &SimpleName, values: &[&Value]) -> Result<Vec<Update>, AllocError>
-    ensures { IfOk result (λ v. changes v.items ≡ map (λ value. Remove name.now profile value.now) values.now) }
+    ensures { IfOk result
+        (λ v. changes v.items ≡ map (λ value. Remove name.now profile value.now) values.now) }
 {
     let mut updates = Vec::with_capacity(alloc, values.len())?;
     for value in values {

@@ -22,7 +22,10 @@ pub struct Delta {
 
 impl Drop for Delta {
     fn drop(self) {
-        let Delta { table: _table, above: _above } = self;
+        let Delta {
+            table: _table,
+            above: _above,
+        } = self;
     }
 }
 
@@ -73,7 +76,8 @@ impl Replica {
         ensures all_up_to { OnOk result (
             self.new.all_up_to ≡ together self.old.all_up_to other.now.above) }
         ensures valid { OnOk result (
-            IsValidTable self.old.table → IsValidTable other.now.table → IsValidTable self.new.table) }
+            IsValidTable self.old.table → IsValidTable other.now.table
+            → IsValidTable self.new.table) }
         ensures times { OnOk result ((n : ℕ) →
             IsValidTable self.old.table → IsValidTable other.now.table →
             ReplicaUpTo n self.old → DeltaUpTo n other.now → ReplicaUpTo n self.new) }

@@ -22,12 +22,14 @@ pub fn replicas_are_valid()
 
 /// Neither the order nor repeats of marks count in a replica.
 pub fn same_marks_make_one_replica()
-    ensures { (g h : List Mark) (t : Option Stamp) → SameMarks g h → replica_of g t ≡ replica_of h t }
+    ensures { (g h : List Mark) (t : Option Stamp) → SameMarks g h
+        → replica_of g t ≡ replica_of h t }
 {}
 
 /// A reader sees in a replica's table what the history shows.
 pub fn replicas_show_histories()
-    ensures { (h : List Mark) (t : Option Stamp) (n : List ℕ) → shown_in (replica_of h t).table n ≡ shown_of_name h n }
+    ensures { (h : List Mark) (t : Option Stamp) (n : List ℕ)
+        → shown_in (replica_of h t).table n ≡ shown_of_name h n }
 {}
 
 /// What is left of the table of a history up to the later AllUpTo, with what is taken of that of another that can be merged,
@@ -35,10 +37,12 @@ pub fn replicas_show_histories()
 pub fn purged_replicas_merge()
     ensures replica { (h g : List Mark) (a b : Option Stamp) (t : Stamp) →
         together a b ≡ Some t → CanMerge h g (Some t) →
-        take_table t (purged_table t (table_of h)) (purged_entries g b) ≡ purged_entries (h ++ g) (Some t) }
+        take_table t (purged_table t (table_of h)) (purged_entries g b)
+        ≡ purged_entries (h ++ g) (Some t) }
     ensures delta { (h g : List Mark) (a b : Option Stamp) (t : Stamp) →
         together a b ≡ Some t → CanMerge h g (Some t) →
-        take_table t (purged_table t (table_of h)) (delta_of g b).table ≡ purged_entries (h ++ g) (Some t) }
+        take_table t (purged_table t (table_of h)) (delta_of g b).table
+        ≡ purged_entries (h ++ g) (Some t) }
 {}
 
 /// The greatest time is at most n exactly where no time is later than n.
@@ -59,7 +63,8 @@ pub fn deltas_make_no_later_time()
 pub fn marks_make_no_later_time()
     ensures entry { (h : List Mark) (name : List ℕ) (n : ℕ) → AllByRecursion (MarkUpTo n) h →
         IfSome (entry_of h name) (EntryUpTo n) }
-    ensures table { (h : List Mark) (n : ℕ) → AllByRecursion (MarkUpTo n) h → TableUpTo n (table_of h) }
+    ensures table { (h : List Mark) (n : ℕ) → AllByRecursion (MarkUpTo n) h
+        → TableUpTo n (table_of h) }
     ensures purged { (h : List Mark) (t : Option Stamp) (n : ℕ) →
         AllByRecursion (MarkUpTo n) h → TableUpTo n (purged_entries h t) }
     ensures empty { (n : ℕ) → TableUpTo n map.empty }

@@ -18,7 +18,8 @@ pub(crate) fn merge_table(
     other: &Table,
     up_to: Option<Stamp>,
 ) -> Result<(), AllocError>
-    ensures ok { OnOk result (IsValidTable own.old → IsValidTable other.now → own.new ≡ merged_table up_to own.old other.now) }
+    ensures ok { OnOk result (IsValidTable own.old → IsValidTable other.now
+        → own.new ≡ merged_table up_to own.old other.now) }
     ensures err { OnErr result (own.new ≡ own.old) }
 {
     match up_to {
@@ -47,8 +48,11 @@ fn take_entry(
     fragment: &Fragment,
     t: Stamp,
 ) -> Result<(), AllocError>
-    ensures ok { OnOk result (let f = fragment.now in IfSome (map.get own.old f.name) IsValidEntry → IsValidEntry f.entry →
-        (q : List ℕ) → map.get own.new q ≡ take_entry t (map.get own.old q) (if is_octets q f.name then Some f.entry else None)) }
+    ensures ok { OnOk result (let f = fragment.now in IfSome (map.get own.old f.name) IsValidEntry
+        → IsValidEntry f.entry →
+        (q : List ℕ)
+        → map.get own.new q
+        ≡ take_entry t (map.get own.old q) (if is_octets q f.name then Some f.entry else None)) }
     ensures others { OnOk result (LeavesOthers own.old own.new fragment.now.name) }
     ensures left_out { OnOk result ((IsValidEntry fragment.now.entry → ⊥) → own.new ≡ own.old) }
     ensures err { OnErr result (own.new ≡ own.old) }
@@ -73,7 +77,8 @@ fn join_later(
     fragment: &Fragment,
     t: Stamp,
 ) -> Result<(), AllocError>
-    ensures ok { OnOk result (let f = fragment.now in JoinsEntry own.old own.new f.name (after_entry t f.entry)) }
+    ensures ok { OnOk result (let f = fragment.now in
+        JoinsEntry own.old own.new f.name (after_entry t f.entry)) }
     ensures others { OnOk result (LeavesOthers own.old own.new fragment.now.name) }
     ensures err { OnErr result (own.new ≡ own.old) }
 {
@@ -92,8 +97,12 @@ pub(crate) fn merge_entry(
     fragment: &Fragment,
     up_to: Option<Stamp>,
 ) -> Result<(), AllocError>
-    ensures ok { OnOk result (let f = fragment.now in IfSome (map.get own.old f.name) IsValidEntry → IsValidEntry f.entry →
-        (q : List ℕ) → map.get own.new q ≡ merged_entry up_to (map.get own.old q) (if is_octets q f.name then Some f.entry else None)) }
+    ensures ok { OnOk result (let f = fragment.now in IfSome (map.get own.old f.name) IsValidEntry
+        → IsValidEntry f.entry →
+        (q : List ℕ)
+        → map.get own.new q
+        ≡ merged_entry up_to (map.get own.old q)
+        (if is_octets q f.name then Some f.entry else None)) }
     ensures others { OnOk result (LeavesOthers own.old own.new fragment.now.name) }
     ensures left_out { OnOk result ((IsValidEntry fragment.now.entry → ⊥) → own.new ≡ own.old) }
     ensures err { OnErr result (own.new ≡ own.old) }

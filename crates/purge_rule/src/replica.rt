@@ -28,7 +28,10 @@ pub struct Replica {
 
 impl Drop for Replica {
     fn drop(self) {
-        let Replica { table: _table, all_up_to: _all_up_to } = self;
+        let Replica {
+            table: _table,
+            all_up_to: _all_up_to,
+        } = self;
     }
 }
 
@@ -48,12 +51,17 @@ impl Replica {
     pub fn take(&mut self, alloc: Global, other: &Replica) -> Result<(), AllocError>
         ensures merged { OnOk result ((h g : List Mark) →
             let t = together self.old.all_up_to other.now.all_up_to in
-            CanMerge h g t → self.old ≡ replica_of h self.old.all_up_to → other.now ≡ replica_of g other.now.all_up_to → self.new ≡ replica_of (h ++ g) t) }
+            CanMerge h g t → self.old ≡ replica_of h self.old.all_up_to
+            → other.now ≡ replica_of g other.now.all_up_to → self.new ≡ replica_of (h ++ g) t) }
         ensures joined { OnOk result (let t = together self.old.all_up_to other.now.all_up_to in
-            IsValidTable self.old.table → IsValidTable other.now.table → self.new.table ≡ merged_table t self.old.table other.now.table) }
-        ensures all_up_to { OnOk result (self.new.all_up_to ≡ together self.old.all_up_to other.now.all_up_to) }
-        ensures valid { OnOk result (IsValidTable self.old.table → IsValidTable other.now.table → IsValidTable self.new.table) }
-        ensures times { OnOk result ((n : ℕ) → IsValidTable self.old.table → IsValidTable other.now.table →
+            IsValidTable self.old.table → IsValidTable other.now.table
+            → self.new.table ≡ merged_table t self.old.table other.now.table) }
+        ensures all_up_to { OnOk result
+            (self.new.all_up_to ≡ together self.old.all_up_to other.now.all_up_to) }
+        ensures valid { OnOk result (IsValidTable self.old.table → IsValidTable other.now.table
+            → IsValidTable self.new.table) }
+        ensures times { OnOk result ((n : ℕ) → IsValidTable self.old.table
+            → IsValidTable other.now.table →
             ReplicaUpTo n self.old → ReplicaUpTo n other.now → ReplicaUpTo n self.new) }
         ensures err { OnErr result (self.new ≡ self.old) }
     {
@@ -69,14 +77,20 @@ impl Replica {
     pub fn take_marks(&mut self, alloc: Global, fragment: &Fragment) -> Result<(), AllocError>
         ensures merged { OnOk result ((h marks : List Mark) →
             CanMerge h marks self.old.all_up_to → IsFragmentOf marks fragment.now →
-            self.old ≡ replica_of h self.old.all_up_to → self.new ≡ replica_of (h ++ marks) self.old.all_up_to) }
+            self.old ≡ replica_of h self.old.all_up_to
+            → self.new ≡ replica_of (h ++ marks) self.old.all_up_to) }
         ensures joined { OnOk result (let f = fragment.now in
-            IfSome (map.get self.old.table f.name) IsValidEntry → IsValidEntry f.entry → (q : List ℕ) → map.get self.new.table q ≡
-            merged_entry self.old.all_up_to (map.get self.old.table q) (if is_octets q f.name then Some f.entry else None)) }
-        ensures others { OnOk result ((q : List ℕ) → q ≢ fragment.now.name → map.get self.new.table q ≡ map.get self.old.table q) }
-        ensures left_out { OnOk result ((IsValidEntry fragment.now.entry → ⊥) → self.new ≡ self.old) }
+            IfSome (map.get self.old.table f.name) IsValidEntry → IsValidEntry f.entry
+            → (q : List ℕ) → map.get self.new.table q ≡
+            merged_entry self.old.all_up_to (map.get self.old.table q)
+            (if is_octets q f.name then Some f.entry else None)) }
+        ensures others { OnOk result ((q : List ℕ) → q ≢ fragment.now.name
+            → map.get self.new.table q ≡ map.get self.old.table q) }
+        ensures left_out { OnOk result ((IsValidEntry fragment.now.entry → ⊥)
+            → self.new ≡ self.old) }
         ensures all_up_to { self.new.all_up_to ≡ self.old.all_up_to }
-        ensures valid { OnOk result (IsValidTable self.old.table → IsValidEntry fragment.now.entry → IsValidTable self.new.table) }
+        ensures valid { OnOk result (IsValidTable self.old.table → IsValidEntry fragment.now.entry
+            → IsValidTable self.new.table) }
         ensures times { OnOk result (let f = fragment.now in
             (n : ℕ) → IfSome (map.get self.old.table f.name) IsValidEntry → IsValidEntry f.entry →
             ReplicaUpTo n self.old → EntryUpTo n f.entry → ReplicaUpTo n self.new) }
@@ -88,8 +102,10 @@ impl Replica {
 
     /// Raises AllUpTo to this stamp, if that is later, and drops the deletions up to it. It takes no memory.
     pub fn advance(&mut self, t: Stamp)
-        ensures merged { (h : List Mark) → self.old ≡ replica_of h self.old.all_up_to → self.new ≡ replica_of h (together self.old.all_up_to (Some t)) }
-        ensures dropped { IfSome self.new.all_up_to (λ u. self.new.table ≡ purged_table u self.old.table) }
+        ensures merged { (h : List Mark) → self.old ≡ replica_of h self.old.all_up_to
+            → self.new ≡ replica_of h (together self.old.all_up_to (Some t)) }
+        ensures dropped { IfSome self.new.all_up_to
+            (λ u. self.new.table ≡ purged_table u self.old.table) }
         ensures all_up_to { self.new.all_up_to ≡ together self.old.all_up_to (Some t) }
         ensures valid { IsValidTable self.old.table → IsValidTable self.new.table }
         ensures times { (n : ℕ) → ReplicaUpTo n self.old → t.time ≤ n → ReplicaUpTo n self.new }
@@ -101,15 +117,18 @@ impl Replica {
     /// The same, and its steps are counted: a deletion that the index of the table hands out is one, and so is each further record
     /// that is dropped with its entry.
     pub fn advance_counted<L: Ledger>(&mut self, t: Stamp, steps: &mut Steps<L>)
-        ensures merged { (h : List Mark) → self.old ≡ replica_of h self.old.all_up_to → self.new ≡ replica_of h (together self.old.all_up_to (Some t)) }
-        ensures dropped { IfSome self.new.all_up_to (λ u. self.new.table ≡ purged_table u self.old.table) }
+        ensures merged { (h : List Mark) → self.old ≡ replica_of h self.old.all_up_to
+            → self.new ≡ replica_of h (together self.old.all_up_to (Some t)) }
+        ensures dropped { IfSome self.new.all_up_to
+            (λ u. self.new.table ≡ purged_table u self.old.table) }
         ensures all_up_to { self.new.all_up_to ≡ together self.old.all_up_to (Some t) }
         ensures valid { IsValidTable self.old.table → IsValidTable self.new.table }
         ensures times { (n : ℕ) → ReplicaUpTo n self.old → t.time ≤ n → ReplicaUpTo n self.new }
         ensures cost { steps.new + held_in self.new.table ≤ steps.old + held_in self.old.table + 1 }
         ensures exact_if_none { held_in self.old.table ≤ most_held → HasNone self.new.table →
             steps.new + held_in self.new.table ≡ steps.old + held_in self.old.table }
-        ensures exact_if_some { held_in self.old.table ≤ most_held → (d : Deletion) → has_deletion self.new.table d ≡ true →
+        ensures exact_if_some { held_in self.old.table ≤ most_held → (d : Deletion)
+            → has_deletion self.new.table d ≡ true →
             steps.new + held_in self.new.table ≡ steps.old + held_in self.old.table + 1 }
     {
         let up_to = self.raise(t);

@@ -69,8 +69,10 @@ pub(crate) fn forget<L: Ledger>(table: &mut Table, t: Stamp, steps: &mut Steps<L
     ensures dropped { table.new ≡ purged_table t table.old }
     ensures times { (n : ℕ) → TableUpTo n table.old → TableUpTo n table.new }
     ensures cost { steps.new + held_in table.new ≤ steps.old + held_in table.old + 1 }
-    ensures exact_if_none { held_in table.old ≤ most_held → HasNone table.new → steps.new + held_in table.new ≡ steps.old + held_in table.old }
-    ensures exact_if_some { held_in table.old ≤ most_held → (d : Deletion) → has_deletion table.new d ≡ true →
+    ensures exact_if_none { held_in table.old ≤ most_held → HasNone table.new
+        → steps.new + held_in table.new ≡ steps.old + held_in table.old }
+    ensures exact_if_some { held_in table.old ≤ most_held → (d : Deletion)
+        → has_deletion table.new d ≡ true →
         steps.new + held_in table.new ≡ steps.old + held_in table.old + 1 }
 {
     let t = &t;

@@ -37,7 +37,9 @@ impl<'a> Reader<'a> {
         cleared: &Option<Stamp>,
         before: Option<&[u8]>,
     ) -> Result<&'a [u8], ReadError>
-        ensures { Adds (λ x. x.now) (item value (mark above.now cleared.now) (option_map (λ b. b.now) before.entry)) marks.old marks.new self.old self.new result }
+        ensures { Adds (λ x. x.now)
+            (item value (mark above.now cleared.now)
+            (option_map (λ b. b.now) before.entry)) marks.old marks.new self.old self.new result }
     {
         let own = self.value(before)?;
         let mark = self.mark(above, cleared)?;
@@ -54,7 +56,8 @@ impl<'a> Reader<'a> {
         cleared: &Option<Stamp>,
         count: u64,
     ) -> Result<ValueMap, ReadError>
-        ensures { Reads (λ x. x) (map_of value (mark above.now cleared.now) count) self.old self.new result }
+        ensures { Reads (λ x. x)
+            (map_of value (mark above.now cleared.now) count) self.old self.new result }
     {
         let mut marks = ValueMap::new(alloc);
         let mut before = None;
@@ -68,7 +71,8 @@ impl<'a> Reader<'a> {
     /// How many marks a cell with this clear has.
     #[tactic(auto, unfolding(crate::specs::Fields::number))]
     fn mark_count(&mut self, cleared: &Option<Stamp>) -> Result<u64, Broken>
-        ensures { ReadsSurely (λ x. x) (number w64 (empty_cell cleared.now)) self.old self.new result }
+        ensures { ReadsSurely (λ x. x)
+            (number w64 (empty_cell cleared.now)) self.old self.new result }
     {
         let left = self.left();
         let count = self.u64()?;

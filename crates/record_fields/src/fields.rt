@@ -174,7 +174,8 @@ impl<'a> Reader<'a> {
     /// An octet that is not less than the one number and not more than the other.
     #[tactic(auto, unfolding(crate::specs::Fields::octet))]
     pub fn octet_within(&mut self, rule: Rule, least: u8, most: u8) -> Result<u8, Broken>
-        ensures read { ReadsSurely (λ x. x) (octet (outside rule least most)) self.old self.new result }
+        ensures read { ReadsSurely (λ x. x)
+            (octet (outside rule least most)) self.old self.new result }
         ensures within { IfOk result (λ n. (least ≤ n) × (n ≤ most)) }
     {
         let left = self.left();
@@ -188,7 +189,8 @@ impl<'a> Reader<'a> {
     /// A number of 2 octets that is not less than the one number and not more than the other.
     #[tactic(auto, unfolding(crate::specs::Fields::number))]
     fn u16_within(&mut self, rule: Rule, least: u16, most: u16) -> Result<u16, Broken>
-        ensures read { ReadsSurely (λ x. x) (number w16 (outside rule least most)) self.old self.new result }
+        ensures read { ReadsSurely (λ x. x)
+            (number w16 (outside rule least most)) self.old self.new result }
         ensures within { IfOk result (λ n. (least ≤ n) × (n ≤ most)) }
     {
         let left = self.left();
@@ -231,7 +233,8 @@ impl<'a> Reader<'a> {
         above: &Option<Stamp>,
         cleared: &Option<Stamp>,
     ) -> Result<Stamp, Broken>
-        ensures { ReadsSurely (λ x. x) (stamp (mark_rule above.now cleared.now)) self.old self.new result }
+        ensures { ReadsSurely (λ x. x)
+            (stamp (mark_rule above.now cleared.now)) self.old self.new result }
     {
         let left = self.left();
         let stamp = self.stamp()?;
@@ -247,7 +250,8 @@ impl<'a> Reader<'a> {
     /// So many octets, each in names, above those before them.
     #[tactic(auto, unfolding(crate::specs::Fields::octets_of))]
     fn name_octets(&mut self, size: usize, before: Option<&[u8]>) -> Result<&'a [u8], Broken>
-        ensures read { ReadsSurely (λ x. x.now) (octets_of size (name_rule is_name_octet (option_map (λ b. b.now) before.entry)))
+        ensures read { ReadsSurely (λ x. x.now)
+            (octets_of size (name_rule is_name_octet (option_map (λ b. b.now) before.entry)))
             self.old self.new result }
         ensures each { IfOk result (λ x. list_all is_name_octet x.now ≡ true) }
         ensures len { IfOk result (λ x. length x.now ≡ size) }
@@ -266,7 +270,8 @@ impl<'a> Reader<'a> {
     /// So many octets, each in names of attributes, above those before them.
     #[tactic(auto, unfolding(crate::specs::Fields::octets_of))]
     fn attr_octets(&mut self, size: usize, before: Option<&[u8]>) -> Result<&'a [u8], Broken>
-        ensures read { ReadsSurely (λ x. x.now) (octets_of size (name_rule is_attr_octet (option_map (λ b. b.now) before.entry)))
+        ensures read { ReadsSurely (λ x. x.now)
+            (octets_of size (name_rule is_attr_octet (option_map (λ b. b.now) before.entry)))
             self.old self.new result }
         ensures each { IfOk result (λ x. list_all is_attr_octet x.now ≡ true) }
         ensures len { IfOk result (λ x. length x.now ≡ size) }
@@ -285,7 +290,9 @@ impl<'a> Reader<'a> {
     /// So many octets, above those before them.
     #[tactic(auto, unfolding(crate::specs::Fields::octets_of))]
     fn value_octets(&mut self, size: usize, before: Option<&[u8]>) -> Result<&'a [u8], Broken>
-        ensures read { ReadsSurely (λ x. x.now) (octets_of size (octets_order (option_map (λ b. b.now) before.entry))) self.old self.new result }
+        ensures read { ReadsSurely (λ x. x.now)
+            (octets_of size
+            (octets_order (option_map (λ b. b.now) before.entry))) self.old self.new result }
         ensures len { IfOk result (λ x. length x.now ≡ size) }
     {
         let left = self.left();
@@ -299,7 +306,8 @@ impl<'a> Reader<'a> {
     /// The octets of a simple name above those before it.
     #[tactic(auto, unfolding(crate::specs::Fields::simple_name))]
     pub fn simple_name(&mut self, before: Option<&[u8]>) -> Result<&'a [u8], Broken>
-        ensures read { ReadsSurely (λ x. x.now) (simple_name (option_map (λ b. b.now) before.entry)) self.old self.new result }
+        ensures read { ReadsSurely (λ x. x.now)
+            (simple_name (option_map (λ b. b.now) before.entry)) self.old self.new result }
         ensures lawful { IfOk result (λ x. simple_name_fault x.now ≡ None) }
     {
         let size = self.octet_within(Rule::BadLength, 1, LONGEST_COMPONENT as u8)?;
@@ -310,7 +318,8 @@ impl<'a> Reader<'a> {
     /// The octets of an attribute's name above those before it.
     #[tactic(auto, unfolding(crate::specs::Fields::attr_name))]
     pub fn attr_name(&mut self, before: Option<&[u8]>) -> Result<&'a [u8], Broken>
-        ensures read { ReadsSurely (λ x. x.now) (attr_name (option_map (λ b. b.now) before.entry)) self.old self.new result }
+        ensures read { ReadsSurely (λ x. x.now)
+            (attr_name (option_map (λ b. b.now) before.entry)) self.old self.new result }
         ensures lawful { IfOk result (λ x. attr_fault x.now ≡ None) }
     {
         let size = self.octet_within(Rule::BadLength, 1, LONGEST_ATTR as u8)?;
@@ -321,7 +330,8 @@ impl<'a> Reader<'a> {
     /// The octets of a value above those before it.
     #[tactic(auto, unfolding(crate::specs::Fields::value))]
     pub(crate) fn value(&mut self, before: Option<&[u8]>) -> Result<&'a [u8], Broken>
-        ensures read { ReadsSurely (λ x. x.now) (value (option_map (λ b. b.now) before.entry)) self.old self.new result }
+        ensures read { ReadsSurely (λ x. x.now)
+            (value (option_map (λ b. b.now) before.entry)) self.old self.new result }
         ensures lawful { IfOk result (λ x. value_fault x.now ≡ None) }
     {
         let size = self.u16_within(Rule::BadLength, 1, LONGEST_VALUE as u16)?;
@@ -351,7 +361,8 @@ fn is_above(above: &Option<Stamp>, stamp: &Stamp) -> bool
 
 /// Whether octets are not above those before them.
 fn is_unordered(octets: &[u8], before: Option<&[u8]>) -> bool
-    ensures { octets_order (option_map (λ b. b.now) before.entry) octets.now ≡ (if result then Some OutOfOrder else None) }
+    ensures { octets_order (option_map (λ b. b.now) before.entry) octets.now
+        ≡ (if result then Some OutOfOrder else None) }
 {
     match before {
         Some(before) => !before.cmp(octets).is_lt(),

@@ -82,7 +82,8 @@ pub fn put_stamp(out: &mut Vec<u8>, stamp: &Stamp) -> Result<(), AllocError>
 /// A flag, and a stamp if there is one.
 #[tactic(auto, unfolding(crate::specs::Octets::optional_stamp_octets))]
 pub fn put_optional_stamp(out: &mut Vec<u8>, stamp: &Option<Stamp>) -> Result<(), AllocError>
-    ensures octets { OnOk result (out.new.items ≡ out.old.items ++ optional_stamp_octets stamp.now) }
+    ensures octets { OnOk result
+        (out.new.items ≡ out.old.items ++ optional_stamp_octets stamp.now) }
     ensures fits { OnOk result (IfSome stamp.now FitsStamp) }
 {
     match stamp {
@@ -146,7 +147,8 @@ fn put_mark(out: &mut Vec<u8>, mark: &ValueMark) -> Result<(), AllocError>
 
 /// A value and its mark.
 fn put_marked(out: &mut Vec<u8>, value: &Value, mark: &ValueMark) -> Result<(), AllocError>
-    ensures octets { OnOk result (out.new.items ≡ out.old.items ++ (value_octets value.now ++ mark_octets mark.now)) }
+    ensures octets { OnOk result
+        (out.new.items ≡ out.old.items ++ (value_octets value.now ++ mark_octets mark.now)) }
     ensures fits { OnOk result ((value_fault value.now ≡ None) × FitsStamp mark.now.stamp) }
 {
     put_value(out, value)?;
@@ -156,8 +158,11 @@ fn put_marked(out: &mut Vec<u8>, value: &Value, mark: &ValueMark) -> Result<(), 
 
 /// The values of an attribute with their marks.
 fn put_marks(out: &mut Vec<u8>, marks: &ValueMap) -> Result<(), AllocError>
-    ensures octets { OnOk result (out.new.items ≡ out.old.items ++ each_octets value_octets mark_octets marks.now) }
-    ensures fits { OnOk result (ItemsFit (λ v. value_fault v ≡ None) (λ (m : ValueMark). FitsStamp m.stamp) (entries marks.now)) }
+    ensures octets { OnOk result
+        (out.new.items ≡ out.old.items ++ each_octets value_octets mark_octets marks.now) }
+    ensures fits { OnOk result
+        (ItemsFit (λ v. value_fault v ≡ None) (λ (m : ValueMark). FitsStamp m.stamp)
+        (entries marks.now)) }
 {
     for (value, mark) in marks.iter() {
         put_marked(out, value, mark)?;

@@ -30,7 +30,8 @@ fn digit_value(digit: u8) -> Option<u8>
 /// Reads digits, two for each octet; false where one of them is none.
 pub(crate) fn read_digits(digits: &[u8], octets: &mut [u8]) -> bool
     requires { length digits.now ≡ 2 * length octets.old }
-    ensures { MatchOption (result_ok (decode_pairs 0 digits.now)) (result ≡ false) (λ read. (result ≡ true) × (octets.new ≡ read)) }
+    ensures { MatchOption (result_ok (decode_pairs 0 digits.now)) (result ≡ false)
+        (λ read. (result ≡ true) × (octets.new ≡ read)) }
 {
     'octets: for i in 0..octets.len() {
         let Some(high) = digit_value(digits[2 * i]) else {

@@ -89,7 +89,8 @@ impl Waiting {
     pub fn write_out<K: Sink>(&mut self, sink: &mut K) -> Result<(), PutFault>
         ensures ok { OnOk result (Appends (K.written sink.old) (K.written sink.new) self.old) }
         ensures empty { OnOk result (self.new ≡ []) }
-        ensures err { IfErr result (λ e. (e.0 < length self.old) × Appends (K.written sink.old) (K.written sink.new) (take e.0 self.old)) }
+        ensures err { IfErr result (λ e. (e.0 < length self.old)
+            × Appends (K.written sink.old) (K.written sink.new) (take e.0 self.old)) }
         ensures cause { HasCause (K.faults sink.old) (K.faults sink.new) result }
     {
         match put_all(sink, &self.octets) {
@@ -103,8 +104,10 @@ impl Waiting {
 
     /// Flushes what waits, unless the next line is there already and little waits.
     pub fn flush_before<K: Sink>(&mut self, ready: bool, sink: &mut K) -> Result<(), PutFault>
-        ensures ok { OnOk result (Flushes (K.written sink.old) (K.written sink.new) self.old self.new ready) }
-        ensures err { IfErr result (λ e. (e.0 < length self.old) × Appends (K.written sink.old) (K.written sink.new) (take e.0 self.old)) }
+        ensures ok { OnOk result
+            (Flushes (K.written sink.old) (K.written sink.new) self.old self.new ready) }
+        ensures err { IfErr result (λ e. (e.0 < length self.old)
+            × Appends (K.written sink.old) (K.written sink.new) (take e.0 self.old)) }
         ensures cause { HasCause (K.faults sink.old) (K.faults sink.new) result }
     {
         if ready && self.octets.len() < MOST_WAITING {

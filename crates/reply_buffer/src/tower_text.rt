@@ -39,7 +39,8 @@ fn append_floor(text: &mut Vec<u8>, floor: &FloorView<'_>) -> Result<(), AllocEr
 // Puts floors behind the text, each behind a space. After want of memory the text may have grown.
 fn append_floors(text: &mut Vec<u8>, floors: &TowerView<'_>) -> Result<(), AllocError>
     requires { length (tower_octets floors.now) ≤ LONGEST_TOWER }
-    ensures ok { OnOk result (text.new.items ≡ text.old.items ++ flat_map (λ f. 32 ∷ floor_text f) floors.now) }
+    ensures ok { OnOk result
+        (text.new.items ≡ text.old.items ++ flat_map (λ f. 32 ∷ floor_text f) floors.now) }
     ensures err { OnErr result (take (length text.old.items) text.new.items ≡ text.old.items) }
 {
     let mut next = floors.split_first();

@@ -40,7 +40,9 @@ fn is_no_floors(words: &[&[u8]]) -> bool
 
 // Puts the octets of hexadecimal digits in place of those that were there; false where the digits are at fault.
 fn read_part(digits: &[u8], part: &mut Vec<u8>) -> Result<bool, AllocError>
-    ensures { IfOk result (λ is. MatchOption (result_ok (decode_of digits.now)) (is ≡ false) (λ octets. (is ≡ true) × (part.new.items ≡ octets))) }
+    ensures { IfOk result
+        (λ is. MatchOption (result_ok (decode_of digits.now)) (is ≡ false) (λ octets. (is ≡ true)
+        × (part.new.items ≡ octets))) }
 {
     if digits.len() % 2 == 1 {
         return Ok(false);
@@ -61,7 +63,8 @@ impl Speller {
 
     /// What `untowers` makes of a line: the octets of its tower wait behind the others.
     pub fn spell_line(&mut self, alloc: Global, line: &[u8], waiting: &mut Waiting) -> LineEnd
-        ensures { Spells result (spell_response (tower_said (words_of line.now))) waiting.old waiting.new }
+        ensures { Spells result
+            (spell_response (tower_said (words_of line.now))) waiting.old waiting.new }
     {
         match split_words(alloc, line) {
             Ok(words) => self.spell_words(words.as_slice(), waiting),
@@ -70,7 +73,8 @@ impl Speller {
     }
 
     fn spell_words(&mut self, words: &[&[u8]], waiting: &mut Waiting) -> LineEnd
-        ensures { Spells result (spell_response (tower_said (map (λ w. w.now) words.now))) waiting.old waiting.new }
+        ensures { Spells result
+            (spell_response (tower_said (map (λ w. w.now) words.now))) waiting.old waiting.new }
     {
         match words {
             [] => LineEnd::GoesOn,
@@ -85,7 +89,8 @@ impl Speller {
 
     // The octets of the tower that the words say wait behind the others.
     fn spell_tower(&mut self, words: &[&[u8]], waiting: &mut Waiting) -> LineEnd
-        ensures { Spells result (spell_response (tower_in (map (λ w. w.now) words.now))) waiting.old waiting.new }
+        ensures { Spells result
+            (spell_response (tower_in (map (λ w. w.now) words.now))) waiting.old waiting.new }
     {
         match self.read_tower(words) {
             Ok(true) => match waiting.add(self.tower.octets()) {
@@ -99,7 +104,8 @@ impl Speller {
 
     // Reads the tower that the words say; false where they are at fault.
     fn read_tower(&mut self, words: &[&[u8]]) -> Result<bool, AllocError>
-        ensures { IfOk result (λ is. ReadsTower is (tower_in (map (λ w. w.now) words.now)) self.new.tower) }
+        ensures { IfOk result
+            (λ is. ReadsTower is (tower_in (map (λ w. w.now) words.now)) self.new.tower) }
     {
         self.tower.clear();
         if is_no_floors(words) {
@@ -111,7 +117,9 @@ impl Speller {
     // Reads a floor from each word, behind the floors that are there.
     fn read_floors(&mut self, words: &[&[u8]]) -> Result<bool, AllocError>
         requires { self.old.tower ≡ [] }
-        ensures { IfOk result (λ is. ReadsTower is (short_tower (floors_said (map (λ w. w.now) words.now))) self.new.tower) }
+        ensures { IfOk result
+            (λ is. ReadsTower is
+            (short_tower (floors_said (map (λ w. w.now) words.now))) self.new.tower) }
     {
         for word in words {
             if !self.add_floor(word)? {
@@ -125,7 +133,8 @@ impl Speller {
     #[tactic(auto, unfolding(crate::specs::TowerTexts::floor_said))]
     fn add_floor(&mut self, word: &[u8]) -> Result<bool, AllocError>
         requires { length (tower_octets self.old.tower) ≤ LONGEST_TOWER }
-        ensures { IfOk result (λ is. AddsFloor is (floor_said word.now) self.old.tower self.new.tower) }
+        ensures { IfOk result
+            (λ is. AddsFloor is (floor_said word.now) self.old.tower self.new.tower) }
     {
         match split_at_mark(word, b':') {
             Some((left, right)) => self.add_parts(left, right),
@@ -135,7 +144,10 @@ impl Speller {
 
     fn add_parts(&mut self, left: &[u8], right: &[u8]) -> Result<bool, AllocError>
         requires { length (tower_octets self.old.tower) ≤ LONGEST_TOWER }
-        ensures { IfOk result (λ is. AddsFloor is (floor_of_parts (result_ok (decode_of left.now)) (result_ok (decode_of right.now))) self.old.tower
+        ensures { IfOk result
+            (λ is. AddsFloor is
+            (floor_of_parts (result_ok (decode_of left.now))
+            (result_ok (decode_of right.now))) self.old.tower
             self.new.tower) }
     {
         if !read_part(left, &mut self.left)? || self.left.is_empty() {
@@ -151,7 +163,9 @@ impl Speller {
     fn push_floor(&mut self) -> Result<bool, AllocError>
         requires few { length (tower_octets self.old.tower) ≤ LONGEST_TOWER }
         requires some { 0 < length self.old.left.items }
-        ensures { IfOk result (λ is. AddsFloor is (Some (record { left = self.old.left.items; right = self.old.right.items })) self.old.tower self.new.tower) }
+        ensures { IfOk result
+            (λ is. AddsFloor is
+            (Some (record { left = self.old.left.items; right = self.old.right.items })) self.old.tower self.new.tower) }
     {
         let used = self.tower.octets().len() + 4;
         let (left, right) = (self.left.len(), self.right.len());

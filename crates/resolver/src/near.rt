@@ -25,7 +25,10 @@ pub struct Near {
 
 impl Drop for Near {
     fn drop(self) {
-        let Near { name: _name, at: _at } = self;
+        let Near {
+            name: _name,
+            at: _at,
+        } = self;
     }
 }
 
@@ -56,7 +59,8 @@ fn object_near<R: EntryReader>(
 ) -> Result<Option<Found>, AllocError>
     requires { Knows (R.tells reader.now) near.old }
     ensures near { Knows (R.tells reader.now) near.new }
-    ensures walked { IfOk result (λ found. IfSome found (λ f. walk_end (R.tells reader.now) true name.now ≡ Ok f)) }
+    ensures walked { IfOk result
+        (λ found. IfSome found (λ f. walk_end (R.tells reader.now) true name.now ≡ Ok f)) }
 {
     if let Some(dir) = near {
         if let Some(last) = name.last_behind(&dir.name) {
@@ -79,7 +83,8 @@ fn object_in<R: EntryReader>(
     name: &LentName<'_>,
 ) -> Result<Option<Found>, AllocError>
     requires { IsEntered (R.tells reader.now) dir.now }
-    ensures { IfOk result (λ found. IfSome found (λ f. walk_end (R.tells reader.now) true name.now ≡ Ok f)) }
+    ensures { IfOk result
+        (λ found. IfSome found (λ f. walk_end (R.tells reader.now) true name.now ≡ Ok f)) }
 {
     match name.last_behind(&dir.name) {
         Some(last) => dir.object(alloc, reader, last),
@@ -98,7 +103,9 @@ impl Near {
     ) -> Result<Option<Found>, AllocError>
         requires simple { simple_name_fault octets.now ≡ None }
         requires entered { IsEntered (R.tells reader.now) self.now }
-        ensures { IfOk result (λ found. IfSome found (λ f. walk_end (R.tells reader.now) true (self.now.name ++ octets.now ∷ []) ≡ Ok f)) }
+        ensures { IfOk result
+            (λ found. IfSome found
+            (λ f. walk_end (R.tells reader.now) true (self.now.name ++ octets.now ∷ []) ≡ Ok f)) }
     {
         let name = SimpleName::known(alloc, octets)?;
         match reader.lookup(alloc, &self.at, &name)? {
@@ -160,7 +167,9 @@ fn enter<R: EntryReader>(
     reader: &R,
     name: FullName,
 ) -> Result<Option<Near>, AllocError>
-    ensures { IfOk result (λ near. option_map (λ dir. pointer_in dir.at) near ≡ children (R.tells reader.now) name (R.tells reader.now).root
+    ensures { IfOk result
+        (λ near. option_map (λ dir. pointer_in dir.at) near
+        ≡ children (R.tells reader.now) name (R.tells reader.now).root
         × IfSome near (λ dir. dir.name ≡ name)) }
 {
     match entered(alloc, reader, name.components())? {
@@ -175,7 +184,9 @@ fn entered<R: EntryReader>(
     reader: &R,
     components: &[SimpleName],
 ) -> Result<Option<ChildPointer>, AllocError>
-    ensures { IfOk result (λ at. option_map pointer_in at ≡ children (R.tells reader.now) components.now (R.tells reader.now).root) }
+    ensures { IfOk result
+        (λ at. option_map pointer_in at
+        ≡ children (R.tells reader.now) components.now (R.tells reader.now).root) }
 {
     match reader.root(alloc)? {
         Some(root) => entered_from(alloc, reader, root, components),
@@ -190,7 +201,9 @@ fn entered_from<R: EntryReader>(
     from: ChildPointer,
     components: &[SimpleName],
 ) -> Result<Option<ChildPointer>, AllocError>
-    ensures { IfOk result (λ at. option_map pointer_in at ≡ children (R.tells reader.now) components.now (Some (pointer_in from))) }
+    ensures { IfOk result
+        (λ at. option_map pointer_in at
+        ≡ children (R.tells reader.now) components.now (Some (pointer_in from))) }
 {
     let mut at = from;
     for component in components {

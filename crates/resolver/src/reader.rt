@@ -33,17 +33,20 @@ pub trait EntryReader {
         at: &ChildPointer,
         name: &SimpleName,
     ) -> Result<Seen, AllocError>
-        ensures { IfOk result (λ seen. sight_of seen ≡ (tells self.now).sees (pointer_in at.now) name.now) };
+        ensures { IfOk result
+            (λ seen. sight_of seen ≡ (tells self.now).sees (pointer_in at.now) name.now) };
 
     /// The values of an attribute that show of an entry, ascending, each once.
     fn values(&self, alloc: Global, at: &Found, attr: &AttrName) -> Result<Vec<Value>, AllocError>
-        ensures told { IfOk result (λ found. found.items ≡ (tells self.now).values at.now attr.now) }
+        ensures told { IfOk result
+            (λ found. found.items ≡ (tells self.now).values at.now attr.now) }
         ensures ascending { IfOk result (λ found. IsStrictlySortedBy octets_cmp found.items) };
 
     /// The cells of an entry's attributes, by which the same values show, where the reader keeps them: they are read in place.
     /// A reader need keep none.
     fn attributes(&self, at: &Found) -> Option<&AttrMap>
-        ensures { IfSome (option_copied result) (λ cells. (attr : List ℕ) → values_by cells attr ≡ (tells self.now).values at.now attr) }
+        ensures { IfSome (option_copied result) (λ cells. (attr : List ℕ)
+            → values_by cells attr ≡ (tells self.now).values at.now attr) }
     {
         None
     }

@@ -22,7 +22,8 @@ pub fn resolve<R: EntryReader>(
     name: &FullName,
     follow_last: bool,
 ) -> Result<Found, AllocOr<Refusal>>
-    ensures ends { SomeEnd (R.tells reader.now) follow_last name.now (λ end. Answers result (found_of end)) }
+    ensures ends { SomeEnd (R.tells reader.now) follow_last name.now
+        (λ end. Answers result (found_of end)) }
     ensures walked { Answers result (walk_end (R.tells reader.now) follow_last name.now) }
     ensures root { name.now ≡ [] → result ≡ Err (Fault RootName) }
 {
@@ -40,7 +41,8 @@ pub fn place<R: EntryReader>(
     reader: &R,
     name: &FullName,
 ) -> Result<crate::seen::Place, AllocOr<Refusal>>
-    ensures ends { SomeEnd (R.tells reader.now) true name.now (λ end. Answers result (place_of end)) }
+    ensures ends { SomeEnd (R.tells reader.now) true name.now
+        (λ end. Answers result (place_of end)) }
     ensures placed { Answers result (place_of_walk (R.tells reader.now) name.now) }
     ensures root { name.now ≡ [] → result ≡ Err (Fault RootName) }
 {

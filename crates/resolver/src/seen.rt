@@ -53,6 +53,11 @@ pub struct Place {
 
 impl Drop for Place {
     fn drop(self) {
-        let Place { dir: _dir, house: _house, name: _name, kind: _kind } = self;
+        let Place {
+            dir: _dir,
+            house: _house,
+            name: _name,
+            kind: _kind,
+        } = self;
     }
 }

@@ -63,7 +63,8 @@ fn push_dump(
     all_up_to: Option<Stamp>,
     members: &[Member],
 ) -> Result<(), AllocError>
-    ensures { OnOk result (line.new.items ≡ line.old.items ++ dump_line epoch all_up_to members.now) }
+    ensures { OnOk result
+        (line.new.items ≡ line.old.items ++ dump_line epoch all_up_to members.now) }
 {
     line.extend_from_slice(b"dump epoch ")?;
     push_number(line, epoch.0)?;
@@ -140,7 +141,8 @@ fn push_value_line(
     value: &Value,
     mark: &ValueMark,
 ) -> Result<(), AllocError>
-    ensures { OnOk result (text.new.items ≡ text.old.items ++ line_text number (value_line value.now mark.now)) }
+    ensures { OnOk result
+        (text.new.items ≡ text.old.items ++ line_text number (value_line value.now mark.now)) }
 {
     begin_line(text, number)?;
     push_value(text, value, mark)?;
@@ -155,7 +157,8 @@ fn push_attr_line(
     name: &AttrName,
     cleared: Option<Stamp>,
 ) -> Result<(), AllocError>
-    ensures { OnOk result (text.new.items ≡ text.old.items ++ line_text number (attr_line name.now cleared)) }
+    ensures { OnOk result
+        (text.new.items ≡ text.old.items ++ line_text number (attr_line name.now cleared)) }
 {
     begin_line(text, number)?;
     push_attr(text, name, cleared)?;
@@ -170,7 +173,8 @@ fn push_entry_line(
     name: &SimpleName,
     entry: &EntryCell,
 ) -> Result<(), AllocError>
-    ensures { OnOk result (text.new.items ≡ text.old.items ++ line_text number (entry_line name.now entry.now)) }
+    ensures { OnOk result
+        (text.new.items ≡ text.old.items ++ line_text number (entry_line name.now entry.now)) }
 {
     begin_line(text, number)?;
     push_entry(text, name, entry)?;
@@ -186,7 +190,9 @@ fn push_dump_line(
     all_up_to: Option<Stamp>,
     members: &Members,
 ) -> Result<(), AllocError>
-    ensures { OnOk result (text.new.items ≡ text.old.items ++ line_text number (dump_line epoch all_up_to members.now)) }
+    ensures { OnOk result
+        (text.new.items
+        ≡ text.old.items ++ line_text number (dump_line epoch all_up_to members.now)) }
 {
     begin_line(text, number)?;
     push_dump(text, epoch, all_up_to, members.list())?;
@@ -206,7 +212,8 @@ fn push_end(text: &mut Vec<u8>, number: u32) -> Result<(), AllocError>
 
 // The lines of an attribute's values.
 fn push_values(text: &mut Vec<u8>, number: u32, values: &ValueMap) -> Result<(), AllocError>
-    ensures { OnOk result (text.new.items ≡ text.old.items ++ lines_text number (each_lines value_lines values.now)) }
+    ensures { OnOk result
+        (text.new.items ≡ text.old.items ++ lines_text number (each_lines value_lines values.now)) }
 {
     for (value, mark) in values.iter() {
         push_value_line(text, number, value, mark)?;
@@ -221,7 +228,8 @@ fn push_attr_lines(
     name: &AttrName,
     cell: &AttrCell,
 ) -> Result<(), AllocError>
-    ensures { OnOk result (text.new.items ≡ text.old.items ++ lines_text number (attr_lines name.now cell.now)) }
+    ensures { OnOk result
+        (text.new.items ≡ text.old.items ++ lines_text number (attr_lines name.now cell.now)) }
 {
     push_attr_line(text, number, name, cell.cleared)?;
     push_values(text, number, &cell.values)
@@ -229,7 +237,8 @@ fn push_attr_lines(
 
 // The lines of an entry's attributes.
 fn push_attrs(text: &mut Vec<u8>, number: u32, attrs: &AttrMap) -> Result<(), AllocError>
-    ensures { OnOk result (text.new.items ≡ text.old.items ++ lines_text number (each_lines attr_lines attrs.now)) }
+    ensures { OnOk result
+        (text.new.items ≡ text.old.items ++ lines_text number (each_lines attr_lines attrs.now)) }
 {
     for (name, cell) in attrs.iter() {
         push_attr_lines(text, number, name, cell)?;
@@ -244,7 +253,8 @@ fn push_entry_lines(
     name: &SimpleName,
     entry: &EntryCell,
 ) -> Result<(), AllocError>
-    ensures { OnOk result (text.new.items ≡ text.old.items ++ lines_text number (entry_lines name.now entry.now)) }
+    ensures { OnOk result
+        (text.new.items ≡ text.old.items ++ lines_text number (entry_lines name.now entry.now)) }
 {
     push_entry_line(text, number, name, entry)?;
     push_attrs(text, number, &entry.attrs)
@@ -252,7 +262,8 @@ fn push_entry_lines(
 
 // The lines of a table's entries.
 fn push_entries(text: &mut Vec<u8>, number: u32, table: &Table) -> Result<(), AllocError>
-    ensures { OnOk result (text.new.items ≡ text.old.items ++ lines_text number (each_lines entry_lines table.now)) }
+    ensures { OnOk result
+        (text.new.items ≡ text.old.items ++ lines_text number (each_lines entry_lines table.now)) }
 {
     for (name, entry) in table.iter() {
         push_entry_lines(text, number, name, entry)?;
@@ -269,7 +280,9 @@ pub(crate) fn dump_text(
     members: &Members,
     table: &Table,
 ) -> Result<Vec<u8>, AllocError>
-    ensures { IfOk result (λ text. text.items ≡ lines_text number (dump_lines epoch all_up_to members.now table.now)) }
+    ensures { IfOk result
+        (λ text. text.items
+        ≡ lines_text number (dump_lines epoch all_up_to members.now table.now)) }
 {
     let mut text = Vec::new(alloc);
     push_dump_line(&mut text, number, epoch, all_up_to, members)?;

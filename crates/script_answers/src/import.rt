@@ -13,7 +13,8 @@ fn push_binding(
     number: u32,
     binding: &StringBinding,
 ) -> Result<(), AllocError>
-    ensures { OnOk result (text.new.items ≡ text.old.items ++ line_text number (binding_line binding.now)) }
+    ensures { OnOk result
+        (text.new.items ≡ text.old.items ++ line_text number (binding_line binding.now)) }
 {
     begin_line(text, number)?;
     text.extend_from_slice(b"binding ")?;
@@ -29,7 +30,8 @@ fn push_bindings(
     number: u32,
     bindings: &[StringBinding],
 ) -> Result<(), AllocError>
-    ensures { OnOk result (text.new.items ≡ text.old.items ++ lines_text number (map binding_line bindings.now)) }
+    ensures { OnOk result
+        (text.new.items ≡ text.old.items ++ lines_text number (map binding_line bindings.now)) }
 {
     for binding in bindings {
         push_binding(alloc, text, number, binding)?;

@@ -105,7 +105,8 @@ pub(crate) fn push_stamped(
     stamp: &Stamp,
     serials: &[u64],
 ) -> Result<(), AllocError>
-    ensures ok { OnOk result (line.new.items ≡ line.old.items ++ stamped_text stamp.now serials.now) }
+    ensures ok { OnOk result
+        (line.new.items ≡ line.old.items ++ stamped_text stamp.now serials.now) }
     ensures err { OnErr result (take (length line.old.items) line.new.items ≡ line.old.items) }
 {
     push_stamp(line, stamp)?;

@@ -37,7 +37,8 @@ fn push_values(line: &mut Vec<u8>, values: &[Value]) -> Result<(), AllocError>
 
 // The answer of values that show.
 fn push_shown(line: &mut Vec<u8>, values: &[Value]) -> Result<(), AllocError>
-    ensures ok { OnOk result (line.new.items ≡ line.old.items ++ (codes "ok " ++ values_text values.now)) }
+    ensures ok { OnOk result
+        (line.new.items ≡ line.old.items ++ (codes "ok " ++ values_text values.now)) }
     ensures err { OnErr result (take (length line.old.items) line.new.items ≡ line.old.items) }
 {
     line.extend_from_slice(b"ok ")?;
@@ -46,7 +47,8 @@ fn push_shown(line: &mut Vec<u8>, values: &[Value]) -> Result<(), AllocError>
 
 // The answer of the name that a link leads to.
 fn push_target(alloc: Global, line: &mut Vec<u8>, name: &FullName) -> Result<(), AllocError>
-    ensures ok { OnOk result (line.new.items ≡ line.old.items ++ (codes "ok " ++ full_name_octets name.now)) }
+    ensures ok { OnOk result
+        (line.new.items ≡ line.old.items ++ (codes "ok " ++ full_name_octets name.now)) }
     ensures err { OnErr result (take (length line.old.items) line.new.items ≡ line.old.items) }
 {
     line.extend_from_slice(b"ok ")?;
@@ -72,7 +74,9 @@ fn message_of(tag: u8) -> &'static [u8]
 
 // The answer of a message: its name by its tag, and how many octets it has.
 fn push_message(line: &mut Vec<u8>, tag: u8, used: usize) -> Result<(), AllocError>
-    ensures ok { OnOk result (line.new.items ≡ line.old.items ++ (codes "ok " ++ (message_name tag ++ 32 ∷ decimal used))) }
+    ensures ok { OnOk result
+        (line.new.items
+        ≡ line.old.items ++ (codes "ok " ++ (message_name tag ++ 32 ∷ decimal used))) }
     ensures err { OnErr result (take (length line.old.items) line.new.items ≡ line.old.items) }
 {
     line.extend_from_slice(b"ok ")?;
@@ -88,7 +92,8 @@ fn push_made(
     serials: &[u64],
 ) -> Result<(), AllocError>
     ensures ok { OnOk result (line.new.items
-        ≡ line.old.items ++ (codes "ok " ++ (decimal dir.0 ++ 32 ∷ stamped_text stamp.now serials.now))) }
+        ≡ line.old.items
+        ++ (codes "ok " ++ (decimal dir.0 ++ 32 ∷ stamped_text stamp.now serials.now))) }
     ensures err { OnErr result (take (length line.old.items) line.new.items ≡ line.old.items) }
 {
     line.extend_from_slice(b"ok ")?;
@@ -99,7 +104,8 @@ fn push_made(
 
 // The messages that were posted, behind a word.
 fn push_posted_behind(line: &mut Vec<u8>, word: &[u8], serials: &[u64]) -> Result<(), AllocError>
-    ensures ok { OnOk result (line.new.items ≡ line.old.items ++ (word.now ++ posted_text serials.now)) }
+    ensures ok { OnOk result
+        (line.new.items ≡ line.old.items ++ (word.now ++ posted_text serials.now)) }
     ensures err { OnErr result (take (length line.old.items) line.new.items ≡ line.old.items) }
 {
     line.extend_from_slice(word)?;
@@ -108,7 +114,9 @@ fn push_posted_behind(line: &mut Vec<u8>, word: &[u8], serials: &[u64]) -> Resul
 
 // The answer of a number, and of the messages that were posted.
 fn push_counted(line: &mut Vec<u8>, number: u64, serials: &[u64]) -> Result<(), AllocError>
-    ensures ok { OnOk result (line.new.items ≡ line.old.items ++ (codes "ok " ++ (decimal number ++ posted_text serials.now))) }
+    ensures ok { OnOk result
+        (line.new.items
+        ≡ line.old.items ++ (codes "ok " ++ (decimal number ++ posted_text serials.now))) }
     ensures err { OnErr result (take (length line.old.items) line.new.items ≡ line.old.items) }
 {
     line.extend_from_slice(b"ok ")?;
@@ -123,7 +131,8 @@ fn push_stamped_behind(
     stamp: &Stamp,
     serials: &[u64],
 ) -> Result<(), AllocError>
-    ensures ok { OnOk result (line.new.items ≡ line.old.items ++ (words.now ++ stamped_text stamp.now serials.now)) }
+    ensures ok { OnOk result
+        (line.new.items ≡ line.old.items ++ (words.now ++ stamped_text stamp.now serials.now)) }
     ensures err { OnErr result (take (length line.old.items) line.new.items ≡ line.old.items) }
 {
     line.extend_from_slice(words)?;
@@ -147,7 +156,8 @@ fn push_epochs_behind(
 // The answer of another skulk: its stamp, and that of the skulk that runs.
 fn push_stale(line: &mut Vec<u8>, stamp: &Stamp, running: Option<Stamp>) -> Result<(), AllocError>
     ensures ok { OnOk result (line.new.items
-        ≡ line.old.items ++ (codes "ok stale " ++ (stamp_text stamp.now ++ 32 ∷ stamp_or (codes "none") running))) }
+        ≡ line.old.items
+        ++ (codes "ok stale " ++ (stamp_text stamp.now ++ 32 ∷ stamp_or (codes "none") running))) }
     ensures err { OnErr result (take (length line.old.items) line.new.items ≡ line.old.items) }
 {
     line.extend_from_slice(b"ok stale ")?;
@@ -158,7 +168,8 @@ fn push_stale(line: &mut Vec<u8>, stamp: &Stamp, running: Option<Stamp>) -> Resu
 
 // The answer of octets: how many, and they in hexadecimal digits.
 fn push_octets(line: &mut Vec<u8>, octets: &[u8]) -> Result<(), AllocError>
-    ensures ok { OnOk result (line.new.items ≡ line.old.items ++ (codes "ok " ++ counted_octets octets.now)) }
+    ensures ok { OnOk result
+        (line.new.items ≡ line.old.items ++ (codes "ok " ++ counted_octets octets.now)) }
     ensures err { OnErr result (take (length line.old.items) line.new.items ≡ line.old.items) }
 {
     line.extend_from_slice(b"ok ")?;
@@ -170,7 +181,8 @@ fn push_octets(line: &mut Vec<u8>, octets: &[u8]) -> Result<(), AllocError>
 // The answer of a refusal: its name, and its numbers.
 fn push_refused(line: &mut Vec<u8>, refusal: &ScriptRefusal) -> Result<(), AllocError>
     ensures ok { OnOk result (line.new.items
-        ≡ line.old.items ++ (codes "refused " ++ (refusal_name refusal.now ++ refusal_numbers refusal.now))) }
+        ≡ line.old.items
+        ++ (codes "refused " ++ (refusal_name refusal.now ++ refusal_numbers refusal.now))) }
     ensures err { OnErr result (take (length line.old.items) line.new.items ≡ line.old.items) }
 {
     line.extend_from_slice(b"refused ")?;
@@ -213,7 +225,8 @@ fn push_line(
     number: u32,
     answer: &Answer,
 ) -> Result<(), AllocError>
-    ensures ok { OnOk result (line.new.items ≡ line.old.items ++ line_text number (answer_line answer.now)) }
+    ensures ok { OnOk result
+        (line.new.items ≡ line.old.items ++ line_text number (answer_line answer.now)) }
     ensures err { OnErr result (take (length line.old.items) line.new.items ≡ line.old.items) }
 {
     begin_line(line, number)?;

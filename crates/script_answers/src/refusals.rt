@@ -91,7 +91,9 @@ fn push_accepted(line: &mut Vec<u8>, accepted: Option<u64>) -> Result<(), AllocE
 
 /// The name of a refusal, and its numbers.
 pub(crate) fn push_refusal(line: &mut Vec<u8>, refusal: &ScriptRefusal) -> Result<(), AllocError>
-    ensures ok { OnOk result (line.new.items ≡ line.old.items ++ (refusal_name refusal.now ++ refusal_numbers refusal.now)) }
+    ensures ok { OnOk result
+        (line.new.items
+        ≡ line.old.items ++ (refusal_name refusal.now ++ refusal_numbers refusal.now)) }
     ensures err { OnErr result (take (length line.old.items) line.new.items ≡ line.old.items) }
 {
     line.extend_from_slice(name_of(refusal))?;

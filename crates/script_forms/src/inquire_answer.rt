@@ -119,7 +119,8 @@ pub fn list_elements<R: EntryReader>(
     name: &FullName,
     inquiry: &Inquiry,
 ) -> Result<InquireAnswer, AllocError>
-    ensures { IfOk result (λ a. inquired_answer a ≡ elements_listed (R.tells reader.now) inquiry.now name.now) }
+    ensures { IfOk result
+        (λ a. inquired_answer a ≡ elements_listed (R.tells reader.now) inquiry.now name.now) }
 {
     match object(alloc, reader, name) {
         Ok(entry) => elements_in(alloc, reader, &entry, inquiry),
@@ -135,7 +136,8 @@ fn elements_in<R: EntryReader>(
     entry: &Found,
     inquiry: &Inquiry,
 ) -> Result<InquireAnswer, AllocError>
-    ensures { IfOk result (λ a. inquired_answer a ≡ elements_in (R.tells reader.now) inquiry.now entry.now) }
+    ensures { IfOk result
+        (λ a. inquired_answer a ≡ elements_in (R.tells reader.now) inquiry.now entry.now) }
 {
     let values = values_of(alloc, reader, entry, PROFILE)?;
     Ok(InquireAnswer::Elements(elements(alloc, &values, inquiry)?))
@@ -152,7 +154,9 @@ pub fn look_up<R: EntryReader>(
 ) -> Result<InquireAnswer, AllocError>
     requires { 1 ≤ most }
     ensures { (objects : List Found) → ShowsOnly (R.tells reader.now) objects
-        → IfOk result (λ a. inquired_answer a ≡ batches_listed (R.tells reader.now) objects wanted most name.now) }
+        → IfOk result
+        (λ a. inquired_answer a
+        ≡ batches_listed (R.tells reader.now) objects wanted most name.now) }
 {
     match Lookup::begin(alloc, reader, name, wanted, usize::from(most)) {
         Ok(mut lookup) => Ok(InquireAnswer::Batches(all_batches(alloc, &mut lookup)?)),

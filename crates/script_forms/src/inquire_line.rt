@@ -38,7 +38,8 @@ pub enum InquireLine {
 }
 
 fn grouplist(alloc: Global, words: &mut Words<'_>) -> Parsed<InquireLine>
-    ensures said { Says result (read_as about_entry said.Grouplist words.old) (count_fault about_entry words.old) }
+    ensures said { Says result (read_as about_entry said.Grouplist words.old)
+        (count_fault about_entry words.old) }
     ensures some { IfOk result WantsSome }
 {
     words.exactly(3)?;
@@ -46,7 +47,8 @@ fn grouplist(alloc: Global, words: &mut Words<'_>) -> Parsed<InquireLine>
 }
 
 fn entrylist(alloc: Global, words: &mut Words<'_>) -> Parsed<InquireLine>
-    ensures said { Says result (read_as about_entry said.Entrylist words.old) (count_fault about_entry words.old) }
+    ensures said { Says result (read_as about_entry said.Entrylist words.old)
+        (count_fault about_entry words.old) }
     ensures some { IfOk result WantsSome }
 {
     words.exactly(3)?;
@@ -126,7 +128,8 @@ fn plain(alloc: Global, word: &[u8], words: &mut Words<'_>) -> Parsed<InquireLin
 // What the words after the first one say, whatever the first one is.
 #[tactic(auto, unfolding(crate::specs::InquireLines::inquired_by, crate::specs::InquireLines::early_inquired))]
 fn line_after(alloc: Global, word: &[u8], words: &mut Words<'_>) -> Parsed<InquireLine>
-    ensures said { Says result (inquired_by word.now words.old) (early_inquired word.now words.old) }
+    ensures said { Says result (inquired_by word.now words.old)
+        (early_inquired word.now words.old) }
     ensures some { IfOk result WantsSome }
 {
     if word == b"grouplist".as_slice() {
@@ -150,7 +153,8 @@ fn line_after(alloc: Global, word: &[u8], words: &mut Words<'_>) -> Parsed<Inqui
 pub fn parse_inquire_line(alloc: Global, line: &[u8]) -> Parsed<Option<InquireLine>>
     ensures answer { Answers result (inquired_in (words_of line.now)) }
     ensures passed_over { inquired_in (words_of line.now) ≡ Ok None → result ≡ Ok None }
-    ensures early { IfSome (early_inquire_fault (words_of line.now)) (λ fault. result ≡ Err (Fault fault)) }
+    ensures early { IfSome (early_inquire_fault (words_of line.now))
+        (λ fault. result ≡ Err (Fault fault)) }
     ensures some { IfOk result (λ said. IfSome said WantsSome) }
 {
     let mut words = Words::of(line);
@@ -166,7 +170,8 @@ fn said_after(alloc: Global, word: &[u8], words: &mut Words<'_>) -> Parsed<Optio
     requires { words.old.read ≡ 1 }
     ensures answer { Answers result (inquired_in (word.now ∷ words.old.rest)) }
     ensures passed_over { inquired_in (word.now ∷ words.old.rest) ≡ Ok None → result ≡ Ok None }
-    ensures early { IfSome (early_inquire_fault (word.now ∷ words.old.rest)) (λ fault. result ≡ Err (Fault fault)) }
+    ensures early { IfSome (early_inquire_fault (word.now ∷ words.old.rest))
+        (λ fault. result ≡ Err (Fault fault)) }
     ensures some { IfOk result (λ said. IfSome said WantsSome) }
 {
     if word.starts_with(b"#") {

@@ -16,7 +16,8 @@ use uuid::Uuid;
 
 // A line that begins with a word and a space.
 fn begin(text: &mut Vec<u8>, number: u32, word: &[u8]) -> Result<(), AllocError>
-    ensures { OnOk result (text.new.items ≡ text.old.items ++ (decimal number ++ (32 ∷ (word.now ++ 32 ∷ [])))) }
+    ensures { OnOk result
+        (text.new.items ≡ text.old.items ++ (decimal number ++ (32 ∷ (word.now ++ 32 ∷ [])))) }
 {
     begin_line(text, number)?;
     text.extend_from_slice(word)?;
@@ -25,7 +26,8 @@ fn begin(text: &mut Vec<u8>, number: u32, word: &[u8]) -> Result<(), AllocError>
 
 // The line of how many there are, under this word.
 fn push_count(text: &mut Vec<u8>, number: u32, word: &[u8], count: u64) -> Result<(), AllocError>
-    ensures { OnOk result (text.new.items ≡ text.old.items ++ line_text number (word.now ++ (32 ∷ decimal count))) }
+    ensures { OnOk result
+        (text.new.items ≡ text.old.items ++ line_text number (word.now ++ (32 ∷ decimal count))) }
 {
     begin(text, number, word)?;
     push_number(text, count)?;
@@ -41,7 +43,8 @@ fn push_end(text: &mut Vec<u8>, number: u32, count: u64) -> Result<(), AllocErro
 
 // The line of a member.
 fn push_member(text: &mut Vec<u8>, number: u32, member: &FullName) -> Result<(), AllocError>
-    ensures { OnOk result (text.new.items ≡ text.old.items ++ line_text number (member_line member.now)) }
+    ensures { OnOk result
+        (text.new.items ≡ text.old.items ++ line_text number (member_line member.now)) }
 {
     begin(text, number, b"member")?;
     member.append_spelling(text)?;
@@ -62,7 +65,8 @@ fn push_interface(
     number: u32,
     interface: &Interface,
 ) -> Result<(), AllocError>
-    ensures { OnOk result (text.new.items ≡ text.old.items ++ line_text number (interface_line interface.now)) }
+    ensures { OnOk result
+        (text.new.items ≡ text.old.items ++ line_text number (interface_line interface.now)) }
 {
     begin(text, number, b"interface")?;
     text.extend_from_slice(&print_interface(alloc, interface)?)?;
@@ -76,7 +80,8 @@ fn push_object(
     number: u32,
     object: &Uuid,
 ) -> Result<(), AllocError>
-    ensures { OnOk result (text.new.items ≡ text.old.items ++ line_text number (object_line object.now)) }
+    ensures { OnOk result
+        (text.new.items ≡ text.old.items ++ line_text number (object_line object.now)) }
 {
     begin(text, number, b"object")?;
     text.extend_from_slice(format!(in alloc; "{object}")?.as_bytes())?;
@@ -127,7 +132,8 @@ fn push_element(
     number: u32,
     element: &Element,
 ) -> Result<(), AllocError>
-    ensures { OnOk result (text.new.items ≡ text.old.items ++ line_text number (element_line element.now)) }
+    ensures { OnOk result
+        (text.new.items ≡ text.old.items ++ line_text number (element_line element.now)) }
 {
     begin(text, number, b"element")?;
     push_element_said(alloc, text, element)?;
@@ -141,7 +147,8 @@ fn push_binding(
     number: u32,
     binding: &StringBinding,
 ) -> Result<(), AllocError>
-    ensures { OnOk result (text.new.items ≡ text.old.items ++ line_text number (binding_line binding.now)) }
+    ensures { OnOk result
+        (text.new.items ≡ text.old.items ++ line_text number (binding_line binding.now)) }
 {
     begin(text, number, b"binding")?;
     text.extend_from_slice(&binding.print(alloc)?)?;
@@ -155,7 +162,8 @@ fn push_bindings(
     number: u32,
     bindings: &[StringBinding],
 ) -> Result<(), AllocError>
-    ensures { OnOk result (text.new.items ≡ text.old.items ++ lines_text number (map binding_line bindings.now)) }
+    ensures { OnOk result
+        (text.new.items ≡ text.old.items ++ lines_text number (map binding_line bindings.now)) }
 {
     for binding in bindings {
         push_binding(alloc, text, number, binding)?;
@@ -170,7 +178,8 @@ fn push_batch(
     number: u32,
     batch: &[StringBinding],
 ) -> Result<(), AllocError>
-    ensures { OnOk result (text.new.items ≡ text.old.items ++ lines_text number (batch_lines batch.now)) }
+    ensures { OnOk result
+        (text.new.items ≡ text.old.items ++ lines_text number (batch_lines batch.now)) }
 {
     push_count(text, number, b"batch", batch.len() as u64)?;
     push_bindings(alloc, text, number, batch)
@@ -178,7 +187,8 @@ fn push_batch(
 
 // The lines of members.
 fn push_members(text: &mut Vec<u8>, number: u32, members: &[FullName]) -> Result<(), AllocError>
-    ensures { OnOk result (text.new.items ≡ text.old.items ++ lines_text number (map member_line members.now)) }
+    ensures { OnOk result
+        (text.new.items ≡ text.old.items ++ lines_text number (map member_line members.now)) }
 {
     for member in members {
         push_member(text, number, member)?;
@@ -193,7 +203,8 @@ fn push_interfaces(
     number: u32,
     interfaces: &[Interface],
 ) -> Result<(), AllocError>
-    ensures { OnOk result (text.new.items ≡ text.old.items ++ lines_text number (map interface_line interfaces.now)) }
+    ensures { OnOk result
+        (text.new.items ≡ text.old.items ++ lines_text number (map interface_line interfaces.now)) }
 {
     for interface in interfaces {
         push_interface(alloc, text, number, interface)?;
@@ -208,7 +219,8 @@ fn push_objects(
     number: u32,
     objects: &[Uuid],
 ) -> Result<(), AllocError>
-    ensures { OnOk result (text.new.items ≡ text.old.items ++ lines_text number (map object_line objects.now)) }
+    ensures { OnOk result
+        (text.new.items ≡ text.old.items ++ lines_text number (map object_line objects.now)) }
 {
     for object in objects {
         push_object(alloc, text, number, object)?;
@@ -223,7 +235,8 @@ fn push_elements(
     number: u32,
     elements: &[Element],
 ) -> Result<(), AllocError>
-    ensures { OnOk result (text.new.items ≡ text.old.items ++ lines_text number (map element_line elements.now)) }
+    ensures { OnOk result
+        (text.new.items ≡ text.old.items ++ lines_text number (map element_line elements.now)) }
 {
     for element in elements {
         push_element(alloc, text, number, element)?;
@@ -239,7 +252,8 @@ fn push_batches(
     batches: &[Vec<StringBinding>],
 ) -> Result<(), AllocError>
     ensures { OnOk result (text.new.items
-        ≡ text.old.items ++ lines_text number (flat_map batch_lines (map (λ batch. batch.items) batches.now))) }
+        ≡ text.old.items
+        ++ lines_text number (flat_map batch_lines (map (λ batch. batch.items) batches.now))) }
 {
     for batch in batches {
         push_batch(alloc, text, number, batch)?;
@@ -268,7 +282,8 @@ fn push_answer(
     number: u32,
     answer: &InquireAnswer,
 ) -> Result<(), AllocError>
-    ensures { OnOk result (text.new.items ≡ text.old.items ++ inquire_text number (inquired_answer answer.now)) }
+    ensures { OnOk result
+        (text.new.items ≡ text.old.items ++ inquire_text number (inquired_answer answer.now)) }
 {
     match answer {
         InquireAnswer::Plain(answer) => append_answer(alloc, text, number, answer),

@@ -86,7 +86,8 @@ fn command_in(line: ScriptLine) -> Option<Command>
 fn command(alloc: Global, name: &[u8], words: &mut Words<'_>) -> Parsed<Command>
     requires { words.old.read ≡ NAME }
     ensures answer { Answers result (command_said name.now words.old.rest) }
-    ensures early { IfSome (command_miscounted name.now words.old.rest) (λ fault. result ≡ Err (Fault fault)) }
+    ensures early { IfSome (command_miscounted name.now words.old.rest)
+        (λ fault. result ≡ Err (Fault fault)) }
     ensures no_command { is_stoppable name.now ≡ false → result ≡ Err (Fault (BadWord NAME)) }
 {
     if !is_stoppable(name) {

@@ -45,7 +45,8 @@ impl Loader {
     /// Replays a command, and counts it.
     pub fn take(&mut self, alloc: Global, line: ScriptLine) -> Result<(), AllocError>
         requires { self.old.commands < MOST_LINES }
-        ensures { (g : model.Cell) (c : Command') → Stands self.old.replayer.cell g → line ≡ says.Cell c → OnOk result (Takes self.old self.new g c) }
+        ensures { (g : model.Cell) (c : Command') → Stands self.old.replayer.cell g
+            → line ≡ says.Cell c → OnOk result (Takes self.old self.new g c) }
     {
         let changes = is_change(&line);
         let delivers = is_delivery(&line);
@@ -58,7 +59,8 @@ impl Loader {
 
     /// The counts, and what shows at the first house.
     pub fn counts(&self) -> Result<Counts, AllocError>
-        ensures { (g : model.Cell) → Stands self.now.replayer.cell g → IfOk result (λ counts. Tells counts self.now g) }
+        ensures { (g : model.Cell) → Stands self.now.replayer.cell g
+            → IfOk result (λ counts. Tells counts self.now g) }
     {
         let (live, values) = shown_counts(first_table(self.replayer.cell()))?;
         Ok(Counts {

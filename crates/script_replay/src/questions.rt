@@ -40,7 +40,8 @@ pub fn reply_to_question(
     cell: &Cell,
     question: &Question,
 ) -> Result<Reply, AllocError>
-    ensures said { (g : model.Cell) → Stands cell.now g → IfOk result (λ r. IsSaid r g (question_said g question.now)) }
+    ensures said { (g : model.Cell) → Stands cell.now g
+        → IfOk result (λ r. IsSaid r g (question_said g question.now)) }
     ensures up { IfOk result (λ r. ActsAtUp r cell.now) }
 {
     cells_tell_the_model();
@@ -89,7 +90,9 @@ pub fn reply_to_question(
 
 // A reader of masters alone, which prefers no house: commands of the name service read by it before they change an entry.
 fn reader_of_masters(cell: &Cell) -> CellReader<'_>
-    ensures { program_reader result.cell.now (option_map (λ house. house.0) result.prefer) result.high ≡ program_reader cell.now None true }
+    ensures { program_reader result.cell.now
+        (option_map (λ house. house.0) result.prefer) result.high
+        ≡ program_reader cell.now None true }
 {
     CellReader {
         cell,
@@ -131,7 +134,8 @@ fn reply_to_unexport(
     objects: &Uuids,
 ) -> Result<Reply, AllocError>
     ensures said { (g : model.Cell) → Stands cell.now g → IfOk result (λ r. IsSaid r g
-        (does g (ask.unexport (trusted_reader g) name.now (option_copied interface.entry) objects.now))) }
+        (does g (ask.unexport (trusted_reader g) name.now
+        (option_copied interface.entry) objects.now))) }
     ensures up { IfOk result (λ r. ActsAtUp r cell.now) }
 {
     cells_tell_the_model();
@@ -151,7 +155,9 @@ fn reply_to_groupadd(
     name: &FullName,
     member: &FullName,
 ) -> Result<Reply, AllocError>
-    ensures said { (g : model.Cell) → Stands cell.now g → IfOk result (λ r. IsSaid r g (does g (ask.add_member (trusted_reader g) name.now member.now))) }
+    ensures said { (g : model.Cell) → Stands cell.now g
+        → IfOk result
+        (λ r. IsSaid r g (does g (ask.add_member (trusted_reader g) name.now member.now))) }
     ensures up { IfOk result (λ r. ActsAtUp r cell.now) }
 {
     cells_tell_the_model();
@@ -165,7 +171,9 @@ fn reply_to_groupdel(
     name: &FullName,
     member: &FullName,
 ) -> Result<Reply, AllocError>
-    ensures said { (g : model.Cell) → Stands cell.now g → IfOk result (λ r. IsSaid r g (does g (ask.delete_member (trusted_reader g) name.now member.now))) }
+    ensures said { (g : model.Cell) → Stands cell.now g
+        → IfOk result
+        (λ r. IsSaid r g (does g (ask.delete_member (trusted_reader g) name.now member.now))) }
     ensures up { IfOk result (λ r. ActsAtUp r cell.now) }
 {
     cells_tell_the_model();
@@ -183,7 +191,8 @@ fn reply_to_profadd(
     note: &Note,
 ) -> Result<Reply, AllocError>
     ensures said { (g : model.Cell) → Stands cell.now g → IfOk result (λ r. IsSaid r g
-        (does g (ask.add_element (trusted_reader g) name.now (option_copied interface.entry) member.now priority note.now))) }
+        (does g (ask.add_element (trusted_reader g) name.now
+        (option_copied interface.entry) member.now priority note.now))) }
     ensures up { IfOk result (λ r. ActsAtUp r cell.now) }
 {
     cells_tell_the_model();
@@ -207,7 +216,8 @@ fn reply_to_profdel(
     member: &FullName,
 ) -> Result<Reply, AllocError>
     ensures said { (g : model.Cell) → Stands cell.now g → IfOk result (λ r. IsSaid r g
-        (does g (ask.delete_element (trusted_reader g) name.now (option_copied interface.entry) member.now))) }
+        (does g (ask.delete_element (trusted_reader g) name.now
+        (option_copied interface.entry) member.now))) }
     ensures up { IfOk result (λ r. ActsAtUp r cell.now) }
 {
     cells_tell_the_model();
@@ -245,7 +255,8 @@ fn read(
     attr: &AttrName,
 ) -> Result<Answer, AllocError>
     ensures { (g : model.Cell) → Stands cell.now g → IfOk result (λ a. a ≡ asked_of g house.0
-        (values_read (program_reader cell.now (Some house.0) high) attr.now (walk_end (program_reader cell.now (Some house.0) high) true name.now))) }
+        (values_read (program_reader cell.now (Some house.0) high) attr.now
+        (walk_end (program_reader cell.now (Some house.0) high) true name.now))) }
 {
     if cell.has_house(house) {
         let prefer = Some(house);
@@ -263,7 +274,8 @@ fn read_link(
     name: &FullName,
 ) -> Result<Answer, AllocError>
     ensures { (g : model.Cell) → Stands cell.now g → IfOk result (λ a. a ≡ asked_of g house.0
-        (target_read (program_reader cell.now (Some house.0) high) (walk_end (program_reader cell.now (Some house.0) high) false name.now))) }
+        (target_read (program_reader cell.now (Some house.0) high)
+        (walk_end (program_reader cell.now (Some house.0) high) false name.now))) }
 {
     if cell.has_house(house) {
         let prefer = Some(house);
@@ -280,7 +292,9 @@ fn values_at<R: EntryReader>(
     name: &FullName,
     attr: &AttrName,
 ) -> Result<Answer, AllocError>
-    ensures { IfOk result (λ a. a ≡ values_read (R.tells reader.now) attr.now (walk_end (R.tells reader.now) true name.now)) }
+    ensures { IfOk result
+        (λ a. a ≡ values_read (R.tells reader.now) attr.now
+        (walk_end (R.tells reader.now) true name.now)) }
 {
     match resolve(alloc, reader, name, true) {
         Ok(found) => Ok(Answer::Values(Values::of(reader.values(alloc, &found, attr)?))),
@@ -295,7 +309,8 @@ fn target_at<R: EntryReader>(
     reader: &R,
     name: &FullName,
 ) -> Result<Answer, AllocError>
-    ensures { IfOk result (λ a. a ≡ target_read (R.tells reader.now) (walk_end (R.tells reader.now) false name.now)) }
+    ensures { IfOk result
+        (λ a. a ≡ target_read (R.tells reader.now) (walk_end (R.tells reader.now) false name.now)) }
 {
     match resolve(alloc, reader, name, false) {
         Ok(found) => target_of_found(alloc, reader, &found),
@@ -309,7 +324,8 @@ fn target_of_found<R: EntryReader>(
     reader: &R,
     found: &Found,
 ) -> Result<Answer, AllocError>
-    ensures { IfOk result (λ a. a ≡ target_of found.now.kind ((R.tells reader.now).values found.now link_target)) }
+    ensures { IfOk result
+        (λ a. a ≡ target_of found.now.kind ((R.tells reader.now).values found.now link_target)) }
 {
     match found.kind {
         Kind::Link => {

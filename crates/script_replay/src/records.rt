@@ -27,7 +27,8 @@ pub(crate) fn dump(
     house: HouseNo,
     dir: DirId,
 ) -> Result<Answer, AllocError>
-    ensures { (g : model.Cell) → Stands cell.now g → IfOk result (λ a. a ≡ dump_told g house.0 dir.0) }
+    ensures { (g : model.Cell) → Stands cell.now g
+        → IfOk result (λ a. a ≡ dump_told g house.0 dir.0) }
 {
     if cell.is_unknown(dir) {
         return Ok(Answer::Refused(ScriptRefusal::NoDirectory));
@@ -59,7 +60,8 @@ fn dump_held(alloc: Global, held: &Held) -> Result<Answer, AllocError>
 
 /// The octets of a message of the bag.
 pub(crate) fn message_octets(alloc: Global, cell: &Cell, serial: u64) -> Result<Answer, AllocError>
-    ensures { (g : model.Cell) → Stands cell.now g → IfOk result (λ a. a ≡ octets_told (option_and_then octets_of (message_at g serial))) }
+    ensures { (g : model.Cell) → Stands cell.now g
+        → IfOk result (λ a. a ≡ octets_told (option_and_then octets_of (message_at g serial))) }
 {
     match cell.message(serial) {
         Some(octets) => copied(alloc, octets),
@@ -69,7 +71,9 @@ pub(crate) fn message_octets(alloc: Global, cell: &Cell, serial: u64) -> Result<
 
 /// The octets of the image of a house: of one that is up as it would keep it now, of one that is down as it kept it.
 pub(crate) fn house_octets(alloc: Global, cell: &Cell, house: HouseNo) -> Result<Answer, AllocError>
-    ensures { (g : model.Cell) → Stands cell.now g → IfOk result (λ a. a ≡ asked_of g house.0 (answer.Octets (image_octets (image_at g house.0)))) }
+    ensures { (g : model.Cell) → Stands cell.now g
+        → IfOk result
+        (λ a. a ≡ asked_of g house.0 (answer.Octets (image_octets (image_at g house.0)))) }
 {
     match cell.house(house) {
         Some(HouseState::Up(home)) => Ok(Answer::Octets(Octets::of(home.image(alloc)?))),

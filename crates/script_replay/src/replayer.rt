@@ -9,9 +9,9 @@ use cds_cell::laws::accepted_updates_are_commands;
 use cds_stamps::{AllocOr, HouseNo};
 use cell_script::{Command, Question, ScriptLine, parse_line};
 use ns_commands::Updates;
+use reply_buffer::{LineEnd, Waiting, reply_to_fault};
 use script_answers::Answer;
 use std::alloc::{AllocError, Global};
-use reply_buffer::{LineEnd, Waiting, reply_to_fault};
 
 /// A cell, how many steps and lists of updates it took, and how many updates stood in these lists: so many that there is room for
 /// each further line of a script.
@@ -72,7 +72,9 @@ impl Replayer {
         requires fewer { self.old.steps < number }
         requires most { number ≤ MOST_LINES }
         ensures reply { (g : model.Cell) → Stands self.old.cell g
-            → Replays result (reply_of run_dialogue number g (said_in (words_of line.now))) waiting.old waiting.new self.new }
+            → Replays result
+            (reply_of run_dialogue number g
+            (said_in (words_of line.now))) waiting.old waiting.new self.new }
         ensures steps { self.new.steps ≤ number }
     {
         match parse_line(alloc, line) {
@@ -92,7 +94,8 @@ impl Replayer {
     ) -> LineEnd
         requires few { self.old.steps < MOST_LINES }
         ensures reply { (g : model.Cell) → Stands self.old.cell g
-            → Replays result (reply_of run_dialogue number g (Ok (Some line))) waiting.old waiting.new self.new }
+            → Replays result
+            (reply_of run_dialogue number g (Ok (Some line))) waiting.old waiting.new self.new }
         ensures steps { self.new.steps ≤ self.old.steps + 1 }
     {
         match self.answer(alloc, number, line, waiting) {
@@ -110,7 +113,8 @@ impl Replayer {
         waiting: &mut Waiting,
     ) -> Result<(), AllocError>
         requires few { self.old.steps < MOST_LINES }
-        ensures ok { (g : model.Cell) → Stands self.old.cell g → OnOk result ((waiting.new ≡ waiting.old ++ reply_text number g line)
+        ensures ok { (g : model.Cell) → Stands self.old.cell g
+            → OnOk result ((waiting.new ≡ waiting.old ++ reply_text number g line)
             × Stands self.new.cell (cell_after g line)) }
         ensures err { OnErr result (waiting.new ≡ waiting.old) }
         ensures steps { self.new.steps ≤ self.old.steps + 1 }
@@ -122,7 +126,8 @@ impl Replayer {
     /// What the cell replies to a line.
     pub fn reply(&mut self, alloc: Global, line: ScriptLine) -> Result<Answer, AllocError>
         requires few { self.old.steps < MOST_LINES }
-        ensures reply { (g : model.Cell) → Stands self.old.cell g → IfOk result (λ a. IsReply a self.new.cell g line) }
+        ensures reply { (g : model.Cell) → Stands self.old.cell g
+            → IfOk result (λ a. IsReply a self.new.cell g line) }
         ensures steps { self.new.steps ≤ self.old.steps + 1 }
     {
         match line {
@@ -134,7 +139,8 @@ impl Replayer {
     /// A step of the cell, unless memory ran out before.
     pub fn step(&mut self, alloc: Global, command: Command) -> Result<Answer, AllocError>
         requires few { self.old.steps < MOST_LINES }
-        ensures step { (g : model.Cell) → Stands self.old.cell g → IfOk result (λ a. IsStep a self.new.cell (outcome g (step_of command))) }
+        ensures step { (g : model.Cell) → Stands self.old.cell g
+            → IfOk result (λ a. IsStep a self.new.cell (outcome g (step_of command))) }
         ensures steps { self.new.steps ≤ self.old.steps + 1 }
     {
         if self.cell.is_spent() {
@@ -147,7 +153,8 @@ impl Replayer {
     // The answer to a question, behind the updates that it asks for.
     fn answer_question(&mut self, alloc: Global, question: &Question) -> Result<Answer, AllocError>
         requires few { self.old.steps < MOST_LINES }
-        ensures reply { (g : model.Cell) → Stands self.old.cell g → IfOk result (λ a. IsReply a self.new.cell g (line.Question question.now)) }
+        ensures reply { (g : model.Cell) → Stands self.old.cell g
+            → IfOk result (λ a. IsReply a self.new.cell g (line.Question question.now)) }
         ensures steps { self.new.steps ≤ self.old.steps + 1 }
     {
         match reply_to_question(alloc, &self.cell, question)? {
@@ -159,8 +166,11 @@ impl Replayer {
     /// Updates at a house that is up, unless memory ran out before. A list of more than MOST_UPDATES counts as that.
     pub fn accept(&mut self, alloc: Global, updates: &Updates) -> Result<Answer, AllocError>
         requires few { self.old.steps < MOST_LINES }
-        requires up { is_up_state (option_map (λ h. h.state) (house_of self.old.cell.houses.items updates.now.house.0)) ≡ true }
-        ensures done { (g : model.Cell) → Stands self.old.cell g → IfOk result (λ a. IsDone a self.new.cell g (does g (Ok (changes_in updates.now)))) }
+        requires up { is_up_state
+            (option_map (λ h. h.state) (house_of self.old.cell.houses.items updates.now.house.0))
+            ≡ true }
+        ensures done { (g : model.Cell) → Stands self.old.cell g
+            → IfOk result (λ a. IsDone a self.new.cell g (does g (Ok (changes_in updates.now)))) }
         ensures steps { self.new.steps ≤ self.old.steps + 1 }
     {
         accepted_updates_are_commands();
@@ -184,7 +194,8 @@ impl Replayer {
         requires few { self.now.steps < MOST_LINES }
         requires made { is_some (house_of self.now.cell.houses.items house.0) ≡ true }
         ensures { (g : model.Cell) → Stands self.now.cell g
-            → IfOk result (λ o. option_map (λ v. v.items) o ≡ image_after g house.0 (step_of command.now)) }
+            → IfOk result
+            (λ o. option_map (λ v. v.items) o ≡ image_after g house.0 (step_of command.now)) }
     {
         if self.cell.is_spent() {
             return Err(AllocError);

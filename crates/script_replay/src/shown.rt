@@ -89,7 +89,8 @@ fn values_shown(table: &Table) -> Result<u64, AllocError>
 /// How many entries show in a table, and how many values; none, where there is no table.
 pub(crate) fn shown_counts(table: Option<&Table>) -> Result<(u64, u64), AllocError>
     ensures live { IfOk result (λ n. n.0 ≡ option_map_or live_count (option_copied table.entry) 0) }
-    ensures values { IfOk result (λ n. n.1 ≡ option_map_or values_shown (option_copied table.entry) 0) }
+    ensures values { IfOk result
+        (λ n. n.1 ≡ option_map_or values_shown (option_copied table.entry) 0) }
 {
     match table {
         Some(table) => Ok((table.live_entries(), values_shown(table)?)),

@@ -103,7 +103,8 @@ impl Wanted {
         towers: &[&Value],
     ) -> Result<Vec<StringBinding>, AllocError>
         ensures { IfOk result
-            (λ list. list.items ≡ filter_map (binding_in self.now object) (map (λ v. v.now) towers.now)) }
+            (λ list. list.items
+            ≡ filter_map (binding_in self.now object) (map (λ v. v.now) towers.now)) }
     {
         let mut list = Vec::new(alloc);
         for value in towers {
@@ -209,7 +210,8 @@ pub fn bindings_in_order(
     wanted: &Wanted,
 ) -> Result<Vec<StringBinding>, AllocError>
     ensures { IfOk result
-        (λ list. list.items ≡ bindings_of wanted.now (map (λ v. v.now) towers.now) (map (λ v. v.now) objects.now)) }
+        (λ list. list.items
+        ≡ bindings_of wanted.now (map (λ v. v.now) towers.now) (map (λ v. v.now) objects.now)) }
 {
     match carried_object(wanted.object, objects) {
         Some(object) => wanted.bindings_in(alloc, object, towers),

@@ -273,8 +273,10 @@ fn unexported_updates(
     objects: &[Uuid],
 ) -> Result<Vec<Update>, AllocError>
     ensures updates { IfOk result (λ list. changes list.items
-        ≡ unexport_changes name.now towers.now held.now (option_copied interface.entry) objects.now) }
-    ensures none { unexport_changes name.now towers.now held.now (option_copied interface.entry) objects.now
+        ≡ unexport_changes name.now towers.now held.now
+        (option_copied interface.entry) objects.now) }
+    ensures none { unexport_changes name.now towers.now held.now
+        (option_copied interface.entry) objects.now
         ≡ [] → IsOk result }
 {
     let towers = towers_to_go(alloc, towers, interface)?;
@@ -294,14 +296,16 @@ pub fn unexport(
     objects: &[Uuid],
 ) -> Result<Vec<Update>, AllocOr<ExportFault>>
     ensures updates { IfOk result (λ list. changes list.items
-        ≡ unexport_changes name.now towers.now held.now (option_copied interface.entry) objects.now) }
+        ≡ unexport_changes name.now towers.now held.now
+        (option_copied interface.entry) objects.now) }
 
     // The fault, and that no other comes.
     ensures faulty { IfSome (unexport_fault
         (unexport_changes name.now towers.now held.now (option_copied interface.entry) objects.now))
         (λ fault. result ≡ Err (Fault fault)) }
     ensures lacking { unexport_fault
-        (unexport_changes name.now towers.now held.now (option_copied interface.entry) objects.now) ≡ None
+        (unexport_changes name.now towers.now held.now (option_copied interface.entry) objects.now)
+        ≡ None
         → IfErr result (λ e. e ≡ OutOfMemory) }
 {
     let updates = unexported_updates(alloc, name, towers, held, interface, objects)?;

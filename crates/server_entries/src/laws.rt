@@ -24,7 +24,8 @@ pub fn server_towers_are_read()
 /// The bindings of an entry are those to compatible servers whose towers it has.
 pub fn bindings_are_compatible()
     ensures { (wanted : Wanted) (towers held : List (List ℕ)) (binding : StringBinding)
-        → Contains (entry_bindings wanted towers held) binding ↔ IsBindingOf wanted towers held binding }
+        → Contains (entry_bindings wanted towers held) binding
+        ↔ IsBindingOf wanted towers held binding }
 {}
 
 /// A server that was exported is found: an entry that has its tower has its binding for each client that it serves.
@@ -39,16 +40,19 @@ pub fn exported_servers_are_found()
 
 /// A server that was exported can be unexported by its interface.
 pub fn exported_servers_can_go()
-    ensures { (interface : Interface) (binding : StringBinding) → IsInterface interface → FitsBinding binding
+    ensures { (interface : Interface) (binding : StringBinding) → IsInterface interface
+        → FitsBinding binding
         → tower_goes (Some interface) (rpc_octets (exported_tower interface binding)) ≡ true }
 {}
 
 /// The updates of servers are accepted one after the other: those that export one, whether the entry shows or is absent,
 /// and those that unexport one from an entry that shows.
 pub fn server_updates_are_accepted()
-    ensures exports { (h : List Mark) (n : List ℕ) (interface : Interface) (bindings : List StringBinding)
+    ensures exports { (h : List Mark) (n : List ℕ) (interface : Interface)
+        (bindings : List StringBinding)
         (objects : List (List ℕ)) → IsHistory h
-        → AreAccepted h (export_changes n (is_none (shown_of_name h n)) interface bindings objects) }
+        → AreAccepted h
+        (export_changes n (is_none (shown_of_name h n)) interface bindings objects) }
     ensures unexports { (h : List Mark) (n : List ℕ) (e : Shown) (towers held : List (List ℕ))
         (interface : Option Interface) (objects : List (List ℕ)) → shown_of_name h n ≡ Some e
         → AreAccepted h (unexport_changes n towers held interface objects) }

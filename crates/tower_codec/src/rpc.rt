@@ -184,7 +184,8 @@ impl Protseq {
 
     // The octets of the floors of the RPC protocol and of a port, and those before the host's address.
     fn floors(self, port: u16) -> [u8; 19]
-        ensures { result ≡ floor_octets (record { left = rpc_protocol self ∷ []; right = 0 ∷ 0 ∷ [] })
+        ensures { result ≡ floor_octets
+            (record { left = rpc_protocol self ∷ []; right = 0 ∷ 0 ∷ [] })
             ++ (floor_octets (record { left = port_protocol self ∷ []; right = port_octets port })
             ++ (part_octets (9 ∷ []) ++ number_octets 4)) }
     {

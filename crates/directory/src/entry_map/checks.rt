@@ -12,7 +12,9 @@ use cds_stamps::{AttrName, SimpleName};
 impl EntryMap {
     /// Whether an update is accepted by what shows of its name, or why not. It takes no memory.
     pub(crate) fn check(&self, update: &Update) -> Result<(), UpdateRefusal>
-        ensures { result ≡ ok_unless (refusal_of (shown_in self.now (changed_name (change_of update.now))) (change_of update.now)) tt }
+        ensures { result ≡ ok_unless
+            (refusal_of (shown_in self.now (changed_name (change_of update.now)))
+            (change_of update.now)) tt }
     {
         match update {
             Update::Create(name) => self.check_new(name),
@@ -39,7 +41,8 @@ impl EntryMap {
 
     /// Whether a change of an attribute of this name is accepted, whatever the value.
     fn check_change(&self, name: &SimpleName, attr: &AttrName) -> Result<(), UpdateRefusal>
-        ensures { result ≡ ok_unless (refusal_of (shown_in self.now name.now) (Clear name.now attr.now)) tt }
+        ensures { result ≡ ok_unless
+            (refusal_of (shown_in self.now name.now) (Clear name.now attr.now)) tt }
     {
         if self.live(name).is_none() {
             return Err(UpdateRefusal::NoSuchEntry);
@@ -49,7 +52,8 @@ impl EntryMap {
 
     /// Whether the deletion of this name is accepted.
     fn check_delete(&self, name: &SimpleName) -> Result<(), UpdateRefusal>
-        ensures { result ≡ ok_unless (refusal_of (shown_in self.now name.now) (Delete name.now)) tt }
+        ensures { result ≡ ok_unless
+            (refusal_of (shown_in self.now name.now) (Delete name.now)) tt }
     {
         match self.live(name) {
             None => Err(UpdateRefusal::NoSuchEntry),
@@ -59,7 +63,9 @@ impl EntryMap {
 
     /// Whether other houses of this name are accepted, whichever they are.
     fn check_repoint(&self, name: &SimpleName) -> Result<(), UpdateRefusal>
-        ensures { (master : ℕ) (others : List ℕ) → result ≡ ok_unless (refusal_of (shown_in self.now name.now) (Repoint name.now master others)) tt }
+        ensures { (master : ℕ) (others : List ℕ)
+            → result ≡ ok_unless
+            (refusal_of (shown_in self.now name.now) (Repoint name.now master others)) tt }
     {
         match self.live(name) {
             None => Err(UpdateRefusal::NoSuchEntry),

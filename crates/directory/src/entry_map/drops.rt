@@ -50,7 +50,9 @@ impl EntryMap {
     fn drop_lost(&mut self, name: &SimpleName, stamp: Stamp, what: &What) -> u64
         requires { is_of_attr what.now ≡ true }
         ensures dropped { let w = what.now in
-            self.new ≡ (if is_lost (map.get self.old name.now) stamp w then change_at self.old name.now (entry_without w) else self.old) }
+            self.new ≡ (if is_lost
+            (map.get self.old name.now) stamp w then change_at self.old name.now
+            (entry_without w) else self.old) }
         ensures count { result ≡ min (held_in self.old - held_in self.new) most_held }
     {
         let Some(entry) = self.entries.get_mut(name) else {

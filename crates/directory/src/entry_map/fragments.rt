@@ -23,10 +23,12 @@ impl EntryMap {
         update: &Update,
         stamp: Stamp,
     ) -> Result<Fragment, AllocError>
-        requires { refusal_of (shown_in self.now (changed_name (change_of update.now))) (change_of update.now) ≡ None }
+        requires { refusal_of (shown_in self.now (changed_name (change_of update.now)))
+            (change_of update.now) ≡ None }
         ensures name { IfOk result (λ f. f.name ≡ changed_name (change_of update.now)) }
         ensures entry { IfOk result (λ f. let u = change_of update.now in
-            entry_of (marks_of (shown_in self.now (changed_name u)) u stamp) f.name ≡ Some f.entry) }
+            entry_of (marks_of (shown_in self.now (changed_name u)) u stamp) f.name
+            ≡ Some f.entry) }
     {
         match update {
             Update::Create(name) => { born(alloc, name, Kind::Object, AttrMap::new(alloc), stamp) }
@@ -55,10 +57,12 @@ impl EntryMap {
         stamp: Stamp,
     ) -> Result<Fragment, AllocError>
         requires own { is_own (change_of update.now) ≡ true }
-        requires accepted { refusal_of (shown_in self.now (changed_name (change_of update.now))) (change_of update.now) ≡ None }
+        requires accepted { refusal_of (shown_in self.now (changed_name (change_of update.now)))
+            (change_of update.now) ≡ None }
         ensures name { IfOk result (λ f. f.name ≡ changed_name (change_of update.now)) }
         ensures entry { IfOk result (λ f. let u = change_of update.now in
-            entry_of (marks_of (shown_in self.now (changed_name u)) u stamp) f.name ≡ Some f.entry) }
+            entry_of (marks_of (shown_in self.now (changed_name u)) u stamp) f.name
+            ≡ Some f.entry) }
     {
         let own = update.own().unwrap();
         let entry = self.live(update.name()).unwrap();
@@ -73,9 +77,11 @@ impl EntryMap {
         houses: &HouseList,
         stamp: Stamp,
     ) -> Result<Fragment, AllocError>
-        requires { refusal_of (shown_in self.now name.now) (Repoint name.now houses.now.master houses.now.others) ≡ None }
+        requires { refusal_of (shown_in self.now name.now)
+            (Repoint name.now houses.now.master houses.now.others) ≡ None }
         ensures name { IfOk result (λ f. f.name ≡ name.now) }
-        ensures entry { IfOk result (λ f. let u = Repoint name.now houses.now.master houses.now.others in
+        ensures entry { IfOk result
+            (λ f. let u = Repoint name.now houses.now.master houses.now.others in
             entry_of (marks_of (shown_in self.now name.now) u stamp) f.name ≡ Some f.entry) }
     {
         let own = self.live(name).unwrap();

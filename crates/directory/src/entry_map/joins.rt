@@ -22,7 +22,8 @@ impl EntryMap {
         alloc: Global,
         fragment: &Fragment,
     ) -> Result<(), AllocError>
-        ensures ok { OnOk result (JoinsEntry self.old self.new fragment.now.name fragment.now.entry) }
+        ensures ok { OnOk result
+            (JoinsEntry self.old self.new fragment.now.name fragment.now.entry) }
         ensures others { OnOk result (LeavesOthers self.old self.new fragment.now.name) }
         ensures err { OnErr result (self.new ≡ self.old) }
     {
@@ -58,7 +59,8 @@ impl EntryMap {
         entry: &EntryCell,
     ) -> Result<bool, AllocError>
         ensures ok { IfOk result (λ here. MatchBool here
-            (JoinsEntry self.old self.new name.now entry.now) ((map.get self.old name.now ≡ None) × (self.new ≡ self.old))) }
+            (JoinsEntry self.old self.new name.now entry.now) ((map.get self.old name.now ≡ None)
+            × (self.new ≡ self.old))) }
         ensures others { OnOk result (LeavesOthers self.old self.new name.now) }
         ensures err { OnErr result (self.new ≡ self.old) }
     {
@@ -78,7 +80,8 @@ impl EntryMap {
         other: &EntryMap,
         log: &mut Vec<(SimpleName, Option<EntryUndo>)>,
     ) -> Result<(), AllocError>
-        ensures ok { OnOk result (IsValidTable self.old → IsValidTable other.now → self.new ≡ join_tables self.old other.now) }
+        ensures ok { OnOk result (IsValidTable self.old → IsValidTable other.now
+            → self.new ≡ join_tables self.old other.now) }
         ensures back { LogsChange undo_entry self.old self.new log.old.items log.new.items }
     {
         for (name, entry) in other.entries.iter() {
@@ -114,8 +117,10 @@ impl EntryMap {
         entry: &EntryCell,
         log: &mut Vec<(SimpleName, Option<EntryUndo>)>,
     ) -> Result<bool, AllocError>
-        ensures ok { IfOk result (λ here. MatchBool here (JoinsEntry self.old self.new name.now entry.now)
-            ((map.get self.old name.now ≡ None) × (self.new ≡ self.old) × (log.new.items ≡ log.old.items))) }
+        ensures ok { IfOk result
+            (λ here. MatchBool here (JoinsEntry self.old self.new name.now entry.now)
+            ((map.get self.old name.now ≡ None) × (self.new ≡ self.old)
+            × (log.new.items ≡ log.old.items))) }
         ensures back { LogsChange undo_entry self.old self.new log.old.items log.new.items }
     {
         let Some(own) = self.entries.get_mut(name) else {
@@ -154,7 +159,8 @@ impl EntryMap {
 
     /// Takes the changes of a log back, with no memory.
     fn take_back(&mut self, log: Vec<(SimpleName, Option<EntryUndo>)>)
-        ensures { (q : List ℕ) → map.get self.new q ≡ back_at octets_cmp undo_entry log.items q (map.get self.old q) }
+        ensures { (q : List ℕ)
+            → map.get self.new q ≡ back_at octets_cmp undo_entry log.items q (map.get self.old q) }
     {
         let mut log = log;
         while let Some((name, undo)) = log.pop() {

@@ -81,7 +81,10 @@ impl EntryMap {
     ) -> Result<Result<Fragment, UpdateRefusal>, AllocError>
         ensures accepts { AcceptsOwn self.old self.new name.now update.now stamp result }
         ensures name { IfOk result (λ answer. IfOk answer (λ f. f.name ≡ name.now)) }
-        ensures entry { IfOk result (λ answer. IfOk answer (λ f. IfSome (map.get self.old name.now) (λ e. f.entry ≡ own_made update.now e stamp))) }
+        ensures entry { IfOk result
+            (λ answer. IfOk answer
+            (λ f. IfSome (map.get self.old name.now)
+            (λ e. f.entry ≡ own_made update.now e stamp))) }
     {
         match self.entries.get_mut(name) {
             Some(own) => own.accept_told(alloc, name, update, stamp),

@@ -21,9 +21,11 @@ impl EntryMap {
         update: &Update,
         stamp: Stamp,
     ) -> Result<(), AllocError>
-        requires { refusal_of (shown_in self.old (changed_name (change_of update.now))) (change_of update.now) ≡ None }
+        requires { refusal_of (shown_in self.old (changed_name (change_of update.now)))
+            (change_of update.now) ≡ None }
         ensures ok { let n = changed_name (change_of update.now) in
-            OnOk result (TakesIn self.old self.new n (marks_of (shown_in self.old n) (change_of update.now) stamp)) }
+            OnOk result (TakesIn self.old self.new n
+            (marks_of (shown_in self.old n) (change_of update.now) stamp)) }
         ensures others { LeavesOthers self.old self.new (changed_name (change_of update.now)) }
         ensures err { OnErr result (self.new ≡ self.old) }
     {
@@ -116,7 +118,8 @@ impl EntryMap {
         update: &OwnUpdate,
         stamp: Stamp,
     ) -> Result<(), AllocError>
-        ensures ok { OnOk result (TakesOwn self.old self.new name.now (λ e. own_made update.now e stamp)) }
+        ensures ok { OnOk result
+            (TakesOwn self.old self.new name.now (λ e. own_made update.now e stamp)) }
         ensures others { LeavesOthers self.old self.new name.now }
         ensures err { OnErr result (self.new ≡ self.old) }
     {
