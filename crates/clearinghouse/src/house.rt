@@ -67,14 +67,14 @@ impl Clearinghouse {
         self.dirs.get(&dir)
     }
 
-    /// The floor of its stamps: no later time stands in what it has.
+    /// The floor of its stamps: nothing that it has has a later time.
     pub fn floor(&self) -> u64
         ensures { result ≡ self.now.floor.time }
     {
         self.floor.time
     }
 
-    /// Whether a call wanted for memory. From then on each call that can answer want of memory answers it.
+    /// True once a call ran out of memory. From then on each call that can answer so answers so; start the house from its last image.
     pub fn is_spent(&self) -> bool
         ensures { result ≡ self.now.spent }
     {

@@ -35,7 +35,7 @@ start room = record { cell = model.empty_cell; clerk = new_clerk room (record { 
 
 -- ---- what is read
 
--- values that are answered, or that no house shows an entry of the name now, where an answer that was kept led (own)
+-- values that are answered; or that the house that is asked now does not show the entry to which a kept answer led, or that none answers (own)
 abbrev pub values_or_vanished : Option (List (List ℕ)) → Answer
 values_or_vanished None = answer.Refused why.Vanished
 values_or_vanished (Some vs) = answer.Values vs

@@ -207,7 +207,7 @@ lines_of_each lines es = flat_map (λ e. lines e.0 e.1) es
 abbrev pub each_lines : {X : Type 0} → (List ℕ → X → List (List ℕ)) → FinMap octets_cmp X → List (List ℕ)
 each_lines lines m = lines_of_each lines (entries m)
 
--- a value has a line, an attribute its own and those of its values, and an entry its own and those of its attributes (own)
+-- the lines of a value: one (own)
 abbrev pub value_lines : List ℕ → ValueMark → List (List ℕ)
 value_lines value m = value_line value m ∷ []
 

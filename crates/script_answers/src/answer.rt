@@ -101,7 +101,7 @@ pub enum ScriptRefusal {
     TooManyLinks,
     NameTooLong,
     RootName,
-    /// A kept answer led to an entry, and where that was found no house shows one of its name now.
+    /// A kept answer led to an entry, and the house that is asked for its values now does not show it, or none answers.
     Vanished,
     /// The entry that was found is no link, or no object.
     NotLink,

@@ -65,7 +65,7 @@ abbrev pub target_read : Reader → Result Found Refusal → Answer
 target_read reader (Ok found) = target_of found.kind (reader.values found link_target)
 target_read reader (Err r) = answer.Refused (refusal_of_walk r)
 
--- why the script says that octets begin with no message; no message has the last two of these faults (own)
+-- why the script says that octets begin with no message; the last two are faults of images (own)
 abbrev pub refusal_of_octets : RecordFault → ScriptRefusal
 refusal_of_octets (fault.Short place) = why.Short place
 refusal_of_octets (fault.BadTag place) = why.BadTag place
@@ -82,8 +82,7 @@ abbrev pub message_told : Result (recorded.Message × ℕ) RecordFault → Answe
 message_told (Ok r) = answer.Decoded (tag_of r.0.body) r.1
 message_told (Err f) = answer.Refused (refusal_of_octets f)
 
--- the answers to questions, which name a house that is preferred and how far a replica is trusted. `read` follows links to
--- the last, `readlink` looks at the last itself (own, after C705, lookups of clerks)
+-- an answer for a question that names a house, or that there is no such house (own)
 abbrev pub asked_of : Cell → (house : ℕ) → Answer → Answer
 asked_of g house said = if has house g.made then said else answer.Refused why.NoHouse
 
@@ -153,7 +152,8 @@ LacksStampsAlone g (Ok c) = let w : Accepting = accept_in_turn g c.house c.dir c
 abbrev pub trusted_reader : Cell → Reader
 trusted_reader g = cell_reader g None true
 
--- what a question does and is answered. Most ask alone (own, after C705, lookups of clerks, and C706, name service operations)
+-- what a question does and is answered. Most only ask: they name the house that is preferred, and the confidence. `read` follows
+-- links to the last, `readlink` looks at the last itself (own, after C705, lookups of clerks, and C706, name service operations)
 abbrev pub question_said : Cell → Question → Said
 question_said g (question.Read h high name attr) =
     says (asked_of g h.0 (values_read (cell_reader g (Some h.0) high) attr (walk_end (cell_reader g (Some h.0) high) true name)))
