@@ -14,7 +14,7 @@ use Rattle.mend_replay.specs.declared.mender.Mender.{Mender}
 use Rattle.cell_replay.specs.Demand.{end_text}
 use Rattle.house_journal.specs.MemoryDisks.{MemState}
 use Rattle.cell_script.specs.Words.{words_of}
-use Rattle.script_forms.specs.JournalLines.{said_in}
+use Rattle.journal_forms.specs.JournalLines.{said_in}
 use Rattle.cds_cell.specs.declared.cell.Cell.{Cell}
 use Rattle.reply_buffer.specs.declared.replies.LineEnd.{LineEnd}
 use Rattle.reply_buffer.specs.declared.replies.LineEnd.TheVariants as line

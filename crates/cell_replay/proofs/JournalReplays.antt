@@ -5,8 +5,8 @@ use Rattle.cell_model.specs.Steps.{replay_from}
 use Rattle.cell_model.proofs.Agreeing.{converges_lem}
 use Rattle.cell_model.proofs.Runs.{replay-append}
 use Rattle.cell_script.specs.Words.{words_of}
-use Rattle.script_forms.specs.JournalLines.{said_in}
-use Rattle.script_forms.specs.declared.journal_line.JournalLine.{JournalLine}
+use Rattle.journal_forms.specs.JournalLines.{said_in}
+use Rattle.journal_forms.specs.declared.journal_line.JournalLine.{JournalLine}
 use Rattle.reply_buffer.specs.Responses.{Fills, in_state}
 use Rattle.script_replay.specs.Dialogues.{NumberedOf, reply_of}
 use Rattle.journal_replay.specs.Journaled.{journal_said}

@@ -16,8 +16,8 @@ use Rattle.cell_replay.specs.LineStates.{LineState, Replaying, Clerking, Respons
 use Rattle.cell_replay.specs.Demand.{Demand, Sound, Faulty, line_demand, end_text, told_fault}
 use Rattle.cell_replay.specs.Demand.{unless_fault, then_rest, with_front, whole}
 use Rattle.cell_replay.specs.Forms.{ByLines, clerking_with, run_form, inquiring_form}
-use Rattle.script_forms.specs.declared.inquire_line.InquireLine.{InquireLine}
-use Rattle.script_forms.specs.InquireLines.{inquired_in}
+use Rattle.inquire_forms.specs.declared.inquire_line.InquireLine.{InquireLine}
+use Rattle.inquire_forms.specs.InquireLines.{inquired_in}
 use Rattle.inquire_replay.specs.Inquiring.{inquire_dialogue}
 use Rattle.cell_replay.specs.Runs.{IsFront, Run, Wrote, IsWhole}
 use Rattle.cell_replay.specs.Scripts.{text_of, Says, IsScript, IsScriptOf, IsReplay, IsReplayBy}

@@ -10,9 +10,9 @@ use Rattle.cell_model.specs.Steps.{replay_from}
 use Rattle.cell_script.specs.Words.{words_of}
 use Rattle.cds_cell.specs.Readings.{cell_reader}
 use Rattle.script_answers.specs.declared.answer.Answer.TheVariants as answer
-use Rattle.script_forms.specs.JournalLines.{said_in}
-use Rattle.script_forms.specs.declared.journal_line.JournalLine.{JournalLine}
-use Rattle.script_forms.specs.declared.journal_line.JournalLine.TheVariants as line
+use Rattle.journal_forms.specs.JournalLines.{said_in}
+use Rattle.journal_forms.specs.declared.journal_line.JournalLine.{JournalLine}
+use Rattle.journal_forms.specs.declared.journal_line.JournalLine.TheVariants as line
 use Rattle.script_replay.specs.Dialogues.{Dialogue, NumberedOf}
 use Rattle.script_replay.specs.Replies.{reply_to}
 use Rattle.journal_replay.specs.CellDisks.{ArePutting, GiveImages, HoldAll}

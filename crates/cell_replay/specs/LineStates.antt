@@ -12,7 +12,7 @@ use Rattle.script_replay.specs.Dialogues.{reply_of}
 use Rattle.script_replay.specs.Replies.{run_dialogue}
 use Rattle.mend_replay.specs.Quiet.{running_quietly}
 use Rattle.journal_replay.specs.CellJournals.{JournaledCell, journal_response}
-use Rattle.script_forms.specs.InquireLines.{inquired_in}
+use Rattle.inquire_forms.specs.InquireLines.{inquired_in}
 use Rattle.inquire_replay.specs.Inquiring.{inquire_dialogue}
 use Rattle.clerk_replay.specs.Clerking.{Clerked, clerk_dialogue}
 

@@ -9,8 +9,8 @@ use Rattle.cds_cell.specs.declared.cell.Cell.{Cell}
 use Rattle.cds_cell.specs.Readings.{cell_reader}
 use Rattle.cds_cell.specs.Telling.{program_reader}
 use Rattle.resolver.specs.Readers.{Reader}
-use Rattle.script_forms.specs.declared.inquire_answer.InquireAnswer.{InquireAnswer}
-use Rattle.script_forms.specs.Inquired.{Inquired, inquired_answer}
+use Rattle.inquire_forms.specs.declared.inquire_answer.InquireAnswer.{InquireAnswer}
+use Rattle.inquire_forms.specs.Inquired.{Inquired, inquired_answer}
 use Rattle.inquire_replay.specs.Inquiring.{asked_at, no_house}
 
 -- where the house is there, what is listed by the cell is listed by the model's

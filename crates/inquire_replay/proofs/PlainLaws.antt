@@ -16,11 +16,11 @@ use Rattle.script_answers.specs.declared.answer.Answer.{Answer}
 use Rattle.script_answers.specs.Texts.{answer_text}
 use Rattle.script_replay.specs.Dialogues.{transcript_by}
 use Rattle.script_replay.specs.Replies.{Numbered, cell_after, reply_to, reply_text, transcript}
-use Rattle.script_forms.specs.declared.inquire_line.InquireLine.{InquireLine}
-use Rattle.script_forms.specs.declared.inquire_line.InquireLine.TheVariants as line
-use Rattle.script_forms.specs.InquireLines.{about_entry, inquired_by, inquired_in, lookup_said, plain_said, proflist_said}
-use Rattle.script_forms.specs.InquireTexts.{inquire_text}
-use Rattle.script_forms.specs.Inquired.{Plain}
+use Rattle.inquire_forms.specs.declared.inquire_line.InquireLine.{InquireLine}
+use Rattle.inquire_forms.specs.declared.inquire_line.InquireLine.TheVariants as line
+use Rattle.inquire_forms.specs.InquireLines.{about_entry, inquired_by, inquired_in, lookup_said, plain_said, proflist_said}
+use Rattle.inquire_forms.specs.InquireTexts.{inquire_text}
+use Rattle.inquire_forms.specs.Inquired.{Plain}
 use Rattle.inquire_replay.specs.Inquiring.{inquire_dialogue, plain_lines}
 
 -- no command of a script has the word of an inquiry

@@ -5,11 +5,11 @@ use Rattle.cell_model.specs.Cells.{Cell}
 use Rattle.cell_model.specs.Sets.{has}
 use Rattle.cds_cell.specs.Readings.{objects_of, cell_reader}
 use Rattle.script_answers.specs.declared.answer.ScriptRefusal.TheVariants as why
-use Rattle.script_forms.specs.declared.inquire_line.InquireLine.{InquireLine}
-use Rattle.script_forms.specs.declared.inquire_line.InquireLine.TheVariants as line
-use Rattle.script_forms.specs.InquireLines.{inquired_in}
-use Rattle.script_forms.specs.InquireTexts.{inquire_text}
-use Rattle.script_forms.specs.Inquired.{Inquired, Plain, inquired_refusal, batches_listed, elements_listed, entry_listed, members_listed}
+use Rattle.inquire_forms.specs.declared.inquire_line.InquireLine.{InquireLine}
+use Rattle.inquire_forms.specs.declared.inquire_line.InquireLine.TheVariants as line
+use Rattle.inquire_forms.specs.InquireLines.{inquired_in}
+use Rattle.inquire_forms.specs.InquireTexts.{inquire_text}
+use Rattle.inquire_forms.specs.Inquired.{Inquired, Plain, inquired_refusal, batches_listed, elements_listed, entry_listed, members_listed}
 use Rattle.script_replay.specs.Dialogues.{Dialogue, NumberedOf}
 use Rattle.script_replay.specs.Replies.{Numbered, cell_after, reply_to, wanted_by}
 

@@ -3,9 +3,9 @@ use Rattle.std.specs.Prelude.{◌≡◌, Some}
 use Rattle.cell_model.specs.Cells as model
 use Rattle.cds_cell.specs.declared.cell.Cell.{Cell}
 use Rattle.cds_cell.specs.ModelCells.{Stands}
-use Rattle.script_forms.specs.declared.inquire_answer.InquireAnswer.{InquireAnswer}
-use Rattle.script_forms.specs.declared.inquire_line.InquireLine.{InquireLine}
-use Rattle.script_forms.specs.Inquired.{inquired_answer}
+use Rattle.inquire_forms.specs.declared.inquire_answer.InquireAnswer.{InquireAnswer}
+use Rattle.inquire_forms.specs.declared.inquire_line.InquireLine.{InquireLine}
+use Rattle.inquire_forms.specs.Inquired.{inquired_answer}
 use Rattle.inquire_replay.specs.Inquiring.{cell_after_inquiry, inquiry_reply}
 
 -- an answer and a cell are those of the model behind a line

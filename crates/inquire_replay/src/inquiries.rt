@@ -3,16 +3,16 @@ ghost use Rattle.std.specs.Prelude.{◌≡◌, ◌≤◌, Some, IfOk};
 ghost use Rattle.cell_model.specs.Cells as model;
 ghost use Rattle.cds_cell.specs.Readings.{objects_of, cell_reader};
 ghost use Rattle.cds_cell.specs.ModelCells.{Stands};
-ghost use Rattle.script_forms.specs.Inquired.{batches_listed, elements_listed, entry_listed, inquired_answer, members_listed};
+ghost use Rattle.inquire_forms.specs.Inquired.{batches_listed, elements_listed, entry_listed, inquired_answer, members_listed};
 ghost use Rattle.inquire_replay.specs.Inquiring.{asked_at, no_house};
 
 use cds_cell::laws::cells_tell_the_model;
 use cds_cell::{Cell, CellReader};
 use cds_stamps::HouseNo;
 use cell_names::FullName;
+use inquire_forms::{InquireAnswer, list_elements, list_entry, list_members, look_up};
 use ns_inquire::Inquiry;
 use script_answers::{Answer, ScriptRefusal};
-use script_forms::{InquireAnswer, list_elements, list_entry, list_members, look_up};
 use server_entries::Wanted;
 use std::alloc::{AllocError, Global};
 

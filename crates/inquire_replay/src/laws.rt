@@ -5,8 +5,8 @@ ghost use Rattle.cell_script.specs.declared.command.ScriptLine.{ScriptLine};
 ghost use Rattle.cell_script.specs.CommandRows.{said_in};
 ghost use Rattle.script_replay.specs.Dialogues.{transcript_by};
 ghost use Rattle.script_replay.specs.Replies.{Numbered, transcript};
-ghost use Rattle.script_forms.specs.declared.inquire_line.InquireLine.TheVariants as line;
-ghost use Rattle.script_forms.specs.InquireLines.{inquired_in};
+ghost use Rattle.inquire_forms.specs.declared.inquire_line.InquireLine.TheVariants as line;
+ghost use Rattle.inquire_forms.specs.InquireLines.{inquired_in};
 ghost use Rattle.inquire_replay.specs.Inquiring.{inquire_dialogue, plain_lines};
 
 /// A line of a script says the same where lines may inquire, and each script is answered as it is by `run`.

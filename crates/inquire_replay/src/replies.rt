@@ -6,15 +6,15 @@ ghost use Rattle.cell_script.specs.Words.{words_of};
 ghost use Rattle.cds_cell.specs.ModelCells.{Stands};
 ghost use Rattle.script_replay.specs.Dialogues.{reply_of};
 ghost use Rattle.script_replay.specs.Answering.{Replays};
-ghost use Rattle.script_forms.specs.InquireLines.{WantsSome, inquired_in};
-ghost use Rattle.script_forms.specs.Inquired.{inquired_answer};
+ghost use Rattle.inquire_forms.specs.InquireLines.{WantsSome, inquired_in};
+ghost use Rattle.inquire_forms.specs.Inquired.{inquired_answer};
 ghost use Rattle.inquire_replay.specs.Inquiring.{cell_after_inquiry, inquire_dialogue, reply_text};
 ghost use Rattle.inquire_replay.specs.PrivateInquiring.{IsReply};
 
 use crate::inquiries::{batches, elements, entry, members};
 use cds_stamps::AllocOr;
+use inquire_forms::{InquireAnswer, InquireLine, parse_inquire_line, print_inquire_answer};
 use reply_buffer::{LineEnd, Waiting, reply_to_fault};
-use script_forms::{InquireAnswer, InquireLine, parse_inquire_line, print_inquire_answer};
 use script_replay::Replayer;
 use server_entries::Wanted;
 use std::alloc::{AllocError, Global};

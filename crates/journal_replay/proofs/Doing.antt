@@ -10,8 +10,8 @@ use Rattle.cell_model.specs.Reached.{IsReached}
 use Rattle.cell_model.specs.Sets.{has}
 use Rattle.cell_model.specs.Steps.{outcome, replay_from}
 use Rattle.script_answers.specs.declared.answer.Answer.{Answer}
-use Rattle.script_forms.specs.declared.journal_answer.JournalAnswer.{JournalAnswer}
-use Rattle.script_forms.specs.declared.journal_line.JournalLine.{JournalLine}
+use Rattle.journal_forms.specs.declared.journal_answer.JournalAnswer.{JournalAnswer}
+use Rattle.journal_forms.specs.declared.journal_line.JournalLine.{JournalLine}
 use Rattle.cds_cell.specs.CommandImages.{actors}
 use Rattle.cds_cell.specs.Recorded.{image_at}
 use Rattle.cds_cell.specs.ModelCells.{Stands}

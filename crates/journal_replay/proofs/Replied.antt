@@ -10,13 +10,13 @@ use Rattle.cds_cell.specs.CommandImages.{octets_at}
 use Rattle.cds_cell.specs.ModelCells.{Stands}
 use Rattle.script_answers.specs.declared.answer.Answer.{Answer}
 use Rattle.script_answers.specs.declared.answer.Answer.TheVariants as plain
-use Rattle.script_forms.specs.declared.journal_answer.JournalAnswer.TheVariants as answer
-use Rattle.script_forms.specs.declared.journal_line.JournalLine.TheVariants as line
+use Rattle.journal_forms.specs.declared.journal_answer.JournalAnswer.TheVariants as answer
+use Rattle.journal_forms.specs.declared.journal_line.JournalLine.TheVariants as line
 use Rattle.script_replay.specs.declared.replayer.Replayer.{Replayer}
 use Rattle.script_replay.specs.Replies.{asked_of, said_of}
-use Rattle.script_forms.specs.JournalTexts.{journal_text}
-use Rattle.script_forms.specs.declared.journal_answer.JournalAnswer.{JournalAnswer}
-use Rattle.script_forms.specs.declared.journal_line.JournalLine.{JournalLine}
+use Rattle.journal_forms.specs.JournalTexts.{journal_text}
+use Rattle.journal_forms.specs.declared.journal_answer.JournalAnswer.{JournalAnswer}
+use Rattle.journal_forms.specs.declared.journal_line.JournalLine.{JournalLine}
 use Rattle.reply_buffer.specs.LineEnds.{Ends, Faults}
 use Rattle.reply_buffer.specs.Responses.{GoesOn, Fills}
 use Rattle.reply_buffer.specs.declared.replies.LineEnd.{LineEnd}

@@ -13,8 +13,8 @@ use Rattle.cell_model.specs.Steps.{outcome}
 use Rattle.cds_cell.specs.CommandImages.{actors, crash_losing, image_after, octets_at}
 use Rattle.script_answers.specs.declared.answer.Answer.TheVariants as plain
 use Rattle.script_answers.specs.declared.answer.ScriptRefusal.TheVariants as why
-use Rattle.script_forms.specs.declared.journal_answer.JournalAnswer.{JournalAnswer}
-use Rattle.script_forms.specs.declared.journal_answer.JournalAnswer.TheVariants as answer
+use Rattle.journal_forms.specs.declared.journal_answer.JournalAnswer.{JournalAnswer}
+use Rattle.journal_forms.specs.declared.journal_answer.JournalAnswer.TheVariants as answer
 use Rattle.disk_journals.specs.KeptJournals.{is_last}
 use Rattle.disk_journals.proofs.Lasts.{last_is_not, last_same}
 use Rattle.journal_replay.specs.Journaled.{is_only, lacks_message, stop_refused}

@@ -12,9 +12,9 @@ use Rattle.script_answers.specs.declared.answer.Answer.{Answer}
 use Rattle.cds_cell.specs.CommandImages.{actors, crash_losing, image_after}
 use Rattle.cds_cell.specs.Recorded.{image_at}
 use Rattle.cds_cell.specs.ModelCells.{Stands}
-use Rattle.script_forms.specs.declared.journal_answer.JournalAnswer.{JournalAnswer}
-use Rattle.script_forms.specs.declared.journal_answer.JournalAnswer.TheVariants as answer
-use Rattle.script_forms.specs.declared.journal_line.JournalLine.{JournalLine}
+use Rattle.journal_forms.specs.declared.journal_answer.JournalAnswer.{JournalAnswer}
+use Rattle.journal_forms.specs.declared.journal_answer.JournalAnswer.TheVariants as answer
+use Rattle.journal_forms.specs.declared.journal_line.JournalLine.{JournalLine}
 use Rattle.script_replay.specs.Replies.{Said}
 use Rattle.disk_journals.specs.declared.faults.Unkept.{Unkept}
 use Rattle.disk_journals.specs.declared.faults.Unkept.TheVariants.{OutOfMemory}

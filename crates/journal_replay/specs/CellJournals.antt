@@ -11,11 +11,11 @@ use Rattle.cell_script.specs.declared.fault.ParseFault.{ParseFault}
 use Rattle.cell_script.specs.Words.{words_of}
 use Rattle.reply_buffer.specs.Responses.{ResponseOf, Fills}
 use Rattle.disk_journals.specs.KeptJournals.{is_last, size_of, stops_after}
-use Rattle.script_forms.specs.JournalLines.{said_in}
-use Rattle.script_forms.specs.JournalTexts.{journal_text}
-use Rattle.script_forms.specs.declared.journal_line.JournalLine.{JournalLine}
-use Rattle.script_forms.specs.declared.journal_line.JournalLine.TheVariants as line
-use Rattle.script_forms.specs.declared.journal_answer.JournalAnswer.{JournalAnswer}
+use Rattle.journal_forms.specs.JournalLines.{said_in}
+use Rattle.journal_forms.specs.JournalTexts.{journal_text}
+use Rattle.journal_forms.specs.declared.journal_line.JournalLine.{JournalLine}
+use Rattle.journal_forms.specs.declared.journal_line.JournalLine.TheVariants as line
+use Rattle.journal_forms.specs.declared.journal_answer.JournalAnswer.{JournalAnswer}
 use Rattle.script_replay.specs.Dialogues.{Dialogue, reply_of}
 use Rattle.journal_replay.specs.Journaled.{journal_said, stop_refused}
 

@@ -11,10 +11,10 @@ use Rattle.script_answers.specs.declared.answer.Answer.TheVariants as plain
 use Rattle.script_answers.specs.declared.answer.ScriptRefusal.TheVariants as why
 use Rattle.cds_cell.specs.CommandImages.{actors, crash_losing, image_after, octets_at}
 use Rattle.cds_cell.specs.Scripted.{answer_of, step_of}
-use Rattle.script_forms.specs.declared.journal_line.JournalLine.{JournalLine}
-use Rattle.script_forms.specs.declared.journal_line.JournalLine.TheVariants as line
-use Rattle.script_forms.specs.declared.journal_answer.JournalAnswer.{JournalAnswer}
-use Rattle.script_forms.specs.declared.journal_answer.JournalAnswer.TheVariants as answer
+use Rattle.journal_forms.specs.declared.journal_line.JournalLine.{JournalLine}
+use Rattle.journal_forms.specs.declared.journal_line.JournalLine.TheVariants as line
+use Rattle.journal_forms.specs.declared.journal_answer.JournalAnswer.{JournalAnswer}
+use Rattle.journal_forms.specs.declared.journal_answer.JournalAnswer.TheVariants as answer
 use Rattle.script_replay.specs.Replies.{asked_of, said_of}
 
 -- the commands of the model that a line is, and the answer to it (own)

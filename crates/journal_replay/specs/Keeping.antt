@@ -1,7 +1,7 @@
 -- How the disks of a cell's houses are kept, and what is on them behind a line of the form `journal` (own).
 use Rattle.std.specs.Prelude.{◌≡◌, false, Option, Result}
 use Rattle.cell_script.specs.declared.fault.ParseFault.{ParseFault}
-use Rattle.script_forms.specs.declared.journal_line.JournalLine.{JournalLine}
+use Rattle.journal_forms.specs.declared.journal_line.JournalLine.{JournalLine}
 use Rattle.cds_cell.specs.ModelCells.{Stands}
 use Rattle.reply_buffer.specs.declared.replies.LineEnd.{LineEnd}
 use Rattle.reply_buffer.specs.declared.replies.LineEnd.TheVariants as line

@@ -6,8 +6,8 @@ use Rattle.cell_model.specs.Cells.{Cell}
 use Rattle.cell_model.specs.Sets.{has}
 use Rattle.cell_model.specs.Steps.{replay_from}
 use Rattle.script_answers.specs.declared.answer.Answer.{Answer}
-use Rattle.script_forms.specs.declared.journal_answer.JournalAnswer.{JournalAnswer}
-use Rattle.script_forms.specs.declared.journal_line.JournalLine.{JournalLine}
+use Rattle.journal_forms.specs.declared.journal_answer.JournalAnswer.{JournalAnswer}
+use Rattle.journal_forms.specs.declared.journal_line.JournalLine.{JournalLine}
 use Rattle.cds_cell.specs.CommandImages.{image_after, octets_at}
 use Rattle.script_replay.specs.Replies.{Said}
 use Rattle.journal_replay.specs.Journaled.{journal_said, stop_refused}

@@ -1,7 +1,7 @@
 // The form `journal`: each line is replayed on a cell, whose houses put their images into journals.
 ghost use Rattle.std.specs.Prelude.{◌≡◌, false, IfOk};
 ghost use Rattle.std.proofs.Props.{props};
-ghost use Rattle.script_forms.specs.JournalTexts.{journal_text};
+ghost use Rattle.journal_forms.specs.JournalTexts.{journal_text};
 ghost use Rattle.journal_replay.specs.CellDisks.{AreKept};
 ghost use Rattle.journal_replay.specs.KeptProofs.{kept_prop};
 
@@ -9,8 +9,8 @@ use crate::keeper::Keeper;
 use cds_stamps::AllocOr;
 use disk_journals::Unkept;
 use house_journal::MemDisk;
+use journal_forms::{JournalAnswer, JournalLine, parse_journal_line, print_journal_answer};
 use reply_buffer::{LineEnd, Waiting, reply_to_fault};
-use script_forms::{JournalAnswer, JournalLine, parse_journal_line, print_journal_answer};
 use std::alloc::{AllocError, Global};
 
 /// A cell, the journals of its houses, and their disks: that of house H at place H - 1.
@@ -33,7 +33,7 @@ impl Journals {
     ghost use Rattle.std.specs.Prelude.{◌++◌, ◌+◌, ◌<◌, ◌≤◌, [], Some, Ok, IfOk, IfErr, OnOk, OnErr};
     ghost use Rattle.cds_base.specs.declared.scan.TheConstants.{MOST_LINES};
     ghost use Rattle.cell_script.specs.Words.{words_of};
-    ghost use Rattle.script_forms.specs.JournalLines.{HasNumbers, said_in};
+    ghost use Rattle.journal_forms.specs.JournalLines.{HasNumbers, said_in};
     ghost use Rattle.reply_buffer.specs.LineEnds.{Ends};
     ghost use Rattle.journal_replay.specs.CellJournals.{JournaledCell, empty_state, journal_response, lacks_room, puts_in};
     ghost use Rattle.journal_replay.specs.CellJournals.{reply_text, response_to, state_after};

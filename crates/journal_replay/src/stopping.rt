@@ -9,7 +9,7 @@ ghost use Rattle.cds_cell.specs.Scripted.{step_of};
 ghost use Rattle.cds_cell.specs.ModelCells.{Stands};
 ghost use Rattle.house_journal.specs.JournalRecords.{images};
 ghost use Rattle.journal_replay.specs.declared.stopping.Stopping.TheVariants as stop;
-ghost use Rattle.script_forms.specs.declared.journal_line.JournalLine.TheVariants as line;
+ghost use Rattle.journal_forms.specs.declared.journal_line.JournalLine.TheVariants as line;
 ghost use Rattle.journal_replay.specs.CellDisks.{AreKept, HoldAll};
 ghost use Rattle.disk_journals.specs.KeptJournals.{HoldsEither, IsKept, is_last, size_of, stops_after};
 ghost use Rattle.disk_journals.specs.declared.faults.Unkept.TheVariants as why;
@@ -24,8 +24,8 @@ use cds_stamps::HouseNo;
 use cell_script::Command;
 use disk_journals::{KeptHouse, Unkept, stopped_put};
 use house_journal::{Leave, MemDisk};
+use journal_forms::JournalAnswer;
 use script_answers::{Answer, ScriptRefusal};
-use script_forms::JournalAnswer;
 use std::alloc::{AllocError, Global};
 
 // What there is to stop in a command: it is refused, or nothing is put, or this image.

@@ -3,7 +3,7 @@ use Rattle.resolver.specs.Readers.{Reader, ShowsOnly}
 use Rattle.cds_cell.specs.Readings.{objects_of}
 use Rattle.cds_cell.specs.Telling.{program_reader}
 use Rattle.script_replay.proofs.ReachedReadings.{reached_shows_only}
-use Rattle.script_forms.specs.Inquired.{batches_listed}
+use Rattle.inquire_forms.specs.Inquired.{batches_listed}
 use Rattle.inquire_replay.proofs.CellInquiries.{listed_there}
 use Rattle.inquire_replay.proofs.inquiries.batches.Goals as goal
 

@@ -1,5 +1,5 @@
 use Rattle.std.proofs.Common.{◌∙◌, sym, Some}
-use Rattle.script_forms.specs.Inquired.{members_listed}
+use Rattle.inquire_forms.specs.Inquired.{members_listed}
 use Rattle.inquire_replay.proofs.CellInquiries.{listed_there}
 use Rattle.inquire_replay.proofs.inquiries.members.Goals as goal
 

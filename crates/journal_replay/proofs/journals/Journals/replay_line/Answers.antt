@@ -1,5 +1,5 @@
 use Rattle.cell_script.specs.Words.{words_of}
-use Rattle.script_forms.specs.JournalLines.{said_in}
+use Rattle.journal_forms.specs.JournalLines.{said_in}
 use Rattle.journal_replay.specs.CellJournals.{puts_by}
 use Rattle.journal_replay.proofs.Putting.{putting_at_start}
 use Rattle.journal_replay.proofs.journals.Journals.replay_line.Goals as goal

@@ -2,8 +2,8 @@ use Rattle.std.proofs.Common.{◌≤◌, refl, subst, arith}
 use Rattle.cell_script.specs.declared.command.ScriptLine.TheVariants as script
 use Rattle.cds_cell.specs.Scripted.{step_of}
 use Rattle.script_replay.specs.Replies.{said_of}
-use Rattle.script_forms.specs.declared.journal_line.JournalLine.{JournalLine}
-use Rattle.script_forms.specs.declared.journal_line.JournalLine.TheVariants as line
+use Rattle.journal_forms.specs.declared.journal_line.JournalLine.{JournalLine}
+use Rattle.journal_forms.specs.declared.journal_line.JournalLine.TheVariants as line
 use Rattle.disk_journals.specs.KeptJournals.{stops_after}
 use Rattle.journal_replay.specs.CellJournals.{puts_in}
 use Rattle.journal_replay.specs.CellDisks.{disk_count}

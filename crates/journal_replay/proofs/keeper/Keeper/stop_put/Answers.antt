@@ -6,8 +6,8 @@ use Rattle.cds_cell.specs.CommandImages.{crash_losing}
 use Rattle.cds_cell.specs.Scripted.{step_of}
 use Rattle.cds_cell.specs.ModelCells.{Stands}
 use Rattle.script_replay.specs.declared.replayer.Replayer.{Replayer}
-use Rattle.script_forms.specs.declared.journal_line.JournalLine.{JournalLine}
-use Rattle.script_forms.specs.declared.journal_line.JournalLine.TheVariants as line
+use Rattle.journal_forms.specs.declared.journal_line.JournalLine.{JournalLine}
+use Rattle.journal_forms.specs.declared.journal_line.JournalLine.TheVariants as line
 use Rattle.disk_journals.specs.KeptJournals.{stops_after}
 use Rattle.journal_replay.specs.CellJournals.{Put, with_put}
 use Rattle.journal_replay.specs.CellDisks.{HoldAll, disk_count}

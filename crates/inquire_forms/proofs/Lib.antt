@@ -1,0 +1,4 @@
+pub mod InquireLines
+mod InquireBatches
+mod InquireTexts
+mod InquireExamples

@@ -1,0 +1,5 @@
+pub mod InquireWords
+pub mod InquireLines
+pub mod Inquired
+pub mod InquireTexts
+pub mod PrivateInquireLines

@@ -1,0 +1,322 @@
+// The text of what inquiries are answered.
+ghost use Rattle.std.specs.Prelude.{◌≡◌, ◌++◌, ◌∷◌, [], map, decimal, IfOk, OnOk};
+ghost use Rattle.std.specs.List.{flat_map};
+ghost use Rattle.tower_codec.specs.InterfaceTexts.{interface_text};
+ghost use Rattle.script_answers.specs.Texts.{line_text, lines_text, binding_line, import_end};
+ghost use Rattle.inquire_forms.specs.Inquired.{inquired_answer};
+ghost use Rattle.inquire_forms.specs.InquireTexts.{batch_lines, element_interface, element_line, element_said, inquire_text, interface_line, member_line, note_text, object_line, total};
+
+use crate::inquire_answer::InquireAnswer;
+use cell_names::FullName;
+use ns_profiles::Element;
+use script_answers::{append_answer, begin_line, push_hex, push_number};
+use std::alloc::{AllocError, Global};
+use tower_codec::{Interface, StringBinding};
+use uuid::Uuid;
+
+// A line that begins with a word and a space.
+fn begin(text: &mut Vec<u8>, number: u32, word: &[u8]) -> Result<(), AllocError>
+    ensures { OnOk result
+        (text.new.items ≡ text.old.items ++ (decimal number ++ (32 ∷ (word.now ++ 32 ∷ [])))) }
+{
+    begin_line(text, number)?;
+    text.extend_from_slice(word)?;
+    Ok(text.push(b' ')?)
+}
+
+// The line of how many there are, under this word.
+fn push_count(text: &mut Vec<u8>, number: u32, word: &[u8], count: u64) -> Result<(), AllocError>
+    ensures { OnOk result
+        (text.new.items ≡ text.old.items ++ line_text number (word.now ++ (32 ∷ decimal count))) }
+{
+    begin(text, number, word)?;
+    push_number(text, count)?;
+    Ok(text.push(b'\n')?)
+}
+
+// The last line: how many there are.
+fn push_end(text: &mut Vec<u8>, number: u32, count: u64) -> Result<(), AllocError>
+    ensures { OnOk result (text.new.items ≡ text.old.items ++ line_text number (import_end count)) }
+{
+    push_count(text, number, b"end", count)
+}
+
+// The line of a member.
+fn push_member(text: &mut Vec<u8>, number: u32, member: &FullName) -> Result<(), AllocError>
+    ensures { OnOk result
+        (text.new.items ≡ text.old.items ++ line_text number (member_line member.now)) }
+{
+    begin(text, number, b"member")?;
+    member.append_spelling(text)?;
+    Ok(text.push(b'\n')?)
+}
+
+// An interface as scripts have it.
+fn print_interface(alloc: Global, interface: &Interface) -> Result<Vec<u8>, AllocError>
+    ensures { IfOk result (λ text. text.items ≡ interface_text interface.now) }
+{
+    Ok(format!(in alloc; "{interface}")?.into_bytes())
+}
+
+// The line of an interface.
+fn push_interface(
+    alloc: Global,
+    text: &mut Vec<u8>,
+    number: u32,
+    interface: &Interface,
+) -> Result<(), AllocError>
+    ensures { OnOk result
+        (text.new.items ≡ text.old.items ++ line_text number (interface_line interface.now)) }
+{
+    begin(text, number, b"interface")?;
+    text.extend_from_slice(&print_interface(alloc, interface)?)?;
+    Ok(text.push(b'\n')?)
+}
+
+// The line of an object.
+fn push_object(
+    alloc: Global,
+    text: &mut Vec<u8>,
+    number: u32,
+    object: &Uuid,
+) -> Result<(), AllocError>
+    ensures { OnOk result
+        (text.new.items ≡ text.old.items ++ line_text number (object_line object.now)) }
+{
+    begin(text, number, b"object")?;
+    text.extend_from_slice(format!(in alloc; "{object}")?.as_bytes())?;
+    Ok(text.push(b'\n')?)
+}
+
+// The interface of an element, or `default`.
+fn push_element_interface(
+    alloc: Global,
+    text: &mut Vec<u8>,
+    element: &Element,
+) -> Result<(), AllocError>
+    ensures { OnOk result (text.new.items ≡ text.old.items ++ element_interface element.now) }
+{
+    if element.is_default() {
+        return text.extend_from_slice(b"default");
+    }
+    text.extend_from_slice(&print_interface(alloc, &element.interface)?)
+}
+
+// An annotation in hexadecimal digits, or `-` for none.
+fn push_note(text: &mut Vec<u8>, note: &[u8]) -> Result<(), AllocError>
+    ensures { OnOk result (text.new.items ≡ text.old.items ++ note_text note.now) }
+{
+    if note.is_empty() {
+        return Ok(text.push(b'-')?);
+    }
+    push_hex(text, note)
+}
+
+// What the line of an element says after its word.
+fn push_element_said(alloc: Global, text: &mut Vec<u8>, element: &Element) -> Result<(), AllocError>
+    ensures { OnOk result (text.new.items ≡ text.old.items ++ element_said element.now) }
+{
+    push_number(text, u64::from(element.priority))?;
+    text.push(b' ')?;
+    push_element_interface(alloc, text, element)?;
+    text.push(b' ')?;
+    element.member.append_spelling(text)?;
+    text.push(b' ')?;
+    push_note(text, element.annotation.octets())
+}
+
+// The line of an element.
+fn push_element(
+    alloc: Global,
+    text: &mut Vec<u8>,
+    number: u32,
+    element: &Element,
+) -> Result<(), AllocError>
+    ensures { OnOk result
+        (text.new.items ≡ text.old.items ++ line_text number (element_line element.now)) }
+{
+    begin(text, number, b"element")?;
+    push_element_said(alloc, text, element)?;
+    Ok(text.push(b'\n')?)
+}
+
+// The line of a binding.
+fn push_binding(
+    alloc: Global,
+    text: &mut Vec<u8>,
+    number: u32,
+    binding: &StringBinding,
+) -> Result<(), AllocError>
+    ensures { OnOk result
+        (text.new.items ≡ text.old.items ++ line_text number (binding_line binding.now)) }
+{
+    begin(text, number, b"binding")?;
+    text.extend_from_slice(&binding.print(alloc)?)?;
+    Ok(text.push(b'\n')?)
+}
+
+// The lines of bindings.
+fn push_bindings(
+    alloc: Global,
+    text: &mut Vec<u8>,
+    number: u32,
+    bindings: &[StringBinding],
+) -> Result<(), AllocError>
+    ensures { OnOk result
+        (text.new.items ≡ text.old.items ++ lines_text number (map binding_line bindings.now)) }
+{
+    for binding in bindings {
+        push_binding(alloc, text, number, binding)?;
+    }
+    Ok(())
+}
+
+// The lines of a batch: how many bindings it has, and each of them.
+fn push_batch(
+    alloc: Global,
+    text: &mut Vec<u8>,
+    number: u32,
+    batch: &[StringBinding],
+) -> Result<(), AllocError>
+    ensures { OnOk result
+        (text.new.items ≡ text.old.items ++ lines_text number (batch_lines batch.now)) }
+{
+    push_count(text, number, b"batch", batch.len() as u64)?;
+    push_bindings(alloc, text, number, batch)
+}
+
+// The lines of members.
+fn push_members(text: &mut Vec<u8>, number: u32, members: &[FullName]) -> Result<(), AllocError>
+    ensures { OnOk result
+        (text.new.items ≡ text.old.items ++ lines_text number (map member_line members.now)) }
+{
+    for member in members {
+        push_member(text, number, member)?;
+    }
+    Ok(())
+}
+
+// The lines of interfaces.
+fn push_interfaces(
+    alloc: Global,
+    text: &mut Vec<u8>,
+    number: u32,
+    interfaces: &[Interface],
+) -> Result<(), AllocError>
+    ensures { OnOk result
+        (text.new.items ≡ text.old.items ++ lines_text number (map interface_line interfaces.now)) }
+{
+    for interface in interfaces {
+        push_interface(alloc, text, number, interface)?;
+    }
+    Ok(())
+}
+
+// The lines of objects.
+fn push_objects(
+    alloc: Global,
+    text: &mut Vec<u8>,
+    number: u32,
+    objects: &[Uuid],
+) -> Result<(), AllocError>
+    ensures { OnOk result
+        (text.new.items ≡ text.old.items ++ lines_text number (map object_line objects.now)) }
+{
+    for object in objects {
+        push_object(alloc, text, number, object)?;
+    }
+    Ok(())
+}
+
+// The lines of elements.
+fn push_elements(
+    alloc: Global,
+    text: &mut Vec<u8>,
+    number: u32,
+    elements: &[Element],
+) -> Result<(), AllocError>
+    ensures { OnOk result
+        (text.new.items ≡ text.old.items ++ lines_text number (map element_line elements.now)) }
+{
+    for element in elements {
+        push_element(alloc, text, number, element)?;
+    }
+    Ok(())
+}
+
+// The lines of batches.
+fn push_batches(
+    alloc: Global,
+    text: &mut Vec<u8>,
+    number: u32,
+    batches: &[Vec<StringBinding>],
+) -> Result<(), AllocError>
+    ensures { OnOk result (text.new.items
+        ≡ text.old.items
+        ++ lines_text number (flat_map batch_lines (map (λ batch. batch.items) batches.now))) }
+{
+    for batch in batches {
+        push_batch(alloc, text, number, batch)?;
+    }
+    Ok(())
+}
+
+// How many bindings batches have together; too many to count are as many as no memory holds.
+fn total(batches: &[Vec<StringBinding>]) -> Result<u64, AllocError>
+    ensures { IfOk result (λ n. n ≡ total (map (λ batch. batch.items) batches.now)) }
+{
+    let mut count: u64 = 0;
+    for batch in batches {
+        match count.checked_add(batch.len() as u64) {
+            Some(more) => count = more,
+            None => return Err(AllocError),
+        }
+    }
+    Ok(count)
+}
+
+// What an answer lists, and last how many there are.
+fn push_answer(
+    alloc: Global,
+    text: &mut Vec<u8>,
+    number: u32,
+    answer: &InquireAnswer,
+) -> Result<(), AllocError>
+    ensures { OnOk result
+        (text.new.items ≡ text.old.items ++ inquire_text number (inquired_answer answer.now)) }
+{
+    match answer {
+        InquireAnswer::Plain(answer) => append_answer(alloc, text, number, answer),
+        InquireAnswer::Members(names) => {
+            push_members(text, number, names)?;
+            push_end(text, number, names.len() as u64)
+        }
+        InquireAnswer::Entries(interfaces, objects) => {
+            push_interfaces(alloc, text, number, interfaces)?;
+            push_objects(alloc, text, number, objects)?;
+            let count = (interfaces.len() as u64).checked_add(objects.len() as u64);
+            push_end(text, number, count.ok_or(AllocError)?)
+        }
+        InquireAnswer::Elements(elements) => {
+            push_elements(alloc, text, number, elements)?;
+            push_end(text, number, elements.len() as u64)
+        }
+        InquireAnswer::Batches(batches) => {
+            push_batches(alloc, text, number, batches)?;
+            push_end(text, number, total(batches)?)
+        }
+    }
+}
+
+/// The text of an answer to the line of this number: a line each of what is listed, and last how many there are.
+pub fn print_inquire_answer(
+    alloc: Global,
+    number: u32,
+    answer: &InquireAnswer,
+) -> Result<Vec<u8>, AllocError>
+    ensures { IfOk result (λ text. text.items ≡ inquire_text number (inquired_answer answer.now)) }
+{
+    let mut text = Vec::new(alloc);
+    push_answer(alloc, &mut text, number, answer)?;
+    Ok(text)
+}

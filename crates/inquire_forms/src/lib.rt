@@ -1,0 +1,11 @@
+//! The lines of the form `inquire` and their answers: its own four, and those of `run` that it takes.
+#![tactic(auto)]
+
+mod inquire_answer;
+mod inquire_line;
+mod inquire_text;
+mod inquire_words;
+
+pub use inquire_answer::{InquireAnswer, list_elements, list_entry, list_members, look_up};
+pub use inquire_line::{InquireLine, parse_inquire_line};
+pub use inquire_text::print_inquire_answer;

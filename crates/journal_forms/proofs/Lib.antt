@@ -1,0 +1,4 @@
+mod StopCounts
+mod LineNumbers
+mod StopEnds
+mod Examples

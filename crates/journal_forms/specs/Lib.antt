@@ -1,0 +1,3 @@
+pub mod JournalLines
+pub mod JournalTexts
+pub mod PrivateStops

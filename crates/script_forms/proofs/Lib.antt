@@ -1,8 +1,0 @@
-mod StopCounts
-mod LineNumbers
-mod StopEnds
-mod Examples
-pub mod InquireLines
-mod InquireBatches
-mod InquireTexts
-mod InquireExamples
