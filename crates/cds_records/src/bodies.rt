@@ -29,7 +29,7 @@ fn read_fragment(reader: &mut Reader<'_>, alloc: Global) -> Result<Fragment, Rea
 }
 
 /// The stamp of a skulk, and a delta.
-#[tactic(auto, unfolding(crate::specs::Records::copied))]
+#[tactic(auto, unfolding(crate::specs::Records::stamped_delta))]
 fn read_copied(reader: &mut Reader<'_>, alloc: Global) -> Result<(Stamp, Delta), ReadError>
     ensures { Reads (λ x. x) stamped_delta reader.old reader.new result }
 {
@@ -39,7 +39,7 @@ fn read_copied(reader: &mut Reader<'_>, alloc: Global) -> Result<(Stamp, Delta),
 }
 
 /// The members of an epoch, and the master's replica.
-#[tactic(auto, unfolding(crate::specs::Records::joined))]
+#[tactic(auto, unfolding(crate::specs::Records::join_parts))]
 fn read_joined(reader: &mut Reader<'_>, alloc: Global) -> Result<(Members, Replica), ReadError>
     ensures { Reads (λ x. x) join_parts reader.old reader.new result }
 {

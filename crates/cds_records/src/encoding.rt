@@ -124,7 +124,7 @@ fn begin(alloc: Global, head: &Head, tag: u8) -> Result<Vec<u8>, AllocError>
 }
 
 /// What a message carries.
-#[tactic(auto, unfolding(crate::specs::Octets::body_octets))]
+#[tactic(auto, unfolding(crate::specs::RecordOctets::body_octets))]
 fn put_body(out: &mut Vec<u8>, body: &Body) -> Result<(), AllocError>
     ensures octets { OnOk result (out.new.items ≡ out.old.items ++ body_octets body.now) }
     ensures fits { OnOk result (FitsBody body.now) }

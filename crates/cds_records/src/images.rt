@@ -51,7 +51,7 @@ fn read_held_count(reader: &mut Reader<'_>, format: u8, replica: &Replica) -> Re
 }
 
 /// The members and the replica of a directory that is held.
-#[tactic(auto, unfolding(crate::specs::Images::held))]
+#[tactic(auto, unfolding(crate::specs::Images::held_directory))]
 fn read_held_dir(
     reader: &mut Reader<'_>,
     alloc: Global,
@@ -81,7 +81,7 @@ fn read_dir_state(reader: &mut Reader<'_>, alloc: Global, format: u8) -> Result<
 }
 
 /// Adds the next directory. Its number.
-#[tactic(auto, unfolding(record_fields::specs::Records::item))]
+#[tactic(auto, unfolding(record_fields::specs::ListLayouts::item))]
 fn add_dir(
     reader: &mut Reader<'_>,
     alloc: Global,

@@ -18,7 +18,7 @@ use std::alloc::{AllocError, Global};
 // Attributes and entries.
 
 /// Adds the next attribute with its cell. The octets of its name.
-#[tactic(auto, unfolding(record_fields::specs::Records::item))]
+#[tactic(auto, unfolding(record_fields::specs::ListLayouts::item))]
 fn add_attr<'a>(
     reader: &mut Reader<'a>,
     alloc: Global,
@@ -98,7 +98,7 @@ fn insert_cell(attrs: &mut AttrMap, name: AttrName, cell: AttrCell) -> Result<()
 // Tables, replicas and deltas.
 
 /// Puts the next entry behind those before it. The octets of its name.
-#[tactic(auto, unfolding(record_fields::specs::Records::item))]
+#[tactic(auto, unfolding(record_fields::specs::ListLayouts::item))]
 fn push_entry<'a>(
     reader: &mut Reader<'a>,
     alloc: Global,
@@ -138,7 +138,7 @@ fn read_entries(
 
 /// The table of so many entries, ascending. They are listed first, since a table is made of a list in less time than by
 /// inserting each.
-#[tactic(auto, unfolding(record_fields::specs::Records::map_of))]
+#[tactic(auto, unfolding(record_fields::specs::ListLayouts::map_of))]
 fn read_table(
     reader: &mut Reader<'_>,
     alloc: Global,

@@ -1,5 +1,5 @@
 // The commands that make houses and directories: under the word of each, how many words follow it, and what they are.
-#![tactic(auto, unfolding(crate::specs::PrivateRows::made))]
+#![tactic(auto, unfolding(crate::specs::PrivateRows::by_all_rows))]
 
 ghost use Rattle.std.specs.Prelude.{codes};
 ghost use Rattle.cell_script.specs.PrivateRows.{Says, by_all_rows};

@@ -24,7 +24,7 @@ pub fn line_behind(alloc: Global, word: &[u8], words: &mut Words<'_>) -> Parsed<
 }
 
 // What they say where the first one is of a command that makes houses or directories, or of another.
-#[tactic(auto, unfolding(crate::specs::PrivateRows::made))]
+#[tactic(auto, unfolding(crate::specs::PrivateRows::by_all_rows))]
 fn made(alloc: Global, word: &[u8], words: &mut Words<'_>) -> Parsed<ScriptLine>
     ensures { Says result (by_all_rows word.now words.old) }
 {
@@ -47,7 +47,7 @@ fn made(alloc: Global, word: &[u8], words: &mut Words<'_>) -> Parsed<ScriptLine>
 }
 
 // The same of an update of an entry, or of another.
-#[tactic(auto, unfolding(crate::specs::PrivateRows::updated))]
+#[tactic(auto, unfolding(crate::specs::PrivateRows::by_entry_rows))]
 fn updated(alloc: Global, word: &[u8], words: &mut Words<'_>) -> Parsed<ScriptLine>
     ensures { Says result (by_entry_rows word.now words.old) }
 {
@@ -64,7 +64,7 @@ fn updated(alloc: Global, word: &[u8], words: &mut Words<'_>) -> Parsed<ScriptLi
 }
 
 // The same of a change of an entry's values, or of another.
-#[tactic(auto, unfolding(crate::specs::PrivateRows::changed))]
+#[tactic(auto, unfolding(crate::specs::PrivateRows::by_value_rows))]
 fn changed(alloc: Global, word: &[u8], words: &mut Words<'_>) -> Parsed<ScriptLine>
     ensures { Says result (by_value_rows word.now words.old) }
 {
@@ -84,7 +84,7 @@ fn changed(alloc: Global, word: &[u8], words: &mut Words<'_>) -> Parsed<ScriptLi
 }
 
 // The same of a command about all replicas of a directory, or of another.
-#[tactic(auto, unfolding(crate::specs::PrivateRows::replicated))]
+#[tactic(auto, unfolding(crate::specs::PrivateRows::by_replica_rows))]
 fn replicated(alloc: Global, word: &[u8], words: &mut Words<'_>) -> Parsed<ScriptLine>
     ensures { Says result (by_replica_rows word.now words.old) }
 {
@@ -118,7 +118,7 @@ fn befallen(alloc: Global, word: &[u8], words: &mut Words<'_>) -> Parsed<ScriptL
 }
 
 // The same of a question, or of a command of the name service.
-#[tactic(auto, unfolding(crate::specs::PrivateRows::asked))]
+#[tactic(auto, unfolding(crate::specs::PrivateRows::by_question_rows))]
 fn asked(alloc: Global, word: &[u8], words: &mut Words<'_>) -> Parsed<ScriptLine>
     ensures { Says result (by_question_rows word.now words.old) }
 {
@@ -142,7 +142,7 @@ fn asked(alloc: Global, word: &[u8], words: &mut Words<'_>) -> Parsed<ScriptLine
 
 // The same of a command that finds or changes what servers export, of groups and of profiles, or the fault of a word of no
 // command.
-#[tactic(auto, unfolding(crate::specs::PrivateRows::served))]
+#[tactic(auto, unfolding(crate::specs::PrivateRows::by_service_rows))]
 fn served(alloc: Global, word: &[u8], words: &mut Words<'_>) -> Parsed<ScriptLine>
     ensures { Says result (by_service_rows word.now words.old) }
 {

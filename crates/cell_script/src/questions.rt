@@ -1,5 +1,5 @@
 // The questions.
-#![tactic(auto, unfolding(crate::specs::PrivateRows::asked))]
+#![tactic(auto, unfolding(crate::specs::PrivateRows::by_question_rows))]
 
 ghost use Rattle.std.specs.Prelude.{codes};
 ghost use Rattle.cell_script.specs.PrivateRows.{Says, by_question_rows};

@@ -1,5 +1,5 @@
 // The commands about all replicas of a directory, and those that tell what befalls messages and houses.
-#![tactic(auto, unfolding(crate::specs::PrivateRows::replicated))]
+#![tactic(auto, unfolding(crate::specs::PrivateRows::by_replica_rows))]
 
 ghost use Rattle.std.specs.Prelude.{codes};
 ghost use Rattle.cell_script.specs.PrivateRows.{Says, by_replica_rows, befallen};

@@ -1,5 +1,5 @@
 // The commands of the name service.
-#![tactic(auto, unfolding(crate::specs::PrivateRows::served))]
+#![tactic(auto, unfolding(crate::specs::PrivateRows::by_service_rows))]
 
 ghost use Rattle.std.specs.Prelude.{codes};
 ghost use Rattle.cell_script.specs.PrivateRows.{Says, by_service_rows};

@@ -1,5 +1,5 @@
 // The words of the commands of the name service.
-#![tactic(auto, unfolding(crate::specs::Forms::taken))]
+#![tactic(auto, unfolding(crate::specs::WordForms::take_words))]
 
 ghost use Rattle.cell_script.specs.WordForms as form;
 ghost use Rattle.cell_script.specs.WordForms.{Takes, take_words};

@@ -1,5 +1,5 @@
 // The updates of an entry, and of its values.
-#![tactic(auto, unfolding(crate::specs::PrivateRows::updated))]
+#![tactic(auto, unfolding(crate::specs::PrivateRows::by_entry_rows))]
 
 ghost use Rattle.std.specs.Prelude.{codes};
 ghost use Rattle.cell_script.specs.PrivateRows.{Says, by_entry_rows, by_value_rows};
@@ -42,7 +42,7 @@ pub(crate) fn delete(alloc: Global, words: &mut Words<'_>) -> Parsed<ScriptLine>
     )))
 }
 
-#[tactic(auto, unfolding(crate::specs::PrivateRows::changed))]
+#[tactic(auto, unfolding(crate::specs::PrivateRows::by_value_rows))]
 pub(crate) fn add(alloc: Global, words: &mut Words<'_>) -> Parsed<ScriptLine>
     ensures { Says result (by_value_rows (codes "add") words.old) }
 {
@@ -56,7 +56,7 @@ pub(crate) fn add(alloc: Global, words: &mut Words<'_>) -> Parsed<ScriptLine>
     )))
 }
 
-#[tactic(auto, unfolding(crate::specs::PrivateRows::changed))]
+#[tactic(auto, unfolding(crate::specs::PrivateRows::by_value_rows))]
 pub(crate) fn remove(alloc: Global, words: &mut Words<'_>) -> Parsed<ScriptLine>
     ensures { Says result (by_value_rows (codes "remove") words.old) }
 {
@@ -70,7 +70,7 @@ pub(crate) fn remove(alloc: Global, words: &mut Words<'_>) -> Parsed<ScriptLine>
     )))
 }
 
-#[tactic(auto, unfolding(crate::specs::PrivateRows::changed))]
+#[tactic(auto, unfolding(crate::specs::PrivateRows::by_value_rows))]
 pub(crate) fn put(alloc: Global, words: &mut Words<'_>) -> Parsed<ScriptLine>
     ensures { Says result (by_value_rows (codes "put") words.old) }
 {
@@ -84,7 +84,7 @@ pub(crate) fn put(alloc: Global, words: &mut Words<'_>) -> Parsed<ScriptLine>
     )))
 }
 
-#[tactic(auto, unfolding(crate::specs::PrivateRows::changed))]
+#[tactic(auto, unfolding(crate::specs::PrivateRows::by_value_rows))]
 pub(crate) fn clear(alloc: Global, words: &mut Words<'_>) -> Parsed<ScriptLine>
     ensures { Says result (by_value_rows (codes "clear") words.old) }
 {

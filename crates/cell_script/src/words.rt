@@ -1,5 +1,5 @@
 // The words of a line, read one after another.
-#![tactic(auto, unfolding(crate::specs::Forms::taken, crate::specs::Forms::counted))]
+#![tactic(auto, unfolding(crate::specs::WordForms::take_words, crate::specs::WordForms::check_count))]
 
 ghost use Rattle.std.specs.Prelude.{◌≡◌, ◌≢◌, ◌+◌, ◌^◌, ◌<◌, ◌≤◌, ◌==◌, not, true, false, ℕ, List, [], ◌∷◌, ◌++◌, length, get_or, Result, Ok, Err};
 ghost use Rattle.std.specs.Prelude.{IfOk, IfErr, IfSome, IfNone};

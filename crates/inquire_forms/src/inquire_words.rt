@@ -1,5 +1,5 @@
 // The words of inquiries that no command of a script has.
-#![tactic(auto, unfolding(cell_script::specs::Forms::taken))]
+#![tactic(auto, unfolding(cell_script::specs::WordForms::take_words))]
 
 ghost use Rattle.std.specs.Prelude.{◌≡◌, ◌≤◌, IfOk, IfSome};
 ghost use Rattle.cell_script.specs.WordForms.{Takes, next_word};

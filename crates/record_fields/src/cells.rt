@@ -15,7 +15,7 @@ use std::alloc::Global;
 
 impl<'a> Reader<'a> {
     /// The mark of a value, which is above and not earlier than the clear.
-    #[tactic(auto, unfolding(crate::specs::Records::mark))]
+    #[tactic(auto, unfolding(crate::specs::ListLayouts::mark))]
     fn mark(&mut self, above: &Option<Stamp>, cleared: &Option<Stamp>) -> Result<ValueMark, Broken>
         ensures { ReadsSurely (λ x. x) (mark above.now cleared.now) self.old self.new result }
     {
@@ -28,7 +28,7 @@ impl<'a> Reader<'a> {
     }
 
     /// Adds the next value with its mark. Its octets.
-    #[tactic(auto, unfolding(crate::specs::Records::item))]
+    #[tactic(auto, unfolding(crate::specs::ListLayouts::item))]
     fn add_mark(
         &mut self,
         alloc: Global,
@@ -83,7 +83,7 @@ impl<'a> Reader<'a> {
     }
 
     /// The cell of an attribute, all of it above.
-    #[tactic(auto, unfolding(crate::specs::Records::cell))]
+    #[tactic(auto, unfolding(crate::specs::ListLayouts::cell))]
     pub fn cell(&mut self, alloc: Global, above: &Option<Stamp>) -> Result<AttrCell, ReadError>
         ensures { Reads (λ x. x) (cell above.now) self.old self.new result }
     {

@@ -80,7 +80,7 @@ pub fn put_stamp(out: &mut Vec<u8>, stamp: &Stamp) -> Result<(), AllocError>
 }
 
 /// A flag, and a stamp if there is one.
-#[tactic(auto, unfolding(crate::specs::Octets::optional_stamp_octets))]
+#[tactic(auto, unfolding(crate::specs::FieldOctets::optional_stamp_octets))]
 pub fn put_optional_stamp(out: &mut Vec<u8>, stamp: &Option<Stamp>) -> Result<(), AllocError>
     ensures octets { OnOk result
         (out.new.items ≡ out.old.items ++ optional_stamp_octets stamp.now) }

@@ -40,7 +40,7 @@ fn split_part(octets: &[u8], len: usize, past: usize) -> Result<(&[u8], &[u8]), 
 }
 
 /// A floor at the front, and what follows it.
-#[tactic(auto, unfolding(crate::specs::Reading::floor_at))]
+#[tactic(auto, unfolding(crate::specs::TowerReading::floor_at))]
 fn split_floor(octets: &[u8], past: usize) -> Result<(FloorView<'_>, &[u8]), TowerFault>
     requires { length octets.now ≤ past }
     ensures { Gives (λ r. (floor_of r.0, r.1.now)) result (floor_at past octets.now) }
@@ -70,7 +70,7 @@ fn skip_floors(octets: &[u8], count: u16, past: usize) -> Result<&[u8], TowerFau
 }
 
 /// The number of floors of the tower at the front, and the octets of those floors.
-#[tactic(auto, unfolding(crate::specs::Reading::body_at))]
+#[tactic(auto, unfolding(crate::specs::TowerReading::body_at))]
 fn split_tower(octets: &[u8]) -> Result<(u16, &[u8]), TowerFault>
     ensures { Gives (λ r. (r.0, r.1.now)) result (body_at octets.now) }
 {
