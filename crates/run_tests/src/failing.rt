@@ -2,18 +2,29 @@
 ghost use Rattle.std.specs.Prelude.{◌<◌};
 
 use crate::scripts::{
-    OLD_MASTER, OLD_MASTER_ANSWERS, PLAIN, PLAIN_ANSWERS, USUAL_CELL, USUAL_CELL_ANSWERS,
+    IMAGES, IMAGES_VERDICT, INQUIRIES, INQUIRIES_ANSWERS, KEPT_READS, KEPT_READS_ANSWERS,
+    OLD_MASTER, OLD_MASTER_ANSWERS, PLAIN, PLAIN_ANSWERS, STOPPED_ADD, STOPPED_ADD_ANSWERS,
+    TROUBLE, TROUBLE_MENDED, USUAL_CELL, USUAL_CELL_ANSWERS,
 };
 use cds_base::{MemSink, MemSource};
-use cell_replay::{Status, run};
+use cds_stamps::DirId;
+use cell_replay::{Status, mend, run};
 use std::alloc::{AllocError, Global};
 use std::test::Fail;
 
 // More octets than the runs write whose sinks have so much room.
 const ROOM: usize = 4096;
 
+// The form of `cdsmend`, which has a program of its own, for directory 1.
+const MEND: &str = "cdsmend 1";
+
+// The words of a form.
 fn words_of(alloc: Global, form: &str) -> Result<Vec<String>, AllocError> {
-    Ok(vec![in alloc; String::from_str(alloc, form)?]?)
+    let mut words = Vec::new(alloc);
+    for word in form.split(' ') {
+        words.push(String::from_str(alloc, word)?)?;
+    }
+    Ok(words)
 }
 
 // The most octets of a read, the number of the read that fails, the most octets of a write, and the number of the write that
@@ -51,11 +62,16 @@ fn scripts_over_ends_that_fail(rt: HostRuntime) -> Result<(), Fail> {
     Ok(())
 }
 
-// Scripts and their answers.
-static SCRIPTS: [(&[u8], &[u8]); 3] = [
-    (PLAIN, PLAIN_ANSWERS),
-    (OLD_MASTER, OLD_MASTER_ANSWERS),
-    (USUAL_CELL, USUAL_CELL_ANSWERS),
+// Forms, what they read, and what they write of it.
+static SCRIPTS: [(&str, &[u8], &[u8]); 8] = [
+    ("run", PLAIN, PLAIN_ANSWERS),
+    ("run", OLD_MASTER, OLD_MASTER_ANSWERS),
+    ("run", USUAL_CELL, USUAL_CELL_ANSWERS),
+    ("journal", STOPPED_ADD, STOPPED_ADD_ANSWERS),
+    ("clerk 8", KEPT_READS, KEPT_READS_ANSWERS),
+    ("inquire", INQUIRIES, INQUIRIES_ANSWERS),
+    ("audit 1", IMAGES, IMAGES_VERDICT),
+    (MEND, TROUBLE, TROUBLE_MENDED),
 ];
 
 // The most octets of a read or a write where each of them fails in turn.
@@ -75,14 +91,19 @@ fn outcome_of(
     let words = words_of(alloc, form)?;
     let mut source = MemSource::new(octets.to_vec(alloc)?, vec![in alloc; failing.0]?, most);
     let mut sink = MemSink::new(alloc, ROOM, vec![in alloc; failing.1]?, most)?;
-    let status = run(alloc, &words, &mut source, &mut sink);
+    let status = if form == MEND {
+        mend(alloc, DirId(1), &mut source, &mut sink)
+    } else {
+        run(alloc, &words, &mut source, &mut sink)
+    };
     Ok((sink.written().to_vec(alloc)?, status))
 }
 
-// How many runs of a script meet a failed call, where the first call fails, then the second and so on. Each ends with this status,
+// How many runs of a form meet a failed call, where the first call fails, then the second and so on. Each ends with this status,
 // a front of the answers being written, and the run behind them ends well with all answers.
 fn runs_that_fail(
     alloc: Global,
+    form: &str,
     script: &[u8],
     answers: &[u8],
     status: Status,
@@ -92,7 +113,7 @@ fn runs_that_fail(
             Status::ReadFault => (call as u64, 0),
             _ => (0, call as u64),
         };
-        let (written, end) = outcome_of(alloc, "run", script, PIECE, failing)?;
+        let (written, end) = outcome_of(alloc, form, script, PIECE, failing)?;
         if end == Status::Ok && written.as_slice() == answers {
             return Ok(call - 1);
         }
@@ -106,11 +127,11 @@ fn runs_that_fail(
 #[test]
 fn each_read_and_each_write_fails_in_turn(rt: HostRuntime) -> Result<(), Fail> {
     let alloc = rt.alloc();
-    for (script, answers) in SCRIPTS {
-        let reads = runs_that_fail(alloc, script, answers, Status::ReadFault)?;
-        assert_eq!(rt; reads, script.len().div_ceil(PIECE) + 1);
-        let writes = runs_that_fail(alloc, script, answers, Status::WriteFault)?;
-        assert!(rt; writes >= answers.len().div_ceil(PIECE));
+    for (form, script, answers) in SCRIPTS {
+        let reads = runs_that_fail(alloc, form, script, answers, Status::ReadFault)?;
+        assert_eq!(rt; reads, script.len().div_ceil(PIECE) + 1, "{form}");
+        let writes = runs_that_fail(alloc, form, script, answers, Status::WriteFault)?;
+        assert!(rt; writes >= answers.len().div_ceil(PIECE), "{form}");
     }
     Ok(())
 }

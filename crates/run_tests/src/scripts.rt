@@ -105,3 +105,135 @@ pub const USUAL_CELL_ANSWERS: &[u8] = b"1 ok\n\
     21 refused NoSuchMember\n\
     22 ok 1\n\
     23 refused BadPriority\n";
+
+// A house loses power inside an update, twice: the update is not done, and then it is.
+pub const STOPPED_ADD: &[u8] = b"house 1 00000000000a\n\
+    root 1\n\
+    create 1 1 e\n\
+    stop 1 4 drop add 1 1 e A 01\n\
+    start 1\n\
+    read 1 low /.:/e A\n\
+    stop 1 4 keep add 1 1 e A 01\n\
+    start 1\n\
+    read 1 low /.:/e A\n\
+    add 1 1 e A 02\n";
+
+pub const STOPPED_ADD_ANSWERS: &[u8] = b"1 ok\n\
+    2 ok\n\
+    3 ok 1@00000000000a\n\
+    4 ok stopped before\n\
+    5 ok\n\
+    6 ok 0\n\
+    7 ok stopped after\n\
+    8 ok\n\
+    9 ok 1 01\n\
+    10 ok 3@00000000000a\n";
+
+// A clerk of eight answers.
+pub const KEPT_READS: &[u8] = b"house 1 00000000000a\n\
+    root 1\n\
+    create 1 1 e\n\
+    add 1 1 e A 01\n\
+    read 1 low /.:/e A\n\
+    add 1 1 e A 02\n\
+    read 1 low /.:/e A\n\
+    read 1 high /.:/e A\n\
+    read 1 low /.:/e A\n\
+    crash 1\n\
+    read 1 low /.:/e A\n\
+    read 1 low /.:/e B\n\
+    read 1 high /.:/e A\n";
+
+pub const KEPT_READS_ANSWERS: &[u8] = b"1 ok\n\
+    2 ok\n\
+    3 ok 1@00000000000a\n\
+    4 ok 2@00000000000a\n\
+    5 ok 1 01\n\
+    6 ok 3@00000000000a\n\
+    7 ok 1 01\n\
+    8 ok 2 01 02\n\
+    9 ok 1 01\n\
+    10 ok\n\
+    11 ok 1 01\n\
+    12 refused Vanished\n\
+    13 refused Unreachable 1\n";
+
+// What entries of a usual cell say.
+pub const INQUIRIES: &[u8] = b"house 1 00000000000a\n\
+    root 1\n\
+    export /.:/srv-a a0000000-0000-0000-0000-000000000001:1.2 ncacn_ip_tcp:10.0.0.1[1025],ncadg_ip_udp:10.0.0.1[1026] 00000000-0000-0000-0000-0000000000b2,00000000-0000-0000-0000-0000000000b1\n\
+    export /.:/srv-b a0000000-0000-0000-0000-000000000001:1.1 ncacn_ip_tcp:10.0.0.2[1025] -\n\
+    export /.:/srv-c a0000000-0000-0000-0000-000000000001:1.3 ncacn_ip_tcp:10.0.0.3 -\n\
+    link 1 1 srv-alias /.:/srv-a\n\
+    groupadd /.:/print-group /.:/srv-c\n\
+    groupadd /.:/print-group /.:/srv-alias\n\
+    groupadd /.:/print-group /.:/gone\n\
+    groupadd /.:/print-group /.:/srv-b\n\
+    profadd /.:/user-profile a0000000-0000-0000-0000-000000000001:1.2 /.:/print-group 3 -\n\
+    profadd /.:/user-profile a0000000-0000-0000-0000-000000000001:1.2 /.:/srv-a 0 local\n\
+    profadd /.:/user-profile default /.:/cell-profile 8 -\n\
+    profadd /.:/cell-profile default /.:/user-profile 8 -\n\
+    grouplist 1 high /.:/print-group\n\
+    lookup 1 high /.:/user-profile a0000000-0000-0000-0000-000000000001:1.2 - ncacn_ip_tcp,ncadg_ip_udp 2\n\
+    entrylist 1 high /.:/srv-a\n";
+
+pub const INQUIRIES_ANSWERS: &[u8] = b"1 ok\n\
+    2 ok\n\
+    3 ok 5\n\
+    4 ok 2\n\
+    5 ok 2\n\
+    6 ok 10@00000000000a\n\
+    7 ok 2\n\
+    8 ok 1\n\
+    9 ok 1\n\
+    10 ok 1\n\
+    11 ok 2\n\
+    12 ok 1\n\
+    13 ok 1\n\
+    14 ok 2\n\
+    15 member /.:/gone\n\
+    15 member /.:/srv-alias\n\
+    15 member /.:/srv-b\n\
+    15 member /.:/srv-c\n\
+    15 end 4\n\
+    16 batch 2\n\
+    16 binding 00000000-0000-0000-0000-0000000000b1@ncadg_ip_udp:10.0.0.1[1026]\n\
+    16 binding 00000000-0000-0000-0000-0000000000b1@ncacn_ip_tcp:10.0.0.1[1025]\n\
+    16 batch 1\n\
+    16 binding ncacn_ip_tcp:10.0.0.3\n\
+    16 end 3\n\
+    17 interface a0000000-0000-0000-0000-000000000001:1.2\n\
+    17 object 00000000-0000-0000-0000-0000000000b1\n\
+    17 object 00000000-0000-0000-0000-0000000000b2\n\
+    17 end 3\n";
+
+// The images of two houses, the second of which has an entry that the first has not.
+pub const IMAGES: &[u8] =
+    b"\x02\x09\x01\x00\x00\x00\x00\x00\x0a\x00\x00\x00\x00\x00\x00\x00\x05\x00\x00\x00\x00\x00\x00\x00\
+    \x01\x00\x00\x00\x01\x01\x00\x00\x00\x00\x00\x00\x00\x01\x02\x01\x00\x00\x00\x00\x00\x00\x00\x01\
+    \x01\x02\x00\x00\x00\x00\x00\x00\x00\x01\x02\x01\x00\x00\x00\x00\x00\x00\x00\x05\x00\x00\x00\x00\
+    \x00\x0a\x00\x00\x00\x00\x00\x00\x00\x00\x00\x00\x00\x00\x00\x00\x00\x00\x02\x09\x02\x00\x00\x00\
+    \x00\x00\x0b\x00\x00\x00\x00\x00\x00\x00\x05\x00\x00\x00\x00\x00\x00\x00\x01\x00\x00\x00\x01\x01\
+    \x00\x00\x00\x00\x00\x00\x00\x01\x02\x01\x00\x00\x00\x00\x00\x00\x00\x01\x01\x02\x00\x00\x00\x00\
+    \x00\x00\x00\x01\x02\x01\x00\x00\x00\x00\x00\x00\x00\x05\x00\x00\x00\x00\x00\x0a\x00\x00\x00\x00\
+    \x00\x00\x00\x01\x01\x65\x01\x00\x00\x00\x00\x00\x00\x00\x03\x00\x00\x00\x00\x00\x0a\x00\x00\x00\
+    \x00\x00\x00\x00\x00\x00\x00\x00\x00\x00\x00\x00\x00\x01";
+
+pub const IMAGES_VERDICT: &[u8] = b"differ 1 2 birth e 3@00000000000a\n";
+
+// A house with the root directory, and a second one that never heard of it and crashed.
+pub const TROUBLE: &[u8] = b"house 1 00000000000a\n\
+    house 2 00000000000b\n\
+    root 1 s2\n\
+    lose 1\n\
+    crash 2\n";
+
+// The commands that mend directory 1.
+pub const TROUBLE_MENDED: &[u8] = b"start 2\n\
+    epoch 1 1 s2\n\
+    deliver 2\n\
+    skulk 1 1\n\
+    deliver 3\n\
+    deliver 4\n\
+    deliver 5\n\
+    deliver 6\n";
