@@ -20,16 +20,6 @@ still : (z : Deletions) (l : Entries) (t : Stamp) (x y : Deletions) (m n : Entri
 still z l t x y m n d early rest dropped before i =
     (known_dropped x y m n d rest dropped (before i).0, purged_dropped m n d t early dropped ∙ (before i).1)
 
-pub loop-first-preserved-in-Some : goal.loop-first-preserved-in-Some
-loop-first-preserved-in-Some c =
-    still c.args.deletions.now c.args.entries.now c.args.t c.loop-first.deletions c.pop_up_to.new.self c.loop-first.entries c.drop_deletion.new.self
-    c.in-Some.first c.in-Some.ensures.first.1 c.in-Some.ensures.rest c.drop_deletion.ensures.dropped c.loop-first.invariant
-
-pub loop-first-preserved-in-Some-2 : goal.loop-first-preserved-in-Some-2
-loop-first-preserved-in-Some-2 c =
-    still c.args.deletions.now c.args.entries.now c.args.t c.loop-first.deletions c.pop_up_to.new.self c.loop-first.entries c.drop_deletion.new.self
-    c.in-Some.first c.in-Some.ensures.first.1 c.in-Some.ensures.rest c.drop_deletion.ensures.dropped c.loop-first.invariant
-
 pub loop-first-preserved : goal.loop-first-preserved
 loop-first-preserved c =
     still c.args.deletions.now c.args.entries.now c.args.t c.loop-first.deletions c.pop_up_to.new.self c.loop-first.entries c.drop_deletion.new.self

@@ -3,20 +3,14 @@ use Rattle.std.proofs.lemmas.Bool.{false≢true}
 use Rattle.directory.specs.Deletions.{without}
 use Rattle.directory.proofs.HeldLaws.{held_less}
 use Rattle.directory.proofs.IndexLaws.{settled, one_first, first_of, IsDropped, first_dropped}
-use Rattle.directory.proofs.table.drop_first_deletion.Goals.{After-settle, in-Some+in-Clear-1, in-Some+in-Absent-1, in-Some+in-Death-1, in_default}
+use Rattle.directory.proofs.table.drop_first_deletion.Goals.{After-settle, in-Some, in_default}
 use Rattle.directory.proofs.table.drop_first_deletion.Goals as goal
 
 drops : (c : After-settle) → IsDropped c.pop_first.new.self c.args.entries.now c.match-pop_first.entries
 drops c =
     let drop = first_dropped c.args.deletions.now c.pop_first.new.self c.args.entries.now in
     elim c.match-pop_first.branch [
-      | in-Some+in-Clear-1 w ↦ rw w.entries-is
-          (drop w.drop_known-dropped.new.self w.in-Some.first c.requires.indexed w.in-Some.ensures.first w.in-Some.ensures.rest
-          w.drop_known-dropped.ensures.dropped)
-      | in-Some+in-Absent-1 w ↦ rw w.entries-is
-          (drop w.drop_known-dropped.new.self w.in-Some.first c.requires.indexed w.in-Some.ensures.first w.in-Some.ensures.rest
-          w.drop_known-dropped.ensures.dropped)
-      | in-Some+in-Death-1 w ↦ rw w.entries-is
+      | in-Some w ↦ rw w.entries-is
           (drop w.drop_known-dropped.new.self w.in-Some.first c.requires.indexed w.in-Some.ensures.first w.in-Some.ensures.rest
           w.drop_known-dropped.ensures.dropped)
       | in_default w ↦
