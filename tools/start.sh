@@ -10,10 +10,10 @@ say() {
     printf '%s: %s\n' "$name" "$*" >&2
 }
 
-# Whether the proved program is that of the sources: it was noted as that, and nothing has changed since.
-is_current() {
+# Whether the proved program is that of the sources: it was noted as that, and no code and no promise has changed since.
+is_proved() {
     [ -x "$program" ] && [ -f "$note" ] || return 1
-    changed=$(find "$program" "$root/crates.txt" "$root/HANDLES" "$root"/crates/*/src "$root"/crates/*/specs "$root"/crates/*/proofs \
+    changed=$(find "$program" "$root/crates.txt" "$root/HANDLES" "$root"/crates/*/src "$root"/crates/*/specs \
         -cnewer "$note" 2>&1) && [ -z "$changed" ]
 }
 
@@ -114,7 +114,7 @@ run_program() {
 # Runs the proved program if it is that of the sources. Else `tools/build` finds one to run: the proved program after all, or one that is
 # not proved, or it proves and builds.
 start() {
-    if ! is_current; then
+    if ! is_proved; then
         program=$("$root/tools/build" "$name" --find </dev/null) || exit 1
     fi
     run_program "$@"

@@ -8,8 +8,9 @@ import time
 
 ROOT = os.path.dirname(os.path.dirname(os.path.dirname(os.path.realpath(__file__))))
 PROGRAMS = ("cdsreplay", "cdsmend")
-# What the proof of a crate reads, and what rt runs a program on.
+# What the proof of a crate reads; what says which program it is and what is promised of it; and what rt runs a program on.
 PARTS = ("src", "specs", "proofs")
+MEANT = ("src", "specs")
 RUN_ON = ("args", "stdin", "stdout", "status", "data")
 
 
@@ -19,7 +20,7 @@ def program_at(root, name):
 
 
 def note_of(name):
-    """The file that has the sum of the sources of the proved program here, and its own."""
+    """The file that says of which sources the proved program here was built: their sum, its own, and the sum of those without proofs."""
     return f"{ROOT}/out/built-{name}"
 
 
@@ -81,30 +82,42 @@ def sum_of_sources(root, name, parts=PARTS):
     return hashlib.sha256("\n".join(found).encode()).hexdigest()
 
 
-def is_current(name):
-    """Whether the proved program here was built of the sources as they are. Its note is then as new as this look at them."""
-    began = time.time()
+def words_of_note(name):
+    """The sums that the note has, if it has all and the program is the one that it speaks of, or none."""
     try:
         with open(note_of(name), encoding="utf-8") as it:
-            found = it.read().split() == [sum_of_sources(ROOT, name), sum_of(program_at(ROOT, name))]
-        if found:
-            # (whoever may not write it looks at all sources each time)
-            with contextlib.suppress(PermissionError):
-                os.utime(note_of(name), (began, began))
-        return found
+            words = it.read().split()
+        return words if len(words) == 3 and words[1] == sum_of(program_at(ROOT, name)) else []
     except OSError:
-        return False
+        return []
 
 
-def note(name, sources):
-    """Notes that the program here was proved and built of the sources of this sum.
+def is_current(name):
+    """Whether the proved program here was built of the sources as they are."""
+    return words_of_note(name)[:1] == [sum_of_sources(ROOT, name)]
 
-    The wrappers take a note for true while nothing has changed since its time, so it has the time of the last look that found it true."""
-    with open(f"{note_of(name)}.new", "w", encoding="utf-8") as it:
-        it.write(f"{sources} {sum_of(program_at(ROOT, name))}\n")
-    os.utime(f"{note_of(name)}.new", (0, 0))
-    os.replace(f"{note_of(name)}.new", note_of(name))
-    is_current(name)
+
+def is_proved(name):
+    """Whether the program here has the code that the sources have, and was proved to do what they promise, by whichever proofs.
+
+    The note then gets the time of this look: the wrappers take it for true while no code and no promise has changed since that time."""
+    began = time.time()
+    found = words_of_note(name)[2:] == [sum_of_sources(ROOT, name, MEANT)]
+    if found:
+        # (whoever may not write it looks at all sources each time)
+        with contextlib.suppress(PermissionError):
+            os.utime(note_of(name), (began, began))
+    return found
+
+
+def note(name, root):
+    """Notes that the program here was proved and built of the sources in this repository, or such a copy."""
+    new = f"{note_of(name)}.new"
+    with open(new, "w", encoding="utf-8") as it:
+        it.write(f"{sum_of_sources(root, name)} {sum_of(program_at(ROOT, name))} {sum_of_sources(root, name, MEANT)}\n")
+    os.utime(new, (0, 0))
+    os.replace(new, note_of(name))
+    is_proved(name)
 
 
 def install(room, name):
@@ -113,4 +126,4 @@ def install(room, name):
     os.makedirs(os.path.dirname(to), exist_ok=True)
     shutil.copy(program_at(room, name), f"{to}.new")
     os.replace(f"{to}.new", to)
-    note(name, sum_of_sources(room, name))
+    note(name, room)
