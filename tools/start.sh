@@ -85,10 +85,6 @@ hand_on() {
 # Runs the program with these words, says what its status means, and ends with it. A signal that the program gets from here ends both.
 run_program() {
     signal='' began='' child=''
-    if [ ! -e "/proc/$$/fd/0" ] || [ ! -e "/proc/$$/fd/1" ]; then
-        say "standard input or standard output is closed"
-        exit 1
-    fi
     exec 3<&0 4>&1
     [ ! -f "/proc/$$/fd/3" ] || began=$(place_in_input)
     trap 'hand_on INT' INT
@@ -97,10 +93,10 @@ run_program() {
     "$program" "$@" <&3 3<&- 4>&- &
     child=$!
     [ -z "$signal" ] || hand_on "$signal"
-    wait "$child"
+    wait "$child" 2>/dev/null
     status=$?
     while kill -0 "$child" 2>/dev/null; do
-        wait "$child"
+        wait "$child" 2>/dev/null
         status=$?
     done
     if [ -n "$signal" ]; then
@@ -114,6 +110,10 @@ run_program() {
 # Runs the proved program if it is that of the sources. Else `tools/build` finds one to run: the proved program after all, or one that is
 # not proved, or it proves and builds.
 start() {
+    if [ ! -e "/proc/$$/fd/0" ] || [ ! -e "/proc/$$/fd/1" ]; then
+        say "standard input or standard output is closed"
+        exit 1
+    fi
     if ! is_proved; then
         program=$("$root/tools/build" "$name" --find </dev/null) || exit 1
     fi
