@@ -143,7 +143,9 @@ def signalled(number):
 
     def call(room, _):
         copy_with_stub(room)
-        with subprocess.Popen(["./cdsreplay", "run"], cwd=room, stdin=subprocess.PIPE, stdout=subprocess.PIPE, text=True) as ran:
+        # (whoever is run beside a shell ignores an interrupt, and so would all that it starts)
+        how = {"stdin": subprocess.PIPE, "stdout": subprocess.PIPE, "preexec_fn": lambda: signal.signal(signal.SIGINT, signal.SIG_DFL)}
+        with subprocess.Popen(["./cdsreplay", "run"], cwd=room, text=True, **how) as ran:
             ran.stdin.write("wait\n")
             ran.stdin.flush()
             begun = ran.stdout.readline()
