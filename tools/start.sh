@@ -58,7 +58,8 @@ say_fault() {
     towers:*' fault '*) say "tower ${last%% *} is faulty: ${last#* fault }; $helps (status 3)" ;;
     audit:*' fault '*) say "image ${last%% *} is faulty: ${last#* fault }; $helps (status 3)" ;;
     *:*' fault '*) say "line ${last%% *} is faulty: ${last#* fault }; $helps (status 3)" ;;
-    *) say "the input is faulty; $helps (status 3)" ;;
+    untowers:* | migrate:*) say "the input is faulty; $helps (status 3)" ;;
+    *) say "the last answer says what is faulty; $helps (status 3)" ;;
     esac
 }
 

@@ -40,7 +40,7 @@ TABLE = (
     ("a line that is faulty", "./cdsreplay run <in", 3, "12 fault BadWord 3\n", f"cdsreplay: line 12 is faulty: BadWord 3; {WHY}\n"),
     ("a faulty line in a file of answers", "./cdsreplay run <in >to; s=$?; cat to; exit $s", 3, "12 fault BadWord 3\n", f"cdsreplay: line 12 is faulty: BadWord 3; {WHY}\n"),
     ("a faulty line of cdsmend", "./cdsmend 1 <in", 3, "12 fault BadWord 3\n", f"cdsmend: line 12 is faulty: BadWord 3; {WHY}\n"),
-    ("a faulty line in a pipe", "cat in | ./cdsreplay run", 3, "12 fault BadWord 3\n", "cdsreplay: the input is faulty; `tools/why FILE` explains it (status 3)\n"),
+    ("a faulty line in a pipe", "cat in | ./cdsreplay run", 3, "12 fault BadWord 3\n", "cdsreplay: the last answer says what is faulty; `tools/why FILE` explains it (status 3)\n"),
     ("a faulty tower", "./cdsreplay towers <in", 3, "12 fault BadWord 3\n", "cdsreplay: tower 12 is faulty: BadWord 3; docs/FORMATS.md has the form of its input (status 3)\n"),
     ("a failed read", "echo 4 | ./cdsreplay run", 4, "", "cdsreplay: reading failed (status 4)\n"),
     ("a failed write", "echo 5 | ./cdsreplay run", 5, "", "cdsreplay: writing failed (status 5)\n"),
