@@ -1,0 +1,122 @@
+# shellcheck shell=sh
+# Starts a program of this repository. The wrappers ./cdsreplay and ./cdsmend read this file; each knows the words of its program.
+# They set `root`, the folder of the repository, and `name`, that of the program.
+# shellcheck disable=SC2154
+
+program=$root/crates/$name/out/$name
+note=$root/out/built-$name
+
+say() {
+    printf '%s: %s\n' "$name" "$*" >&2
+}
+
+# Whether the proved program is that of the sources: it was noted as that, and no code and no promise has changed since.
+is_proved() {
+    [ -x "$program" ] && [ -f "$note" ] || return 1
+    changed=$(find "$program" "$root/crates.txt" "$root/HANDLES" "$root"/crates/*/src "$root"/crates/*/specs \
+        -cnewer "$note" 2>&1) && [ -z "$changed" ]
+}
+
+# Whether a word is a number from 1 to a greatest one, of so many digits at most.
+is_number() {
+    case "$1" in
+    '' | 0* | *[!0-9]*) return 1 ;;
+    esac
+    [ "${#1}" -le "$3" ] && [ "$1" -le "$2" ]
+}
+
+# Prints where standard input is in its file, or nothing.
+place_in_input() {
+    while read -r key value; do
+        [ "$key" != pos: ] || printf '%s' "$value"
+    done <"/proc/$$/fdinfo/3"
+}
+
+# Prints the last line of what the program wrote, if that can be read again: from the file that it was written to, or by another run over
+# a file of at most a million octets.
+last_line() {
+    if [ -f "/proc/$$/fd/4" ]; then
+        tail -n 1 "/proc/$$/fd/4"
+    elif [ -f "/proc/$$/fd/3" ] && [ "$began" = 0 ] && [ "$(wc -c <"/proc/$$/fd/3")" -le 1000000 ]; then
+        "$program" "$@" <"/proc/$$/fd/3" | tail -n 1
+    fi 2>/dev/null
+}
+
+# Says which line is faulty, and what explains it.
+say_fault() {
+    last=$(last_line "$@")
+    file=FILE
+    if [ -f "/proc/$$/fd/3" ]; then
+        file=$(readlink "/proc/$$/fd/3")
+        file=${file#"$PWD"/}
+    fi
+    helps="\`tools/why $file\` explains it"
+    case "$1" in
+    towers | untowers | migrate | audit) helps="docs/FORMATS.md has the form of its input" ;;
+    esac
+    case "$1:$last" in
+    towers:*' fault '*) say "tower ${last%% *} is faulty: ${last#* fault }; $helps (status 3)" ;;
+    audit:*' fault '*) say "image ${last%% *} is faulty: ${last#* fault }; $helps (status 3)" ;;
+    *:*' fault '*) say "line ${last%% *} is faulty: ${last#* fault }; $helps (status 3)" ;;
+    untowers:* | migrate:*) say "the input is faulty; $helps (status 3)" ;;
+    *) say "the last answer says what is faulty; $helps (status 3)" ;;
+    esac
+}
+
+# Says what a status of the program means.
+say_status() {
+    ended=$1
+    shift
+    case "$ended" in
+    3) say_fault "$@" ;;
+    4) say "reading failed (status 4)" ;;
+    5) say "writing failed (status 5)" ;;
+    6) say "out of memory (status 6)" ;;
+    7) say "the journal of a house is full (status 7)" ;;
+    *) [ "$ended" -le 128 ] || say "signal $((ended - 128)) ended the program (status $ended)" ;;
+    esac
+}
+
+# Hands a signal on to the program. (It ignores an interrupt, as all that a shell runs beside itself does, so it gets another one.)
+hand_on() {
+    signal=$1
+    kill -s TERM "$child" 2>/dev/null
+}
+
+# Runs the program with these words, says what its status means, and ends with it. A signal that the program gets from here ends both.
+run_program() {
+    signal='' began='' child=''
+    exec 3<&0 4>&1
+    [ ! -f "/proc/$$/fd/3" ] || began=$(place_in_input)
+    trap 'hand_on INT' INT
+    trap 'hand_on TERM' TERM
+    trap 'hand_on HUP' HUP
+    "$program" "$@" <&3 3<&- 4>&- &
+    child=$!
+    [ -z "$signal" ] || hand_on "$signal"
+    wait "$child" 2>/dev/null
+    status=$?
+    while kill -0 "$child" 2>/dev/null; do
+        wait "$child" 2>/dev/null
+        status=$?
+    done
+    if [ -n "$signal" ]; then
+        trap - "$signal"
+        kill -s "$signal" $$
+    fi
+    say_status "$status" "$@"
+    exit "$status"
+}
+
+# Runs the proved program if it is that of the sources. Else `tools/build` finds one to run: the proved program after all, or one that is
+# not proved, or it proves and builds.
+start() {
+    if [ ! -e "/proc/$$/fd/0" ] || [ ! -e "/proc/$$/fd/1" ]; then
+        say "standard input or standard output is closed"
+        exit 1
+    fi
+    if ! is_proved; then
+        program=$("$root/tools/build" "$name" --find </dev/null) || exit 1
+    fi
+    run_program "$@"
+}
