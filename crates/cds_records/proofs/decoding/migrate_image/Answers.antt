@@ -7,3 +7,6 @@ pub returns-in_err-migrated-clause-wanting : goal.returns-in_err-migrated-clause
 returns-in_err-migrated-clause-wanting c =
     any_wants (WantsForImage 1 2 c.args.octets.now) c.from_residual-in_err-migrated.result
     (image_has_head c.args.octets.now c.in_ok-image.image c.in_ok-image.ensures.answer)
+
+pub returns-clause-format_2 : goal.returns-clause-format_2
+returns-clause-format_2 c = (c.in_ok-image.image, c.in_ok-migrated.ensures.whole c.in_ok-image.ensures.valid)
