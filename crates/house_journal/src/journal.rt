@@ -5,11 +5,11 @@ ghost use Rattle.std.specs.Option.{option_map};
 ghost use Rattle.cds_stamps.specs.declared.alloc_or.AllocOr.TheVariants.{Fault, OutOfMemory};
 ghost use Rattle.house_journal.specs.Disks.{Told};
 ghost use Rattle.house_journal.specs.Faults.{IsRefused, IsBreaking, IsOpenFault, HasJournalCause};
-ghost use Rattle.house_journal.specs.Faults.{IsUntried, TellsTried, fault_of};
-ghost use Rattle.house_journal.specs.Tellings.{put_calls};
+ghost use Rattle.house_journal.specs.Faults.{IsUntried, TellsOpen, TellsTried, fault_of};
+ghost use Rattle.house_journal.specs.Tellings.{open_calls, put_calls};
 ghost use Rattle.house_journal.specs.Journals.{IsCalm, IsKept, IsKeptSince, IsListed, IsReady};
 ghost use Rattle.house_journal.specs.Journals.{LeavesOnly, Settles};
-ghost use Rattle.house_journal.specs.JournalRecords.{HasImagesOf, IsBeforeOrAfter, IsRecordOf};
+ghost use Rattle.house_journal.specs.JournalRecords.{HasImagesOf, IsBeforeOrAfter, IsClean, IsRecordOf};
 ghost use Rattle.house_journal.specs.JournalRecords.{gate_of, images, last_image};
 
 use crate::append::{append, record_of};
@@ -67,9 +67,10 @@ impl Model for Journal {
 }
 
 impl Journal {
-    /// Opens the journal of a disk, in whatever state a crash or a failure left it, and answers the last image. From
-    /// its first sync on a crash at any moment leaves that image; a second open changes nothing. After OutOfMemory
-    /// or a fault of the disk it can be opened again.
+    /// Opens the journal of a disk, in whatever state a crash or a failure left it, and answers the last image. It
+    /// syncs and reads; then it cuts off all after the gate that ends the list, and syncs; and where that gate is not
+    /// 0, or missing, it writes 0 there, and syncs. From its first sync on a crash at any moment leaves that image; a
+    /// second open changes nothing. After OutOfMemory or a fault of the disk it can be opened again.
     pub fn open<D: Disk>(
         alloc: Global,
         disk: &mut D,
@@ -82,7 +83,9 @@ impl Journal {
         ensures size { OnOk result (length (D.reads disk.new) ≤ 2 ^ 40) }
         ensures rests { OnOk result (D.reads disk.new
             ≡ take (gate_of (D.reads disk.old)) (D.reads disk.old) ++ 0 ∷ []) }
-        ensures any_moment { IsKept D.Disk disk.old
+        ensures told { (t : Told) → D.told disk.old ≡ Some t → TellsOpen
+            (open_calls (D.reads disk.old)) (D.reads disk.old) t result (D.told disk.new) }
+        ensures any_moment { IsClean (D.reads disk.old)
             → Settles D.Disk disk.old disk.new (HasImagesOf (D.reads disk.old)) result }
         ensures kept { IsKept D.Disk disk.old → IsKept D.Disk disk.new }
         ensures kept_since { IsKept D.Disk disk.old → IsKeptSince D.Disk disk.old disk.new }

@@ -1,9 +1,10 @@
 // The work of opening a journal: what is read is synced, the list ends at a closed gate, and nothing follows that gate.
-ghost use Rattle.std.specs.Prelude.{◌≡◌, ◌≢◌, ◌+◌, ◌^◌, ◌≤◌, ◌++◌, ◌∷◌, [], length, take, Err, IfOk, OnOk};
+ghost use Rattle.std.specs.Prelude.{◌≡◌, ◌≢◌, ◌+◌, ◌^◌, ◌≤◌, ◌++◌, ◌∷◌, [], length, take, Some, Err, IfOk, OnOk};
 ghost use Rattle.std.specs.Option.{option_map};
-ghost use Rattle.house_journal.specs.Disks.{HasDiskCause, Only};
-ghost use Rattle.house_journal.specs.Journals.{IsCalm, IsKept, IsListed, LeavesOnly, Settles};
-ghost use Rattle.house_journal.specs.JournalRecords.{HasImagesOf, gate_of, last_image};
+ghost use Rattle.house_journal.specs.Disks.{HasDiskCause, Only, Told};
+ghost use Rattle.house_journal.specs.Tellings.{Syncs, TellsReading, open_calls};
+ghost use Rattle.house_journal.specs.Journals.{IsCalm, IsListed, LeavesOnly, Settles};
+ghost use Rattle.house_journal.specs.JournalRecords.{HasImagesOf, IsClean, gate_of, last_image};
 
 use crate::close::close;
 use crate::list_end::{find_end, read_image};
@@ -17,6 +18,8 @@ fn synced_size<D: Disk>(disk: &mut D) -> Result<u64, DiskError>
     ensures same { OnOk result (D.reads disk.new ≡ D.reads disk.old) }
     ensures only { OnOk result (Only (D.reads disk.old) (D.may_leave disk.new)) }
     ensures any_moment { LeavesOnly D.Disk disk.old disk.new (D.may_leave disk.old) }
+    ensures told { (t : Told) → D.told disk.old ≡ Some t
+        → TellsReading 1 (Syncs ∷ []) (D.reads disk.old) t result (D.told disk.new) }
     ensures cause { HasDiskCause (D.faults disk.old) (D.faults disk.new) result }
     ensures calm { IsCalm (D.told disk.old)
         → (result ≢ Err DiskError.Failed) × IsCalm (D.told disk.new) }
@@ -40,7 +43,9 @@ pub(crate) fn settle<D: Disk>(
         ≡ take (gate_of (D.reads disk.old)) (D.reads disk.old) ++ 0 ∷ []) }
     ensures durable { OnOk result (Only (D.reads disk.new) (D.may_leave disk.new)) }
     ensures listed { OnOk result (IsListed (D.told disk.new)) }
-    ensures any_moment { IsKept D.Disk disk.old
+    ensures told { (t : Told) → D.told disk.old ≡ Some t → TellsReading 1
+        (open_calls (D.reads disk.old)) (D.reads disk.old) t result (D.told disk.new) }
+    ensures any_moment { IsClean (D.reads disk.old)
         → Settles D.Disk disk.old disk.new (HasImagesOf (D.reads disk.old)) result }
     ensures cause { HasDiskCause (D.faults disk.old) (D.faults disk.new) result }
     ensures calm { IsCalm (D.told disk.old)

@@ -1,4 +1,6 @@
-use Rattle.std.proofs.Common.{refl}
+use Rattle.std.proofs.Common.{refl, ⊎_elim}
+use Rattle.house_journal.specs.Tellings.{open_calls}
+use Rattle.house_journal.proofs.Opening.{open_tells}
 use Rattle.house_journal.proofs.Endings.{settled}
 use Rattle.house_journal.proofs.Tellings.{listed_empty}
 use Rattle.house_journal.proofs.journal.Journal.open.Goals as goal
@@ -12,3 +14,27 @@ returns-clause-ready g c = (
   },
   refl,
 )
+
+pub returns-in_err-place-clause-told : goal.returns-in_err-place-clause-told
+returns-in_err-place-clause-told g c t is =
+    let file = g.D.Disk.reads c.args.disk.now in
+    open_tells (open_calls file) file t (g.D.Disk.told c.settle.new.disk) c.settle.result c.in_err-place.field-0.0 c.from_residual.result
+    c.in_err-place.was c.from_residual.ensures.1 (c.settle.ensures.told t is)
+
+pub returns-in_err-place-clause-kept : goal.returns-in_err-place-clause-kept
+returns-in_err-place-clause-kept g c kept f left =
+    let old = c.args.disk.now in
+    let new = c.settle.new.disk in
+    let clean = (kept (g.D.Disk.reads old) (g.met.D.Disk.reads_left old)).clean in
+    ⊎_elim
+    (λ safe. (safe.late f (g.met.D.Disk.counts_now new safe.at f safe.to left)).1)
+    (λ before. kept f (before.each f (g.met.D.Disk.counts_now new (g.D.Disk.moment old) f before.later left)))
+    (c.in_err-place.ensures.any_moment clean)
+
+pub returns-clause-kept : goal.returns-clause-kept
+returns-clause-kept g c kept f left =
+    let old = c.args.disk.now in
+    let new = c.settle.new.disk in
+    let clean = (kept (g.D.Disk.reads old) (g.met.D.Disk.reads_left old)).clean in
+    let safe = c.in_ok-place.ensures.any_moment clean in
+    (safe.late f (g.met.D.Disk.counts_now new safe.at f safe.to left)).1
