@@ -3,18 +3,19 @@ import copy
 import re
 
 from pictures import replay as replays
-from speaking import explain, findings, naming, post, program, tokens
+from speaking import explain, findings, naming, post, program, refusals, tokens
 from speaking.language import FORMS
 from speaking.tokens import Fault
 
+QUESTIONS = replays.QUESTIONS
 CLAUSE = re.compile(r"(?:all|to(?: \S+)+?)(?: but to(?: \S+)+?)?(?: lose to(?: \S+)+)?")
 
 
 class Done:
-    """What came of a line: the script's lines that it became, their answers, and what there is to say beside."""
+    """What came of a line: the script's lines that it became, their answers, what there is to say beside, and to refused questions."""
 
     def __init__(self):
-        self.lines, self.answers, self.notes = [], [], []
+        self.lines, self.answers, self.notes, self.hints = [], [], [], []
 
 
 class Net:
@@ -130,14 +131,13 @@ class Desk:
             plain = self.names.add_houses(words[1:])
         else:
             turned = naming.turned(words, house) if house else words
-            plain = [" ".join(self.names.plain(turned))]
+            plain = self.names.lines(turned)
             plain = [*self.clock(turned[0], plain[0].split(), house, time), *plain]
         if plain != [line]:
             self.remark(done, line)
-        count = len(self.lines)
         said = self.add(done, *plain)
         self.learn(done, plain[-1].split(), said)
-        self.explain_refusal(done, said, count)
+        self.explain_refusal(said, done.hints if words[0] in QUESTIONS else done.notes)
         self.settle(done)
 
     def unknown(self, line, words):
@@ -179,12 +179,13 @@ class Desk:
             self.names.made(int(found.group(1)), plain[2], plain[3])
             self.remark(done, f"# directory {found.group(1)} is {self.names.path(int(found.group(1)))}")
 
-    def explain_refusal(self, done, said, count):
-        """Explains what was refused."""
+    def explain_refusal(self, said, notes):
+        """Explains what was refused, and what was in vain."""
         for number, reason, numbers, _ in findings.refused(said):
-            del count
-            done.notes += findings.explained(self.script(), self.answers, number, reason, numbers, False)
-            return
+            notes += findings.explained(self.script(), self.answers, number, reason, numbers, False)
+        vain = re.fullmatch(r"\d+ ok (late|early|stale|noreplica)\b.*", said[-1]) if said else None
+        if vain:
+            notes.append(refusals.VAIN[vain.group(1)])
 
     # The net.
 
@@ -266,7 +267,7 @@ class Desk:
         self.remark(done, line)
         last = len(self.happened().messages)
         said = self.add(done, *self.clock("skulk", plain.split(), house, time), plain)
-        self.explain_refusal(done, said, 0)
+        self.explain_refusal(said, done.notes)
         if " ok " in said[-1] and " complete" not in said[-1]:
             self.waves(done, None, but | lost, last)
             self.lose(done, lost)

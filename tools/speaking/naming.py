@@ -5,7 +5,7 @@ from speaking import texts
 from speaking.language import COMMANDS
 from speaking.tokens import Fault, Text
 
-STAMPED = ("mkdir", "repoint", "create", "link", "delete", "add", "remove", "put", "clear", "skulk")
+STAMPED = ("mkdir", "repoint", "create", "link", "delete", "add", "remove", "put", "clear", "skulk", "stop")
 SERVICES = ("export", "unexport", "groupadd", "groupdel", "profadd", "profdel")
 
 
@@ -80,6 +80,8 @@ class Names:
     def entry(self, rest):
         """Takes a directory and an entry off the words, and answers the number and the simple name."""
         word = rest.pop(0)
+        if isinstance(word, Text):
+            raise Fault(f'Only a value is a text in quotes; "{word}" is not in the place of one.')
         if word.isdecimal() and rest:
             return [word, rest.pop(0)]
         if word.startswith("/"):
@@ -130,6 +132,23 @@ class Names:
             made += self.taken(kind, kinds[at + 1 : at + 2], rest)
         return [*made, *rest]
 
+    def values(self, rest):
+        """Takes attributes with a value each off the words after the name of an entry that is made."""
+        found = []
+        while len(rest) > 1:
+            name, value = rest.pop(0), rest.pop(0)
+            found.append((name, texts.value(value) if isinstance(value, Text) else value))
+        return found
+
+    def lines(self, words):
+        """The lines of a script for a command: one, and one more for each attribute with a value that a `create` has."""
+        if words[0] != "create":
+            return [" ".join(self.plain(words))]
+        rest = list(words[1:])
+        front = ["create", *self.taken("H", [], rest), *(self.taken("D", ["S"], rest) if rest else [])]
+        values = self.values(rest)
+        return [" ".join([*front, *rest]), *(" ".join(["add", *front[1:], *it]) for it in values)]
+
     def stop(self, rest):
         """The words of a `stop`."""
         return ["stop", *map(self.house, rest[:1]), *rest[1:3], *(self.plain(rest[3:]) if len(rest) > 3 and rest[3] in COMMANDS else rest[3:])]
@@ -141,7 +160,7 @@ class Names:
             return found
         if kind == "D" and after != ["S"]:
             return [self.directory(rest.pop(0)) if rest and (rest[0].isdecimal() or rest[0].startswith("/")) else "1"]
-        if kind == "C" and rest and rest[0].startswith("/"):
+        if kind == "C" and rest and rest[0].lower() not in ("low", "high"):
             return ["low"]
         if not rest:
             return []
@@ -156,7 +175,10 @@ class Names:
             if kind != "VALUE":
                 raise Fault(f'Only a value is a text in quotes; "{word}" is not in the place of one.')
             return [texts.value(word)]
-        return [texts.node(word) or word] if kind == "NODE" else [word]
+        if kind == "NAME" and not word.startswith("/"):
+            return [f"/.:/{word}"]
+        better = {"NODE": texts.node(word), "C": word.lower()}
+        return [better.get(kind) or word]
 
 
 def turned(words, house):

@@ -7,6 +7,7 @@ explanation has to say).
 import os
 import re
 import subprocess
+import sys
 
 from speaking import language, pages, program, refusals
 
@@ -16,7 +17,7 @@ WHY = f"{os.path.dirname(os.path.dirname(HERE))}/why"
 
 def ask(path, script, *words):
     """What tools/why says of a script, and its exit status."""
-    ran = subprocess.run([WHY, "--program", path, *words, "-"], input=script, capture_output=True, check=False)
+    ran = subprocess.run([sys.executable, WHY, "--program", path, *words, "-"], input=script, capture_output=True, check=False, timeout=60)
     return ran.stdout.decode() + ran.stderr.decode(), ran.returncode
 
 
@@ -91,7 +92,7 @@ def files(path):
         (["/"], 1, "Is a directory"), (["/nowhere"], 1, "No such file"), ([], 2, "name a script"), (["--form", "load 3", "x"], 2, "is no form"),
         (["--program", "/nowhere", WHY], 3, "a program"), (["--help"], 0, "tools/why"),
     ):  # fmt: skip
-        ran = subprocess.run([WHY, *words], capture_output=True, check=False, stdin=subprocess.DEVNULL)
+        ran = subprocess.run([sys.executable, WHY, *words], capture_output=True, check=False, timeout=60, stdin=subprocess.DEVNULL)
         said = (ran.stdout + ran.stderr).decode()
         yield f"tools/why {' '.join(words)}", None if ran.returncode == status and phrase in said else f"{ran.returncode}: {said}"
     said, status = ask("/nowhere", b"root 1\n")
