@@ -105,6 +105,30 @@ class Desk:
         self.back(kept)
         return kept[4]
 
+    def take_script(self, lines):
+        """Takes the lines of a script up to the first one that is faulty, at once, and answers how many these are."""
+        if any(not re.fullmatch("[ -~]{0,4096}", line) for line in lines):
+            return 0
+        said = self.ask(*lines)
+        found = re.fullmatch(r"(\d+) fault .*", said[-1]) if said else None
+        count = int(found.group(1)) - len(self.lines) - 1 if found else len(lines)
+        kept = (len(self.lines), len(self.answers), copy.deepcopy(self.names), copy.copy(self.net), f"{count} lines of a file")
+        if count:
+            self.lines += lines[:count]
+            self.answers += said[:-1] if found else said
+            self.replay = None
+            self.before.append(kept)
+            self.learn_script()
+        return count
+
+    def learn_script(self):
+        """Learns which houses and directories there are."""
+        for house, node in self.happened().nodes.items():
+            self.names.nodes[house] = node
+        for step in self.happened().steps:
+            if step.command == "mkdir" and step.is_done():
+                self.names.made(step.dirs[1], step.words[1], step.words[2])
+
     def take(self, done, line):
         """Takes a line of the operator."""
         date, seconds, words = tokens.timed(tokens.words_of(line))
