@@ -6,9 +6,11 @@ import sys
 import tempfile
 import time
 
+from speaking import console, program
+
 HERE = os.path.dirname(os.path.realpath(__file__))
 CONSOLE = f"{os.path.dirname(os.path.dirname(HERE))}/console"
-PATIENCE = 60
+PATIENCE = 120
 
 CELL = "house a_ch b_ch c_ch\nroot a_ch b_ch c_ch\ndeliver all\ncreate a_ch lpr\n"
 # Lines that are typed, and what has to be said after them; a `!` in front: what must not be.
@@ -60,11 +62,22 @@ def said_problem(said, wanted):
     return None
 
 
+def typed(path, text):
+    """What the console says to lines."""
+    said = []
+    at = console.Console(program.Program(path), said.append)
+    for line in text.splitlines():
+        if not at.is_over:
+            at.take(line)
+    return "\n".join(said)
+
+
 def from_a_pipe(path):
-    """Lines from a pipe."""
+    """Lines that are typed."""
     for text, wanted in TYPED:
-        said, status = piped(path, text)
-        yield repr(text), said_problem(said, wanted) if status == 0 else f"status {status}: {said}"
+        yield repr(text), said_problem(typed(path, text), wanted)
+    said, status = piped(path, CELL + "messages\n")
+    yield "lines from a pipe", said_problem(said, ["1 ok", "3  Update from a_ch to b_ch"]) if status == 0 else said
     said, _ = piped(path, "house 1 00000000000a\nroot 1\nimage 1\n", "journal")
     yield "the form journal", said_problem(said, ["3 ok "])
     said, _ = piped(path, CELL + 'add a_ch lpr A "1"\nread a_ch lpr A\nput a_ch lpr A "2"\nread a_ch lpr A\n', "clerk", "4")

@@ -9,16 +9,17 @@ import re
 import subprocess
 import sys
 
-from speaking import language, pages, program, refusals
+from speaking import findings, language, pages, program, refusals
 
 HERE = os.path.dirname(os.path.realpath(__file__))
 WHY = f"{os.path.dirname(os.path.dirname(HERE))}/why"
 
 
-def ask(path, script, *words):
+def ask(path, script, form=None, line=None):
     """What tools/why says of a script, and its exit status."""
-    ran = subprocess.run([sys.executable, WHY, "--program", path, *words, "-"], input=script, capture_output=True, check=False, timeout=60)
-    return ran.stdout.decode() + ran.stderr.decode(), ran.returncode
+    said = []
+    status = findings.report(script, program.form_words(form) if form else program.first_line_form(script), line, path, said.append)
+    return "\n".join(said), status
 
 
 def blocks():
@@ -40,7 +41,7 @@ def octets(line):
 
 def problem_of(path, form, script, answer, phrases):
     """What is wrong with the explanation of a wrong use, or None."""
-    said, status = ask(path, script, *(["--form", form] if form else []))
+    said, status = ask(path, script, form)
     # (A command of another form is no fault there.)
     fault = answer.split()[0] in language.FAULTS and "replay this by" not in "".join(phrases)
     if status != (3 if fault or answer.startswith("no script") else 0):
@@ -66,7 +67,7 @@ def faults_of_the_page(path):
     for line, fault, form in re.findall(r"(?m)^\| (`.*`) \| `1 fault ([A-Za-z]+ \d+)` \|()$", pages.text()):
         for script in re.findall("`([^`]+)`", line):
             form = next((it for it in ("journal", "inquire") if script.split()[0] in language.FORMS[it] and script.split()[0] not in language.RUN), "run")
-            said, status = ask(path, f"{script}\n".encode(), "--form", form)
+            said, status = ask(path, f"{script}\n".encode(), form)
             good = status == 3 and fault in said and re.search(r"(?m)^ *\^+$", said) and len(said.splitlines()) >= 5
             yield script, None if good else said
 
@@ -86,19 +87,40 @@ def tables(_):
     yield "rows of words", str(kinds - set(pages.words())) if kinds - set(pages.words()) else None
 
 
-def files(path):
-    """Files that can't be read, and wrong words."""
-    for words, status, phrase in (
-        (["/"], 1, "Is a directory"), (["/nowhere"], 1, "No such file"), ([], 2, "name a script"), (["--form", "load 3", "x"], 2, "is no form"),
-        (["--program", "/nowhere", WHY], 3, "a program"), (["--help"], 0, "tools/why"),
+def called(script, *words):
+    """What tools/why says when it is called, and its exit status."""
+    ran = subprocess.run([sys.executable, WHY, *words], input=script, capture_output=True, check=False, timeout=120)
+    return (ran.stdout + ran.stderr).decode(), ran.returncode
+
+
+def calls(path):
+    """Calls of the tool, as a user makes them."""
+    for words, script, status, phrase in (
+        (["/"], b"", 1, "Is a directory"), (["/nowhere"], b"", 1, "No such file"), ([], b"", 2, "name a script"),
+        (["--form", "load 3", "x"], b"", 2, "is no form"), (["--program", "/nowhere", WHY], b"", 3, "a program"), (["--help"], b"", 0, "tools/why"),
+        (["--program", "/nowhere", "-"], b"root 1\n", 1, "No such file"), (["--program", path, "-"], b"", 0, "empty"),
+        (["--program", path, "-"], b"house 1 08:00:2b:1c:4d:01\n", 3, "    house 1 08002b1c4d01\n"),
+        (["--program", path, "--form", "clerk 8", "-"], b"house 1 00000000000a\n", 0, "no command was refused"),
+        (["--program", path, f"{pages.ROOT}/examples/outage.cds"], b"", 0, "no command was refused"),
+        (["--program", path, "--line", "12", f"{pages.ROOT}/examples/missed.cds"], b"", 0, "House 3 is down since line 8"),
+        (["--program", path, "--line", "1", f"{pages.ROOT}/examples/missed.cds"], b"", 0, "has no answer"),
     ):  # fmt: skip
-        ran = subprocess.run([sys.executable, WHY, *words], capture_output=True, check=False, timeout=60, stdin=subprocess.DEVNULL)
-        said = (ran.stdout + ran.stderr).decode()
-        yield f"tools/why {' '.join(words)}", None if ran.returncode == status and phrase in said else f"{ran.returncode}: {said}"
-    said, status = ask("/nowhere", b"root 1\n")
-    yield "a program that is not there", None if status == 1 and "No such file" in said else said
-    said, status = ask(path, b"")
-    yield "an empty script", None if status == 0 and "empty" in said else said
+        said, ended = called(script, *words)
+        yield f"tools/why {' '.join(words)}", None if ended == status and phrase in said else f"{ended}: {said}"
+
+
+def answers_of_lines(path):
+    """What --line says of deliveries that change nothing."""
+    start = b"house 1 00000000000a\nhouse 2 00000000000b\nroot 1 2\ncreate 1 1 e\n"
+    for more, line, phrase in (
+        (b"deliver 2\n", 5, "The receiver holds nothing of this directory yet"),
+        (b"deliver 1\nepoch 1 1 2\ndeliver 3\ndeliver 2\n", 8, "is in a later epoch already"),
+        (b"deliver 1\nepoch 1 1 2\ncreate 1 1 f\ndeliver 4\n", 8, "has not heard of the message's epoch yet"),
+        (b"deliver 1\nskulk 1 1\ndeliver 3\nskulk 1 1\ndeliver 4\n", 9, "answers a skulk that has ended"),
+        (b"deliver 1\n", 5, "It is done"),
+    ):  # fmt: skip
+        said, status = ask(path, start + more, None, line)
+        yield f"--line {line} of {more}", None if status == 0 and phrase in said else said
 
 
 def trials(path):
@@ -106,4 +128,5 @@ def trials(path):
     yield from tables(path)
     yield from wrong_uses(path)
     yield from faults_of_the_page(path)
-    yield from files(path)
+    yield from answers_of_lines(path)
+    yield from calls(path)
