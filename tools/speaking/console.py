@@ -46,7 +46,7 @@ class Console:
     def take(self, line):
         """Takes a line that was typed. Nothing that was there is lost, whatever it says."""
         words = line.split()
-        self.is_warned = False
+        self.is_warned = self.is_warned and words[:1] in (["quit"], ["exit"])
         own = {"?": self.help, "help": self.help, "undo": self.undo, "show": self.show, "messages": self.messages, "script": self.script,
                "picture": self.picture, "save": self.save, "load": self.load, "quit": self.quit, "exit": self.quit}  # fmt: skip
         if not words or words[0].startswith("#"):
@@ -69,7 +69,8 @@ class Console:
         if len(done.lines) > 1 or done.lines and done.lines[0] != " ".join(line.split()):
             for answer in done.answers:
                 made = self.cell.lines[int(answer.split(" ", 1)[0]) - 1]
-                self.say(f"{answer:<44} {made}" if answer.split()[1] in ("ok", "refused") else writing.spoken(answer))
+                said = writing.spoken(answer)
+                self.say(f"{said:<44} {made}" if answer.split()[1] in ("ok", "refused") else said)
         else:
             for answer in done.answers:
                 self.say(writing.spoken(answer))
@@ -157,7 +158,7 @@ class Console:
         with open(file, "w", encoding="ascii") as it:
             it.write("".join(f"{line}\n" for line in [*first, *self.cell.lines, *last]))
         self.saved = len(self.cell.lines)
-        self.say(f"{file} has the {self.saved} lines. Replay it by ./cdsreplay {' '.join(form)} <{file}")
+        self.say(f"{file} has {replays.plural(self.saved, 'line')}. Replay it by ./cdsreplay {' '.join(form)} <{file}")
 
     def load(self, words):
         """Takes the lines of a file. A faulty one ends that; those before it stay."""
@@ -166,7 +167,7 @@ class Console:
             return
         with open(words[0], encoding="utf-8", errors="replace") as it:
             lines = it.read().splitlines()
-        for number, name in re.findall(r"(?m)^# (?:.*, )?house (\d+) is ([A-Za-z][^ ,]*)", "\n".join(lines)):
+        for number, name in re.findall(r"(?m)^# (?:.*, )?house (\d+) is ([A-Za-z][^ ,\n]*)", "\n".join(lines)):
             self.cell.names.houses.setdefault(name, int(number))
         # A script goes as a whole; words for tools/write, from the first such line on, one by one.
         first = self.cell.take_script(lines)
@@ -185,6 +186,6 @@ class Console:
         """Ends, and warns once where lines would be lost."""
         if len(self.cell.lines) != self.saved and not self.is_warned:
             self.is_warned = True
-            self.say(f"{len(self.cell.lines)} lines are not saved: `save FILE`, or `quit` (or Ctrl-D) once more.")
+            self.say(f"{replays.plural(len(self.cell.lines), 'line')} would be lost: `save FILE`, or `quit` (or Ctrl-D) once more.")
         else:
             self.is_over = True

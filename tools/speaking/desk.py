@@ -195,7 +195,7 @@ class Desk:
     def learn(self, done, plain, said):
         """Learns the names that a line made."""
         if plain[0] == "house":
-            new = {name: number for name, number in self.names.houses.items() if f"house {number} {self.names.nodes[number]}" in done.lines}
+            new = {name: number for name, number in self.names.houses.items() if f"house {number} {self.names.nodes.get(number)}" in done.lines}
             if new:
                 self.remark(done, "# " + ", ".join(f"house {number} is {name}" for name, number in new.items()))
         found = re.match(r"\d+ ok (\d+) ", said[-1]) if plain[0] == "mkdir" and said else None

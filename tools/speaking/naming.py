@@ -1,5 +1,6 @@
 """The names of an operator: houses, directories and times, and the numbers that a script has for them."""
 import datetime
+import re
 
 from speaking import texts
 from speaking.language import COMMANDS
@@ -55,7 +56,7 @@ class Names:
                 number = int(name)
             elif name in self.houses:
                 raise Fault(f"House `{name}` is made already; it is house {self.houses[name]}.")
-            elif not name[:1].isalpha():
+            elif not re.fullmatch("[A-Za-z][!-~]*", name):
                 raise Fault(f"`{name}` is no name of a house: one begins with a letter. A node goes after the name.")
             else:
                 number = next(it for it in range(1, 257) if it not in self.nodes)

@@ -19,15 +19,15 @@ TYPED = (
     ("house 1 00000000000a\nhous 2 00000000000b\nhouse 2 00000000000b\n", ["1 ok", "Is `house` meant?", "2 ok"]),
     ("house 1 08:00:2b:1c:4d:01\n", ["1 ok"]),
     ("house a_ch\nroot b_ch\nroot a_ch\n", ["house 1 is a_ch", "There is no house `b_ch`", "2 ok"]),
-    (CELL + "messages\n", ["3  Update from a_ch to b_ch, line 6: create 1 1 lpr", "4  Update from a_ch to c_ch"]),
-    (CELL + "deliver to b_ch\nmessages\n", ["7 ok taken", "!Update from a_ch to b_ch", "4  Update from a_ch to c_ch"]),
+    (CELL + "messages\n", ["3  Update from a_ch to b_ch, line 7: create 1 1 lpr", "4  Update from a_ch to c_ch"]),
+    (CELL + "deliver to b_ch\nmessages\n", ["8 ok taken", "!Update from a_ch to b_ch", "4  Update from a_ch to c_ch"]),
     (CELL + "deliver to b_ch\nshow\n", ["* lpr", "1@a_ch", "The houses differ here"]),
     (CELL + "deliver all\nshow\n", ["  lpr", "!The houses differ here"]),
     (CELL + "crash b_ch\nshow\n", ["down", "read-only"]),
-    (CELL + "undo\nread a_ch lpr A\n", ["taken back: create a_ch lpr", "6 refused NoSuchName 0"]),
-    (CELL + "deliver all\nundo\ndeliver all\n", ["taken back: deliver all", "7 ok taken"]),
+    (CELL + "undo\nread a_ch lpr A\n", ["taken back: create a_ch lpr", "7 refused NoSuchName 0"]),
+    (CELL + "deliver all\nundo\ndeliver all\n", ["taken back: deliver all\n8 ok taken"]),
     ("undo\n", ["There is nothing to take back."]),
-    (CELL + "create b_ch x\n", ["7 refused NotMaster", "The master is house 1: `create 1 1 x`."]),
+    (CELL + "create b_ch x\n", ["8 refused NotMaster", "The master is house 1: `create 1 1 x`."]),
     (CELL + 'add a_ch lpr Place "front hall"\nread a_ch lpr Place\n', ['ok 1 "front hall"']),
     (CELL + "deliver all\nskulk a_ch through\n", ["ok complete 2@000000000001"]),
     (CELL + "mkdir a_ch /.:/print b_ch\nshow /.:/print\n", ["master"]),
@@ -40,10 +40,10 @@ TYPED = (
     ("# a comment\n\nhouse 1 00000000000a\n", ["1 ok"]),
     ("stop 1 4 keep skulk 1 1\n", ["a command of the form `journal`"]),
     ("quit\nhouse a_ch\n", ["!house 1 is a_ch"]),
-    ("house a_ch\nquit\nquit\nhouse b_ch\n", ["1 lines are not saved", "!house 2 is b_ch"]),
+    ("house a_ch\nquit\nquit\nhouse b_ch\n", ["1 line would be lost", "!house 2 is b_ch"]),
     ("load /nowhere\nsave\nload\n", ["/nowhere: No such file", "Name the file: `save FILE`.", "Name the file: `load FILE`."]),
     ("house 1 00000000000a\nscript\n", ["   1  house 1 00000000000a"]),
-    ("house 1 00000000000a \u00e9\n", ["WrongCount"]),
+    ("house 1 00000000000a \u00e9\n", ["is no name of a house"]),
 )  # fmt: skip
 
 
@@ -81,7 +81,7 @@ def from_a_pipe(path):
     said, _ = piped(path, "house 1 00000000000a\nroot 1\nimage 1\n", "journal")
     yield "the form journal", said_problem(said, ["3 ok "])
     said, _ = piped(path, CELL + 'add a_ch lpr A "1"\nread a_ch lpr A\nput a_ch lpr A "2"\nread a_ch lpr A\n', "clerk", "4")
-    yield "the form clerk", said_problem(said, ['8 ok 1 "1"', '10 ok 1 "1"'])
+    yield "the form clerk", said_problem(said, ['9 ok 1 "1"', '11 ok 1 "1"'])
     said, status = piped(path, "", "load", "3")
     yield "a form that replays no script", None if status == 2 and "is no form" in said else said
     said, status = piped("/nowhere", "")
@@ -92,7 +92,7 @@ def files(path):
     """Lines that are saved, loaded and drawn."""
     with tempfile.TemporaryDirectory() as folder:
         said, _ = piped(path, CELL + "save cell.cds\nsave cell.cds\nsave cell.cds over\npicture\n", folder=folder)
-        yield "save, and not over", said_problem(said, ["cell.cds has the 6 lines", "`save cell.cds over` writes over it", "cell.svg is drawn"])
+        yield "save, and not over", said_problem(said, ["cell.cds has 7 lines", "`save cell.cds over` writes over it", "cell.svg is drawn"])
         with open(f"{folder}/cell.cds", encoding="ascii") as it:
             script = it.read()
         yield "what is saved", None if script.endswith("create 1 1 lpr\n# house 1 is a_ch\n# house 2 is b_ch\n# house 3 is c_ch\n") else script
@@ -155,8 +155,8 @@ KEYS = (
     ("Tab completes a command", ["cre", "Tab", "1 1 lpr", "Enter"], ["3> create 1 1 lpr", "3 ok 1@00000000000a", "4> "]),
     ("undo", ["undo", "Enter"], ["taken back: create 1 1 lpr", "3> undo"]),
     ("help by command", ["help root", "Enter"], ["makes the root directory", "the house that is to be the master"]),
-    ("save", ["save kept.cds", "Enter"], ["kept.cds has the 2 lines"]),
-    ("lines that are not saved", ["create 1 1 fax", "Enter", "C-d"], ["3 lines are not saved"]),
+    ("save", ["save kept.cds", "Enter"], ["kept.cds has 2 lines"]),
+    ("lines that are not saved", ["create 1 1 fax", "Enter", "C-d"], ["3 lines would be lost"]),
 )
 
 

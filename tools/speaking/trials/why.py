@@ -1,9 +1,10 @@
-"""Trials of tools/why: wrong uses, each with the words that it gets (`wrong-uses.case`), and the pages of SCRIPT.md.
+"""Trials of tools/why: wrong uses, each with the words that it gets (`wrong-*.case`), and the pages of SCRIPT.md.
 
-A block of the case is one use. Its lines begin with `form:` (the form of the program, where it is not `run`), `|` (a line of the script;
+A block of these is one use. Its lines begin with `form:` (the form of the program, where it is not `run`), `|` (a line of the script;
 \\t, \\r and \\xNN are octets, and \\c at its end leaves the line end out), `=` (the fault, or the answer to the last line), and `>` (what the
 explanation has to say).
 """
+import glob
 import os
 import re
 import subprocess
@@ -23,9 +24,11 @@ def ask(path, script, form=None, line=None):
 
 
 def blocks():
-    """The blocks of the case: the form, the script, the fault or answer, and the phrases."""
-    with open(f"{HERE}/wrong-uses.case", encoding="ascii") as it:
-        text = re.sub(r"(?m)^#.*\n", "", it.read())
+    """The blocks of the cases: the form, the script, the fault or answer, and the phrases."""
+    text = ""
+    for file in sorted(glob.glob(f"{HERE}/*.case")):
+        with open(file, encoding="ascii") as it:
+            text += re.sub(r"(?m)^#.*\n", "", it.read()) + "\n\n"
     for block in re.split(r"\n\n+", text.strip()):
         rows = [line.partition(" ")[::2] for line in block.splitlines()]
         script = b"".join(octets(line) for mark, line in rows if mark == "|")
