@@ -148,15 +148,16 @@ class Terminal:
 
 # Keys, and what has to come to the screen.
 KEYS = (
-    ("a prompt with the number of the line", ["house 1 00000000000a", "Enter"], ["1> house 1", "1 ok", "2> "]),
-    ("a typo is explained, and nothing is lost", ["rot 1", "Enter"], ["Is `root` meant?", "2> "]),
-    ("arrow-up brings the line back, to be mended", ["Up", "Left", "Left", "BSpace", "ot", "Enter"], ["2> root 1", "2 ok", "3> "]),
-    ("Ctrl-C drops a line", ["create 1 1 wr", "C-c"], ["^C", "3> "]),
-    ("Tab completes a command", ["cre", "Tab", "1 1 lpr", "Enter"], ["3> create 1 1 lpr", "3 ok 1@00000000000a", "4> "]),
-    ("undo", ["undo", "Enter"], ["taken back: create 1 1 lpr", "3> undo"]),
+    ("a prompt with the number of the line", ["house 1 00000000000a", "Enter"], ["1> house 1", "1 ok", "2>"]),
+    ("a typo is explained, and nothing is lost", ["rot 1", "Enter"], ["Is `root` meant?", "2>"]),
+    ("arrow-up brings the line back, to be mended", ["Up", "Left", "Left", "BSpace", "ot", "Enter"], ["2> root 1", "2 ok", "3>"]),
+    ("Ctrl-C drops a line", ["create 1 1 wr", "C-c"], ["^C", "3>"]),
+    ("Tab completes a command", ["cre", "Tab", "1 1 lpr", "Enter"], ["3> create 1 1 lpr", "3 ok 1@00000000000a", "4>"]),
+    ("undo", ["undo", "Enter"], ["4> undo", "taken back: create 1 1 lpr"]),
     ("help by command", ["help root", "Enter"], ["makes the root directory", "the house that is to be the master"]),
     ("save", ["save kept.cds", "Enter"], ["kept.cds has 2 lines"]),
-    ("lines that are not saved", ["create 1 1 fax", "Enter", "C-d"], ["3 lines would be lost"]),
+    ("after what was saved it goes on", ["create 1 1 fax", "Enter"], ["3> create 1 1 fax", "4>"]),
+    ("lines that are not saved", ["C-d"], ["3 lines would be lost"]),
 )
 
 
@@ -168,7 +169,7 @@ def in_a_terminal(path):
     with tempfile.TemporaryDirectory() as folder:
         terminal = Terminal(path, folder)
         try:
-            yield "it greets", terminal.problem(["`help` has more", "1> "])
+            yield "it greets", terminal.problem(["An empty cell.", "1>"])
             for what, keys, wanted in KEYS:
                 terminal.type(*keys)
                 yield what, terminal.problem(wanted)
