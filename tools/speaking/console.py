@@ -5,7 +5,7 @@ import subprocess
 import textwrap
 
 from pictures import replay as replays
-from speaking import desk, language, pages, program, show, tokens, writing
+from speaking import desk, language, pages, program, show, texts, tokens, writing
 
 OWN = {
     "help [COMMAND]": "this list, or what a command does",
@@ -158,7 +158,7 @@ class Console:
         with open(file, "w", encoding="ascii") as it:
             it.write("".join(f"{line}\n" for line in [*first, *self.cell.lines, *last]))
         self.saved = len(self.cell.lines)
-        self.say(f"{file} has {replays.plural(self.saved, 'line')}. Replay it by ./cdsreplay {' '.join(form)} <{file}")
+        self.say(f"{file} has {texts.plural(self.saved, 'line')}. Replay it by ./cdsreplay {' '.join(form)} <{file}")
 
     def load(self, words):
         """Takes the lines of a file. A faulty one ends that; those before it stay."""
@@ -186,6 +186,6 @@ class Console:
         """Ends, and warns once where lines would be lost."""
         if len(self.cell.lines) != self.saved and not self.is_warned:
             self.is_warned = True
-            self.say(f"{replays.plural(len(self.cell.lines), 'line')} would be lost: `save FILE`, or `quit` (or Ctrl-D) once more.")
+            self.say(f"{texts.plural(len(self.cell.lines), 'line')} would be lost: `save FILE`, or `quit` (or Ctrl-D) once more.")
         else:
             self.is_over = True

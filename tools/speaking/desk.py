@@ -72,7 +72,7 @@ class Desk:
     def remark(self, done, text):
         """Adds a comment."""
         if self.has_comments:
-            plain = text.replace("\t", " ").encode("ascii", "replace").decode()
+            plain = re.sub("[^ -~]", "?", text.replace("\t", " "))[:4000]
             self.lines.append(plain if plain.startswith("#") else f"# {plain}")
             done.lines.append(self.lines[-1])
             self.replay = None
@@ -139,50 +139,49 @@ class Desk:
         house = None
         if len(words) > 1 and words[0].rstrip(":") in self.names.houses:
             house, words = words[0].rstrip(":"), words[1:]
-        words = [tokens.command_of(words[0]), *words[1:]]
-        time = self.names.time(date, seconds) if seconds is not None else (None, False)
-        if time[1]:
+        time, is_back = self.names.time(date, seconds) if seconds is not None else (None, False)
+        if is_back:
             done.notes.append(f"{line.split()[0]} is earlier than the line before. Is it the next day? Then write its date in front.")
-        kind = next((it for it in (self.from_here, self.deliver_line, self.lose_line, self.skulk_through) if it(done, line, words, house, time[0])), None)
-        if not kind:
-            self.plain_line(done, line, words, house, time[0])
+        it = tokens.Line(line, [tokens.command_of(words[0]), *words[1:]], house, time)
+        if not any(take(done, it) for take in (self.from_here, self.deliver_some, self.lose_some, self.skulk_through)):
+            self.plain_line(done, it)
 
-    def plain_line(self, done, line, words, house, time):
+    def plain_line(self, done, line):
         """Takes a line that is one command, or several houses."""
+        words = line.words
         if words[0] not in FORMS[self.program.form[0]]:
-            raise Fault(self.unknown(line, words))
+            raise Fault(self.unknown(words))
         if words[0] == "house":
             plain = self.names.add_houses(words[1:])
         else:
-            turned = naming.turned(words, house) if house else words
-            plain = self.names.lines(turned)
-            plain = [*self.clock(turned[0], plain[0].split(), house, time), *plain]
-        if plain != [line]:
-            self.remark(done, line)
+            plain = self.names.lines(line.turned())
+            plain = [*self.clock(line, plain[0].split()), *plain]
+        if plain != [line.text]:
+            self.remark(done, line.text)
         said = self.add(done, *plain)
         self.learn(done, plain[-1].split(), said)
         self.explain_refusal(said, done.hints if words[0] in QUESTIONS else done.notes)
         self.settle(done)
 
-    def unknown(self, line, words):
+    def unknown(self, words):
         """What to say of a line whose command is not known."""
         if words[0] in self.names.houses:
             return f"What did `{words[0]}` do? A command goes after its name, as `{words[0]} create /.:/lpr`."
         it = explain.explain(" ".join(words).encode("ascii", "replace"), len(self.lines) + 1, "UnknownCommand", 1, self.program.form[0])
         return "\n".join(it.lines())
 
-    def clock(self, command, plain, house, time):
+    def clock(self, line, plain):
         """The line that sets the clock of the house that gives a stamp, if one has to be set."""
-        if time is None or command not in (*naming.STAMPED, *naming.SERVICES):
+        if line.time is None or plain[0] not in (*naming.STAMPED, *naming.SERVICES):
             return []
-        if command in naming.STAMPED:
+        if plain[0] in naming.STAMPED:
             number = plain[1]
         else:
-            number = self.names.house(house) if house else self.master_of(plain[1])
-        if number is None or self.names.clocks.get(number) == time:
+            number = self.names.house(line.house) if line.house else self.master_of(plain[1])
+        if number is None or self.names.clocks.get(number) == line.time:
             return []
-        self.names.clocks[number] = time
-        return [f"clock {number} {time}"]
+        self.names.clocks[number] = line.time
+        return [f"clock {number} {line.time}"]
 
     def master_of(self, name):
         """The master of the directory that an entry is in, as far as the names say."""
@@ -213,8 +212,9 @@ class Desk:
 
     # The net.
 
-    def from_here(self, done, line, words, house, time):
+    def from_here(self, done, line):
         """`from here deliver ..`: what the net does of itself."""
+        words = line.words
         if words[:2] != ["from", "here"]:
             return False
         rest = [tokens.command_of(words[2]), *words[3:]] if len(words) > 2 else []
@@ -225,7 +225,7 @@ class Desk:
             self.net = Net(but | lost, lost)
         else:
             raise Fault("`from here deliver all`, `from here deliver all but to HOUSE..`, `.. lose to HOUSE..`, or `from here deliver nothing`.")
-        self.remark(done, line)
+        self.remark(done, line.text)
         self.settle(done)
         return True
 
@@ -244,12 +244,13 @@ class Desk:
                 parts[at].add(int(self.names.house(word)))
         return parts["to"], parts["but"], parts["lose"]
 
-    def deliver_line(self, done, line, words, house, time):
+    def deliver_some(self, done, line):
         """`deliver all`, `deliver all but to HOUSE..`, `deliver to HOUSE..`."""
+        words = line.words
         if words[0] != "deliver" or words[1:2] not in (["all"], ["to"]):
             return False
         to, but, lost = self.clauses(words[1:])
-        self.remark(done, line)
+        self.remark(done, line.text)
         if not self.waves(done, to, but | lost):
             done.notes.append(self.idle(to, but))
         self.lose(done, lost)
@@ -262,12 +263,13 @@ class Desk:
             return "No message is under way there."
         return f"Nothing was delivered: {', '.join(sorted({self.names.called(it.receiver) for it in waiting}))} is down."
 
-    def lose_line(self, done, line, words, house, time):
+    def lose_some(self, done, line):
         """`lose all`, `lose to HOUSE..`."""
+        words = line.words
         if words[0] != "lose" or words[1:2] not in (["all"], ["to"]):
             return False
         to, but, _ = self.clauses(words[1:])
-        self.remark(done, line)
+        self.remark(done, line.text)
         if not self.lose(done, to, but):
             done.notes.append("No message is under way there.")
         return True
@@ -280,17 +282,17 @@ class Desk:
             self.add(done, *(f"lose {it.serial}" for it in lost))
         return bool(lost)
 
-    def skulk_through(self, done, line, words, house, time):
+    def skulk_through(self, done, line):
         """`skulk HOUSE [DIRECTORY] through [but to HOUSE..]`."""
-        if words[0] != "skulk" or "through" not in words:
+        if line.words[0] != "skulk" or "through" not in line.words:
             return False
-        at = words.index("through")
-        _, but, lost = self.clauses(["all", *words[at + 1 :]])
-        turned = naming.turned(words[:at], house) if house else words[:at]
-        plain = " ".join(self.names.plain(turned))
-        self.remark(done, line)
+        at = line.words.index("through")
+        _, but, lost = self.clauses(["all", *line.words[at + 1 :]])
+        line.words = line.words[:at]
+        plain = self.names.plain(line.turned())
+        self.remark(done, line.text)
         last = len(self.happened().messages)
-        said = self.add(done, *self.clock("skulk", plain.split(), house, time), plain)
+        said = self.add(done, *self.clock(line, plain), " ".join(plain))
         self.explain_refusal(said, done.notes)
         if " ok " in said[-1] and " complete" not in said[-1]:
             self.waves(done, None, but | lost, last)

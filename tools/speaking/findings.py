@@ -3,6 +3,8 @@ import re
 
 from speaking import explain, language, program, reasons, refusals
 
+# How many refusals are explained.
+MOST = 40
 # Files that are no scripts, by their first octets.
 STRANGE = {
     b"\x89PNG": "a picture", b"\xff\xd8\xff": "a picture", b"<svg": "a picture", b"<?xml": "a picture, or another XML file",
@@ -69,14 +71,17 @@ def refused(answers):
 def say_refusals(script, answers, say):
     """Says each refusal; what a reason means in general is said once."""
     found, known = list(refused(answers)), set()
-    say(f"There is no fault, and {'no command was' if not found else '1 command was' if len(found) == 1 else f'{len(found)} commands were'} refused.")
-    for number, reason, numbers, answer in found:
+    count = {0: "no command was", 1: "1 command was"}.get(len(found), f"{len(found)} commands were")
+    say(f"There is no fault, and {count} refused.")
+    for number, reason, numbers, answer in found[:MOST]:
         say("")
         say(f"line {number}: {line_of(script, number).decode().strip()}")
         say(f"    {answer}")
         for text in explained(script, answers, number, reason, numbers, reason not in known):
             say(text)
         known.add(reason)
+    if len(found) > MOST:
+        say(f"\n{len(found) - MOST} more are refused, the next one in line {found[MOST][0]}: --line explains any one.")
 
 
 def explained(script, answers, number, reason, numbers, in_full=True):

@@ -153,7 +153,7 @@ def generic(words):
     least, most = language.expects(words[0])
     if words[0] == "stop":
         return "`stop H K W COMMAND`: after W comes a whole command with its words, as `stop 1 4 keep create 1 1 lpr`.", []
-    wanted = f"{'at least ' if most is None else ''}{least} word{'' if least == 1 else 's'}"
+    wanted = f"{'at least ' if most is None else ''}{texts.plural(least, 'word')}"
     return f"`{language.pattern(words[0])}` has {wanted} after the command; here {are(len(words) - 1)}.", []
 
 

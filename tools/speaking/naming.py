@@ -180,14 +180,3 @@ class Names:
             return [f"/.:/{word}"]
         better = {"NODE": texts.node(word), "C": word.lower()}
         return [better.get(kind) or word]
-
-
-def turned(words, house):
-    """The words of a line whose house is in front of the command, as in a log: it goes where the command names its house."""
-    kinds = COMMANDS[words[0]].split()
-    at = next((at for at, kind in enumerate(kinds) if kind in ("H", "M")), None)
-    if at is None:
-        return words
-    if at == 1 and not (words[1:2] and (words[1].isdecimal() or words[1].startswith("/"))):
-        at = 0
-    return [*words[: at + 1], house, *words[at + 1 :]]

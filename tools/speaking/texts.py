@@ -53,3 +53,8 @@ def full_name(word):
 def is_hex(word):
     """Whether a word is hexadecimal digits."""
     return bool(re.fullmatch("[0-9A-Fa-f]+", word))
+
+
+def plural(count, word):
+    """A count of things."""
+    return f"{count} {word}{'' if count == 1 else 's'}"

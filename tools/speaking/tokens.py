@@ -16,6 +16,23 @@ class Fault(Exception):
     """A line that says nothing that is known; the lines of its text say why, and what to do."""
 
 
+class Line:
+    """A line of an operator: its text, its words from the command on, and the house and the time in front, each None where it has none."""
+
+    def __init__(self, text, words, house, time):
+        self.text, self.words, self.house, self.time = text, words, house, time
+
+    def turned(self):
+        """The words, with the house that is in front of the command, as in a log, where the command names its house."""
+        kinds = COMMANDS[self.words[0]].split()
+        at = next((at for at, kind in enumerate(kinds) if kind in ("H", "M")), None)
+        if at is None or self.house is None:
+            return self.words
+        if at == 1 and not (self.words[1:2] and (self.words[1].isdecimal() or self.words[1].startswith("/"))):
+            at = 0
+        return [*self.words[: at + 1], self.house, *self.words[at + 1 :]]
+
+
 class Text(str):
     """A word that was written in quotes."""
 
