@@ -88,10 +88,11 @@ class Console:
     def help(self, words):
         """Says what there is, or what a command does."""
         if not words:
-            self.say("Commands of the cell: " + " ".join(language.FORMS[self.cell.program.form[0]]) + ". `help COMMAND` explains one.")
+            known = " ".join(language.FORMS[self.cell.program.form[0]])
+            self.say(f"Commands of the cell: {known}. `help COMMAND` explains one.")
             for name, what in OWN.items():
                 self.say(f"  {name:<24}{what}")
-            self.say("Houses may have names (`house a_ch b_ch`), times of day go in front, and values may be texts in quotes: `tools/write --help`.")
+            self.say("Houses may have names (`house a_ch b_ch`), and values may be texts in quotes: `tools/write --help` has it all.")
             return
         command = tokens.command_of(words[0])
         if command not in language.COMMANDS:

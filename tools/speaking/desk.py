@@ -194,7 +194,8 @@ class Desk:
     def learn(self, done, plain, said):
         """Learns the names that a line made."""
         if plain[0] == "house":
-            new = {name: number for name, number in self.names.houses.items() if f"house {number} {self.names.nodes.get(number)}" in done.lines}
+            nodes = self.names.nodes
+            new = {name: it for name, it in self.names.houses.items() if f"house {it} {nodes.get(it)}" in done.lines}
             if new:
                 self.remark(done, "# " + ", ".join(f"house {number} is {name}" for name, number in new.items()))
         found = re.match(r"\d+ ok (\d+) ", said[-1]) if plain[0] == "mkdir" and said else None
@@ -224,7 +225,7 @@ class Desk:
             _, but, lost = self.clauses(rest[1:])
             self.net = Net(but | lost, lost)
         else:
-            raise Fault("`from here deliver all`, `from here deliver all but to HOUSE..`, `.. lose to HOUSE..`, or `from here deliver nothing`.")
+            raise Fault("Write `from here deliver all`, `.. all but to HOUSE..`, `.. all lose to HOUSE..`, or `from here deliver nothing`.")
         self.remark(done, line.text)
         self.settle(done)
         return True

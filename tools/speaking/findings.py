@@ -43,7 +43,7 @@ def other_form(script, asked, fault, say):
     other = language.form_of(word)
     if other in (None, "run"):
         return asked, fault
-    say(f"line {fault[0]}: `{word}` is a command of the form {other}: replay this by ./cdsreplay {other}; `check` knows {asked.form[0]} alone.")
+    say(f"line {fault[0]}: `{word}` is a command of the form {other}: replay this by ./cdsreplay {other}; `check` does not know it.")
     better = program.Program(asked.path, (other,))
     return better, better.fault(script)
 

@@ -13,14 +13,17 @@ OTHERS = {
     "show": "read", "list": "dump", "ls": "dump", "cat": "dump", "define": "create", "new": "create", "make": "create", "touch": "create",
     "rm": "delete", "del": "delete", "set": "put", "modify": "put", "mv": "link", "ln": "link", "stopped": "crash", "down": "crash",
     "kill": "crash", "reboot": "start", "up": "start", "restart": "start", "send": "deliver", "receive": "deliver", "drop": "lose",
-    "clearinghouse": "house", "server": "house", "time": "clock", "directory": "mkdir", "replica": "epoch", "sync": "skulk", "lookup": "import",
+    "clearinghouse": "house", "server": "house", "time": "clock", "directory": "mkdir", "replica": "epoch", "sync": "skulk",
+    "lookup": "import",
 }  # fmt: skip
 TALK = {
     "help": "Help is in docs/SCRIPT.md, and tools/console answers `help` and `help COMMAND`.", "?": "tools/console answers `help`.",
-    "exit": "A script ends where its input ends: at a terminal Ctrl-D ends it.", "quit": "A script ends where its input ends: at a terminal Ctrl-D ends it.",
+    "exit": "A script ends where its input ends: at a terminal Ctrl-D ends it.",
+    "quit": "A script ends where its input ends: at a terminal Ctrl-D ends it.",
     "undo": "tools/console knows `undo`.", "save": "tools/console knows `save FILE`.", "messages": "tools/console knows `messages`.",
     "always": "tools/write knows `from here deliver all`.", "from": "That is a line for tools/write, which makes a script of it.",
 }  # fmt: skip
+ANSWERS = ("ok", "refused", "fault", "dump", "end", "binding", "entry", "attr", "value")
 COMMENTS = ("//", ";", "--", "rem", "!", "%", "'", "/*", "*")
 
 
@@ -28,7 +31,7 @@ def unknown(words, form, line):
     """Slips of a first word that is no command."""
     word = words[0]
     lower = word.lower().strip("\"',;:")
-    if re.fullmatch(r"\d+", word) and words[1:2] and words[1] in ("ok", "refused", "fault", "dump", "end", "binding", "entry", "attr", "value"):
+    if re.fullmatch(r"\d+", word) and words[1:2] and words[1] in ANSWERS:
         return "This is a line of answers. The script is the other file.", []
     if re.fullmatch(r"\d+[.:)]?", word) and words[1:2] and words[1] in COMMANDS:
         return "A line begins with its command; lines are counted without numbers in front.", [" ".join(words[1:])]
@@ -39,7 +42,8 @@ def unknown(words, form, line):
     if lower in COMMENTS or word.startswith(COMMENTS):
         return "A comment begins with `#`.", ["# " + line.strip().lstrip("/;-!%'* ").removeprefix("rem ").removeprefix("REM ")]
     if texts.CLOCK.fullmatch(word) or texts.DATE.match(word):
-        return "A line begins with its command, and a time is set by `clock H TIME` before it. tools/write takes lines of a log, with their times.", []
+        said = "A line begins with its command, and a time is set by `clock H TIME` before it."
+        return f"{said} tools/write takes lines of a log, with their times.", []
     known = FORMS[form]
     if lower in COMMANDS and lower not in known:
         other = language.form_of(lower)
@@ -65,8 +69,10 @@ def miscounted(words):
     cut = next((at for at, word in enumerate(words) if at and word.startswith(("#", "=>", "//", ";"))), None)
     if cut:
         rest = words[:cut] if fitting(words[:cut]) else None
-        said = "What follows `=>` on the pages is the answer, and no part of the line."
-        return ("A remark needs a line of its own: a `#` further on begins no comment." if words[cut] != "=>" else said), [" ".join(rest)] if rest else []
+        said = "A remark needs a line of its own: a `#` further on begins no comment."
+        if words[cut].startswith("=>"):
+            said = "What follows `=>` on the pages is the answer, and no part of the line."
+        return said, [" ".join(rest)] if rest else []
     for look in (several, missing, split, generic):
         found = look(words)
         if found:
@@ -81,7 +87,8 @@ def several(words):
         what = "message" if command in ("deliver", "lose") else "house"
         return f"`{command}` takes one {what}: write a line for each.", [f"{command} {word}" for word in rest]
     if command in ("deliver", "lose") and len(rest) > 1:
-        return f"`{command}` takes the number of one message and no more. tools/write and tools/console know `deliver all but to HOUSE`.", []
+        said = f"`{command}` takes the number of one message and no more."
+        return f"{said} tools/write and tools/console know `deliver all but to HOUSE`.", []
     if command == "clear" and len(words) == 6:
         return "`clear` takes all values away. `remove` takes one.", [" ".join(["remove", *words[1:]])]
     return None
@@ -144,7 +151,8 @@ def split(words):
     if kinds[-1] == "ATTR" and command == "read":
         return "One attribute a line.", [" ".join([*words[:4], part]) for part in rest[3:]]
     if any(word.endswith(",") for word in rest[:-1]) or "," in rest:
-        return "Lists of bindings, objects and protocol sequences are one word: no space after a comma.", [re.sub(r" ?, +", ",", " ".join(words))]
+        said = "Lists of bindings, objects and protocol sequences are one word: no space after a comma."
+        return said, [re.sub(r" ?, +", ",", " ".join(words))]
     return None
 
 
@@ -184,7 +192,8 @@ def octet(line, place):
 
 def letter(line, place):
     """A letter of another alphabet, or a mark that an editor put in place of one."""
-    marks = {"\u00a0": " ", "\u2013": "-", "\u2014": "-", "\u2018": "'", "\u2019": "'", "\u201c": '"', "\u201d": '"', "\u2026": "..", "\u2192": "->"}
+    dashes, quotes = {"\u2013": "-", "\u2014": "-"}, {"\u2018": "'", "\u2019": "'", "\u201c": '"', "\u201d": '"'}
+    marks = {"\u00a0": " ", "\u2026": "..", "\u2192": "->"} | dashes | quotes
     text = line[place - 1 :].decode("utf-8", "replace")
     if text[:1] in marks:
         better = line.decode("utf-8", "replace")

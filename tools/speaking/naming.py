@@ -75,7 +75,8 @@ class Names:
             return word
         number = self.directories.get(word.rstrip("/"))
         if number is None:
-            raise Fault(f"No directory {word} was made here; there are {', '.join(self.directories)}. `mkdir HOUSE {word} MASTER ..` makes it.")
+            known = ", ".join(self.directories)
+            raise Fault(f"No directory {word} was made here; there are {known}. `mkdir HOUSE {word} MASTER ..` makes it.")
         return str(number)
 
     def entry(self, rest):
@@ -152,7 +153,8 @@ class Names:
 
     def stop(self, rest):
         """The words of a `stop`."""
-        return ["stop", *map(self.house, rest[:1]), *rest[1:3], *(self.plain(rest[3:]) if len(rest) > 3 and rest[3] in COMMANDS else rest[3:])]
+        inner = self.plain(rest[3:]) if len(rest) > 3 and rest[3] in COMMANDS else rest[3:]
+        return ["stop", *map(self.house, rest[:1]), *rest[1:3], *inner]
 
     def taken(self, kind, after, rest):
         """Takes what one kind wants off the words, and answers it as a script has it."""

@@ -53,7 +53,8 @@ def secondary(kind, word, words):
     found = re.fullmatch(r"(\d{1,3})(?::\d+)?:([msr])", word)
     if found and kind in ("M", "R..", "H..", "H"):
         mark = "s" if found.group(2) == "s" and kind == "R.." else ""
-        return "That is how a dump prints a member. A script has its number alone, with `s` in front of a secondary one.", mark + found.group(1)
+        said = "That is how a dump prints a member. A script has its number alone, with `s` in front of a secondary one."
+        return said, mark + found.group(1)
     if word in ("s", "S") and kind == "R..":
         return "No space goes between `s` and the number of a secondary house, as in `s3`.", None
     return None
@@ -117,7 +118,8 @@ def named_message(word, words):
     if word == "all":
         return f"`{words[0]}` takes the number of one message. tools/write and tools/console know `{words[0]} all`.", None
     if word in ("to", "msg", "message", "but"):
-        return f"`{words[0]}` takes the number of one message and no more, as `{words[0]} 1`. tools/write knows `{words[0]} to HOUSE`.", None
+        said = f"`{words[0]}` takes the number of one message and no more, as `{words[0]} 1`."
+        return f"{said} tools/write knows `{words[0]} to HOUSE`.", None
     return "Write the number of the message: the answer to the command that posted it names it, after `posted`.", None
 
 
@@ -126,5 +128,6 @@ def named_directory(word):
     if word in ("/.:", "/.:/", "/", "root", "."):
         return "A directory is a number; the root is 1.", "1"
     if word.startswith("/"):
-        return f"A directory is a number: the one after `ok` in the answer to the `mkdir` that made {word[:60]}. tools/write takes names.", None
+        said = f"A directory is a number: the one after `ok` in the answer to the `mkdir` that made {word[:60]}."
+        return f"{said} tools/write takes names.", None
     return "A directory is a number: 1 is the root, and `mkdir` answers `ok` and the number of a new one.", None

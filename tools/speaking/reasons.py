@@ -101,12 +101,14 @@ def no_replica(replay, step, _):
     last, posted = epochs[-1], joins(replay, house, directory)
     if house not in last.members:
         again = f"`epoch {directory} {members_words(last, [house])}`"
-        yield f"House {house} is no member of directory {directory}, which has the houses {list_of(last.members)}. {again} adds it; then deliver its Join."
+        yield f"House {house} is no member of directory {directory}, which has the houses {list_of(last.members)}."
+        yield f"{again} adds it; then deliver its Join."
     elif posted and posted[0].lost is None:
         yield f"House {house} is a member, and has not got its Join yet: `deliver {posted[0].serial}`."
     elif posted:
         line = replay.steps[posted[0].lost].line
-        yield f"The Join for house {house}, message {posted[0].serial}, was lost in line {line}. `epoch {directory} {members_words(last)}` posts another one."
+        yield f"The Join for house {house}, message {posted[0].serial}, was lost in line {line}."
+        yield f"`epoch {directory} {members_words(last)}` posts another one."
 
 
 def not_master(replay, step, _):
@@ -126,7 +128,8 @@ def not_member(replay, step, _):
     """The new master is no member."""
     directory, last = directory_of(step), replay.epochs[directory_of(step)][-1]
     house = houses_of(step)[0]
-    yield f"The members are {list_of(last.members)}. First `epoch {directory} {members_words(last, [house])}`, and deliver its Join to house {house}."
+    again = f"`epoch {directory} {members_words(last, [house])}`"
+    yield f"The members are {list_of(last.members)}. First {again}, and deliver its Join to house {house}."
 
 
 def not_joined(replay, step, _):
@@ -149,7 +152,8 @@ def no_message(replay, step, _):
         how = "was lost" if lost.command == "lose" else "was lost with the power of its sender"
         yield f"Message {serial} {how} in line {lost.line}."
     else:
-        yield f"Message {serial} was not posted: " + (f"the last one is {len(replay.messages)}." if replay.messages else "there is none yet.")
+        last = f"the last one is {len(replay.messages)}" if replay.messages else "there is none yet"
+        yield f"Message {serial} was not posted: {last}."
 
 
 def no_entry(replay, step, _):
@@ -161,7 +165,8 @@ def no_entry(replay, step, _):
 
 def near(name, known):
     """Names like one that is not there."""
-    like = [it for it in known if it.lower() == name.lower() and it != name] or [it for it in difflib.get_close_matches(name, known, 2, 0.7) if it != name]
+    others = [it for it in known if it != name]
+    like = [it for it in others if it.lower() == name.lower()] or difflib.get_close_matches(name, others, 2, 0.7)
     return f" Is `{list_of(like)}` meant?" if like else ""
 
 
@@ -169,7 +174,8 @@ def entry_exists(replay, step, _):
     """An entry is there."""
     directory, name = int(step.words[1]), step.words[2]
     for before in reversed(replay.steps):
-        if before.command in ("create", "link", "mkdir") and before.is_done() and (int(before.words[1]), before.words[2]) == (directory, name):
+        made = before.command in ("create", "link", "mkdir") and before.is_done()
+        if made and (int(before.words[1]), before.words[2]) == (directory, name):
             yield f"`{name}` was made in line {before.line}."
             return
 
@@ -189,7 +195,7 @@ def no_name(replay, step, numbers):
         known = sorted({name for (_, name), entry in replay.entries.items() if entry.kind})
         yield f"In {above} there is no `{parts[count]}` at the house that was asked." + near(parts[count], known)
     elif linked:
-        yield f"{count or 'None'} of the components of the name that the walk came to, by links, {'is' if count == 1 else 'are'} there before the missing one."
+        yield f"The name that the walk came to, by links, has {count or 'no'} component{'' if count == 1 else 's'} before the missing one."
 
 
 def not_directory(replay, step, numbers):

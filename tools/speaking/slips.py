@@ -28,7 +28,8 @@ def node(word, words):
         return f"A node has 12 digits, and here are {len(word)}; zeros in front count.", word.zfill(12).lower()
     if texts.is_hex(word):
         return f"A node has 12 digits, and here are {len(word)}.", None
-    return "Write the address of the host's network card (MAC) in 12 hexadecimal digits; any 12 will do, if each house has its own.", None
+    said = "Write the address of the host's network card (MAC) in 12 hexadecimal digits; any 12 will do"
+    return f"{said}, if each house has its own.", None
 
 
 def simple(word, words):
@@ -79,7 +80,8 @@ def value(word, words):
         return "A value has at most 1,024 octets, which are 2,048 digits.", None
     bare = word.strip("\"'")
     if bare != word:
-        return "A value is hexadecimal in a script, two digits an octet. tools/write and tools/console take text in quotes.", texts.value(bare)
+        said = "A value is hexadecimal in a script, two digits an octet. tools/write and tools/console take text in quotes."
+        return said, texts.value(bare)
     if re.fullmatch(r"0[xX]([0-9A-Fa-f]{2})+", word):
         return "Hexadecimal digits have no `0x` in front.", word[2:].lower()
     if re.fullmatch(r"[0-9A-Fa-f]{2}([:-][0-9A-Fa-f]{2})+", word):
@@ -88,7 +90,7 @@ def value(word, words):
         return f"Each octet has two digits, and here are {len(word)}.", "0" + word if len(word) == 1 else None
     if not bare:
         return "A value has at least one octet.", None
-    return f'A value is hexadecimal, two digits an octet. Where the text {bare[:40]} is meant: (`printf {bare[:40]} | xxd -p`)', texts.value(bare)
+    return f"A value is hexadecimal, two digits an octet. If the text {bare[:40]} is meant (`printf {bare[:40]} | xxd -p`):", texts.value(bare)
 
 
 def octets(word, words):

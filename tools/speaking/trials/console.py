@@ -95,14 +95,16 @@ def files(path):
         yield "save, and not over", said_problem(said, ["cell.cds has 7 lines", "`save cell.cds over` writes over it", "cell.svg is drawn"])
         with open(f"{folder}/cell.cds", encoding="ascii") as it:
             script = it.read()
-        yield "what is saved", None if script.endswith("create 1 1 lpr\n# house 1 is a_ch\n# house 2 is b_ch\n# house 3 is c_ch\n") else script
+        names = "# house 1 is a_ch\n# house 2 is b_ch\n# house 3 is c_ch\n"
+        yield "what is saved", None if script.endswith(f"create 1 1 lpr\n{names}") else script
         yield "what is drawn", None if os.path.getsize(f"{folder}/cell.svg") > 1000 else "it is empty"
         said, _ = piped(path, "load cell.cds\ndeliver to b_ch\nundo\nundo\nhouse x\n", folder=folder)
         yield "load", said_problem(said, ["cell.cds is loaded", "ok taken", "taken back: deliver to b_ch", "1 ok"])
         with open(f"{folder}/bad.cds", "w", encoding="ascii") as it:
             it.write("house 1 00000000000a\nroot a_ch\nhouse 2 00000000000b\n")
         said, _ = piped(path, "load bad.cds\nroot 1\n", folder=folder)
-        yield "load of a faulty script", said_problem(said, ["bad.cds, line 2: root a_ch", "There is no house `a_ch`", "the next one is 2", "2 ok"])
+        wanted = ["bad.cds, line 2: root a_ch", "There is no house `a_ch`", "the next one is 2", "2 ok"]
+        yield "load of a faulty script", said_problem(said, wanted)
 
 
 class Terminal:

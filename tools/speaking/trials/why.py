@@ -69,7 +69,7 @@ def faults_of_the_page(path):
     """Each faulty line that SCRIPT.md lists gets its place marked, and a line of what to do that is no mere form."""
     for line, fault, form in re.findall(r"(?m)^\| (`.*`) \| `1 fault ([A-Za-z]+ \d+)` \|()$", pages.text()):
         for script in re.findall("`([^`]+)`", line):
-            form = next((it for it in ("journal", "inquire") if script.split()[0] in language.FORMS[it] and script.split()[0] not in language.RUN), "run")
+            form = language.form_of(script.split()[0]) or "run"
             said, status = ask(path, f"{script}\n".encode(), form)
             good = status == 3 and fault in said and re.search(r"(?m)^ *\^+$", said) and len(said.splitlines()) >= 5
             yield script, None if good else said
