@@ -1,20 +1,20 @@
-"""What docs/SCRIPT.md says of words, commands and refusals, for the tools that say it again."""
+"""What docs/SCRIPT.md and docs/FORMS.md say of words, commands and refusals, for the tools that say it again."""
 import functools
 import os
+import pathlib
 import re
 
 from speaking import language
 
 ROOT = os.path.dirname(os.path.dirname(os.path.dirname(os.path.realpath(__file__))))
-PAGE = f"{ROOT}/docs/SCRIPT.md"
+PAGES = [f"{ROOT}/docs/{it}.md" for it in ("SCRIPT", "FORMS")]
 
 
 @functools.lru_cache(1)
 def text():
-    """The page, or nothing where it is not there."""
+    """The pages, or nothing if they are not there."""
     try:
-        with open(PAGE, encoding="utf-8") as it:
-            return it.read()
+        return "\n".join(pathlib.Path(it).read_text(encoding="utf-8") for it in PAGES)
     except OSError:
         return ""
 
