@@ -45,9 +45,10 @@ fn sent(alloc: Global, replica: &Replica) -> Result<Replica, Fail> {
         floor: 0,
     };
     let octets = encode_spread(alloc, &head, &stamp(1)?, &replica.delta(alloc)?)?;
-    match decode(alloc, &octets)?.0.body {
+    let (message, _) = decode(alloc, &octets)?;
+    match &message.body {
         Body::Spread(_, delta) => Ok(Replica {
-            table: delta.table,
+            table: delta.table.copy(alloc)?,
             all_up_to: delta.above,
         }),
         _ => Err("another message".into()),

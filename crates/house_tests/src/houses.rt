@@ -12,6 +12,7 @@ use clearinghouse::{
 use directory::{Table, Update};
 use purge_rule::Replica;
 use std::alloc::{AllocError, Global};
+use std::mem::replace;
 use std::test::Fail;
 
 const ROOT: DirId = DirId(1);
@@ -173,9 +174,9 @@ fn goes_alone(alloc: Global, house: &mut Clearinghouse, mail: &mut PostedList) -
     if members.master() != house.number() {
         return Err("another master".into());
     }
-    match house.new_epoch(alloc, ROOT, EpochNo(2), &members, &[HouseNo(2)])? {
+    match &mut house.new_epoch(alloc, ROOT, EpochNo(2), &members, &[HouseNo(2)])? {
         EpochSet::Done(posted) => {
-            *mail = posted;
+            *mail = replace(posted, PostedList::new(alloc));
             Ok(())
         }
         EpochSet::Refused(_) => Err("refused".into()),
@@ -326,9 +327,9 @@ fn epoch_refusal(
     if members.master() != house.number() {
         return Err("another master".into());
     }
-    match house.new_epoch(alloc, dir, EpochNo(1), &members, &[])? {
+    match &house.new_epoch(alloc, dir, EpochNo(1), &members, &[])? {
         EpochSet::Done(_) => Ok(None),
-        EpochSet::Refused(refusal) => Ok(Some(refusal)),
+        EpochSet::Refused(refusal) => Ok(Some(*refusal)),
     }
 }
 
