@@ -117,7 +117,7 @@ def check_repeated(record, last, turn):
     """A start or a segment repeats the last turn, after the record before."""
     if record.turn != turn:
         raise Damaged(f"{record.place}: repeats another turn than the last one")
-    if record.kind == "segment" and (record.number, record.image) != (last.number, last.image):
+    if record.kind == "segment" and (record.number, record.image, record.clock) != (last.number, last.image, last.clock):
         raise Damaged(f"{record.place}: does not follow the record before")
     if record.kind == "segment" and record.lines[0] != f"segment {last.number}":
         raise Damaged(f"{record.place}: segment {last.number} was due")
@@ -138,6 +138,8 @@ def entries(folder):
             check_repeated(record, found[-1], turn)
         if record.kind == "segment":
             continue
+        if record.kind == "start" and record.clock:
+            raise Damaged(f"{record.place}: a start at {record.clock}")
         if record.image is None:
             raise Damaged(f"{record.place}: no image")
         if record.number != len(found) + 1:

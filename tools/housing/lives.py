@@ -31,7 +31,8 @@ class House:
         self.node = f"{0xA0 + number:012x}"
         self.process = None
         self.jobs = []
-        # What it answered in this life, as (line, posts, answer), and the last turn of all.
+        # Its clock, what it answered in this life, as (line, posts, answer, clock), and the last turn of all.
+        self.clock = 0
         self.answered = []
         self.last = None
         # What it posted of an answer that never ended.
@@ -58,10 +59,12 @@ class House:
         self.jobs.pop(0)
         posts = self.process.fetched()
         if is_turn(job.line, answer):
-            self.answered.append((job.line, posts, answer[-1]))
+            self.answered.append((job.line, posts, answer[-1], self.clock))
             self.entry += 1
         elif posts:
             raise Difference(f"house {self.number}: {job.line} is no turn, and posts")
+        elif job.line.startswith("clock ") and answer == ["ok"]:
+            self.clock = int(job.line.split(" ")[1])
         return job, answer, posts
 
     def start(self):
@@ -85,7 +88,7 @@ class House:
     def made(self, said):
         if said != ["ok"] or self.last:
             raise Difference(f"house {self.number}: is new, and says {said} where its last turn is {self.last}")
-        self.answered = [(self.jobs.pop().line, [], "ok")]
+        self.answered = [(self.jobs.pop().line, [], "ok", 0)]
         self.last = self.answered[0]
         self.entry = 1
         self.segment = journals.numbers(self.folder)[-1]
@@ -112,7 +115,7 @@ class House:
             at = next(at for at, turn in enumerate(before) if at >= len(turns) or turn != turns[at])
             raise Difference(f"house {self.number}: answered {short(before[at])}, its journal has {short(turns[at : at + 1])}")
         done = self.jobs[:1] if more else []
-        if len(more) > 1 or more and (not done or more[0][0] != done[0].line):
+        if len(more) > 1 or more and (not done or (more[0][0], more[0][3]) != (done[0].line, self.clock)):
             raise Difference(f"house {self.number}: its journal has {short(more)}, under way was {[job.line[:80] for job in done]}")
         self.check_partial(more)
         self.last = (before + more or [self.last])[-1]
@@ -120,7 +123,7 @@ class House:
         if [said[1], posts, said[2]] != [f"last {line}", self.last[1], self.last[2]]:
             raise Difference(f"house {self.number}: its last turn is {short(self.last)}, it says {short(said)}")
         self.turns += len(before) + len(more)
-        self.answered, self.jobs, self.entry, self.segment = [], [], entry, segment
+        self.answered, self.jobs, self.entry, self.segment, self.clock = [], [], entry, segment, 0
         return posts, done
 
     def check_partial(self, more):
@@ -134,7 +137,8 @@ class House:
         segments = [journals.Segment(f"{self.folder}/{number}", number) for number in numbers if number >= self.segment]
         records = [record for segment in segments for record in segment.records]
         turns = [record for record in records if record.kind not in ("new", "start", "segment")]
-        return [(turn.line, turn.posts, turn.answer) for turn in turns], records[-1].number, numbers[-1]
+        found = [(turn.line, turn.posts, turn.answer, turn.clock) for turn in turns]
+        return found, records[-1].number, numbers[-1]
 
     def died(self):
         """After its last answer: what it posted of an answer that never ended goes out, too. Starts it again, as `start`."""

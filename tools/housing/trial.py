@@ -21,10 +21,10 @@ REFUSED = ("NoReplica", "NotMaster", "EntryExists", "NoSuchEntry", "WrongKind")
 class Plan:
     """How awful a run is, by its seed."""
 
-    def __init__(self, seed, houses=0, lines=0, small=True):
+    def __init__(self, seed, args):
         chance = random.Random(seed)
-        self.houses = houses or chance.choice([2, 3, 3, 4, 5])
-        self.lines = lines or chance.choice([150, 300, 450])
+        self.houses = args.houses or chance.choice([2, 3, 3, 4, 5])
+        self.lines = args.lines or chance.choice([150, 300, 450])
         self.kill = chance.choice([0, 0.1, 0.3])
         self.late = chance.choice([0.0005, 0.002, 0.004])
         self.loss = chance.choice([0, 5, 15, 30])
@@ -34,7 +34,9 @@ class Plan:
         # Some houses have a full disk: so many octets at first.
         self.room = chance.choice([0, 0, 0, 60_000])
         # After so many octets a segment is changed, where the program takes that.
-        self.segment = chance.choice([0, 5_000, 20_000]) if small else 0
+        self.segment = chance.choice([0, 5_000, 20_000]) if args.small else 0
+        if args.steady:
+            self.kill = self.power = self.fail = self.room = 0
 
 
 class Trial:
