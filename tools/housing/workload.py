@@ -47,7 +47,10 @@ class Workload:
 
     def job(self, house):
         octets = self.net.next_for(house) if self.random.random() < 0.45 else None
-        return take_job(octets) if octets else Job([self.line(house)])
+        if octets:
+            return take_job(octets)
+        # (pieces of a message, which the line after them makes the house forget)
+        return Job([*["more 0202"] * (self.random.random() < 0.04), self.line(house)])
 
     def directory(self, house):
         """Mostly one that the house accepts updates of."""
