@@ -53,6 +53,10 @@ class Process:
         line, self.waiting = self.waiting.split(b"\n", 1)
         return line.decode("ascii")
 
+    def next_line(self):
+        """The next line that it says as it is, or None at the end."""
+        return self.line(time.monotonic() + LONGEST)
+
     def answer(self):
         """The lines of the next answer without their numbers and without posts, or None where it ended before."""
         found, until = [], time.monotonic() + LONGEST
