@@ -134,11 +134,14 @@ fn body_of(record: &[u8], before: Option<&Sum>) -> Option<(Sum, usize)> {
     if sha256(before, body) == *sum { Some((*sum, body.len())) } else { None }
 }
 
-/// Whether a record behind a gate that is not open was counted once: no crash leaves that.
+/// Whether a record behind a gate that is not open was counted once, or the gate is 1: no crash leaves that.
 fn was_counted(octets: &[u8], gate: usize, before: &Sum) -> bool {
-    let Some(rest) = octets.get(gate + 1..) else {
+    let Some((last, rest)) = octets.get(gate..).and_then(<[u8]>::split_first) else {
         return false;
     };
+    if *last == 1 {
+        return true;
+    }
     let opened = [&[1], rest].concat();
     let is_whole = record_at(&opened, 0).filter(|record| body_of(record, Some(before)).is_some());
     is_whole.is_some_and(|record| opened.get(1 + LENGTH + record.len()) == Some(&1))

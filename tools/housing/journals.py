@@ -74,7 +74,7 @@ class Segment:
     def __init__(self, path, number):
         with open(path, "rb") as file:
             octets = file.read()
-        found, _ = listed(octets)
+        found, gate = listed(octets)
         if len(found) < 2:
             raise Damaged(f"{path}: {len(found)} records")
         head = HEAD % number
@@ -85,6 +85,15 @@ class Segment:
         self.last = self.before
         bodies = [self.body(f"{path} record {at}", record) for at, record in enumerate(found)]
         self.records = [Record(f"{path} record {at}", body) for at, body in enumerate(bodies) if at]
+        self.check_end(octets, gate)
+
+    def check_end(self, octets, gate):
+        """No crash leaves a gate 1 at the end, or after it a record that fits and an open gate."""
+        found, _ = listed(b"\1" + octets[gate + 1 :])
+        if octets[gate : gate + 1] == b"\1":
+            raise Damaged(f"{self.path}: record {len(self.records) + 1} is not whole")
+        if len(found) > 1 and hashlib.sha256(self.last + found[0][:-SUM]).digest() == found[0][-SUM:]:
+            raise Damaged(f"{self.path}: the gate of record {len(self.records) + 1} is closed")
 
     def body(self, place, record):
         """A record without its sum, which has to be that of it and all before."""
