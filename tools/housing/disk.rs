@@ -1,5 +1,5 @@
 //! A disk that loses its power, fails and fills up, between a house and its folder: a library that `LD_PRELOAD` puts before the C
-//! library. It stands in for the calls that write (`pwrite64`, `ftruncate64`, `fsync`, `fdatasync`, `rename`) and follows which octets and
+//! library. It stands in for the calls that write (`open`, `pwrite`, `ftruncate`, `fsync`, `rename`, under all of their names) and follows which octets and
 //! names a crash would keep. What was not synced is remembered over the death of the process, as a machine does that goes on.
 //!
 //! HOUSE_DISK is `FOLDER STATE SEED LOSS FAIL ROOM`: the folder of the house, a folder for what the disk is sure to keep, a seed, one in how
@@ -14,7 +14,7 @@ use std::fs;
 use std::mem::transmute;
 use std::os::unix::ffi::OsStrExt;
 use std::os::unix::fs::MetadataExt;
-use std::path::Path;
+use std::path::{Path, PathBuf};
 use std::sync::Mutex;
 use std::sync::atomic::{AtomicBool, Ordering};
 
@@ -30,20 +30,8 @@ const INPUT_OUTPUT: c_int = 5;
 const NO_SPACE: c_int = 28;
 /// The flag of an open that cuts all off.
 const TRUNCATE: c_int = 0o1000;
-
-type Open = unsafe extern "C" fn(*const c_char, c_int, u32) -> c_int;
-type Close = unsafe extern "C" fn(c_int) -> c_int;
-type Pwrite = unsafe extern "C" fn(c_int, *const c_void, usize, i64) -> isize;
-type Ftruncate = unsafe extern "C" fn(c_int, i64) -> c_int;
-type Fsync = unsafe extern "C" fn(c_int) -> c_int;
-type Rename = unsafe extern "C" fn(*const c_char, *const c_char) -> c_int;
-
-/// The function of the C library.
-macro_rules! real {
-    ($name:literal, $type:ty) => {
-        transmute::<*mut c_void, $type>(dlsym(NEXT, $name.as_ptr()))
-    };
-}
+/// The descriptor that stands for the present folder.
+const PRESENT_FOLDER: c_int = -100;
 
 /// Whether this library itself makes the call.
 static INSIDE: AtomicBool = AtomicBool::new(false);
@@ -113,7 +101,6 @@ impl Disk {
             Fate::Fails => refuse(INPUT_OUTPUT),
             fate => {
                 self.name(from, to);
-                self.paths.values_mut().filter(|path| *path == from).for_each(|path| *path = to.to_path_buf());
                 self.ended(fate, rename)
             }
         }
@@ -130,24 +117,19 @@ impl Disk {
         }
     }
 
-    fn open(&mut self, path: &Path, flags: c_int, open: impl Fn() -> c_int) -> c_int {
-        let is_ours = path == self.folder || path.parent() == Some(&self.folder) && path.file_name() != Some(OsStr::new("lock"));
-        let was_there = path.exists();
-        if is_ours && was_there && flags & TRUNCATE != 0 {
-            let number = fs::metadata(path).map_or(0, |it| it.ino());
-            let unsynced = self.unsynced(path, number);
+    /// Opens a file. One that was not there has a name that the disk may forget.
+    fn open(&mut self, path: PathBuf, flags: c_int, open: impl Fn() -> c_int) -> c_int {
+        let number = fs::metadata(&path).ok().map(|it| it.ino());
+        if let Some(number) = number.filter(|_| self.has(&path) && flags & TRUNCATE != 0) {
+            let unsynced = self.unsynced(&path, number);
             unsynced.changes.push(Change::Cut(0));
             unsynced.least = 0;
         }
         let descriptor = open();
-        if is_ours && descriptor >= 0 {
-            self.paths.insert(descriptor, path.to_path_buf());
-            if !was_there {
-                let number = fs::metadata(path).map_or(0, |it| it.ino());
-                let _ = fs::write(self.kept_path(number), b"");
-                self.files.remove(&number);
-                self.name(Path::new(""), path);
-            }
+        if let Some((path, new)) = self.tracked(descriptor).filter(|_| number.is_none()) {
+            let _ = fs::write(self.kept_path(new), b"");
+            self.files.remove(&new);
+            self.name(Path::new(""), &path);
         }
         descriptor
     }
@@ -172,52 +154,85 @@ fn through<T>(real: impl Fn() -> T, call: impl FnOnce(&mut Disk) -> T) -> T {
     done.unwrap_or_else(real)
 }
 
-fn path_of<'a>(path: *const c_char) -> &'a Path {
-    Path::new(OsStr::from_bytes(unsafe { CStr::from_ptr(path) }.to_bytes()))
+/// The whole path of a file as a folder's descriptor and a path of it name it.
+fn path_of(folder: c_int, path: *const c_char) -> PathBuf {
+    let path = Path::new(OsStr::from_bytes(unsafe { CStr::from_ptr(path) }.to_bytes()));
+    let folder = match folder {
+        PRESENT_FOLDER => std::env::current_dir(),
+        folder => fs::read_link(format!("/proc/self/fd/{folder}")),
+    };
+    let path = folder.unwrap_or_default().join(path);
+    let parent = path.parent().and_then(|parent| fs::canonicalize(parent).ok());
+    match (parent, path.file_name()) {
+        (Some(parent), Some(name)) => parent.join(name),
+        _ => path,
+    }
 }
 
-#[unsafe(no_mangle)]
-pub extern "C" fn open64(path: *const c_char, flags: c_int, mode: u32) -> c_int {
-    let real = || unsafe { real!(c"open64", Open)(path, flags, mode) };
-    through(real, |disk| disk.open(path_of(path), flags, real))
+/// A function in the place of one of the C library, which does it by way of this body.
+macro_rules! call {
+    ($body:path, $name:ident $real:literal, ($($argument:ident: $type:ty),*) -> $result:ty) => {
+        #[unsafe(no_mangle)]
+        pub extern "C" fn $name($($argument: $type),*) -> $result {
+            type Real = unsafe extern "C" fn($($type),*) -> $result;
+            $body(unsafe { transmute::<*mut c_void, Real>(dlsym(NEXT, $real.as_ptr())) }, $($argument),*)
+        }
+    };
 }
 
-#[unsafe(no_mangle)]
-pub extern "C" fn close(descriptor: c_int) -> c_int {
-    let real = || unsafe { real!(c"close", Close)(descriptor) };
-    through(real, |disk| {
-        disk.paths.remove(&descriptor);
-        real()
-    })
+type Open = unsafe extern "C" fn(*const c_char, c_int, u32) -> c_int;
+type OpenAt = unsafe extern "C" fn(c_int, *const c_char, c_int, u32) -> c_int;
+type Pwrite = unsafe extern "C" fn(c_int, *const c_void, usize, i64) -> isize;
+type Ftruncate = unsafe extern "C" fn(c_int, i64) -> c_int;
+type Fsync = unsafe extern "C" fn(c_int) -> c_int;
+type Rename = unsafe extern "C" fn(*const c_char, *const c_char) -> c_int;
+type RenameAt = unsafe extern "C" fn(c_int, *const c_char, c_int, *const c_char) -> c_int;
+
+fn opened(real: Open, path: *const c_char, flags: c_int, mode: u32) -> c_int {
+    let real = || unsafe { real(path, flags, mode) };
+    through(real, |disk| disk.open(path_of(PRESENT_FOLDER, path), flags, real))
 }
 
-#[unsafe(no_mangle)]
-pub extern "C" fn pwrite64(descriptor: c_int, octets: *const c_void, size: usize, at: i64) -> isize {
-    let write = |octets: &[u8]| unsafe { real!(c"pwrite64", Pwrite)(descriptor, octets.as_ptr().cast(), octets.len(), at) };
+fn opened_at(real: OpenAt, folder: c_int, path: *const c_char, flags: c_int, mode: u32) -> c_int {
+    let real = || unsafe { real(folder, path, flags, mode) };
+    through(real, |disk| disk.open(path_of(folder, path), flags, real))
+}
+
+fn written(real: Pwrite, descriptor: c_int, octets: *const c_void, size: usize, at: i64) -> isize {
+    let write = |octets: &[u8]| unsafe { real(descriptor, octets.as_ptr().cast(), octets.len(), at) };
     let octets = unsafe { std::slice::from_raw_parts(octets.cast::<u8>(), size) };
     through(|| write(octets), |disk| disk.write(descriptor, octets, at, write))
 }
 
-#[unsafe(no_mangle)]
-pub extern "C" fn ftruncate64(descriptor: c_int, size: i64) -> c_int {
-    let real = || unsafe { real!(c"ftruncate64", Ftruncate)(descriptor, size) };
+fn cut(real: Ftruncate, descriptor: c_int, size: i64) -> c_int {
+    let real = || unsafe { real(descriptor, size) };
     through(real, |disk| disk.cut(descriptor, size, real))
 }
 
-#[unsafe(no_mangle)]
-pub extern "C" fn fsync(descriptor: c_int) -> c_int {
-    let real = || unsafe { real!(c"fsync", Fsync)(descriptor) };
+fn synced(real: Fsync, descriptor: c_int) -> c_int {
+    let real = || unsafe { real(descriptor) };
     through(real, |disk| disk.sync(descriptor, real))
 }
 
-#[unsafe(no_mangle)]
-pub extern "C" fn fdatasync(descriptor: c_int) -> c_int {
-    let real = || unsafe { real!(c"fdatasync", Fsync)(descriptor) };
-    through(real, |disk| disk.sync(descriptor, real))
+fn renamed(real: Rename, from: *const c_char, to: *const c_char) -> c_int {
+    let real = || unsafe { real(from, to) };
+    through(real, |disk| disk.rename(&path_of(PRESENT_FOLDER, from), &path_of(PRESENT_FOLDER, to), real))
 }
 
-#[unsafe(no_mangle)]
-pub extern "C" fn rename(from: *const c_char, to: *const c_char) -> c_int {
-    let real = || unsafe { real!(c"rename", Rename)(from, to) };
-    through(real, |disk| disk.rename(path_of(from), path_of(to), real))
+fn renamed_at(real: RenameAt, folder: c_int, from: *const c_char, other: c_int, to: *const c_char) -> c_int {
+    let real = || unsafe { real(folder, from, other, to) };
+    through(real, |disk| disk.rename(&path_of(folder, from), &path_of(other, to), real))
 }
+
+call!(opened, open c"open", (path: *const c_char, flags: c_int, mode: u32) -> c_int);
+call!(opened, open64 c"open64", (path: *const c_char, flags: c_int, mode: u32) -> c_int);
+call!(opened_at, openat c"openat", (folder: c_int, path: *const c_char, flags: c_int, mode: u32) -> c_int);
+call!(opened_at, openat64 c"openat64", (folder: c_int, path: *const c_char, flags: c_int, mode: u32) -> c_int);
+call!(written, pwrite c"pwrite", (descriptor: c_int, octets: *const c_void, size: usize, at: i64) -> isize);
+call!(written, pwrite64 c"pwrite64", (descriptor: c_int, octets: *const c_void, size: usize, at: i64) -> isize);
+call!(cut, ftruncate c"ftruncate", (descriptor: c_int, size: i64) -> c_int);
+call!(cut, ftruncate64 c"ftruncate64", (descriptor: c_int, size: i64) -> c_int);
+call!(synced, fsync c"fsync", (descriptor: c_int) -> c_int);
+call!(synced, fdatasync c"fdatasync", (descriptor: c_int) -> c_int);
+call!(renamed, rename c"rename", (from: *const c_char, to: *const c_char) -> c_int);
+call!(renamed_at, renameat c"renameat", (folder: c_int, from: *const c_char, other: c_int, to: *const c_char) -> c_int);

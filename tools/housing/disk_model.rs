@@ -2,10 +2,16 @@
 
 use std::collections::HashMap;
 use std::ffi::c_int;
-use std::fs::{self, File, OpenOptions};
-use std::io::Write;
+use std::fs::{self, OpenOptions};
+use std::io::{self, Write};
 use std::os::unix::fs::{FileExt, MetadataExt};
 use std::path::{Path, PathBuf};
+
+unsafe extern "C" {
+    fn fork() -> c_int;
+    fn waitpid(child: c_int, status: *mut c_int, options: c_int) -> c_int;
+    fn _exit(status: c_int) -> !;
+}
 
 /// What was done to a file since its last sync.
 pub enum Change {
@@ -27,7 +33,6 @@ pub struct Disk {
     loss: u64,
     fail: u64,
     room: u64,
-    pub paths: HashMap<c_int, PathBuf>,
     pub files: HashMap<u64, Unsynced>,
 }
 
@@ -69,9 +74,8 @@ impl Disk {
             return None;
         };
         let number = |word: &str| word.parse().unwrap_or(0);
-        let (paths, files) = (HashMap::new(), HashMap::new());
-        let (folder, state, random) = (folder.into(), state.into(), number(seed) | 1);
-        Some(Disk { folder, state, random, loss: number(loss), fail: number(fail), room: number(room), paths, files })
+        let (folder, state, random) = (fs::canonicalize(folder).ok()?, state.into(), number(seed) | 1);
+        Some(Disk { folder, state, random, loss: number(loss), fail: number(fail), room: number(room), files: HashMap::new() })
     }
 
     pub fn below(&mut self, most: usize) -> usize {
@@ -99,10 +103,15 @@ impl Disk {
 
 // What the disk is sure to keep.
 impl Disk {
-    /// A file of the folder by its descriptor, with its number and its octets.
-    pub fn tracked(&mut self, descriptor: c_int) -> Option<(PathBuf, u64)> {
-        let path = self.paths.get(&descriptor)?.clone();
-        let number = File::open(&path).ok()?.metadata().ok()?.ino();
+    /// Whether a path is the folder, or a file of it that the house writes.
+    pub fn has(&self, path: &Path) -> bool {
+        path == self.folder || path.parent() == Some(&self.folder) && path.file_name().is_some_and(|name| name != "lock")
+    }
+
+    /// The folder or a file of it by its descriptor, and the number of that file.
+    pub fn tracked(&self, descriptor: c_int) -> Option<(PathBuf, u64)> {
+        let path = fs::read_link(format!("/proc/self/fd/{descriptor}")).ok().filter(|path| self.has(path))?;
+        let number = fs::metadata(&path).ok()?.ino();
         Some((path, number))
     }
 
@@ -121,7 +130,8 @@ impl Disk {
             let now = fs::read(path).unwrap_or_default();
             let kept = self.kept(number, &now);
             if !self.kept_path(number).exists() {
-                let _ = fs::write(self.kept_path(number), &now);
+                let whole = self.state.join("whole");
+                let _ = fs::write(&whole, &now).and_then(|()| fs::rename(whole, self.kept_path(number)));
             }
             let (least, most) = (now.len().min(kept.len()), now.len().max(kept.len()));
             self.files.insert(number, Unsynced { changes: differences(&kept, &now), least, most });
@@ -214,12 +224,18 @@ impl Disk {
                 break;
             }
             let _ = match line.split_once('\t') {
-                Some(("", to)) => fs::remove_file(to),
+                Some(("", to)) => self.forget_file(Path::new(to)),
                 Some((from, to)) => fs::rename(to, from),
                 None => Ok(()),
             };
         }
         let _ = fs::remove_file(self.names_path());
+    }
+
+    /// A file is not there, as it was before it was made. (Another file may get its number.)
+    fn forget_file(&self, path: &Path) -> io::Result<()> {
+        fs::remove_file(self.kept_path(fs::metadata(path)?.ino()))?;
+        fs::remove_file(path)
     }
 
     fn files(&self) -> Vec<(PathBuf, u64)> {
@@ -228,8 +244,21 @@ impl Disk {
         files.filter_map(|entry| Some((entry.path(), entry.metadata().ok()?.ino()))).collect()
     }
 
-    /// Leaves of each file one of the contents that a crash may leave, and of each name that it is there or not; and aborts.
+    /// Leaves what a crash may leave, and aborts. A process of its own does it, which has the same output: whoever kills this one
+    /// meanwhile, and reads to the end of the output, finds it done.
     pub fn lose_power(&mut self) -> ! {
+        match unsafe { fork() } {
+            0 => {
+                self.leave();
+                unsafe { _exit(0) }
+            }
+            child => drop(unsafe { waitpid(child, std::ptr::null_mut(), 0) }),
+        }
+        std::process::abort()
+    }
+
+    /// Leaves of each file one of the contents that a crash may leave, and of each name that it is there or not.
+    fn leave(&mut self) {
         for (path, number) in self.files() {
             self.unsynced(&path, number);
             let unsynced = self.files.remove(&number).expect("it is there");
@@ -242,7 +271,6 @@ impl Disk {
             let _ = fs::write(self.kept_path(number), &left);
         }
         self.forget_names();
-        std::process::abort()
     }
 
     pub fn is_full(&self, path: &Path, end: u64) -> bool {

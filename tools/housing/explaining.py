@@ -200,6 +200,26 @@ class Explainer:
                 # one that can never be explained comes before those that wait for it
                 raise min(reasons, key=lambda reason: reason.waits)
 
+    def run_in_any_order(self, random):
+        """As `run`, but each step is of a random house of those that come on."""
+        self.begin()
+        while left := [house for house in self.houses if self.next[house] < len(self.items[house])]:
+            random.shuffle(left)
+            reasons = self.stopped_before_one(left)
+            if len(reasons) == len(left):
+                raise min(reasons, key=lambda reason: reason.waits)
+
+    def stopped_before_one(self, houses):
+        """Takes a step of the first of these houses that comes on. Returns why those before it do not."""
+        reasons = []
+        for house in houses:
+            try:
+                self.step(house)
+                break
+            except Unexplained as reason:
+                reasons.append(reason)
+        return reasons
+
     def go_on(self, house):
         """Explains a house as far as it comes. Returns why it stops, or None at its end."""
         while self.next[house] < len(self.items[house]):

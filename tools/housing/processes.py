@@ -6,7 +6,7 @@ import subprocess
 import time
 
 # So long a house may be silent, in seconds, where something is due.
-LONGEST = 30
+LONGEST = 120
 # The words after the number with which an answer ends.
 ENDS = ("ok", "refused", "fault", "end", "new")
 

@@ -53,8 +53,9 @@ class Trial:
         numbers = list(range(1, plan.houses + 1))
         self.houses = {number: self.house(number) for number in numbers}
         self.workload = Workload(self.random, self.console, self.net, numbers)
-        # What houses answered without a turn, by house and entry.
+        # What houses answered without a turn, by house and entry; and what the dump before a line said, by house.
         self.asked = collections.defaultdict(list)
+        self.dumped = {}
 
     # ---- houses
 
@@ -104,7 +105,7 @@ class Trial:
         chosen = self.random.sample(list(self.houses.values()), self.random.randrange(1, len(self.houses) + 1))
         has_number = False
         for house in chosen:
-            jobs = [self.workload.job(house.number) for _ in range(self.random.choice([1, 1, 1, 2, 4]))]
+            jobs = [job for _ in range(self.random.choice([1, 1, 1, 2, 4])) for job in self.workload.jobs(house.number)]
             wanted = not has_number and self.random.random() < (0.04 if self.console.directories else 1)
             numbered = self.workload.numbered(house.number) if wanted else None
             has_number |= numbered is not None
@@ -144,12 +145,28 @@ class Trial:
             self.console.done(house.number, job.line)
         if answer[-1].startswith("ok complete"):
             self.count["complete skulks"] += 1
+        self.compare_look(house, job, answer)
         word, end = job.line.split(" ")[0], answer[-1].split(" ")
         is_question = word in ("dump", "image") and end[0] == "end"
         is_refusal = end[0] == "refused" and (word in ("dump", *explaining.UPDATES) and end[1] in REFUSED or word == "take")
         is_not_taken = word == "take" and end[0] == "ok" and end[1] not in ("taken", "complete", "foreign")
         if (is_question or is_refusal or is_not_taken) and end[1:2] not in (["Trailing"], ["TooLong"]):
             self.asked[house.number, house.entry].append(explaining.Asked(job.line, answer))
+
+    def compare_look(self, house, job, answer):
+        """A look that comes just after a dump shows its present values."""
+        words = job.line.split(" ")
+        if words[0] == "dump" and answer[-1] == "end":
+            self.dumped[house.number] = (words[1], values_of(answer))
+            return
+        directory, values = self.dumped.pop(house.number, (None, {}))
+        if words[0] == "look" and words[1] == directory:
+            name, attribute = words[2:]
+            due = values.get(name)
+            shown = ["refused NoSuchEntry"] if due is None else [*(f"value {value}" for value in due.get(attribute, [])), f"end {len(due.get(attribute, []))}"]
+            if answer != shown:
+                raise Difference(f"house {house.number}: {job.line} is {answer}, the dump before has {shown}")
+            self.count["looks compared"] += 1
 
     # ---- the end
 
@@ -213,14 +230,45 @@ class Trial:
             self.count["segments"] += len(journals.numbers(house.folder))
         explainer = explaining.Explainer(entries, self.asked)
         explainer.run()
-        found, lines = replaying.differences(self.programs.plain, explainer.script)
-        self.count["lines compared"] += lines
+        self.replay(explainer)
         self.count["messages"] += explainer.messages
         self.count["messages taken"] += explainer.taken
         self.count["questions and refusals"] += sum(map(len, self.asked.values()))
+        if self.random.random() < 0.25:
+            explainer = explaining.Explainer(entries, self.asked)
+            explainer.run_in_any_order(self.random)
+            self.replay(explainer)
+            self.explain_beginnings(entries)
+
+    def explain_beginnings(self, entries):
+        """The beginnings of all journals are explained, too, as far as no house took what only an entry left out posted."""
+        explainer = explaining.Explainer({number: own[: self.random.randrange(1, len(own) + 1)] for number, own in entries.items()})
+        try:
+            explainer.run()
+        except explaining.Unexplained as reason:
+            if not reason.waits:
+                raise
+        self.replay(explainer)
+
+    def replay(self, explainer):
+        found, lines = replaying.differences(self.programs.plain, explainer.script)
+        self.count["lines compared"] += lines
         if found:
             line, answer, due = found[0]
             raise Difference(f"{len(found)} lines differ: {line[:200]}: replay {answer}: journal {due}")
+
+
+def values_of(dump):
+    """The present values of a dump's live entries: {entry: {attribute: [value]}}. (Where a link or a child leads is left to the replay.)"""
+    found, entry, attribute = {}, None, None
+    for words in (line.split(" ") for line in dump[1:-1]):
+        if words[0] == "entry":
+            entry = found.setdefault(words[1], {}) if words[4] == "live" and words[2] == "object" else {}
+        elif words[0] == "attr":
+            attribute = entry.setdefault(words[1], [])
+        elif words[2] == "present":
+            attribute.append(words[1])
+    return found
 
 
 FAULTS = (Difference, Silent, explaining.Unexplained, journals.Damaged)

@@ -45,12 +45,19 @@ class Workload:
         digits = self.random.choice([2, 2, 4, 2048])
         return f"{self.random.getrandbits(7):0{digits}x}"
 
-    def job(self, house):
+    def jobs(self, house):
+        """A job, or two that belong together."""
         octets = self.net.next_for(house) if self.random.random() < 0.45 else None
         if octets:
-            return take_job(octets)
+            return [take_job(octets)]
+        if self.random.random() < 0.05:
+            directory = self.directory(house)
+            look = f"look {directory} {self.random.choice(NAMES)} {self.random.choice(ATTRIBUTES)}"
+            return [Job([f"dump {directory}"]), Job([look])]
         # (pieces of a message, which the line after them makes the house forget)
-        return Job([*["more 0202"] * (self.random.random() < 0.04), self.line(house)])
+        line = self.line(house)
+        pieces = ["more 0202"] * (self.random.random() < 0.04 and not line.startswith("take"))
+        return [Job([*pieces, line])]
 
     def directory(self, house):
         """Mostly one that the house accepts updates of."""
