@@ -34,7 +34,7 @@ def ran(program, folder, read):
     """Seconds, processor seconds and the peak in KiB of a house that reads lines."""
     with open(f"{folder}/../lines", "w", encoding="ascii") as file:
         file.write("".join(f"{line}\n" for line in read))
-    # (of a child's peak this process would be a part, so GNU time tells it)
+    # (a child's peak begins at that of this process, so GNU time measures it)
     peak = f"{folder}/../peak"
     command = [TIME, "-q", "-f", "%M", "-o", peak, program, folder] if TIME else [program, folder]
     with open(f"{folder}/../lines", "rb") as source:

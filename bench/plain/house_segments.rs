@@ -1,7 +1,7 @@
 //! The journal of a house: numbered files of records that no process but their own writes, each record with a sum of all before it.
 
 use std::fs::{self, File};
-use std::io::{self, Read};
+use std::io::{self, Read as _};
 use std::os::unix::fs::FileExt;
 use std::path::{Path, PathBuf};
 
@@ -9,7 +9,7 @@ use crate::sha256::sha256;
 
 /// How large a segment gets.
 const MOST: u64 = 1 << 40;
-/// The octets before a record's body, behind it, and behind the record: the length, the sum, and the next gate.
+/// The octets before a record's body, after it, and after the record: the length, the sum, and the next gate.
 const LENGTH: usize = 8;
 const SUM: usize = 32;
 const GATE: usize = 1;
@@ -114,13 +114,13 @@ impl Segment {
     }
 }
 
-/// What a segment says.
-pub struct Told {
+/// What a segment says: its last record and its last sum.
+pub struct Read {
     pub last: Record,
     sum: Sum,
 }
 
-/// The record behind an open gate at this place.
+/// The record after an open gate at this place.
 fn record_at(octets: &[u8], gate: usize) -> Option<&[u8]> {
     let (length, rest) = octets.get(gate..)?.strip_prefix(&[1])?.split_first_chunk()?;
     let length = usize::try_from(u64::from_be_bytes(*length)).ok()?;
@@ -134,7 +134,7 @@ fn body_of(record: &[u8], before: Option<&Sum>) -> Option<(Sum, usize)> {
     if sha256(before, body) == *sum { Some((*sum, body.len())) } else { None }
 }
 
-/// Whether a record behind a gate that is not open was counted once, or the gate is 1: no crash leaves that.
+/// Whether a record after a gate that is not open was counted once, or the gate is 1: no crash leaves that.
 fn was_counted(octets: &[u8], gate: usize, before: &Sum) -> bool {
     let Some((last, rest)) = octets.get(gate..).and_then(<[u8]>::split_first) else {
         return false;
@@ -148,7 +148,7 @@ fn was_counted(octets: &[u8], gate: usize, before: &Sum) -> bool {
 }
 
 /// What the octets of segment `number` say; nothing where they are no such segment, or damaged.
-fn told(octets: &[u8], number: u64) -> Option<Told> {
+fn read(octets: &[u8], number: u64) -> Option<Read> {
     let head = record_at(octets, 0)?;
     let (mut sum, size) = body_of(head, None)?;
     if head[..size - SUM] != *format!("cdshouse journal 1 {number}\n").as_bytes() {
@@ -160,7 +160,7 @@ fn told(octets: &[u8], number: u64) -> Option<Told> {
         (last, sum) = (Some(Record::read(&record[..size])?), next);
         gate += 1 + LENGTH + record.len();
     }
-    if was_counted(octets, gate, &sum) { None } else { Some(Told { last: last?, sum }) }
+    if was_counted(octets, gate, &sum) { None } else { Some(Read { last: last?, sum }) }
 }
 
 /// The folder of a house, which no other process has.
@@ -205,9 +205,9 @@ impl Folder {
         file.sync_all().map_err(|_| NotOpened::Failed)?;
         let mut octets = Vec::new();
         file.read_to_end(&mut octets).map_err(|_| NotOpened::Unreadable)?;
-        let told = told(&octets, number).ok_or(NotOpened::Unreadable)?;
-        folder.sum = told.sum;
-        Ok((folder, Some(told.last)))
+        let read = read(&octets, number).ok_or(NotOpened::Unreadable)?;
+        folder.sum = read.sum;
+        Ok((folder, Some(read.last)))
     }
 
     /// The next segment, which begins with this record, is there after any crash.

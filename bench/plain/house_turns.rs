@@ -1,4 +1,4 @@
-//! One house: what a line comes to there, and what of it has to be durable before it is answered.
+//! One house: what it does at a line, and what of that has to be durable before it answers.
 
 use std::io::Write;
 
@@ -27,7 +27,7 @@ pub struct Home {
     pub pieces: Vec<u8>,
 }
 
-/// What a line comes to that is not refused: a turn, or an answer that changes nothing, of one line or of several.
+/// What a house does at a line that it does not refuse: a turn, or an answer that changes nothing, of one line or of several.
 pub enum Outcome {
     Turn(Said, Vec<Letters>),
     Stays(Said),

@@ -47,7 +47,7 @@ PIECES = "let pieces = std::mem::take(&mut self.pieces);"
 KEEP_PIECES = """let is_message = matches!(line, Line::Take(_) | Line::More(_));
         let pieces = if is_message { std::mem::take(&mut self.pieces) } else { Vec::new() };"""
 
-# What the bug is, the file, and its edits: what stands there, and what stands there instead.
+# What the bug is, the file, and its edits: the present text, and the text in its place.
 BUGS = [
     ("a turn is answered before it is put", MAIN, (PUT, SAY_FIRST)),
     ("a turn that leaves the image as it is is not put", MAIN, (PUT, PUT_CHANGED), (OUTCOME, BEFORE)),

@@ -1,6 +1,7 @@
 //! A disk that loses its power, fails and fills up, between a house and its folder: a library that `LD_PRELOAD` puts before the C
-//! library. It stands in for the calls that write (`open`, `pwrite`, `ftruncate`, `fsync`, `rename`, under all of their names) and follows which octets and
-//! names a crash would keep. What was not synced is remembered over the death of the process, as a machine does that goes on.
+//! library. It has the calls that write (`open`, `pwrite`, `ftruncate`, `fsync` and `rename`, under all of their names), and follows
+//! which octets and names a crash would keep. It remembers what was not synced over the death of the process, as the memory of a
+//! machine does that goes on.
 //!
 //! HOUSE_DISK is `FOLDER STATE SEED LOSS FAIL ROOM`: the folder of the house, a folder for what the disk is sure to keep, a seed, one in how
 //! many calls loses the power and one in how many fails (0: none), and how many octets the folder may have (0: any number). A loss of
@@ -30,7 +31,7 @@ const INPUT_OUTPUT: c_int = 5;
 const NO_SPACE: c_int = 28;
 /// The flag of an open that cuts all off.
 const TRUNCATE: c_int = 0o1000;
-/// The descriptor that stands for the present folder.
+/// The descriptor that means the present folder.
 const PRESENT_FOLDER: c_int = -100;
 
 /// Whether this library itself makes the call.

@@ -57,7 +57,7 @@ class Record:
 
 
 def listed(octets):
-    """The records behind open gates, and where the gate is that ends them."""
+    """The records after open gates, and where the gate is that ends them."""
     at, found = 0, []
     while len(octets) - at >= 10 and octets[at] == 1:
         size = int.from_bytes(octets[at + 1 : at + 9], "big")
