@@ -6,7 +6,7 @@ import time
 from ledger import Ledger
 from processes import Process, Silent, take_lines
 
-HELP = """The commands are those of scripts (docs/SCRIPT.md), done by processes. H and M are houses, R.. further ones (s3: secondary), D a directory:
+HELP = """The commands are those of scripts (docs/SCRIPT.md). H and M are houses, R.. further ones (s3: secondary), D a directory:
   house H NODE, clock H TIME, root M R.., mkdir H D S H R.., repoint H D S M R.., epoch D M R.., skulk H D
   create H D S, link H D S NAME, delete H D S, add|remove|put H D S ATTR VALUE, clear H D S ATTR
   dump H D, look H D S ATTR (the values that show), image H

@@ -179,9 +179,8 @@ def test_long_messages_come_in_pieces(room, kit):
     folder, other = made(room, kit), f"{room}/other"
     os.makedirs(other)
     values = [f"add 1 a A {number:02x}{'00' * 1023}" for number in range(9)]
-    done = subprocess.run(
-        [kit.program, folder], input="".join(f"{line}\n" for line in [*values, "epoch 1 2 1:1:m 2:1:r"]).encode(), capture_output=True, check=True
-    )
+    octets = "".join(f"{line}\n" for line in [*values, "epoch 1 2 1:1:m 2:1:r"]).encode()
+    done = subprocess.run([kit.program, folder], input=octets, capture_output=True, check=True)
     said = done.stdout.decode().splitlines()
     assert max(map(len, said)) <= 4096
     pieces = [line.split(" ") for line in said if line.startswith("10 ")]
@@ -194,12 +193,27 @@ def test_long_messages_come_in_pieces(room, kit):
     assert [turn.line for turn in turns] == [f"take {octets}"]
 
 
+def test_a_large_segment_is_changed_for_the_next_one(room, kit):
+    folder = made(room, kit)
+    values = [f"add 1 a A {number:02x}{'00' * 1023}" for number in range(130)]
+    said, status = ran(kit, folder, [*values, *(f"put 1 a B {number:02x}" for number in range(130))])
+    assert (said[-1], status) == ("260 ok 261@00000000000a", 0), said[-1]
+    large = [os.path.getsize(f"{folder}/{number}") for number in journals.numbers(folder)[1:-1]]
+    assert large and all(16_777_216 < size < 17_000_000 for size in large), large
+    firsts = [segment.records[0].lines[0] for segment in journals.segments(folder)]
+    turns = [record.number for record in journals.entries(folder)]
+    assert firsts[:2] == ["new", "start"] and all(line.split(" ")[0] == "segment" for line in firsts[2:]), firsts
+    assert turns == list(range(1, 265)), turns[-1]
+    assert last_said(kit, folder) == (["0 last put 1 a B 81", "0 ok 261@00000000000a"], 0)
+
+
 def test_messages_that_are_too_long(room, kit):
     folder = made(room, kit)
     count = LONGEST_MESSAGE // PIECE
     rest = LONGEST_MESSAGE - count * PIECE
     more = f"more {'00' * PIECE}\n".encode() * count
-    said, status = ran(kit, folder, more + f"take {'00' * rest}\ntake 00\n".encode() + more + f"more {'00' * (rest + 1)}\ntake 00\n".encode())
+    longest, longer = f"take {'00' * rest}\ntake 00\n", f"more {'00' * (rest + 1)}\ntake 00\n"
+    said, status = ran(kit, folder, more + longest.encode() + more + longer.encode())
     at = len(CREATED[0]) + 1 + count
     assert said[at] == f"{count + 1} refused BadTag 1" and said[at + 1] == f"{count + 2} refused BadTag 1", said[at : at + 2]
     assert said[-2:] == [f"{2 * count + 3} refused TooLong", f"{2 * count + 4} refused BadTag 1"], said[-2:]

@@ -162,8 +162,8 @@ class Trial:
         directory, values = self.dumped.pop(house.number, (None, {}))
         if words[0] == "look" and words[1] == directory:
             name, attribute = words[2:]
-            due = values.get(name)
-            shown = ["refused NoSuchEntry"] if due is None else [*(f"value {value}" for value in due.get(attribute, [])), f"end {len(due.get(attribute, []))}"]
+            due = values.get(name, {}).get(attribute, [])
+            shown = [*(f"value {value}" for value in due), f"end {len(due)}"] if name in values else ["refused NoSuchEntry"]
             if answer != shown:
                 raise Difference(f"house {house.number}: {job.line} is {answer}, the dump before has {shown}")
             self.count["looks compared"] += 1
