@@ -8,7 +8,7 @@ use std::os::unix::fs::{FileExt, MetadataExt};
 use std::path::{Path, PathBuf};
 
 unsafe extern "C" {
-    fn fork() -> c_int;
+    fn _Fork() -> c_int;
     fn waitpid(child: c_int, status: *mut c_int, options: c_int) -> c_int;
     fn _exit(status: c_int) -> !;
 }
@@ -247,7 +247,7 @@ impl Disk {
     /// Leaves what a crash may leave, and aborts. A process of its own does it, which has the same output: whoever kills this one
     /// meanwhile, and reads to the end of the output, finds it done.
     pub fn lose_power(&mut self) -> ! {
-        match unsafe { fork() } {
+        match unsafe { _Fork() } {
             0 => {
                 self.leave();
                 unsafe { _exit(0) }
