@@ -12,7 +12,9 @@ def compiled(source, target, *options, root=ROOT):
     sources = [source, *glob.glob(f"{os.path.dirname(source)}/**/*.rs", recursive=True)]
     if not os.path.exists(target) or os.path.getmtime(target) < max(map(os.path.getmtime, sources)):
         os.makedirs(os.path.dirname(target), exist_ok=True)
-        subprocess.run(["rustc", "--edition", "2021", "-O", *options, "-o", target, source], check=True)
+        # (in two steps: another trial may run what was compiled before)
+        subprocess.run(["rustc", "--edition", "2021", "-O", *options, "-o", f"{target}.{os.getpid()}", source], check=True)
+        os.replace(f"{target}.{os.getpid()}", target)
     return target
 
 

@@ -151,6 +151,19 @@ def test_second_process(room, kit):
     assert last_said(kit, folder) == CREATED
 
 
+def test_many_processes_at_once(room, kit):
+    folder = made(room, kit)
+    processes = [Process(kit.program, folder) for _ in range(6)]
+    said = [process.next_line() for process in processes]
+    assert sorted(map(str, said)) == ["0 house 1 00000000000a"] + ["None"] * 5, said
+    statuses = []
+    for process in processes:
+        process.close()
+        statuses.append(process.status)
+    assert sorted(statuses) == [0] + [10] * 5, statuses
+    assert journals.numbers(folder) == [1, 2]
+
+
 def test_killed(room, kit):
     folder = made(room, kit)
     process = Process(kit.program, folder)

@@ -134,7 +134,7 @@ class Trial:
         """What a house posts after a start, and what it did and never answered."""
         self.net.post(posts)
         for job in done:
-            self.count["turns known by last"] += 1
+            self.count["turns that only a start said"] += 1
             if job.numbered:
                 self.console.done(house.number, job.line)
 
