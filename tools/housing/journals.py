@@ -111,15 +111,15 @@ def numbers(folder):
 
 def segments(folder):
     """The segments of a folder, each of which follows the one before."""
-    found = []
+    last = None
     for number in numbers(folder):
         segment = Segment(f"{folder}/{number}", number)
-        if found and number != found[-1].number + 1:
-            raise Damaged(f"{folder}: segment {found[-1].number + 1} is missing")
-        if found and segment.before != found[-1].last or number == 1 and segment.before != NO_SUM:
+        if last and number != last.number + 1:
+            raise Damaged(f"{folder}: segment {last.number + 1} is missing")
+        if last and segment.before != last.last or number == 1 and segment.before != NO_SUM:
             raise Damaged(f"{segment.path}: does not follow the segment before")
-        found.append(segment)
-    return found
+        yield segment
+        last = segment
 
 
 def check_repeated(record, last, turn):
