@@ -113,7 +113,9 @@ class Trial:
         if self.random.random() < self.plan.kill:
             if self.random.random() < 0.8:
                 time.sleep(self.random.random() * self.plan.late)
-            self.random.choice(chosen).process.kill()
+            # (one of them, or the machine stops)
+            for house in chosen if self.random.random() < 0.1 else [self.random.choice(chosen)]:
+                house.process.kill()
         return sum(map(self.work_off, chosen))
 
     def work_off(self, house):
