@@ -176,6 +176,27 @@ def test_killed(room, kit):
     assert last_said(kit, folder) == (["0 last create 1 b", "0 ok 2@00000000000a"], 0)
 
 
+def test_a_start_syncs_what_it_reads(room, kit):
+    """A process died between opening a gate and its sync; the next one reads the record. Then a loss of power must not take it away."""
+    folder, state = f"{room}/h", f"{room}/disk"
+    os.makedirs(folder)
+    os.makedirs(state)
+    variables = os.environ | {"LD_PRELOAD": kit.disk, "HOUSE_DISK": f"{folder} {state} 5 0 0 0"}
+    assert ran(kit, folder, MADE, env=variables) == (SAID, 0)
+    octets = contents(folder)["1"]
+    records, gate = journals.listed(octets)
+    last = gate - len(records[-1]) - 9
+    kept = f"{state}/{os.stat(f'{folder}/1').st_ino}"
+    with open(kept, "r+b") as file:
+        assert file.read() == octets
+        file.seek(last)
+        file.write(b"\0")
+    said, status = ran(kit, folder, env=variables)
+    assert (said[1:], status) == CREATED
+    with open(kept, "rb") as file:
+        assert file.read() == octets
+
+
 def test_old_segments_are_not_needed(room, kit):
     folder = made(room, kit)
     ran(kit, folder, ["create 1 b"])
