@@ -33,6 +33,8 @@ pub enum Said {
     Early(u64, u64),
     Stale(Stamp, Option<Stamp>),
     NoReplica,
+    /// The sender or this house is no member, so it is a message of no cell.
+    Foreign,
     Complete(Stamp),
     /// The house lost its power, before the step or after it.
     Stopped(&'static str),
@@ -227,7 +229,7 @@ impl Held {
             return Some(Said::Early(message.epoch, epoch));
         }
         if self.term.place(message.from).is_none() {
-            return Some(Said::NoReplica);
+            return Some(Said::Foreign);
         }
         match message.body {
             Body::Gathered(stamp, _) | Body::SpreadAck(stamp) => {
@@ -385,7 +387,11 @@ impl Clearinghouse {
             (Body::Join(..), Some(Slot::Held(held))) if message.epoch < held.term.epoch => late(held.term.epoch),
             (Body::Leave, Some(Slot::Held(held))) if message.epoch <= held.term.epoch => late(held.term.epoch),
             (Body::Join(..) | Body::Leave, Some(Slot::Gone(epoch))) if message.epoch <= *epoch => late(*epoch),
-            (Body::Join(..) | Body::Leave, _) => None,
+            (Body::Join(members, _), _) => {
+                let is_listed = |house| members.iter().any(|member| member.house == house);
+                if is_listed(self.number) && is_listed(message.from) { None } else { Some(Said::Foreign) }
+            }
+            (Body::Leave, _) => None,
             (_, Some(Slot::Held(held))) => held.bars(message),
             _ => Some(Said::NoReplica),
         }

@@ -1,0 +1,226 @@
+//! The journal of a house: numbered files of records that no process but their own writes, each record with a sum of all before it.
+
+use std::fs::{self, File};
+use std::io::{self, Read as _};
+use std::os::unix::fs::FileExt;
+use std::path::{Path, PathBuf};
+
+use crate::sha256::sha256;
+
+/// How large a segment gets.
+const MOST: u64 = 1 << 40;
+/// The octets before a record's body, after it, and after the record: the length, the sum, and the next gate.
+const LENGTH: usize = 8;
+const SUM: usize = 32;
+const GATE: usize = 1;
+/// The octets in front of a record's text: its number, the clock, the mark of an image, and the length of the text.
+const FIELDS: usize = 21;
+
+type Sum = [u8; SUM];
+
+/// Why a record is not put.
+pub enum NotPut {
+    Full,
+    Failed,
+}
+
+impl From<io::Error> for NotPut {
+    fn from(_: io::Error) -> NotPut {
+        NotPut::Failed
+    }
+}
+
+/// What a turn, or a start, leaves in the journal.
+pub struct Record {
+    pub entry: u64,
+    pub clock: u64,
+    pub text: Vec<u8>,
+    /// Nothing where there is no house yet.
+    pub image: Option<Vec<u8>>,
+}
+
+impl Record {
+    fn octets(&self) -> Vec<u8> {
+        let mut octets = self.entry.to_be_bytes().to_vec();
+        octets.extend(self.clock.to_be_bytes());
+        octets.push(u8::from(self.image.is_some()));
+        octets.extend((self.text.len() as u32).to_be_bytes());
+        octets.extend(&self.text);
+        octets.extend(self.image.iter().flatten());
+        octets
+    }
+
+    fn read(octets: &[u8]) -> Option<Record> {
+        let (fields, rest) = octets.split_at_checked(FIELDS)?;
+        let size = u32::from_be_bytes(fields[17..].try_into().ok()?);
+        let (text, image) = rest.split_at_checked(size as usize)?;
+        let image = match fields[16] {
+            0 if image.is_empty() => None,
+            1 => Some(image.to_vec()),
+            _ => return None,
+        };
+        let (entry, clock) = (fields[..8].try_into().ok()?, fields[8..16].try_into().ok()?);
+        Some(Record { entry: u64::from_be_bytes(entry), clock: u64::from_be_bytes(clock), text: text.to_vec(), image })
+    }
+}
+
+/// A file that this process made, and writes.
+pub struct Segment {
+    file: File,
+    /// Where the closed gate is.
+    gate: u64,
+    sum: Sum,
+    /// How many octets it has before it is changed for the next one, and how many records.
+    pub size: u64,
+    pub records: u64,
+}
+
+impl Segment {
+    /// A segment without a record, as the file `new` of a folder.
+    fn begin(folder: &Path, before: Sum) -> io::Result<Segment> {
+        let file = File::options().write(true).create(true).truncate(false).open(folder.join("new"))?;
+        file.set_len(0)?;
+        file.sync_all()?;
+        file.write_all_at(&[0], 0)?;
+        file.sync_all()?;
+        Ok(Segment { file, gate: 0, sum: before, size: 1, records: 0 })
+    }
+
+    /// Writes a record with the next gate and syncs, then opens the gate before it and syncs.
+    fn put_octets(&mut self, body: &[u8]) -> Result<(), NotPut> {
+        let length = body.len() + SUM;
+        let size = self.size + (LENGTH + length + GATE) as u64;
+        if size > MOST {
+            return Err(NotPut::Full);
+        }
+        let sum = sha256(&self.sum, body);
+        let mut octets = Vec::with_capacity(LENGTH + length + GATE);
+        octets.extend((length as u64).to_be_bytes());
+        octets.extend(body);
+        octets.extend(sum);
+        octets.push(0);
+        self.file.write_all_at(&octets, self.gate + 1)?;
+        self.file.sync_all()?;
+        self.file.write_all_at(&[1], self.gate)?;
+        self.file.sync_all()?;
+        self.gate = size - 1;
+        (self.size, self.sum) = (size, sum);
+        self.records += 1;
+        Ok(())
+    }
+
+    pub fn put(&mut self, record: &Record) -> Result<(), NotPut> {
+        self.put_octets(&record.octets())
+    }
+}
+
+/// What a segment says: its last record and its last sum.
+pub struct Read {
+    pub last: Record,
+    sum: Sum,
+}
+
+/// The record after an open gate at this place.
+fn record_at(octets: &[u8], gate: usize) -> Option<&[u8]> {
+    let (length, rest) = octets.get(gate..)?.strip_prefix(&[1])?.split_first_chunk()?;
+    let length = usize::try_from(u64::from_be_bytes(*length)).ok()?;
+    if length < rest.len() { Some(&rest[..length]) } else { None }
+}
+
+/// The body of a record whose sum is that of the record, and the sum.
+fn body_of(record: &[u8], before: Option<&Sum>) -> Option<(Sum, usize)> {
+    let (body, sum) = record.split_last_chunk::<SUM>()?;
+    let before = before.or_else(|| body.last_chunk())?;
+    if sha256(before, body) == *sum { Some((*sum, body.len())) } else { None }
+}
+
+/// Whether a record after a gate that is not open was counted once, or the gate is 1: no crash leaves that.
+fn was_counted(octets: &[u8], gate: usize, before: &Sum) -> bool {
+    let Some((last, rest)) = octets.get(gate..).and_then(<[u8]>::split_first) else {
+        return false;
+    };
+    if *last == 1 {
+        return true;
+    }
+    let opened = [&[1], rest].concat();
+    let is_whole = record_at(&opened, 0).filter(|record| body_of(record, Some(before)).is_some());
+    is_whole.is_some_and(|record| opened.get(1 + LENGTH + record.len()) == Some(&1))
+}
+
+/// What the octets of segment `number` say; nothing where they are no such segment, or damaged.
+fn read(octets: &[u8], number: u64) -> Option<Read> {
+    let head = record_at(octets, 0)?;
+    let (mut sum, size) = body_of(head, None)?;
+    if head[..size - SUM] != *format!("cdshouse journal 1 {number}\n").as_bytes() {
+        return None;
+    }
+    let (mut gate, mut last) = (1 + LENGTH + head.len(), None);
+    while let Some(record) = record_at(octets, gate) {
+        let (next, size) = body_of(record, Some(&sum))?;
+        (last, sum) = (Some(Record::read(&record[..size])?), next);
+        gate += 1 + LENGTH + record.len();
+    }
+    if was_counted(octets, gate, &sum) { None } else { Some(Read { last: last?, sum }) }
+}
+
+/// The folder of a house, which no other process has.
+pub struct Folder {
+    path: PathBuf,
+    /// The number of the last segment.
+    number: u64,
+    sum: Sum,
+    _lock: File,
+}
+
+/// Why a folder is not opened.
+pub enum NotOpened {
+    Unreadable,
+    Held,
+    Failed,
+}
+
+/// The greatest number of a segment in a folder, 0 where there is none.
+fn greatest(path: &Path) -> io::Result<u64> {
+    let number = |name: &str| name.parse().ok().filter(|number: &u64| *number > 0 && number.to_string() == name);
+    let mut most = 0;
+    for entry in fs::read_dir(path)? {
+        most = entry?.file_name().to_str().and_then(number).map_or(most, |number| most.max(number));
+    }
+    Ok(most)
+}
+
+impl Folder {
+    /// Opens a folder, and reads its last segment if there is one. What an earlier process wrote there and did not sync is synced first.
+    pub fn open(path: &Path) -> Result<(Folder, Option<Record>), NotOpened> {
+        let number = greatest(path).map_err(|_| NotOpened::Unreadable)?;
+        let lock = File::options().write(true).create(true).truncate(false).open(path.join("lock"));
+        let lock = lock.map_err(|_| NotOpened::Unreadable)?;
+        lock.try_lock().map_err(|_| NotOpened::Held)?;
+        let number = number.max(greatest(path).map_err(|_| NotOpened::Unreadable)?);
+        let mut folder = Folder { path: path.to_path_buf(), number, sum: [0; SUM], _lock: lock };
+        if number == 0 {
+            return Ok((folder, None));
+        }
+        let mut file = File::open(path.join(number.to_string())).map_err(|_| NotOpened::Unreadable)?;
+        file.sync_all().map_err(|_| NotOpened::Failed)?;
+        let mut octets = Vec::new();
+        file.read_to_end(&mut octets).map_err(|_| NotOpened::Unreadable)?;
+        let read = read(&octets, number).ok_or(NotOpened::Unreadable)?;
+        folder.sum = read.sum;
+        Ok((folder, Some(read.last)))
+    }
+
+    /// The next segment, which begins with this record, is there after any crash.
+    pub fn next(&mut self, before: Option<&Segment>, record: &Record) -> Result<Segment, NotPut> {
+        let before = before.map_or(self.sum, |segment| segment.sum);
+        let number = self.number + 1;
+        let mut segment = Segment::begin(&self.path, before)?;
+        let head = [format!("cdshouse journal 1 {number}\n").as_bytes(), &before].concat();
+        segment.put_octets(&head)?;
+        segment.put(record)?;
+        fs::rename(self.path.join("new"), self.path.join(number.to_string()))?;
+        File::open(&self.path)?.sync_all()?;
+        self.number = number;
+        Ok(segment)
+    }
+}

@@ -1,0 +1,287 @@
+//! One house: what it does at a line, and what of that has to be durable before it answers.
+
+use std::io::Write;
+
+use crate::answers::{push_hex, write_dump};
+use crate::house::Refusal::{self, At, Because};
+use crate::house::{Clearinghouse, Letters, Said, Term, Update};
+use crate::house_lines::{Line, Others};
+use crate::records::{Member, Role, read_message};
+use crate::tables::{Kind, Pointer};
+
+const MOST_MEMBERS: usize = 64;
+const LONGEST_MESSAGE: usize = 16_777_216;
+/// How many octets a line of an answer shows at most.
+const PIECE: usize = 2000;
+
+/// What a house is, between two lines.
+#[derive(Default)]
+pub struct Home {
+    pub house: Option<Clearinghouse>,
+    pub clock: u64,
+    /// The number of the last entry of its journal.
+    pub entry: u64,
+    /// The text of the last turn: its line, what it posted, and its answer.
+    pub last: Vec<u8>,
+    /// The octets in front of the next message.
+    pub pieces: Vec<u8>,
+}
+
+/// What a house does at a line that it does not refuse: a turn, or an answer that changes nothing, of one line or of several.
+pub enum Outcome {
+    Turn(Said, Vec<Letters>),
+    Stays(Said),
+    Lines(Vec<u8>),
+}
+
+use Outcome::{Lines, Stays, Turn};
+
+/// That no house is listed twice, and that they are not too many.
+fn listable(houses: &[u8]) -> Result<(), Refusal> {
+    let twice = houses.iter().enumerate().any(|(at, house)| houses[at + 1..].contains(house));
+    if twice || houses.len() > MOST_MEMBERS { Err(Because("BadMembers")) } else { Ok(()) }
+}
+
+fn is_ascending(houses: &[u8]) -> bool {
+    houses.is_sorted_by(|a, b| a < b)
+}
+
+/// Whether a console gives this list: this house is the one master, and who leaves is not listed.
+fn is_given(me: u8, epoch: u64, members: &[Member], left: &[u8]) -> bool {
+    let listed: Vec<u8> = members.iter().map(|member| member.house).collect();
+    let masters: Vec<u8> = members.iter().filter(|member| member.role == Role::Master).map(|member| member.house).collect();
+    let leaves = left.iter().all(|house| !listed.contains(house));
+    is_ascending(&listed)
+        && is_ascending(left)
+        && leaves
+        && masters == [me]
+        && listed.len() <= MOST_MEMBERS
+        && members.iter().all(|member| member.since <= epoch)
+}
+
+/// The list of a new directory whose master is this house.
+fn first_term(me: u8, others: &Others) -> Term {
+    let role = |house: u8| match house {
+        _ if house == me => Role::Master,
+        _ if others.secondary.contains(&house) => Role::Secondary,
+        _ => Role::ReadOnly,
+    };
+    let mut houses = [&[me], &others.houses[..]].concat();
+    houses.sort_unstable();
+    Term { epoch: 1, members: houses.into_iter().map(|house| Member { house, since: 1, role: role(house) }).collect() }
+}
+
+/// The pointer of a child to a directory: the master first, and the others ascending.
+fn pointer(dir: u32, houses: &[u8]) -> Vec<u8> {
+    let mut ordered = houses.to_vec();
+    ordered[1..].sort_unstable();
+    Pointer { dir, houses: ordered.into() }.octets()
+}
+
+// What lines do.
+impl Home {
+    fn home(&mut self) -> Result<&mut Clearinghouse, Refusal> {
+        self.house.as_mut().ok_or(Because("NoHouse"))
+    }
+
+    /// Does what a line says.
+    pub fn outcome(&mut self, line: Line) -> Result<Outcome, Refusal> {
+        let pieces = std::mem::take(&mut self.pieces);
+        match line {
+            Line::House(number, node) => self.make(number, node),
+            Line::Clock(time) => {
+                self.home()?;
+                self.clock = time;
+                Ok(Stays(Said::Done))
+            }
+            Line::Root(others) => self.root(&others),
+            Line::Mkdir(dir, name, child, others) => self.mkdir(dir, name, child, &others),
+            Line::Repoint(dir, name, houses) => self.repoint(dir, name, houses),
+            Line::Update(dir, name, update) => self.update(dir, name, update),
+            Line::Skulk(dir) => self.skulk(dir),
+            Line::Epoch(dir, epoch, members, left) => self.epoch(dir, epoch, members, left),
+            Line::More(octets) => {
+                self.pieces = joined(pieces, &octets)?;
+                Ok(Stays(Said::Done))
+            }
+            Line::Take(octets) => self.take(pieces, &octets),
+            Line::Dump(dir) => self.dump(dir),
+            Line::Look(dir, name, attribute) => self.look(dir, name, attribute),
+            Line::Image => Ok(Lines(octets_told(&self.home()?.image()))),
+        }
+    }
+
+    /// The text of a line that takes a message of the octets so far and these.
+    pub fn with_pieces(&self, octets: &[u8]) -> Vec<u8> {
+        let mut text = b"take ".to_vec();
+        push_hex(&mut text, &self.pieces);
+        push_hex(&mut text, octets);
+        text
+    }
+
+    /// Forgets the octets in front of the next message.
+    pub fn forget(&mut self) {
+        self.pieces.clear();
+    }
+
+    fn make(&mut self, number: u8, node: u64) -> Result<Outcome, Refusal> {
+        if self.house.is_some() {
+            return Err(Because("HouseExists"));
+        }
+        self.house = Some(Clearinghouse::new(number, node));
+        Ok(Turn(Said::Done, vec![]))
+    }
+
+    /// That this house neither has nor had a directory, and that it can list these houses beside itself.
+    fn foundable(&mut self, dir: u32, others: &Others) -> Result<u8, Refusal> {
+        let home = self.home()?;
+        if home.dirs.contains_key(&dir) {
+            return Err(Because("DirectoryExists"));
+        }
+        listable(&[&[home.number], &others.houses[..]].concat())?;
+        Ok(home.number)
+    }
+
+    fn root(&mut self, others: &Others) -> Result<Outcome, Refusal> {
+        let me = self.foundable(1, others)?;
+        let letters = self.home()?.found(1, first_term(me, others));
+        Ok(Turn(Said::Done, letters.into_iter().collect()))
+    }
+
+    fn mkdir(&mut self, dir: u32, name: &[u8], child: u32, others: &Others) -> Result<Outcome, Refusal> {
+        let me = self.foundable(child, others)?;
+        let value = pointer(child, &[&[me], &others.houses[..]].concat());
+        let (clock, home) = (self.clock, self.home()?);
+        let (stamp, letters) = home.accept(clock, dir, name, Update::New(Kind::Child, Some(value)))?;
+        let joins = home.found(child, first_term(me, others));
+        Ok(Turn(Said::Made(child, stamp), letters.into_iter().chain(joins).collect()))
+    }
+
+    fn repoint(&mut self, dir: u32, name: &[u8], mut houses: Vec<u8>) -> Result<Outcome, Refusal> {
+        self.home()?;
+        listable(&houses)?;
+        houses[1..].sort_unstable();
+        self.update(dir, name, Update::Repoint(houses))
+    }
+
+    fn update(&mut self, dir: u32, name: &[u8], update: Update) -> Result<Outcome, Refusal> {
+        let clock = self.clock;
+        let (stamp, letters) = self.home()?.accept(clock, dir, name, update)?;
+        Ok(Turn(Said::Stamped(stamp), letters.into_iter().collect()))
+    }
+
+    fn skulk(&mut self, dir: u32) -> Result<Outcome, Refusal> {
+        let clock = self.clock;
+        let (said, letters) = self.home()?.begin_skulk(clock, dir)?;
+        Ok(Turn(said, letters.into_iter().collect()))
+    }
+
+    fn epoch(&mut self, dir: u32, epoch: u64, members: Vec<Member>, left: Vec<u8>) -> Result<Outcome, Refusal> {
+        let home = self.home()?;
+        let held = home.held(dir).ok_or(Because("NoReplica"))?.term.epoch;
+        if !is_given(home.number, epoch, &members, &left) {
+            return Err(Because("BadMembers"));
+        }
+        if epoch <= held {
+            return Err(At("NotAbove", held));
+        }
+        let letters = home.enter(dir, Term { epoch, members }, left)?;
+        Ok(Turn(Said::Epoch(epoch), letters.into_iter().flatten().collect()))
+    }
+
+    fn take(&mut self, pieces: Vec<u8>, octets: &[u8]) -> Result<Outcome, Refusal> {
+        let home = self.home()?;
+        let octets = joined(pieces, octets)?;
+        let (message, size) = read_message(&octets).map_err(|fault| At(fault.rule, fault.place as u64))?;
+        if size < octets.len() {
+            return Err(At("Trailing", size as u64 + 1));
+        }
+        let (said, letters) = home.take(message);
+        Ok(match said {
+            Said::Taken | Said::Complete(_) => Turn(said, letters.into_iter().collect()),
+            said => Stays(said),
+        })
+    }
+
+    fn dump(&mut self, dir: u32) -> Result<Outcome, Refusal> {
+        let held = self.home()?.held(dir).ok_or(Because("NoReplica"))?;
+        let mut text = Vec::new();
+        let _ = write_dump(&mut text, 0, held);
+        Ok(Lines(text.split_inclusive(|b| *b == b'\n').flat_map(|line| &line[2..]).copied().collect()))
+    }
+
+    fn look(&mut self, dir: u32, name: &[u8], attribute: &[u8]) -> Result<Outcome, Refusal> {
+        let held = self.home()?.held(dir).ok_or(Because("NoReplica"))?;
+        let (_, entry) = held.replica.live(name).ok_or(Because("NoSuchEntry"))?;
+        let (mut text, mut count) = (Vec::new(), 0);
+        for value in entry.values(attribute) {
+            hex_line(&mut text, b"value ", value);
+            count += 1;
+        }
+        let _ = writeln!(text, "end {count}");
+        Ok(Lines(text))
+    }
+}
+
+/// The octets of a message so far and more of them.
+fn joined(mut pieces: Vec<u8>, octets: &[u8]) -> Result<Vec<u8>, Refusal> {
+    if pieces.len() + octets.len() > LONGEST_MESSAGE {
+        return Err(Because("TooLong"));
+    }
+    pieces.extend_from_slice(octets);
+    Ok(pieces)
+}
+
+fn hex_line(text: &mut Vec<u8>, word: &[u8], octets: &[u8]) {
+    text.extend_from_slice(word);
+    push_hex(text, octets);
+    text.push(b'\n');
+}
+
+fn octets_told(octets: &[u8]) -> Vec<u8> {
+    let mut text = Vec::new();
+    octets.chunks(PIECE).for_each(|piece| hex_line(&mut text, b"octets ", piece));
+    let _ = writeln!(text, "end {}", octets.len());
+    text
+}
+
+/// The text of a turn, as its record has it: the line, the messages, and the answer.
+pub fn text_of(line: &[u8], letters: &[Letters], said: &Said) -> Vec<u8> {
+    let mut text = line.to_vec();
+    text.push(b'\n');
+    for letter in letters {
+        for to in &letter.to {
+            let _ = write!(text, "post {to} ");
+            hex_line(&mut text, b"", &letter.octets);
+        }
+    }
+    let _ = writeln!(text, "{said}");
+    text
+}
+
+/// Adds each line of a text with a number in front; messages come in pieces.
+pub fn tell(out: &mut Vec<u8>, number: u32, text: &[u8]) {
+    for line in text.split_inclusive(|b| *b == b'\n') {
+        match line.strip_prefix(b"post ") {
+            Some(rest) => tell_post(out, number, rest),
+            None => {
+                let _ = write!(out, "{number} ");
+                out.extend_from_slice(line);
+            }
+        }
+    }
+}
+
+/// Adds a message in pieces: the receiver, a space, digits and a line end.
+fn tell_post(out: &mut Vec<u8>, number: u32, rest: &[u8]) {
+    let at = rest.iter().position(|b| *b == b' ').unwrap_or(0) + 1;
+    let (to, digits) = (&rest[..at], &rest[at..rest.len() - 1]);
+    let count = digits.len().div_ceil(2 * PIECE);
+    for (at, piece) in digits.chunks(2 * PIECE).enumerate() {
+        let word = if at + 1 < count { "more" } else { "post" };
+        let _ = write!(out, "{number} {word} ");
+        out.extend_from_slice(to);
+        out.extend_from_slice(piece);
+        out.push(b'\n');
+    }
+}

@@ -1,0 +1,27 @@
+"""Compiles what the trials need with `rustc`: the plain house, the plain program that replays scripts, and the disk."""
+import glob
+import os
+import subprocess
+
+ROOT = os.path.dirname(os.path.dirname(os.path.dirname(os.path.realpath(__file__))))
+
+
+def compiled(source, target, *options, root=ROOT):
+    """The path of what a source is compiled to; it is compiled where it is not there, or older than the sources beside it."""
+    source, target = f"{root}/{source}", f"{root}/{target}"
+    sources = [source, *glob.glob(f"{os.path.dirname(source)}/**/*.rs", recursive=True)]
+    if not os.path.exists(target) or os.path.getmtime(target) < max(map(os.path.getmtime, sources)):
+        os.makedirs(os.path.dirname(target), exist_ok=True)
+        # (in two steps: another trial may run what was compiled before)
+        subprocess.run(["rustc", "--edition", "2021", "-O", *options, "-o", f"{target}.{os.getpid()}", source], check=True)
+        os.replace(f"{target}.{os.getpid()}", target)
+    return target
+
+
+class Programs:
+    """The house that is tried, the program that replays, and the disk between the house and its folder."""
+
+    def __init__(self, house=None, plain=None):
+        self.house = os.path.abspath(house) if house else compiled("bench/house.rs", "out/plain-house")
+        self.plain = os.path.abspath(plain) if plain else compiled("bench/plain.rs", "out/plain")
+        self.disk = compiled("tools/housing/disk.rs", "out/house-disk.so", "--crate-type", "cdylib")

@@ -1,0 +1,63 @@
+"""Cases of a house: what it reads and what it says, with starts between. They are in house.case and on the page docs/HOUSE.md."""
+import os
+import re
+import tempfile
+
+import building
+from processes import Process
+
+CASES = f"{building.ROOT}/tools/housing/house.case"
+PAGE = f"{building.ROOT}/docs/HOUSE.md"
+
+
+def of_file():
+    """The cases of house.case, as (title, lives), each life as (what is read, what is said)."""
+    with open(CASES, encoding="ascii") as file:
+        parts = re.split(r"^## (.*)\n", file.read(), flags=re.MULTILINE)[1:]
+    for title, text in zip(parts[::2], parts[1::2]):
+        yield title, [life(part) for part in re.split(r"^! again\n", text, flags=re.MULTILINE)]
+
+
+def of_page():
+    """The examples of the page: one case for each block, with the blocks `again` after it."""
+    with open(PAGE, encoding="ascii") as file:
+        blocks = re.findall(r"^```house( again)?\n(.*?)^```$", file.read(), flags=re.MULTILINE | re.DOTALL)
+    found = []
+    for again, text in blocks:
+        if not again:
+            found.append((f"docs/HOUSE.md, example {len(found) + 1}", []))
+        found[-1][1].append(life(text))
+    return found
+
+
+def life(text):
+    """What is read in a life, and what is said. (The line that ends a case is blank, and no line of it.)"""
+    lines = text.removesuffix("\n").split("\n")
+    lines = lines[:-1] if lines and not lines[-1] else lines
+    return [line for line in lines if not line.startswith("=> ")], [line[3:] for line in lines if line.startswith("=> ")]
+
+
+def failure(program, lives):
+    """What a house says otherwise than a case, or None."""
+    with tempfile.TemporaryDirectory() as folder:
+        os.makedirs(f"{folder}/h")
+        for read, due in lives:
+            process = Process(program, f"{folder}/h")
+            process.send(read)
+            said = all_of(process, len(due))
+            if said != due:
+                at = next((at for at, line in enumerate(due) if said[at : at + 1] != [line]), len(due))
+                return f"line {at + 1} is {said[at : at + 1]}, due is {due[at : at + 1]}"
+    return None
+
+
+def all_of(process, count):
+    """So many lines that a house says; then it is killed, and what it said besides is added."""
+    found = []
+    while len(found) < count and (line := process.next_line()) is not None:
+        found.append(line)
+    process.kill()
+    while (line := process.next_line()) is not None:
+        found.append(line)
+    process.drained()
+    return found

@@ -1,0 +1,169 @@
+"""Reads the folder of a house (docs/HOUSE.md): its segments, their records, and whether each follows the one before."""
+import hashlib
+import os
+
+HEAD = b"cdshouse journal 1 %d\n"
+SUM = 32
+NO_SUM = bytes(SUM)
+# The octets of a record before its text: number, clock, mark, length of the text.
+FIELDS = 21
+
+
+class Damaged(Exception):
+    """A folder is not what houses write."""
+
+
+class Record:
+    """A record of a segment: its number, the clock, the lines of its text, and the image, or None."""
+
+    def __init__(self, place, body):
+        if len(body) < FIELDS:
+            raise Damaged(f"{place}: {len(body)} octets are no record")
+        self.place = place
+        self.number = int.from_bytes(body[:8], "big")
+        self.clock = int.from_bytes(body[8:16], "big")
+        size = int.from_bytes(body[17:FIELDS], "big")
+        text, rest = body[FIELDS : FIELDS + size], body[FIELDS + size :]
+        if body[16] > 1 or len(text) < size or (rest and not body[16]):
+            raise Damaged(f"{place}: no record")
+        self.image = rest if body[16] else None
+        if not text.endswith(b"\n"):
+            raise Damaged(f"{place}: the text has no line end")
+        self.lines = text[:-1].decode("ascii").split("\n")
+
+    @property
+    def kind(self):
+        """`new`, `start`, `segment`, or the command of a turn."""
+        return self.lines[0].split(" ")[0]
+
+    @property
+    def turn(self):
+        """The lines of the turn: its own, or those of the turn before that a start or a segment repeats."""
+        return self.lines[1:] if self.kind in ("start", "segment") else self.lines
+
+    @property
+    def line(self):
+        return self.turn[0]
+
+    @property
+    def posts(self):
+        """The receivers and the octets of what it posted."""
+        words = [line.split(" ") for line in self.turn[1:-1]]
+        return [(int(to), octets) for _, to, octets in words]
+
+    @property
+    def answer(self):
+        return self.turn[-1]
+
+
+def listed(octets):
+    """The records after open gates, and where the gate is that ends them."""
+    at, found = 0, []
+    while len(octets) - at >= 10 and octets[at] == 1:
+        size = int.from_bytes(octets[at + 1 : at + 9], "big")
+        if size > len(octets) - at - 10:
+            break
+        found.append(octets[at + 9 : at + 9 + size])
+        at += size + 9
+    return found, at
+
+
+class Segment:
+    """One file of a folder: its records, the sum of the last record before it, and that of its last one."""
+
+    def __init__(self, path, number):
+        with open(path, "rb") as file:
+            octets = file.read()
+        found, gate = listed(octets)
+        if len(found) < 2:
+            raise Damaged(f"{path}: {len(found)} records")
+        head = HEAD % number
+        if len(found[0]) != len(head) + 2 * SUM or not found[0].startswith(head):
+            raise Damaged(f"{path}: no segment {number}")
+        self.path, self.number = path, number
+        self.before = found[0][len(head) : -SUM]
+        self.last = self.before
+        bodies = [self.body(f"{path} record {at}", record) for at, record in enumerate(found)]
+        self.records = [Record(f"{path} record {at}", body) for at, body in enumerate(bodies) if at]
+        self.check_end(octets, gate)
+
+    def check_end(self, octets, gate):
+        """No crash leaves a gate 1 at the end, or after it a record that fits and an open gate."""
+        found, _ = listed(b"\1" + octets[gate + 1 :])
+        if octets[gate : gate + 1] == b"\1":
+            raise Damaged(f"{self.path}: record {len(self.records) + 1} is not whole")
+        if len(found) > 1 and hashlib.sha256(self.last + found[0][:-SUM]).digest() == found[0][-SUM:]:
+            raise Damaged(f"{self.path}: the gate of record {len(self.records) + 1} is closed")
+
+    def body(self, place, record):
+        """A record without its sum, which has to be that of it and all before."""
+        body, own = record[:-SUM], record[-SUM:]
+        if hashlib.sha256(self.last + body).digest() != own:
+            raise Damaged(f"{place}: the sum is another")
+        self.last = own
+        return body
+
+
+def numbers(folder):
+    """The numbers of the segments of a folder."""
+    return sorted(int(name) for name in os.listdir(folder) if name.isdigit() and name[0] != "0")
+
+
+def segments(folder):
+    """The segments of a folder, each of which follows the one before."""
+    last = None
+    for number in numbers(folder):
+        segment = Segment(f"{folder}/{number}", number)
+        if last and number != last.number + 1:
+            raise Damaged(f"{folder}: segment {last.number + 1} is missing")
+        if last and segment.before != last.last or number == 1 and segment.before != NO_SUM:
+            raise Damaged(f"{segment.path}: does not follow the segment before")
+        yield segment
+        last = segment
+
+
+def check_repeated(record, last, turn):
+    """A start or a segment repeats the last turn, after the record before."""
+    if record.turn != turn:
+        raise Damaged(f"{record.place}: repeats another turn than the last one")
+    if record.kind == "segment" and (record.number, record.image, record.clock) != (last.number, last.image, last.clock):
+        raise Damaged(f"{record.place}: does not follow the record before")
+    if record.kind == "segment" and record.lines[0] != f"segment {last.number}":
+        raise Damaged(f"{record.place}: segment {last.number} was due")
+
+
+def entries(folder):
+    """The entries of a house from the first on: its turns and its starts, by their numbers."""
+    found, turn = [], None
+    records = [record for segment in segments(folder) for record in segment.records]
+    for record in records:
+        if record.kind == "new":
+            if found or (record.number, record.clock, record.image, record.lines) != (0, 0, None, ["new"]):
+                raise Damaged(f"{record.place}: no record of a new folder")
+            continue
+        if not found and record.kind != "house":
+            raise Damaged(f"{record.place}: does not begin with a house")
+        if record.kind in ("start", "segment"):
+            check_repeated(record, found[-1], turn)
+        if record.kind == "segment":
+            continue
+        if record.kind == "start" and record.clock:
+            raise Damaged(f"{record.place}: a start at {record.clock}")
+        if record.image is None:
+            raise Damaged(f"{record.place}: no image")
+        if record.number != len(found) + 1:
+            raise Damaged(f"{record.place}: entry {record.number} where {len(found) + 1} is due")
+        turn = record.turn
+        found.append(record)
+    return found
+
+
+def shown(folder):
+    """The records of a folder as text, line by line."""
+    for segment in segments(folder):
+        yield f"segment {segment.number} after {segment.before.hex()}"
+        for record in segment.records:
+            image = "no image" if record.image is None else f"image {len(record.image)}"
+            yield f"{record.number} clock {record.clock} {image}"
+            yield from (f"  {line}" for line in record.lines)
+        yield f"sum {segment.last.hex()}"

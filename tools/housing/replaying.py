@@ -1,0 +1,24 @@
+"""Replays a script, and compares the answers with those that the journals have."""
+import subprocess
+
+
+def answers_of(octets):
+    """The answers of an output: the lines of each number without it."""
+    found = {}
+    for line in octets.decode("ascii").splitlines():
+        number, _, text = line.partition(" ")
+        found.setdefault(int(number), []).append(text)
+    return found
+
+
+def differences(program, script):
+    """What `PROGRAM run` answers otherwise than the script, as (line, answer, what is due), and how many lines were compared."""
+    lines = "".join(f"{line}\n" for line, _ in script)
+    ran = subprocess.run([program, "run"], input=lines.encode(), capture_output=True, check=False)
+    answers = answers_of(ran.stdout)
+    found = [] if ran.returncode == 0 else [("status", str(ran.returncode), "0")]
+    for number, (line, due) in enumerate(script, 1):
+        answer = answers.get(number, [])
+        if answer != due if due is not None else not answer or not answer[-1].startswith("ok"):
+            found.append((line, "; ".join(answer)[:300], "; ".join(due or ["ok"])[:300]))
+    return found, len(script)

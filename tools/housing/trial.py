@@ -1,0 +1,288 @@
+"""One run of houses: they work while the net and the disk are awful and the processes die; then all heals, and all is compared."""
+import collections
+import os
+import random
+import shutil
+import time
+
+import explaining
+import journals
+import replaying
+from console import Console
+from lives import DISK_FAULT, KILLED, NO_POWER, Difference, House
+from net import Net
+from processes import Silent
+from workload import Job, Workload, take_job
+
+# The refusals that a script gives, too.
+REFUSED = ("NoReplica", "NotMaster", "EntryExists", "NoSuchEntry", "WrongKind")
+
+
+class Plan:
+    """How awful a run is, by its seed."""
+
+    def __init__(self, seed, args):
+        chance = random.Random(seed)
+        self.houses = args.houses or chance.choice([2, 3, 3, 4, 5])
+        self.lines = args.lines or chance.choice([150, 300, 450])
+        self.kill = chance.choice([0, 0.1, 0.3])
+        self.late = chance.choice([0.0005, 0.002, 0.004])
+        self.loss = chance.choice([0, 5, 15, 30])
+        self.repeats = chance.choice([0, 12, 30])
+        self.power = chance.choice([0, 30, 60, 120])
+        self.fail = chance.choice([0, 0, 150])
+        # Some houses have a full disk: so many octets at first.
+        self.room = chance.choice([0, 0, 0, 60_000])
+        # After so many octets a segment is changed, where the program takes that.
+        self.segment = chance.choice([0, 5_000, 20_000]) if args.small else 0
+        if args.steady:
+            self.kill = self.power = self.fail = self.room = 0
+
+
+class Trial:
+    def __init__(self, seed, plan, programs, folder):
+        self.seed, self.plan, self.programs = seed, plan, programs
+        self.random = random.Random(seed)
+        self.folder = os.path.join(folder, f"run-{seed}")
+        shutil.rmtree(self.folder, ignore_errors=True)
+        self.count = collections.Counter()
+        self.calm = False
+        self.rooms = {}
+        self.console = Console()
+        self.net = Net(self.random, plan.loss, plan.repeats, kept=10)
+        numbers = list(range(1, plan.houses + 1))
+        self.houses = {number: self.house(number) for number in numbers}
+        self.workload = Workload(self.random, self.console, self.net, numbers)
+        # What houses answered without a turn, by house and entry; and what the dump before a line said, by house.
+        self.asked = collections.defaultdict(list)
+        self.dumped = {}
+
+    # ---- houses
+
+    def house(self, number):
+        folder = f"{self.folder}/h{number}"
+        os.makedirs(f"{self.folder}/disk{number}")
+        self.rooms[number] = self.plan.room * self.random.randrange(2)
+        return House(self.programs.house, folder, number, self.disk, self.hurry, self.count)
+
+    def disk(self, number):
+        """The environment of a house's next life: its disk."""
+        plan, folder = self.plan, f"{self.folder}/h{number}"
+        power, fail, room = (0, 0, 0) if self.calm else (plan.power, plan.fail, self.rooms[number])
+        seed = self.random.getrandbits(60)
+        if room and self.random.random() < 0.2:
+            # somebody makes room
+            self.rooms[number] += 40_000
+        words = {"HOUSE_DISK": f"{folder} {self.folder}/disk{number} {seed} {power} {fail} {room}"}
+        if self.programs.disk:
+            words["LD_PRELOAD"] = self.programs.disk
+        return words | ({"HOUSE_SEGMENT": str(plan.segment)} if plan.segment else {})
+
+    def hurry(self, house):
+        """Kills a house that starts, now and then."""
+        if not self.calm and self.random.random() < self.plan.kill / 3:
+            time.sleep(self.random.random() * self.plan.late)
+            house.process.kill()
+
+    # ---- work
+
+    def run(self):
+        try:
+            for house in self.houses.values():
+                self.start(house)
+            done = 0
+            while done < self.plan.lines:
+                done += self.round()
+            self.heal()
+            self.compare()
+        finally:
+            for house in self.houses.values():
+                if house.process:
+                    house.process.kill()
+
+    def round(self):
+        """Some houses get some lines each; one of them may be killed; all answers are read. Returns how many lines it was."""
+        chosen = self.random.sample(list(self.houses.values()), self.random.randrange(1, len(self.houses) + 1))
+        has_number = False
+        for house in chosen:
+            jobs = [job for _ in range(self.random.choice([1, 1, 1, 2, 4])) for job in self.workload.jobs(house.number)]
+            wanted = not has_number and self.random.random() < (0.04 if self.console.directories else 1)
+            numbered = self.workload.numbered(house.number) if wanted else None
+            has_number |= numbered is not None
+            house.send([numbered] if numbered else jobs)
+        if self.random.random() < self.plan.kill:
+            if self.random.random() < 0.8:
+                time.sleep(self.random.random() * self.plan.late)
+            # (one of them, or the machine stops)
+            for house in chosen if self.random.random() < 0.1 else [self.random.choice(chosen)]:
+                house.process.kill()
+        return sum(map(self.work_off, chosen))
+
+    def work_off(self, house):
+        """Reads the answers of a house; one that died is started again."""
+        lines = len(house.jobs)
+        while house.jobs:
+            found = house.next_answer()
+            if found is None:
+                self.take_up(house, *house.died())
+                return lines
+            self.note(house, *found)
+        return lines
+
+    def start(self, house):
+        self.take_up(house, *house.start())
+
+    def take_up(self, house, posts, done):
+        """What a house posts after a start, and what it did and never answered."""
+        self.net.post(posts)
+        for job in done:
+            self.count["turns that only a start said"] += 1
+            if job.numbered:
+                self.console.done(house.number, job.line)
+
+    def note(self, house, job, answer, posts):
+        self.count["answers"] += 1
+        self.net.post(posts)
+        if job.numbered and answer[-1].startswith("ok"):
+            self.console.done(house.number, job.line)
+        if answer[-1].startswith("ok complete"):
+            self.count["complete skulks"] += 1
+        self.compare_look(house, job, answer)
+        word, end = job.line.split(" ")[0], answer[-1].split(" ")
+        is_question = word in ("dump", "image") and end[0] == "end"
+        is_refusal = end[0] == "refused" and (word in ("dump", *explaining.UPDATES) and end[1] in REFUSED or word == "take")
+        is_not_taken = word == "take" and end[0] == "ok" and end[1] not in ("taken", "complete", "foreign")
+        if (is_question or is_refusal or is_not_taken) and end[1:2] not in (["Trailing"], ["TooLong"]):
+            self.asked[house.number, house.entry].append(explaining.Asked(job.line, answer))
+
+    def compare_look(self, house, job, answer):
+        """A look that comes just after a dump shows its present values."""
+        words = job.line.split(" ")
+        if words[0] == "dump" and answer[-1] == "end":
+            self.dumped[house.number] = (words[1], values_of(answer))
+            return
+        directory, values = self.dumped.pop(house.number, (None, {}))
+        if words[0] == "look" and words[1] == directory:
+            name, attribute = words[2:]
+            due = values.get(name, {}).get(attribute, [])
+            shown = [*(f"value {value}" for value in due), f"end {len(due)}"] if name in values else ["refused NoSuchEntry"]
+            if answer != shown:
+                raise Difference(f"house {house.number}: {job.line} is {answer}, the dump before has {shown}")
+            self.count["looks compared"] += 1
+
+    # ---- the end
+
+    def ask(self, house, job):
+        """The answer of a house that nothing disturbs."""
+        house.send([job])
+        found = house.next_answer()
+        if found is None:
+            raise Difference(f"house {house.number}: died at the end")
+        self.note(house, *found)
+        return found[1]
+
+    def heal(self):
+        """All houses end and start; each directory gets an epoch and a skulk that nothing disturbs; then the dumps agree."""
+        for house in self.houses.values():
+            status = house.close()
+            if status not in (0, NO_POWER, DISK_FAULT, KILLED):
+                raise Difference(f"house {house.number}: status {status} at the end of its input")
+        self.calm, self.net.loss, self.net.repeats, self.net.kept = True, 0, 0, 0
+        self.net.messages = []
+        for house in self.houses.values():
+            self.start(house)
+        for directory in sorted(self.console.directories):
+            self.complete(directory)
+        for house in self.houses.values():
+            if house.close() != 0:
+                raise Difference(f"house {house.number}: status {house.process.status} at the end")
+
+    def complete(self, directory):
+        number = self.console.master(directory)
+        master = self.houses[number]
+        line = self.console.epoch_line(directory, number, self.console.others(directory))
+        answer = self.ask(master, Job([line], numbered=True))
+        if answer[-1].split(" ")[0] != "ok":
+            raise Difference(f"{line}: {answer}")
+        self.deliver_all()
+        answers = [self.ask(master, Job([f"skulk {directory}"])), *self.deliver_all()]
+        if not any(answer[-1].startswith("ok complete") for answer in answers):
+            raise Difference(f"directory {directory}: its skulk is not complete")
+        members = self.console.directories[directory][1]
+        dumps = {tuple(self.ask(self.houses[number], Job([f"dump {directory}"]))) for number in members}
+        if len(dumps) != 1:
+            raise Difference(f"directory {directory}: {len(dumps)} dumps of {len(members)} houses")
+        self.count["directories"] += 1
+
+    def deliver_all(self):
+        answers = []
+        while self.net.messages:
+            to, octets = self.net.messages.pop(0)
+            answers.append(self.ask(self.houses[to], take_job(octets)))
+        return answers
+
+    def compare(self):
+        """The journals have each turn, and a script that explains them answers as they do."""
+        entries = {number: journals.entries(house.folder) for number, house in self.houses.items()}
+        for number, house in self.houses.items():
+            turns = sum(entry.kind != "start" for entry in entries[number])
+            if turns != house.turns + len(house.answered):
+                raise Difference(f"house {number}: {turns} turns in its journal, {house.turns + len(house.answered)} known")
+            self.count["turns"] += turns
+            self.count["segments"] += len(journals.numbers(house.folder))
+        explainer = explaining.Explainer(entries, self.asked)
+        explainer.run()
+        self.replay(explainer)
+        self.count["messages"] += explainer.messages
+        self.count["messages taken"] += explainer.taken
+        self.count["questions and refusals"] += sum(map(len, self.asked.values()))
+        if self.random.random() < 0.25:
+            explainer = explaining.Explainer(entries, self.asked)
+            explainer.run_in_any_order(self.random)
+            self.replay(explainer)
+            self.explain_beginnings(entries)
+
+    def explain_beginnings(self, entries):
+        """The beginnings of all journals are explained, too, as far as no house took what only an entry left out posted."""
+        explainer = explaining.Explainer({number: own[: self.random.randrange(1, len(own) + 1)] for number, own in entries.items()})
+        try:
+            explainer.run()
+        except explaining.Unexplained as reason:
+            if not reason.waits:
+                raise
+        self.replay(explainer)
+
+    def replay(self, explainer):
+        found, lines = replaying.differences(self.programs.plain, explainer.script)
+        self.count["lines compared"] += lines
+        if found:
+            line, answer, due = found[0]
+            raise Difference(f"{len(found)} lines differ: {line[:200]}: replay {answer}: journal {due}")
+
+
+def values_of(dump):
+    """The present values of a dump's live entries: {entry: {attribute: [value]}}. (Where a link or a child leads is left to the replay.)"""
+    found, entry, attribute = {}, None, None
+    for words in (line.split(" ") for line in dump[1:-1]):
+        if words[0] == "entry":
+            entry = found.setdefault(words[1], {}) if words[4] == "live" and words[2] == "object" else {}
+        elif words[0] == "attr":
+            attribute = entry.setdefault(words[1], [])
+        elif words[2] == "present":
+            attribute.append(words[1])
+    return found
+
+
+FAULTS = (Difference, Silent, explaining.Unexplained, journals.Damaged)
+
+
+def tried(seed, plan, programs, folder):
+    """Runs a trial. Returns its counts, and what was found to differ, or None."""
+    trial = Trial(seed, plan, programs, folder)
+    trial.count["runs"] = 1
+    try:
+        trial.run()
+    except FAULTS as fault:
+        return trial.count, f"{type(fault).__name__}: {fault}"
+    shutil.rmtree(trial.folder)
+    return trial.count, None
