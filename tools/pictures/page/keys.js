@@ -7,13 +7,22 @@ const HELP = [
   ["Esc", "nothing is chosen any more"], ["?", "these keys"],
 ];
 
-// Shows the present line in all panes.
+// Shows the present line in all panes, once for all that happens up to the next frame.
+let isDue = false;
 function show() {
+  if (!isDue) {
+    isDue = true;
+    requestAnimationFrame(showNow);
+  }
+}
+
+function showNow() {
+  isDue = false;
   const step = steps[present.index];
   showLine();
-  showLanes();
   const said = showState(step);
   showMoves();
+  showLanes();
   document.title = `line ${step.line}, ${data.name}`;
   const answer = step.answer.split("\n")[0].replace(/^\d+ /, "");
   byId("spoken").textContent = `Line ${step.line}: ${(textOfLine.get(step.line) ?? "").trim()}. Answer: ${answer}. ${said.slice(0, 4).join(". ")}`;
@@ -23,7 +32,7 @@ function show() {
 function showAddress() {
   const found = location.hash.match(/^#line-(\d+)$/);
   goTo(found ? closestStep(Number(found[1])).index : 0);
-  show();
+  showNow();
 }
 
 function toggleHelp() {
@@ -33,7 +42,7 @@ function toggleHelp() {
 
 // What a key does that is not typed into a field.
 function onKey(event) {
-  const isTyped = event.target.matches("input:not([type=checkbox]), select, textarea");
+  const isTyped = event.target instanceof Element && event.target.matches("input:not([type=checkbox]), select, textarea");
   if (event.key === "Escape") {
     byId("sought").value = "";
     byId("help").hidden = true;
@@ -66,6 +75,7 @@ function onSought(event) {
 }
 
 function begin() {
+  takeAll();
   makeLines();
   makeMoves();
   const about = [`form ${data.form}`, plural(steps.length, "step"), plural(Object.keys(data.nodes).length, "house"), plural(messages.size, "message")];

@@ -1,7 +1,7 @@
 // The time picture around the present line: a window of columns, houses as lines, steps as marks. Arrows are in arrows.js.
 
 const COLUMNS = 30;
-const [LANE, SUBLANE, MARK, TOP, HEADS] = [58, 40, 17, 96, 112];
+const [LANE, NARROW, SUBLANE, MARK, TOP, HEADS] = [58, 38, 36, 17, 96, 112];
 const MOST_LANES = 10; // of all houses; of more houses those alone that act in the window
 
 const view = { first: 0, end: 0, pitch: 36, width: 26, lanes: [], tops: [], places: new Map() };
@@ -55,17 +55,18 @@ function layLanes() {
     const dirs = dirsHeld(house);
     return (dirs.length ? dirs : [null]).map((dir, at) => ({ house, dir, isFirst: at === 0 }));
   });
-  let y = TOP - LANE / 2;
+  const lane = view.lanes.length > 8 ? NARROW : LANE;
+  let y = TOP + LANE / 2 - lane;
   view.places = new Map();
   view.tops = view.lanes.map(({ house, dir, isFirst }, at) => {
-    y += isFirst ? LANE : SUBLANE;
+    y += isFirst ? lane : SUBLANE;
     if (isFirst) {
       view.places.set(`${house}`, at);
     }
     view.places.set(`${house} ${dir}`, at);
     return y;
   });
-  view.isSplit = new Set(view.lanes.map((it) => it.dir)).size > 1;
+  view.isSplit = new Set(view.lanes.map((it) => it.dir).filter((it) => it !== null)).size > 1;
   view.aside = y + LANE;
   view.isAside = view.steps.some((it) => laneOf(it) === null && !isBroken(it));
   view.bottom = (view.tops.at(-1) ?? TOP) + LANE / 2 + (view.isAside ? LANE : 0);
@@ -99,13 +100,13 @@ function isBroken(step) {
 function showLanes() {
   lookAt(present.index);
   const width = 28 + (view.end - view.first) * view.pitch + 60;
-  const height = view.bottom + 40;
+  const height = view.bottom + 54;
   const last = view.steps.at(-1).line;
   byId("time-head").replaceChildren("Time ", make("small", {}, `lines ${view.steps[0].line} to ${last} of ${steps.at(-1).line}`));
   const parts = [...shades(), ...guides(), ...lines(), ...uprights(), ...arrows(), ...rises(), ...marks()];
   const picture = draw("svg", { viewBox: `0 0 ${width} ${height}`, class: "lanes", role: "group", "aria-label": `the steps of lines ${view.steps[0].line} to ${last}` }, cursor(), parts);
   const heads = draw("svg", { viewBox: `0 0 ${HEADS} ${height}`, class: "heads", "aria-hidden": "true" }, headNames());
-  const scale = parseFloat(getComputedStyle(document.documentElement).fontSize) / 16;
+  const scale = scaleOf();
   for (const [it, own] of [[picture, width], [heads, HEADS]]) {
     it.setAttribute("width", own * scale);
     it.setAttribute("height", height * scale);
@@ -118,6 +119,14 @@ function showLanes() {
     box.scrollTop = y * scale - box.clientHeight / 2;
   }
 }
+
+// How great letters are, beside the usual size.
+let scaleKnown = null;
+function scaleOf() {
+  scaleKnown ??= parseFloat(getComputedStyle(document.documentElement).fontSize) / 16;
+  return scaleKnown;
+}
+window.addEventListener("resize", () => { scaleKnown = null; });
 
 // The names of the houses, at their lines.
 function headNames() {
@@ -181,6 +190,7 @@ function lines() {
 
 // Where epochs begin: upright lines, with their masters.
 function uprights() {
+  let [end, level] = [0, 0];
   return epochs.filter((it) => it.at >= view.from && it.at <= view.to && steps[columnOf(it.at)]?.at === it.at).map((epoch) => {
     const x = xOf(columnOf(epoch.at)) - view.pitch / 2;
     const signs = epoch.members.map((house) => [house, yOf(house, epoch.dir)]).filter(([, y]) => y !== undefined).map(([house, y]) => {
@@ -188,9 +198,12 @@ function uprights() {
       return letter ? [draw("circle", { cx: x, cy: y, r: 8, class: "ink" }), draw("text", { x, y: y + 4, class: "number onink" }, letter)]
         : draw("circle", { cx: x, cy: y, r: 4, class: "ink" });
     });
+    const label = `epoch ${epoch.number}${view.isSplit ? ` of dir ${epoch.dir}` : ""}`;
+    level = x < end ? level + 1 : 0;
+    end = x + 8 * label.length;
     const words = `epoch ${epoch.number} of directory ${epoch.dir}: master ${epoch.master}, members ${epoch.members.join(" ")}`;
     return draw("g", {}, draw("title", {}, words), draw("path", { d: `M${x} ${TOP - 10}V${view.bottom}`, class: "upright" }), signs,
-      draw("text", { x: x + 3, y: view.bottom + 28, class: "ink" }, `epoch ${epoch.number}${view.isSplit ? ` of dir ${epoch.dir}` : ""}`));
+      draw("text", { x: x + 3, y: view.bottom + 28 + 13 * level, class: "ink" }, label));
   });
 }
 
@@ -228,6 +241,6 @@ function rises() {
     .map(([house, dir, stamp, at]) => {
       const [x, y] = [xOf(columnOf(at)) - view.width / 2, yOf(house, dir) + MARK / 2 + 3];
       return draw("g", {}, draw("title", {}, `AllUpTo of house ${house}, directory ${dir}: ${stamp}`),
-        draw("rect", { x, y, width: 14 + brief(stamp).length * 6.6, height: 15, rx: 2, class: "tag" }), draw("text", { x: x + 3, y: y + 11.5, class: "ink" }, `▲ ${brief(stamp)}`));
+        draw("rect", { x, y, width: 16 + brief(stamp).length * 7.2, height: 15, rx: 2, class: "tag" }), draw("text", { x: x + 3, y: y + 11.5, class: "ink" }, `▲ ${brief(stamp)}`));
     });
 }

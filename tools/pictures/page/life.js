@@ -2,10 +2,11 @@
 
 const choice = { chosen: null, life: null };
 
-// Whether a step changes a fact that a test holds of.
+// Whether a step changes a fact so that a test holds of what it is then, or was before.
 function changesFact(step, dir, test) {
-  return data.changes[step.index + 1].some((house) => house[4].some(([of, , pairs]) =>
-    (dir === null || of === dir) && pairs.some((place, at) => at % 2 === 0 && test(place, pairs[at + 1]))));
+  const holds = (house) => house[4].some(([of, , pairs]) =>
+    (dir === null || of === dir) && pairs.some((place, at) => at % 2 === 0 && test(place, pairs[at + 1])));
+  return data.changes[step.index + 1].some(holds) || undos[step.index].some(holds);
 }
 
 // Whether a message carries a fact that a test holds of.

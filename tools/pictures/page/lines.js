@@ -47,7 +47,7 @@ function showLine() {
   shownRow.classList.add("present");
   shownRow.firstChild.setAttribute("aria-current", "step");
   const list = byId("lines");
-  const [top, height] = [shownRow.offsetTop - list.offsetTop, shownRow.offsetHeight];
+  const [top, height] = [shownRow.offsetTop, shownRow.offsetHeight];
   if (top < list.scrollTop + 40 || top + height > list.scrollTop + list.clientHeight - 40) {
     list.scrollTop = top - list.clientHeight / 2 + height / 2;
   }

@@ -18,8 +18,11 @@ const stepOfLine = new Map(steps.map((step) => [step.line, step]));
 const textOfLine = new Map(data.lines);
 const houseOfNode = new Map(Object.entries(data.nodes).map(([house, node]) => [node, house]));
 
-// The present step, by its index; what each house has then; and for each step that was taken what takes it back.
-const present = { index: -1, houses: new Map(), undo: [] };
+// The present step, by its index, and what each house has then.
+const present = { index: -1, houses: new Map() };
+
+// For each step, once it was taken, what takes it back.
+const undos = [];
 
 // Each key of a fact as its entry, attribute and value.
 const keys = new Map();
@@ -88,18 +91,24 @@ function changeReplica(replica, dir, head, pairs) {
 function goTo(index) {
   while (present.index < index) {
     present.index += 1;
-    present.undo.push(data.changes[present.index + 1].map(change));
+    undos[present.index] = data.changes[present.index + 1].map(change);
   }
   while (present.index > index) {
-    present.undo.pop().reverse().forEach(change);
+    undos[present.index].toReversed().forEach(change);
     present.index -= 1;
   }
+}
+
+// Takes each step once, so that it is known what each takes away.
+function takeAll() {
+  data.changes[0].forEach(change);
+  goTo(steps.length - 1);
 }
 
 // The changes of the present step: for each house and directory the new and the old head, and for each key the new and the old word.
 function presentChanges() {
   return data.changes[present.index + 1].map(([number, floor, size, puts, directories], at) => {
-    const [, oldFloor, , oldPuts, olds] = present.undo[present.index][at];
+    const [, oldFloor, , oldPuts, olds] = undos[present.index][at];
     const replicas = directories.map(([dir, head, pairs], place) => {
       const [, oldHead, oldPairs] = olds[place];
       const facts = [];
@@ -141,8 +150,16 @@ function lastEpoch(dir, at) {
   return epochs.findLast((it) => it.dir === dir && it.at <= at);
 }
 
-// The epoch, AllUpTo and members of a head of a dump; or the epoch in which the house left; or null.
+// The epoch, AllUpTo and members of a head of a dump; or the epoch in which the house left; or null. Many houses have one head.
+const heads = new Map();
 function headOf(head) {
+  if (!heads.has(head)) {
+    heads.set(head, readHead(head));
+  }
+  return heads.get(head);
+}
+
+function readHead(head) {
   const words = head.split(" ");
   if (words[0] === "left") {
     return { left: Number(words[1]), members: [] };

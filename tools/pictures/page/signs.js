@@ -1,18 +1,34 @@
 // How a fact of a house differs from what the master has: on its way, missed, only here, purged here, or purged at the master.
 
-// The messages under way that bring each fact to a house: by house, directory and the places of the key and of what it says.
-function comingFacts(at) {
-  const found = new Map();
+// The messages under way by receiver and directory, and for each of these, where it is asked, what they bring: by the place of a key
+// what the messages say of it.
+function comingTo(at) {
+  const [waiting, known] = [new Map(), new Map()];
   for (const message of underWay(at)) {
     if (message.load >= 0) {
-      const [pairs] = data.loads[message.load];
-      for (let it = 0; it < pairs.length; it += 2) {
-        const fact = `${message.receiver} ${message.dir} ${pairs[it]} ${pairs[it + 1]}`;
-        found.set(fact, [...(found.get(fact) ?? []), message]);
-      }
+      const place = `${message.receiver} ${message.dir}`;
+      waiting.set(place, [...(waiting.get(place) ?? []), message]);
     }
   }
-  return found;
+  return (house, dir) => {
+    const place = `${house} ${dir}`;
+    if (!known.has(place)) {
+      known.set(place, factsOf(waiting.get(place) ?? []));
+    }
+    return known.get(place);
+  };
+}
+
+// What messages say of keys.
+function factsOf(found) {
+  const facts = new Map();
+  for (const message of found) {
+    const [pairs] = data.loads[message.load];
+    for (let at = 0; at < pairs.length; at += 2) {
+      facts.set(pairs[at], [...(facts.get(pairs[at]) ?? []), { said: pairs[at + 1], message }]);
+    }
+  }
+  return facts;
 }
 
 // The stamp by which a fact wins over another one.

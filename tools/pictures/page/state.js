@@ -1,19 +1,19 @@
 // The state after the present line: what it changed, the directories, the messages under way, and the houses.
 
 const MOST_CHANGES = 14;
-const MOST_MESSAGES = 12; // of one receiver
+const MOST_MESSAGES = 60; // that are listed one by one
 
 // The whole pane.
 function showState(step) {
   const changes = presentChanges();
   const { at } = step;
   const said = changesSaid(step, changes);
-  const coming = comingFacts(at);
+  const coming = comingTo(at);
   const parts = [
     changesPanel(said),
     ...formPanels(step),
     choicePanel(at),
-    tableOptions(at),
+    tableOptions(),
     ...directoriesKnown(at).map((dir) => directoryTable(dir, at, changes, coming)),
     messagesPanel(at),
     housesPanel(at, changes),
@@ -83,10 +83,7 @@ function changesPanel(said) {
 }
 
 // What the tables show.
-function tableOptions(at) {
-  if (!directoriesKnown(at).length) {
-    return null;
-  }
+function tableOptions() {
   const differing = make("input", { type: "checkbox", id: "differing" });
   differing.checked = options.onlyDiffering;
   differing.addEventListener("change", () => { options.onlyDiffering = differing.checked; show(); });
@@ -111,9 +108,11 @@ function messagesPanel(at) {
   const found = underWay(at);
   const receivers = new Map();
   found.forEach((it) => receivers.set(it.receiver, [...(receivers.get(it.receiver) ?? []), it]));
+  const most = Math.max(1, Math.floor(MOST_MESSAGES / receivers.size));
   const rows = [...receivers].sort(([a], [b]) => a - b).map(([receiver, own]) => {
-    const shown = own.slice(0, MOST_MESSAGES);
-    const more = own.length > shown.length ? make("li", {}, `… and ${own.length - shown.length} more: ${ranges(own.slice(MOST_MESSAGES).map((it) => it.serial))}`) : null;
+    const shown = own.slice(0, most);
+    const left = own.slice(most).map((it) => it.serial);
+    const more = left.length ? make("li", {}, `… and ${left.length} more: ${shortened(ranges(left), 60)}`) : null;
     return [make("dt", {}, receiver === null ? "to a house that the script does not say" : `to house ${receiver}`),
       make("dd", {}, make("ul", {}, shown.map((it) => messageItem(it, at)), more))];
   });

@@ -1,7 +1,7 @@
 // A directory as a table: a column for each house that has to do with it, a row for each fact, as `dump` lists them.
 
 const MOST_COLUMNS = 8; // of single houses; of more those that have the same share one
-const MOST_CELLS = 3000;
+const MOST_CELLS = 600;
 const options = { onlyDiffering: false, houses: null, all: new Set() };
 
 // The directories that there are.
@@ -56,12 +56,18 @@ function directoryTable(dir, at, changes, coming) {
   const master = { number: epoch.master, replica: replicaOf(epoch.master, dir) };
   master.head = headOf(master.replica.head);
   const rows = rowsOf(dir, columns, master, changed, coming);
-  const others = epoch.members.filter((it) => it !== epoch.master).map((it) => (epoch.secondary.includes(it) ? `s${it}` : it));
-  const members = `epoch ${epoch.number}: master ${epoch.master}${others.length ? `, others ${others.join(" ")}` : ""}`;
+  const members = membersSaid(epoch);
   return make("section", { class: "directory", "aria-label": `directory ${dir}` },
     make("h3", {}, `Directory ${dir} `, make("small", {}, `${data.names[dir]}, ${members}`)),
     make("div", { class: "scroll", tabindex: "0", role: "group", "aria-label": `table of directory ${dir}` },
       make("table", { "data-dir": dir }, headRows(dir, at, columns, epoch, changed), make("tbody", {}, rows.shown))), rows.note);
+}
+
+// The members of an epoch, in words.
+function membersSaid({ number, master, members, secondary }) {
+  const others = members.filter((it) => it !== master && !secondary.includes(it));
+  const parts = [[`secondary`, secondary], ["read-only", others]].filter(([, own]) => own.length).map(([words, own]) => `, ${words} ${ranges(own)}`);
+  return `epoch ${number}: master ${master}${parts.join("")}`;
 }
 
 // The rows above the facts: the house, what it is, its AllUpTo, and the skulk that it runs.
@@ -110,10 +116,11 @@ function rowsOf(dir, columns, master, changed, coming) {
   const rows = sorted.map((key) => ({ key, signs: columns.map((column) => signOf(key, column, master)), ...changesOf(key, columns, changed) }));
   const matters = (row) => row.isChanged || row.signs.some((it) => it) || (choice.chosen?.kind === "entry" && choice.chosen.name === row.key.entry);
   const wanted = options.onlyDiffering ? rows.filter(matters) : rows;
-  const most = Math.max(40, Math.floor(MOST_CELLS / columns.length));
+  const most = Math.max(24, Math.floor(MOST_CELLS / columns.length));
   const isAll = wanted.length <= most || options.all.has(dir);
   const chosen = isAll ? wanted : wanted.filter((row, at) => matters(row) || at < most / 2).slice(0, most);
-  const comes = (key, { houses }) => coming.get(`${houses[0]} ${dir} ${key.place} ${master.replica.facts.get(key.place)}`) ?? [];
+  const comes = (key, { houses }) => (coming(houses[0], dir).get(key.place) ?? [])
+    .filter(({ said }) => said === master.replica.facts.get(key.place)).map(({ message }) => message);
   return { shown: chosen.map((row) => factRow(dir, row, columns, comes)), note: rowsNote(dir, rows.length, chosen.length, isAll) };
 }
 

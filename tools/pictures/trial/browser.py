@@ -98,8 +98,8 @@ class Browser:
 
     def press(self, key, text=""):
         """Presses a key."""
-        self.ask("Input.dispatchKeyEvent", type="keyDown", key=key, text=text, **CODES.get(key, {}))
-        self.ask("Input.dispatchKeyEvent", type="keyUp", key=key, **CODES.get(key, {}))
+        self.ask("Input.dispatchKeyEvent", **({"type": "keyDown", "key": key, "text": text} | CODES.get(key, {})))
+        self.ask("Input.dispatchKeyEvent", type="keyUp", key=key)
 
     def faults(self):
         """The errors that the page threw or was refused, and the addresses that it asked for, but its own."""
