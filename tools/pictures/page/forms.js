@@ -2,10 +2,6 @@
 
 const CALLS = ["write the record", "sync", "open its gate", "sync"];
 
-function formPanels(step) {
-  return [stopPanel(step), clerkPanel(step), namesPanel(step)];
-}
-
 // The four calls of the put inside which a house lost its power, and what its disk has.
 function stopPanel({ stop, outcome, line }) {
   if (!stop) {
@@ -68,10 +64,14 @@ function clerkList(at) {
   return [list, true];
 }
 
+// Whether a step searches names, so that its way is shown at once.
+function isSearch(step) {
+  return data.searches[step.at] !== undefined && (data.form === "inquire" || messages.size === 0 || ["import", "lookup"].includes(step.command));
+}
+
 // The tree of names as the masters have it, with the way of a search.
-function namesPanel(step) {
+function namesPanel(step, isOpen) {
   const way = data.searches[step.at];
-  const isOpen = way !== undefined && (data.form === "inquire" || messages.size === 0 || ["import", "lookup"].includes(step.command));
   if (!lastEpoch(1, step.at) || data.dir !== null) {
     return null;
   }

@@ -63,6 +63,7 @@ function choose(chosen, isAlone = byId("only").checked) {
   byId("only").checked = Boolean(chosen) && isAlone;
   showLife();
   show();
+  requestAnimationFrame(() => document.querySelector(".panel")?.scrollIntoView({ block: "nearest" }));
 }
 
 // What a text that is sought means: a message, a stamp, an entry, or any text.

@@ -11,12 +11,15 @@ function showState(step) {
   const coming = comingTo(at);
   const parts = [
     changesPanel(said),
-    ...formPanels(step),
     choicePanel(at),
+    stopPanel(step),
+    clerkPanel(step),
+    isSearch(step) ? namesPanel(step, true) : null,
     tableOptions(),
     ...directoriesKnown(at).map((dir) => directoryTable(dir, at, changes, coming)),
     messagesPanel(at),
     housesPanel(at, changes),
+    isSearch(step) ? null : namesPanel(step, false),
   ];
   byId("holds").replaceChildren(...parts.flat().filter((it) => it));
   byId("state-head").textContent = `State after line ${step.line}`;
@@ -25,7 +28,7 @@ function showState(step) {
 
 // What the present line changed, as texts.
 function changesSaid(step, changes) {
-  const found = [];
+  const found = ownWords(step);
   for (const { number, floor, oldFloor, replicas } of changes) {
     const before = found.length;
     for (const { dir, head, oldHead, facts } of replicas) {
@@ -38,6 +41,27 @@ function changesSaid(step, changes) {
     }
   }
   return [...found, ...postedSaid(step)];
+}
+
+// What commands do that no replica shows: houses are made, go down and come up, clocks are set, messages are lost.
+function ownWords(step) {
+  if (step.outcome.startsWith("stopped")) {
+    return [`house ${step.house} loses power, and is down`];
+  }
+  if (step.outcome !== "ok") {
+    return [];
+  }
+  const time = () => data.clocks.find(([at]) => at === step.at)[2];
+  const message = messageOf(step);
+  const words = { house: () => `house ${step.house} is made`, crash: () => `house ${step.house} goes down, and forgets its skulks`,
+    start: () => `house ${step.house} is up`, clock: () => `house ${step.house}: clock ${time()}`,
+    lose: () => message && `${message.kind} ${message.serial} ${wayOf(message)} is lost${carriedWords(message)}` }[step.command]?.();
+  return words ? [words] : [];
+}
+
+function carriedWords(message) {
+  const carried = loadWords(message, 2);
+  return carried.length ? `: ${carried.join("; ")}` : "";
 }
 
 // What became of the epoch and the AllUpTo of a replica.
