@@ -57,8 +57,8 @@ function arrowOf(message) {
   const isSoon = message.posted > steps[present.index].at;
   const isChosen = choice.chosen?.kind === "message" && choice.chosen.serial === message.serial;
   const words = `${message.kind} ${message.serial} ${wayOf(message)}${loadWords(message, 3).map((it) => `\n${it}`).join("")}`;
-  return draw("g", { class: `${message.kind} arrow${isSoon ? " soon" : ""}${isChosen ? " chosen" : ""}`, onclick: () => choose({ kind: "message", serial: message.serial }) },
-    draw("title", {}, words), ends);
+  const kind = `${message.kind} arrow${isSoon ? " soon" : ""}${isChosen ? " chosen" : ""}`;
+  return draw("g", { class: kind, onclick: () => choose({ kind: "message", serial: message.serial }) }, draw("title", {}, words), ends);
 }
 
 // Whether a place of the replay has a column in the window.

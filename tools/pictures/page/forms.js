@@ -10,7 +10,7 @@ function stopPanel({ stop, outcome, line }) {
   const [house, failed, what] = [stop[0], Number(stop[1]), stop[2]];
   const isStopped = outcome.startsWith("stopped");
   const calls = CALLS.map((words, at) => {
-    const [state, sign] = !isStopped ? ["not called", "·"] : at + 1 < failed ? ["done", "✓"] : at + 1 === failed ? ["the power goes here", "⚡"] : ["never called", "·"];
+    const [state, sign] = !isStopped || at + 1 > failed ? ["not called", "·"] : at + 1 < failed ? ["done", "✓"] : ["the power goes here", "⚡"];
     return make("li", { class: at + 1 === failed && isStopped ? "missed" : null }, `${sign} ${words}: ${state}`);
   });
   const kept = { keep: "all that was written", drop: "nothing of it", torn: "of each write the first half" }[what];

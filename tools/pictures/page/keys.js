@@ -58,7 +58,7 @@ function onKey(event) {
   const others = { "/": () => byId("sought").focus(), g: () => byId("line").select(), "?": toggleHelp };
   if (move || others[key]) {
     event.preventDefault();
-    return move ? move_(move, move.keys.indexOf(key) === 1) : others[key]();
+    return move ? take(move, move.keys.indexOf(key) === 1) : others[key]();
   }
 }
 

@@ -104,7 +104,8 @@ function showLanes() {
   const last = view.steps.at(-1).line;
   byId("time-head").replaceChildren("Time ", make("small", {}, `lines ${view.steps[0].line} to ${last} of ${steps.at(-1).line}`));
   const parts = [...shades(), ...guides(), ...lines(), ...uprights(), ...arrows(), ...rises(), ...marks()];
-  const picture = draw("svg", { viewBox: `0 0 ${width} ${height}`, class: "lanes", role: "group", "aria-label": `the steps of lines ${view.steps[0].line} to ${last}` }, cursor(), parts);
+  const label = `the steps of lines ${view.steps[0].line} to ${last}`;
+  const picture = draw("svg", { viewBox: `0 0 ${width} ${height}`, class: "lanes", role: "group", "aria-label": label }, cursor(), parts);
   const heads = draw("svg", { viewBox: `0 0 ${HEADS} ${height}`, class: "heads", "aria-hidden": "true" }, headNames());
   const scale = scaleOf();
   for (const [it, own] of [[picture, width], [heads, HEADS]]) {
@@ -216,8 +217,9 @@ function marks() {
     const kind = `${isDelivery ? message.kind : "step"}${shape === "full" ? "" : " bare"}`;
     const words = `line ${step.line}: ${(textOfLine.get(step.line) ?? "").trim()}\n${shortened(step.answer, 400)}`;
     const bolt = step.outcome.startsWith("stopped") ? draw("path", { d: `M${x + view.width / 2} ${y - MARK / 2 + 2}m-3 5l1.5-6h-4l5-8l-.5 5h4z`, class: "bolt" }) : null;
-    return draw("a", { href: `#line-${step.line}`, tabindex: "-1", class: `${kind}${step.index === present.index ? " now" : ""}`, "aria-label": words.replace("\n", ": ") },
-      draw("title", {}, words), draw("rect", { x: x - view.width / 2, y: y - MARK / 2, width: view.width, height: MARK, rx: isDelivery ? MARK / 2 : 2, class: shape }),
+    const named = { class: `${kind}${step.index === present.index ? " now" : ""}`, "aria-label": words.replace("\n", ": ") };
+    return draw("a", { href: `#line-${step.line}`, tabindex: "-1", ...named }, draw("title", {}, words),
+      draw("rect", { x: x - view.width / 2, y: y - MARK / 2, width: view.width, height: MARK, rx: isDelivery ? MARK / 2 : 2, class: shape }),
       draw("text", { x, y: y + 4, class: "number" }, step.line), bolt);
   });
 }
@@ -241,6 +243,7 @@ function rises() {
     .map(([house, dir, stamp, at]) => {
       const [x, y] = [xOf(columnOf(at)) - view.width / 2, yOf(house, dir) + MARK / 2 + 3];
       return draw("g", {}, draw("title", {}, `AllUpTo of house ${house}, directory ${dir}: ${stamp}`),
-        draw("rect", { x, y, width: 16 + brief(stamp).length * 7.2, height: 15, rx: 2, class: "tag" }), draw("text", { x: x + 3, y: y + 11.5, class: "ink" }, `▲ ${brief(stamp)}`));
+        draw("rect", { x, y, width: 16 + brief(stamp).length * 7.2, height: 15, rx: 2, class: "tag" }),
+        draw("text", { x: x + 3, y: y + 11.5, class: "ink" }, `▲ ${brief(stamp)}`));
     });
 }

@@ -53,7 +53,7 @@ function lifeOf(chosen) {
 
 // What is chosen, in words.
 function choiceWords({ kind, name, dir, stamp, serial, text }) {
-  return { entry: `entry ${name} of directory ${dir}`, stamp: `stamp ${stamp}`, message: `message ${serial}`, text: `“${text}”` }[kind];
+  return { entry: `entry ${name} of directory ${dir}`, stamp: `stamp ${brief(stamp ?? "0@0")}`, message: `message ${serial}`, text: `“${text}”` }[kind];
 }
 
 // Chooses something, or nothing; the lines of its life are marked, and alone shown where that is asked.
@@ -150,13 +150,15 @@ function outcomeAt(at) {
 function stampPanel({ stamp }, at) {
   const given = steps.find((step) => step.command !== "deliver" && ` ${step.answer.replaceAll("\n", " ")} `.includes(` ${stamp} `));
   const has = [...present.houses].filter(([, house]) => [...house.replicas.values()].some((replica) => hasStamp(replica, stamp)));
-  const past = [...present.houses].filter(([, house]) => [...house.replicas.values()].some((replica) => upToOf(replica) === stamp));
+  const past = [...present.houses].filter(([number, house]) => !has.some(([it]) => it === number) && [...house.replicas.values()]
+    .some((replica) => isUpTo(stamp, headOf(replica.head)))).map(([number]) => number).sort((a, b) => a - b);
   const carried = underWay(at).filter((it) => carriesFact(it, null, (place, said) => stampsOf(said).includes(stamp)));
   const named = (found) => (found.length ? housesOf(found.map(([number]) => number).sort((a, b) => a - b)) : "no house");
   return [
     make("p", {}, given ? ["given in ", lineLink(given.line), ": ", make("code", {}, shortened(textOfLine.get(given.line) ?? "", 80))]
       : "no answer here gives it alone"),
-    make("p", {}, `Now ${named(has)} ${has.length === 1 ? "has" : "have"} a fact with it`, past.length ? `; it is the AllUpTo of ${named(past)}` : "", "."),
+    make("p", {}, `Now ${named(has)} ${has.length > 1 ? "have" : "has"} a fact with it.`),
+    past.length ? make("p", {}, `Not at ${housesOf(past)}, whose AllUpTo is not earlier.`) : null,
     carried.length ? make("p", {}, "Under way with it: ", carried.slice(0, 12).map((it) => [messageLink(it), ` to house ${it.receiver} `])) : null,
   ];
 }
@@ -165,17 +167,13 @@ function hasStamp(replica, stamp) {
   return [...replica.facts.values()].some((said) => stampsOf(said).includes(stamp));
 }
 
-function upToOf(replica) {
-  return headOf(replica.head)?.upTo ?? null;
-}
-
 // An entry: who has it how.
 function entryPanel({ dir, name }) {
   const found = [...present.houses].map(([number, house]) => [number, house.replicas.get(dir)]).filter(([, it]) => it && it.head.startsWith("epoch"));
   const said = new Map();
   for (const [number, replica] of found) {
     const place = [...replica.facts.keys()].find((it) => data.words[it] === name);
-    const words = place === undefined ? "nothing" : factWords(place, replica.facts.get(place)).map((it) => it.textContent ?? it).join("");
+    const words = place === undefined ? "nothing" : factText(place, replica.facts.get(place));
     said.set(words, [...(said.get(words) ?? []), number]);
   }
   return make("ul", {}, [...said].map(([words, numbers]) => make("li", {}, `${housesOf(numbers.sort((a, b) => a - b))}: ${words}`)));

@@ -2,22 +2,17 @@
 
 const COMPLETED = (step) => /^\d+ ok complete /m.test(step.answer);
 const MOVES = [
-  { name: "line", keys: ["ArrowLeft", "ArrowRight"], shown: ["←", "→"], words: "line", to: (forward) => steps[present.index + (forward ? 1 : -1)] },
-  { name: "ends", keys: ["Home", "End"], shown: ["Home", "End"], words: "first, last", to: (forward) => steps.at(forward ? -1 : 0) },
-  { name: "house", keys: ["H", "h"], shown: ["H", "h"], words: () => houseWords(), to: (forward) => nextStep(forward, (step) => step.house !== null && step.house === moves.house) },
-  { name: "skulk", keys: ["S", "s"], shown: ["S", "s"], words: "complete skulk", to: (forward) => nextStep(forward, COMPLETED) },
-  { name: "life", keys: ["E", "e"], shown: ["E", "e"], words: () => lifeName(), to: (forward) => nextStep(forward, (step) => isOfLife(step)) },
-  { name: "refused", keys: ["R", "r"], shown: ["R", "r"], words: "refused", to: (forward) => nextStep(forward, (step) => sortOf(step) === "refused") },
+  { name: "line", keys: ["ArrowLeft", "ArrowRight"], shown: ["←", "→"], to: (forward) => steps[present.index + (forward ? 1 : -1)] },
+  { name: "ends", keys: ["Home", "End"], shown: ["Home", "End"], to: (forward) => steps.at(forward ? -1 : 0) },
+  { name: "house", keys: ["H", "h"], to: (forward) => nextStep(forward, (step) => step.house !== null && step.house === moves.house) },
+  { name: "skulk", keys: ["S", "s"], to: (forward) => nextStep(forward, COMPLETED) },
+  { name: "life", keys: ["E", "e"], to: (forward) => nextStep(forward, isOfLife) },
+  { name: "refused", keys: ["R", "r"], to: (forward) => nextStep(forward, (step) => sortOf(step) === "refused") },
 ];
+const NAMES = { line: () => "line", ends: () => "first, last", skulk: () => "complete skulk", refused: () => "refused",
+  house: () => (moves.house === null ? "this house" : `house ${moves.house}`),
+  life: () => (choice.chosen ? shortened(choiceWords(choice.chosen), 28) : "entry, stamp") };
 const moves = { house: null, buttons: new Map() };
-
-function houseWords() {
-  return moves.house === null ? "this house" : `house ${moves.house}`;
-}
-
-function lifeName() {
-  return choice.chosen ? shortened(choiceWords(choice.chosen), 28) : "entry, stamp";
-}
 
 // Whether a step is of the life of what is chosen; of an entry, whether it changes it.
 function isOfLife(step) {
@@ -28,11 +23,17 @@ function isOfLife(step) {
   return Boolean(life?.has(step.index));
 }
 
+// A button that moves on or back.
+function moveButton(move, forward) {
+  const [key, sign] = [move.keys[Number(forward)], move.name === "ends" ? ["|◀", "▶|"] : ["◀", "▶"]];
+  const named = { "aria-keyshortcuts": key, title: `key ${(move.shown ?? move.keys)[Number(forward)]}` };
+  return make("button", { type: "button", onclick: () => take(move, forward), ...named }, sign[Number(forward)]);
+}
+
 // The buttons, and the field for a line's number.
 function makeMoves() {
   const groups = MOVES.map((move) => {
-    const [back, on] = [false, true].map((forward) => make("button", { type: "button", onclick: () => move_(move, forward),
-      "aria-keyshortcuts": move.keys[Number(forward)], title: `key ${move.shown[Number(forward)]}` }, forward ? (move.name === "ends" ? "▶|" : "▶") : move.name === "ends" ? "|◀" : "◀"));
+    const [back, on] = [false, true].map((forward) => moveButton(move, forward));
     const label = make("span", { class: "label" });
     moves.buttons.set(move.name, { back, on, label });
     return make("span", { class: "move", role: "group" }, back, label, on);
@@ -43,7 +44,7 @@ function makeMoves() {
 }
 
 // Moves, if there is where to.
-function move_(move, forward) {
+function take(move, forward) {
   const step = move.to(forward);
   if (step && step.index !== present.index) {
     go(step);
@@ -68,7 +69,7 @@ function showMoves() {
   moves.house = house ?? moves.house;
   for (const move of MOVES) {
     const { back, on, label } = moves.buttons.get(move.name);
-    const words = typeof move.words === "function" ? move.words() : move.words;
+    const words = NAMES[move.name]();
     label.textContent = words;
     [back, on].forEach((button, forward) => {
       const step = move.to(Boolean(forward));

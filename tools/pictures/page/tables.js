@@ -48,7 +48,7 @@ function directoryTable(dir, at, changes, coming) {
   for (const { number, replicas } of changes) {
     const own = replicas.find((it) => it.dir === dir);
     if (own) {
-      changed.set(number, { head: own.head !== null, facts: new Map(own.facts.map((it) => [it.key, it])) });
+      changed.set(number, { ...headChanged(own), facts: new Map(own.facts.map((it) => [it.key, it])) });
     }
   }
   const epoch = lastEpoch(dir, at);
@@ -70,24 +70,33 @@ function membersSaid({ number, master, members, secondary }) {
   return `epoch ${number}: master ${master}${parts.join("")}`;
 }
 
+// Which of the rows above the facts are others than before.
+function headChanged({ head, oldHead }) {
+  const [now, before] = head === null ? [null, null] : [headOf(head), headOf(oldHead)];
+  return { is: head !== null && (now?.epoch !== before?.epoch || now?.left !== before?.left), AllUpTo: (now?.upTo ?? null) !== (before?.upTo ?? null) };
+}
+
 // The rows above the facts: the house, what it is, its AllUpTo, and the skulk that it runs.
 function headRows(dir, at, columns, epoch, changed) {
   const heads = columns.map(({ replica }) => headOf(replica.head));
-  const mark = (it) => (columns[it].houses.some((house) => changed.get(house)?.head) ? "changed" : null);
-  const row = (name, words) => make("tr", {}, make("th", { scope: "row" }, name), columns.map((column, it) => make("td", { class: mark(it) }, words(column, heads[it], it))));
+  const mark = (it, name) => (columns[it].houses.some((house) => changed.get(house)?.[name]) ? "changed" : null);
+  const row = (name, words) => make("tr", {}, make("th", { scope: "row" }, name),
+    columns.map((column, it) => make("td", { class: mark(it, name) }, words(column, heads[it], it))));
   const runs = columns.map(({ houses }) => runningSkulk(houses[0], dir, at));
   return make("thead", {},
     make("tr", {}, make("td", {}), columns.map(({ houses }) => make("th", { scope: "col", class: houses.includes(epoch.master) ? "master" : null },
       housesOf(houses), isDown(houses[0], at) ? make("span", { class: "tag down" }, " down") : null))),
-    row("is", ({ houses }, head) => roleWords(houses, head, epoch)),
+    row("is", ({ houses }, head) => roleWords(houses, head, epoch, at)),
     row("AllUpTo", (_, head) => (!head || head.left ? "" : head.upTo ? stampOf(head.upTo) : "none")),
     runs.some((it) => it) ? row("skulk", ({ houses }, head, it) => runs[it] && skulkWords(runs[it], houses[0], head)) : null);
 }
 
 // What a house is in a directory.
-function roleWords(houses, head, epoch) {
+function roleWords(houses, head, epoch, at) {
   if (!head) {
-    return make("strong", { class: "tag missed" }, "holds none");
+    const joins = underWay(at).filter((it) => it.kind === "Join" && it.dir === epoch.dir && houses.includes(it.receiver));
+    return [make("strong", { class: "tag missed" }, "holds none"),
+      joins.length ? make("span", { class: "tag" }, ", on its way: ", joins.slice(0, 3).map((it) => [messageLink(it), " "])) : null];
   }
   if (head.left) {
     return `left, epoch ${head.left}`;
@@ -160,7 +169,7 @@ const SIGNS = { missed: "missed", ahead: "only here", purged: "purged here", kep
 function factCell(key, replica, sign, change, coming) {
   const said = replica.facts.get(key.place);
   const words = said !== undefined ? factWords(key.place, said)
-    : change ? [make("del", {}, data.words[change.before].split(" ").map(sayWord).join(" ")), " gone"] : make("span", { class: "quiet" }, "–");
+    : change ? [make("del", {}, factText(key.place, change.before)), " gone"] : make("span", { class: "quiet" }, "–");
   const tag = coming.length ? [" on its way: ", coming.slice(0, 3).map((it) => [messageLink(it), " "])] : sign ? ` ${SIGNS[sign]}` : null;
   return make("td", { class: [coming.length ? "coming" : sign, change ? "changed" : ""].filter((it) => it).join(" ") || null },
     change ? make("span", { class: "new", title: "this line changed it" }, "● ") : null, words, tag ? make("span", { class: "tag" }, tag) : null);

@@ -97,6 +97,11 @@ function factWords(place, said) {
   return [`${words[0]}, born `, stampOf(words[1]), ...death];
 }
 
+// The words of a fact as a text.
+function factText(place, said) {
+  return factWords(place, said).map((it) => it.textContent ?? it).join("");
+}
+
 // The stamps of a fact.
 function stampsOf(said) {
   return data.words[said].split(" ").filter((it) => it.includes("@"));
@@ -108,7 +113,7 @@ function changeWords({ key, now, before }) {
   const name = [entry, attribute, value && shortened(value)].filter((it) => it !== undefined).join(" ");
   const [words, old] = [now < 0 ? [] : data.words[now].split(" "), before < 0 ? [] : data.words[before].split(" ")];
   if (now < 0) {
-    return attribute === undefined || value !== undefined ? `${name}: gone (it was ${old.map(sayWord).join(" ")})` : null;
+    return attribute === undefined || value !== undefined ? `${name}: ${goneWords(old)}` : null;
   }
   if (value !== undefined) {
     return `${name}: ${words[0] === "present" ? "added" : "removed"} ${brief(words[1])}`;
@@ -120,6 +125,13 @@ function changeWords({ key, now, before }) {
     return old[1] === words[1] ? `${name}: deleted ${brief(words[2])}` : `${name}: ${words[0]}, born ${brief(words[1])}, deleted ${brief(words[2])}`;
   }
   return `${name}: ${words[0]}, ${old.length ? "born anew" : "born"} ${brief(words[1])}`;
+}
+
+// What is not there any more: what was deleted is purged, and of what was not the house took another copy, or it was overtaken.
+function goneWords(old) {
+  const isDeleted = old[0] === "absent" || (old.length === 3 && old[2] !== "live");
+  const was = old.length === 3 ? `${old[0]}, born ${sayWord(old[1])}, ${old[2] === "live" ? "live" : `deleted ${sayWord(old[2])}`}` : old.map(sayWord).join(" ");
+  return `${isDeleted ? "purged" : "gone"} (it was ${was})`;
 }
 
 function sayWord(word) {
