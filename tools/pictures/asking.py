@@ -5,8 +5,8 @@ nothing; the answers to the script's own lines are compared with those of a run 
 """
 import subprocess
 
-from . import replay as happened
-from .replay import Fault
+from . import commands
+from .facts import Fault
 
 
 class Broken(Exception):
@@ -23,7 +23,7 @@ def run(program, words, script):
 
 def houses_of(step, replay):
     """The houses whose images a step may change: None is each of them."""
-    if step.command in happened.SERVICES:
+    if step.command in commands.SERVICES:
         return [step.house] if step.found else None
     named = [step.house, step.stop]
     if step.command == "mkdir":

@@ -2,7 +2,8 @@
 
 Each read is answered here too, and where the program answers otherwise the list is given up.
 """
-from . import replay as happened
+from . import commands
+from .facts import numbers
 
 LONGEST_NAME = 1023
 
@@ -20,7 +21,7 @@ class Reads:
         elif step.outcome == "ok" and step.command == "crash":
             self.downs.add(step.house)
         elif step.command in ("root", "epoch") and step.outcome == "ok" and step.dirs == (1,):
-            named = happened.numbers(step.words[-1])
+            named = numbers(step.words[-1])
             self.root = (1, int(step.words[-2]), tuple(sorted(named)))
         for house, change in changes.items():
             for directory, head, facts in change.directories:
@@ -95,7 +96,7 @@ class Clerk:
         house, name, attribute = int(step.words[0]), step.words[2], step.words[3]
         self.used, seen = [], set()
         while True:
-            if len(seen) > happened.MOST_LINKS:
+            if len(seen) > commands.MOST_LINKS:
                 return "refused TooManyLinks"
             if len(name) > LONGEST_NAME:
                 return "refused NameTooLong"

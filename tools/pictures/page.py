@@ -6,7 +6,7 @@ import json
 import os
 
 from . import clerk, packing, states as states_
-from .drawing import Undrawable, styles
+from .shapes import Undrawable, styles
 
 FOLDER = f"{os.path.dirname(os.path.realpath(__file__))}/page"
 SCRIPTS = ("model", "words", "life", "lines", "lanes", "arrows", "signs", "tables", "state", "forms", "moves", "keys")

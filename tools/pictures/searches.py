@@ -1,12 +1,12 @@
 """The entries that a question of the name service comes to, in their order, for the tree of names on a page."""
-from . import names
+from .entries import State
 
 QUESTIONS = ("import", "lookup", "grouplist", "entrylist", "proflist", "read", "readlink")
 
 
 def searches(replay, steps):
     """For each such question of these steps, by its place, the directory and the simple name of each entry."""
-    found, states = {}, names.State(replay, 0)
+    found, states = {}, State(replay, 0)
     waiting = iter(replay.steps)
     for step in steps:
         if step.command in QUESTIONS:
