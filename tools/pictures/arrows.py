@@ -1,7 +1,7 @@
 """The messages of a picture in time, as arrows."""
-from .layout import LANE, MARK
 from .marks import Marks
-from .shapes import circle, cross, dots, head, path, titled
+from .rows import LANE, MARK
+from .shapes import circle, cross, dots, head, path, text, titled
 from .titles import MOST_LINES, name_of, told
 
 
@@ -11,7 +11,7 @@ class Arrows(Marks):
     def messages(self):
         """The messages that are drawn: those of known houses that are posted, delivered or lost in the picture."""
         for message in self.replay.messages.values():
-            if message.posted > self.ats[-1]:
+            if message.posted > self.steps[-1].at:
                 break
             # (what is lost in the step that posted it has no way)
             is_known = message.sender in self.lane and message.receiver in self.lane and message.lost != message.posted
@@ -31,15 +31,19 @@ class Arrows(Marks):
         for at in message.deliveries:
             row = self.row_of(self.column[at]) if self.in_view(at) else None
             elsewhere |= row is not home
-            if row:
+            if row and not self.is_folded(at):
                 self.draw_delivery(message, at, row, row is home, title)
         if message.lost is not None:
             row = self.row_of(self.column[message.lost]) if self.in_view(message.lost) else None
             elsewhere |= row is not home
-            if row:
+            if row and not self.is_folded(message.lost):
                 self.draw_loss(message, row, row is home, title)
         if home and (elsewhere or not message.deliveries and message.lost is None):
             self.draw_exit(message, home, title, elsewhere)
+
+    def is_folded(self, at):
+        """Whether a step shares its column with others, so that its arrow is that of the column."""
+        return self.columns[self.column[at]].kind != "one"
 
     def sign(self, message):
         """Which way a message goes: 1 down, or -1 up."""
@@ -66,7 +70,7 @@ class Arrows(Marks):
         points = self.route(row, begin, (x, y))
         shapes = [path(points, "hit"), path(points, "line"), head(points, not step.has_changed)]
         if not is_home:
-            shapes.append(dots(points[1], points[0]))
+            shapes += [dots(points[1], points[0]), self.stub(begin, message.posted, "<", sign)]
             self.used.add("elsewhere")
         self.add("arrow", titled(message.kind, title, *shapes))
 
@@ -77,7 +81,7 @@ class Arrows(Marks):
         points = self.route(row, self.start(message, row) if is_home else near, (x, y))
         shapes = [path(points, "hit"), path(points, "line"), cross(x, y)]
         if not is_home:
-            shapes.append(dots(points[1], points[0]))
+            shapes += [dots(points[1], points[0]), self.stub(near, message.posted, "<", self.sign(message))]
             self.used.add("elsewhere")
         self.used.add("lost")
         was_taken = any(self.replay.steps[it].has_changed for it in message.deliveries)
@@ -90,17 +94,29 @@ class Arrows(Marks):
         ends = x + self.pitch * 0.85, y + self.sign(message) * (self.gap(message) - 13)
         shapes = [path([(x, y), ends], "hit"), path([(x, y), ends], "line")]
         if is_elsewhere:
-            shapes.append(dots((x, y), ends))
+            later = [it for it in (*message.deliveries, message.lost) if it is not None and not self.is_in(row, it)]
+            shapes += [dots((x, y), ends), self.stub(ends, later[0], ">", self.sign(message))]
         else:
             shapes.append(circle(*ends, 2.6, "hollow"))
         self.used.add("elsewhere" if is_elsewhere else "pale")
         self.add("arrow", titled(message.kind + ("" if is_elsewhere else " pale"), title, *shapes))
 
+    def is_in(self, row, at):
+        """Whether a step is in a row."""
+        return self.in_view(at) and self.row_of(self.column[at]) is row
+
+    def stub(self, place, at, sign, way):
+        """The line at which a way goes on, as a link to its mark."""
+        line = self.replay.steps[at].line
+        x, y = place[0] + (4 if sign == ">" else -4), place[1] + (13 if (way > 0) == (sign == ">") else -5)
+        words = text(x, y, f"{sign}{line}", "stub" + (" end" if sign == "<" else ""))
+        return f'<a href="#line-{line}">{words}</a>' if self.in_view(at) else words
+
     def route(self, row, begin, end):
         """The points of a way that passes the marks of the houses between: straight, where that can be."""
         (x, y), (to_x, to_y) = begin, end
         points, sign, slope = [begin], 1 if to_y > y else -1, abs((to_x - x) / (to_y - y)) if to_y != y else 0
-        lanes = [it for it in range(len(self.lanes)) if min(y, to_y) + 3 < row.y(it) < max(y, to_y) - 3]
+        lanes = [it for it in sorted(row.tops)[:-1] if min(y, to_y) + 3 < row.y(it) < max(y, to_y) - 3]
         for lane in lanes if sign > 0 else lanes[::-1]:
             last_x, last_y = points[-1]
             over = last_x + (to_x - last_x) * (row.y(lane) - last_y) / (to_y - last_y)

@@ -1,10 +1,15 @@
 """Draws what happened in a replay as one SVG: houses as lines from left to right, steps as marks on them, messages as arrows."""
+import math
+
 from . import commands
-from .arrows import Arrows
+from .choice import Choice
 from .facts import plural
-from .layout import EDGE, LEAST, MARK, OVERHANG
+from .folded import Folded
+from .rows import EDGE, LEAST, MARK, OVERHANG, SLOPE
 from .shapes import KINDS, badge, bolt, circle, cross, dots, escaped, head, line, number, path, rect, short, styles, text, width_of
 
+HIGHEST = 32_767  # pixels: more many programs don't show
+ROOM = 1_500  # for a heading, and for what is another place where a part begins
 # What the legend says, by groups; the messages begin with their kinds.
 LEGEND = {
     "messages": {
@@ -36,7 +41,7 @@ LEGEND = {
 }
 
 
-class Picture(Arrows):
+class Picture(Folded):
     """The picture of a replay."""
 
     def draw(self):
@@ -49,19 +54,25 @@ class Picture(Arrows):
             self.draw_skulk(skulk)
         for epoch in self.epochs():
             self.draw_epoch(epoch)
-        for column, step in enumerate(self.steps):
-            self.draw_step(column, step)
+        for at, column in enumerate(self.columns):
+            self.draw_column(at, column)
         for message in self.messages():
             self.draw_message(message)
         self.draw_rises()
         return self.whole()
 
+    def end_of_words(self, row):
+        """Where a row ends, with the words above its last columns."""
+        ends = [row.x(at) + width_of(self.label_of(self.columns[at])) * math.cos(math.radians(SLOPE)) for at in range(row.first, row.end)]
+        return max(row.right + OVERHANG, *ends)
+
     def whole(self):
         """The SVG, with its heading and its legend above the rows."""
-        width = max(LEAST, max(row.right for row in self.rows) + OVERHANG)
+        width = max(LEAST, *(self.end_of_words(row) for row in self.rows))
         heading, height = self.heading(width)
         inner = "\n".join(shape for shapes in self.layers.values() for shape in shapes)
-        w, h = number(width), number(height + self.bottom)
+        self.height = height + self.bottom
+        w, h = number(width), number(self.height)
         title = f"{self.name}: a picture of its replay"
         return (
             f'<svg xmlns="http://www.w3.org/2000/svg" width="{w}" height="{h}" viewBox="0 0 {w} {h}" role="img">\n'
@@ -70,15 +81,29 @@ class Picture(Arrows):
             f'<g transform="translate(0 {number(height)})">\n{inner}\n</g>\n</svg>\n'
         )
 
+    def parts(self):
+        """The first and the last line of each part that is not too high."""
+        parts, top = [], 0
+        for row in self.rows:
+            first, last = self.columns[row.first].first.line, self.columns[row.end - 1].last.line
+            bottom = row.bottom()
+            if parts and bottom - top <= HIGHEST - ROOM:
+                parts[-1][1] = last
+            else:
+                parts, top = [*parts, [first, last]], row.lanes
+        return parts
+
     def heading(self, width):
         """The heading, what there is to count, and the legend; and how high they are."""
         first, last = self.steps[0].line, self.steps[-1].line
         lines = f"line {first}" if first == last else f"lines {first} to {last}"
-        about = f", directory {self.dir}" if self.dir else ""
-        shapes = [text(EDGE, 24, f"{short(self.name, 60)}: {lines}{about}", "title ink")]
+        shapes = [text(EDGE, 24, f"{short(self.name, 60)}: {lines}{self.choice.words()}", "title ink")]
         shapes.append(text(EDGE, 43, self.counts(), "dim"))
         message = next((it for it in commands.KINDS if it in self.used), "Update")
         y = 46
+        if any(it.command in ("import", "lookup") for it in self.steps):
+            shapes.append(text(EDGE, 60, "--names draws the tree of its names", "dim"))
+            y += 17
         for group, items in LEGEND.items():
             used = [it for it in items.items() if it[0] in self.used]
             if used:
@@ -138,6 +163,10 @@ def sample(kind, x, y, message):
     return f'<g class="{message}{" pale" if kind == "pale" else ""}">{path(points, "line")}{end}</g>'
 
 
-def draw(replay, name, first=1, last=2**63, directory=None):
-    """The SVG of a replay."""
-    return Picture(replay, name, first, last, directory).draw()
+def draw(replay, name, choice):
+    """The SVG of a replay; or several, each of a part of the script, where one is too high for programs that show it."""
+    picture = Picture(replay, name, choice)
+    drawn = picture.draw()
+    if picture.height <= HIGHEST:
+        return [drawn]
+    return [Picture(replay, name, choice.part(*lines)).draw() for lines in picture.parts()]

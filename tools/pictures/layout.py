@@ -2,117 +2,50 @@
 import bisect
 import math
 
-from . import commands
-from .shapes import Undrawable, brief, width_of
+from .folds import fold
+from .rows import EPOCH, FARTHER, LANE, LEFT, LEVEL, MANY, MOST_LEVELS, NARROW, OVERHANG, SLOPE, WIDE, Label, Row
+from .shapes import end_of, width_of
 from .titles import epoch_title, label_of
 
-LANE = 60  # between the lines of two houses
-SUBLANE = 40  # between the lines of two directories at a house
-MARK = 17  # how high a mark is
-LEFT, FARTHER = 84, 122  # room for the names of the houses, and for those of directories, too
-EDGE = 16  # room at the other sides
-OVERHANG = 76  # room at the right, for the words above the last column
-LEVEL = 17  # how high a line of labels below the houses is
-EPOCH = 26  # room for an epoch's upright line, in front of its step
-SLOPE = 50  # how steep the words above the columns are, in degrees
-LEAST, NARROW, WIDE = 640, 830, 1720  # how wide a picture is at least, and the rows of one of few steps and of many
-MANY = 12  # rows that are too many to be narrow
-MOST_STEPS = 20_000
-MOST_LEVELS = 8
+MOST_SHOWN = 10  # lines of houses; of more a row has those alone that have to do with it
 
-
-class Label:
-    """A label below the houses: where its line comes down, its words, and the place that was found for it."""
-
-    level, begin = 0, 0
-
-    def __init__(self, x, words, title):
-        self.x, self.words, self.title, self.width = x, words, title, width_of(words)
-
-    def put(self, level, right):
-        """Puts it at a level, to the right of its line, or to the left of it where it would come out of the picture."""
-        self.level, self.is_left = level, self.x + 5 + self.width > right
-        self.begin = self.x - 5 - self.width if self.is_left else self.x + 5
-        self.end = self.begin + self.width
-
-    def fits(self, other):
-        """Whether neither its words nor its line run into another label."""
-        if self.level == other.level and self.begin < other.end + 8 and other.begin < self.end + 8:
-            return False
-        upper, lower = sorted((self, other), key=lambda it: it.level)
-        return upper.level == lower.level or not upper.begin - 4 < lower.x < upper.end + 4
-
-
-class Row:
-    """A row of the picture: the columns from `first` up to `end`, their places, and where its parts begin: from above the words of
-    its columns, the lines of the houses at `tops`, and the labels of skulks and epochs from `strip` on.
-    """
-
-    def __init__(self, first, left, tops):
-        self.first, self.end, self.xs, self.left, self.right, self.tops = first, first, [], left, left, tops
-        self.labels, self.marks, self.strip, self.lanes = [], {}, 0, 0
-
-    def x(self, column):
-        """The place of a column, or the nearer side of the row."""
-        if column < self.first:
-            return self.left
-        return self.xs[column - self.first] if column < self.end else self.right
-
-    def y(self, lane):
-        """The place of a line, by its number from above."""
-        return self.lanes + self.tops[lane]
-
-    def bottom(self):
-        """Where the lines of the houses end."""
-        return self.lanes + self.tops[-1] - LANE / 2
-
-    def is_free(self, lane, x, margin):
-        """Whether no mark of the line is so near."""
-        marks = self.marks.get(lane, ())
-        at = bisect.bisect(marks, x - margin)
-        return at == len(marks) or marks[at] > x + margin
 
 
 class Layout:
     """The steps, houses, rows and lines of a picture, between two lines of the script, of one directory or of all."""
 
-    def __init__(self, replay, name, first, last, directory):
-        if directory and directory not in replay.epochs:
-            raise Undrawable(f"the script makes no directory {directory}")
-        self.replay, self.name, self.dir = replay, name, directory
-        self.dirs = [directory] if directory else sorted(replay.epochs)
+    def __init__(self, replay, name, choice):
+        self.replay, self.name, self.choice, self.dir = replay, name, choice, choice.dir
+        self.steps = choice.steps(replay)
+        self.dirs = [choice.dir] if choice.dir else sorted(replay.epochs)
         self.is_dir_told = len(replay.epochs) > 1
-        self.choose(first, last)
+        self.houses_of = {node: house for house, node in replay.nodes.items()}
         self.layers = {it: [] for it in ("shade", "guide", "lane", "upright", "arrow", "tag", "mark", "label")}
         self.used = set()
         digits = len(str(self.steps[-1].line))
         self.mark_width = max(22, 9 + 7 * digits)
+        self.choose()
 
     # What is drawn.
 
-    def choose(self, first, last):
-        """Chooses the steps, and the houses."""
+    def choose(self):
+        """Folds the steps into columns, and chooses the houses."""
         replay, directory = self.replay, self.dir
         members = {house for epoch in replay.epochs.get(directory, ()) for house in epoch.members}
-
-        def is_chosen(step):
-            """Whether a step is of the directory, or of a member of it alone."""
-            if directory is None or directory in step.dirs:
-                return True
-            is_of_house = step.command in commands.OF_HOUSES or step.outcome in commands.STOPS.values()
-            return is_of_house and step.house in members
-
-        self.steps = [it for it in replay.steps if first <= it.line <= last and is_chosen(it)]
-        if not self.steps:
-            raise Undrawable("no step of the script is to be drawn")
-        if len(self.steps) > MOST_STEPS:
-            raise Undrawable(f"{len(self.steps)} steps are more than {MOST_STEPS}; choose some with --from, --to and --dir")
-        self.ats = [it.at for it in self.steps]
-        self.column = {at: column for column, at in enumerate(self.ats)}
-        made = {house for house, at in replay.born.items() if at <= self.ats[-1]}
+        self.columns = fold(self.steps)
+        self.ats = [it.first.at for it in self.columns]
+        self.column = {step.at: at for at, it in enumerate(self.columns) for step in it.steps}
+        made = {house for house, at in replay.born.items() if at <= self.steps[-1].at}
         acting = {it.house for it in self.steps if it.house is not None}
+        if self.choice.houses:
+            acting, made = acting & self.choice.houses, made & self.choice.houses
+        elif self.choice.entry is not None or self.choice.message is not None:
+            made = acting | {it.message.sender for it in self.steps if it.message} - {None}
         self.houses = sorted(acting | (made & members if directory else made))
         self.make_lanes()
+        self.posted = {}
+        for message in replay.messages.values():
+            self.posted.setdefault(message.posted, []).append(message)
         self.is_aside = any(self.lane_of(it) == len(self.lanes) for it in self.steps)
 
     def make_lanes(self):
@@ -123,14 +56,15 @@ class Layout:
                 held.setdefault(house, set()).add(directory)
         self.lanes = [(house, it) for house in self.houses for it in sorted(held.get(house, ())) or [None]]
         self.is_split = len({it for _, it in self.lanes} - {None}) > 1
-        self.lane, self.tops, y = {}, [], 0
+        self.lane = {}
         for lane, (house, directory) in enumerate(self.lanes):
-            is_first = house not in self.lane
-            y += 0 if lane == 0 else LANE if is_first else SUBLANE
             self.lane.setdefault(house, lane)
             self.lane[house, directory] = lane
-            self.tops.append(y + LANE / 2)
-        self.tops.append(y + LANE + LANE / 2)
+
+    def brief(self, stamp):
+        """A stamp as it stands in labels: with its house, where its node is of one, and of a long time or node the last digits."""
+        time, _, node = stamp.partition("@")
+        return f"{end_of(time, 8)}@{self.houses_of.get(node) or end_of(node.lstrip('0') or '0', 6)}"
 
     def lane_for(self, house, directory):
         """The line of a directory at a house, or the first of the house."""
@@ -160,7 +94,7 @@ class Layout:
 
     def column_of(self, at):
         """The column of a step, or that of the next one drawn."""
-        return bisect.bisect_left(self.ats, at)
+        return self.column[at] if at in self.column else bisect.bisect_left(self.ats, at)
 
     def of_dir(self, directory):
         """How a label tells the directory, where there are several."""
@@ -174,13 +108,13 @@ class Layout:
         left, begun = FARTHER if self.is_split else LEFT, sum(it in epochs for it in self.ats)
         room = NARROW - OVERHANG - left
         # Steps stand a little nearer to each other where one row is enough then.
-        gaps = [it for it in (9, 8, 7, 6) if (self.mark_width + it) * len(self.steps) + EPOCH * begun <= room]
+        gaps = [it for it in (9, 8, 7, 6) if (self.mark_width + it) * len(self.columns) + EPOCH * begun <= room]
         self.pitch = self.mark_width + (gaps or [9])[0]
         rooms = [self.pitch + (EPOCH if it in epochs else 0) for it in self.ats]
         width = NARROW if sum(rooms) <= MANY * room else WIDE
         self.rows = []
         for begin, end in self.cuts(rooms, width - OVERHANG - left):
-            row = Row(begin, left, self.tops)
+            row = Row(begin, left)
             for column in range(begin, end):
                 row.xs.append(row.right + rooms[column] - self.pitch / 2)
                 row.right, row.end = row.right + rooms[column], column + 1
@@ -188,8 +122,29 @@ class Layout:
         self.starts = [it.first for it in self.rows]
         self.gather_labels()
         for row in self.rows:
+            row.lay(self.lanes, self.shown(row))
             top = self.place(row, top)
         self.bottom = top
+
+    def shown(self, row):
+        """The lines of houses that a row shows: all of a few, and else those that have to do with its steps."""
+        if len(self.lanes) <= MOST_SHOWN:
+            return range(len(self.lanes))
+        found = set()
+        for column in self.columns[row.first : row.end]:
+            steps = column.steps if column.kind != "houses" else [column.first, column.last]
+            for step in steps:
+                found |= set(self.lanes_of(step))
+        return sorted(found) or [0]
+
+    def lanes_of(self, step):
+        """The lines that have to do with a step: its own, and where messages that it posts or loses come from or go."""
+        lane = self.lane_of(step)
+        if lane is None:
+            return [self.lane_for(it, step.message.dir) for it in (step.message.sender, step.message.receiver)]
+        senders = {it.sender for it in self.posted.get(step.at, ()) if it.sender in self.lane}
+        lanes = [self.lane_for(it, step.dirs[0]) for it in senders if step.dirs]
+        return [it for it in (lane, *lanes) if it < len(self.lanes)]
 
     def cuts(self, rooms, width):
         """Where rows begin and end, of which none is wider: in the last third of what has room, where the least goes on in the next
@@ -221,15 +176,15 @@ class Layout:
 
     def open_spans(self):
         """For each column how much is open in front of it: messages on their way, and skulks, which count more."""
-        changes = [0] * (len(self.steps) + 1)
+        changes = [0] * (len(self.columns) + 1)
         spans = [(it.posted, at, 1) for it in self.messages() for at in (*it.deliveries, it.lost) if at is not None]
         spans += [(it.start, it.end, 6) for it in self.skulks() if it.end is not None]
         for begin, end, weight in spans:
             first, last = self.column_of(begin) + 1, self.column_of(end)
             if first <= last:
                 changes[first] += weight
-                changes[min(last + 1, len(self.steps))] -= weight
-        for at in range(len(self.steps)):
+                changes[min(last + 1, len(self.columns))] -= weight
+        for at in range(len(self.columns)):
             changes[at + 1] += changes[at]
         return changes
 
@@ -239,8 +194,8 @@ class Layout:
 
     def place(self, row, top):
         """Gives the parts of a row their places from above, and returns its end."""
-        steps = self.steps[row.first : row.end]
-        longest = max(width_of(label_of(it)) for it in steps)
+        columns = self.columns[row.first : row.end]
+        longest = max(width_of(self.label_of(it)) for it in columns)
         row.lanes = top + longest * math.sin(math.radians(SLOPE)) + 14
         row.strip = row.bottom() + 4
         placed = []
@@ -251,10 +206,15 @@ class Layout:
                     placed.append(label)
                     break
         row.labels = placed
-        for column, step in enumerate(steps, row.first):
-            row.marks.setdefault(self.lane_of(step), []).append(row.x(column))
+        for at, column in enumerate(columns, row.first):
+            for step in column.steps:
+                row.marks.setdefault(self.lane_of(step), []).append(row.x(at))
         levels = max((it.level + 1 for it in placed), default=0)
         return row.strip + LEVEL * levels + (LANE if self.is_aside else 0) + 12
+
+    def label_of(self, column):
+        """The words above a column."""
+        return label_of(column.first, self.replay) if column.kind == "one" else column.label(self.replay.messages)
 
     def gather_labels(self):
         """Gives each row the labels of its skulks and epochs."""
@@ -266,7 +226,7 @@ class Layout:
         for skulk in self.skulks():
             for row, left, _ in self.spans(skulk.start, skulk.end):
                 ending = "" if skulk.is_complete else ", not complete"
-                words = f"skulk {brief(skulk.stamp)}{self.of_dir(skulk.dir)}{ending}"
+                words = f"skulk {self.brief(skulk.stamp)}{self.of_dir(skulk.dir)}{ending}"
                 row.labels.append(Label(left, words, self.skulk_title(skulk)))
 
     def epochs(self):
@@ -275,14 +235,14 @@ class Layout:
 
     def skulks(self):
         """The skulks that run in the picture."""
-        first, last = self.ats[0], self.ats[-1]
+        first, last = self.steps[0].at, self.steps[-1].at
         chosen = (it for it in self.replay.skulks if self.is_drawn(it.dir))
         return [it for it in chosen if it.start <= last and (it.end is None or it.end >= first)]
 
     def spans(self, start, end):
         """The rows between two steps, each with the places of the shade in it."""
         begin = self.column_of(start)
-        stop = self.column_of(end) if end is not None else len(self.steps)
+        stop = self.column_of(end) if end is not None else len(self.columns)
         half = self.mark_width / 2 + 3
         for row in self.rows:
             if begin < row.end and stop >= row.first and (stop > row.first or self.in_view(end)):

@@ -1,8 +1,9 @@
 """What a picture in time has but arrows: houses as lines, steps as marks on them, skulks, epochs, rises of AllUpTo."""
 from . import commands
-from .layout import EDGE, LANE, LEVEL, MARK, OVERHANG, SLOPE, Layout
-from .shapes import badge, bolt, brief, circle, line, number, rect, text, titled, width_of
-from .titles import epoch_title, label_of, name_of, told
+from .layout import Layout
+from .rows import EDGE, LANE, LEVEL, MARK, OVERHANG, SLOPE
+from .shapes import badge, bolt, circle, line, number, rect, text, titled, width_of
+from .titles import epoch_title, name_of, told
 
 
 class Marks(Layout):
@@ -15,9 +16,9 @@ class Marks(Layout):
     def draw_row(self, row):
         """The names of a row's houses, the words above its columns, and its labels."""
         for lane, (house, directory) in enumerate(self.lanes):
-            if self.replay.born[house] <= self.ats[row.end - 1]:
+            if lane in row.tops and self.replay.born[house] <= self.columns[row.end - 1].last.at:
                 title = f"house {house}, node {self.replay.nodes[house]}"
-                if lane == self.lane[house]:
+                if not any(it in row.tops for it in range(self.lane[house], lane)):
                     self.add("label", titled("", title, text(EDGE, row.y(lane) + 4, f"house {house}", "house ink")))
                 if self.is_split and directory is not None:
                     self.add("label", text(row.left - 6, row.y(lane) + 4, f"dir {directory}", "dim end"))
@@ -30,21 +31,28 @@ class Marks(Layout):
             self.add("upright", line(label.x, row.bottom(), label.x, y + 2, "leader"))
             self.add("label", titled("", label.title, text(x, y, label.words, f"ink{anchor}")))
         for column in range(row.first, row.end):
-            step, x, y = self.steps[column], row.x(column), row.lanes
+            x, y = row.x(column), row.lanes
             turned = f' transform="rotate(-{SLOPE} {number(x)} {number(y - 4)})"'
-            self.add("label", text(x + 2, y - 4, label_of(step), "dim", turned))
-            lane = self.lane_of(step)
-            self.add("guide", line(x, y, x, row.y(lane) if lane is not None else self.break_y(row, step.message), "guide"))
+            self.add("label", text(x + 2, y - 4, self.label_of(self.columns[column]), "dim", turned))
+            self.add("guide", line(x, y, x, max(self.height_of(row, it) for it in self.columns[column].steps), "guide"))
+
+    def height_of(self, row, step):
+        """How high the mark of a step is."""
+        lane = self.lane_of(step)
+        if lane is None:
+            is_folded = self.columns[self.column[step.at]].kind == "fan"
+            return row.y(self.lane_for(step.message.receiver, step.message.dir)) if is_folded else self.break_y(row, step.message)
+        return row.y(lane) if lane in row.tops else row.bottom() - LANE / 2
 
     def draw_lanes(self):
         """The lines of the houses: gone while a house is down, and thick while it accepts updates."""
         for lane, (house, directory) in enumerate(self.lanes):
             changes = [*self.lane_changes(house, directory), (None, None)]
             for (at, style), (until, _) in zip(changes, changes[1:]):
-                if style is None or until is not None and until <= self.ats[0] or at > self.ats[-1]:
+                if style is None or until is not None and until <= self.ats[0] or at > self.steps[-1].at:
                     continue
-                begin, stop = self.column_of(at), len(self.steps) if until is None else self.column_of(until)
-                for row in self.rows:
+                begin, stop = self.column_of(at), len(self.columns) if until is None else self.column_of(until)
+                for row in (it for it in self.rows if lane in it.tops):
                     left, right = row.left if at < self.ats[0] else row.x(begin), row.x(stop)
                     if begin < row.end and stop >= row.first and left < right:
                         self.used.add(f"lane {style}")
@@ -94,6 +102,7 @@ class Marks(Layout):
         shapes.append(line(x, row.lanes + 2, x, row.bottom(), "upright"))
         for house in epoch.members:
             lane = self.lane_for(house, epoch.dir) if house in self.lane else None
+            lane = lane if lane in row.tops else None
             letter = {"master": "M", "secondary": "S"}.get(epoch.role(house))
             if lane is not None and letter:
                 shapes.append(badge(x, row.y(lane), letter))
@@ -104,8 +113,8 @@ class Marks(Layout):
 
     def draw_step(self, column, step):
         """The mark of a step, with its line's number."""
-        row, lane = self.row_of(column), self.lane_of(step)
-        x, y = row.x(column), row.y(lane) if lane is not None else self.break_y(row, step.message)
+        row = self.row_of(column)
+        x, y = row.x(column), self.height_of(row, step)
         left, top, width = x - self.mark_width / 2, y - MARK / 2, self.mark_width
         is_delivery = step.command == "deliver" and step.message is not None
         kind = step.message.kind if is_delivery else "step"
@@ -124,7 +133,7 @@ class Marks(Layout):
         title = "\n".join([*told(step), *([name_of(step.message)] if step.message else [])])
         shapes = rect(left, top, width, MARK, fill, radius), text(x, y + 4, str(step.line), "number")
         shapes += (bolt(left + width, top + 2),) if is_stopped else ()
-        self.add("mark", titled(kind if fill == "full" else f"{kind} bare", title, *shapes))
+        self.add("mark", titled(kind if fill == "full" else f"{kind} bare", title, *shapes, name=f"line-{step.line}"))
 
     # AllUpTo.
 
@@ -140,7 +149,7 @@ class Marks(Layout):
         column, lane = self.column[rise.step], self.lane_for(rise.house, rise.dir)
         row, message = self.row_of(column), self.replay.steps[rise.step].message
         is_above = message is None or message.sender in self.lane and self.sign(message) < 0
-        words = f"▲ {brief(rise.stamp)}{self.of_dir(rise.dir)}"
+        words = f"▲ {self.brief(rise.stamp)}{self.of_dir(rise.dir)}"
         width = width_of(words) + 14
         x = row.x(column) - self.mark_width / 2
         key = row.first, lane, is_above

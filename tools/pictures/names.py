@@ -1,7 +1,7 @@
 """Draws the tree of names of a cell as one SVG: directories and entries as rows, links and members as arrows beside them."""
 from .entries import State
 from .facts import plural
-from .layout import EDGE, LEAST
+from .rows import EDGE, LEAST
 from .shapes import Undrawable, circle, escaped, head, number, rect, short, styles, text, titled, width_of
 
 ROW, DETAIL, INDENT, TRACK = 24, 18, 20, 13

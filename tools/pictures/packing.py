@@ -1,5 +1,5 @@
 """Packs a replay and its states for the page: lists of numbers and of words, which are named by their places in one list of words."""
-from . import layout, meanings, searches, skulks
+from . import choice, meanings, searches, skulks
 from .titles import label_of
 
 MOST_FACTS = 60  # of a message that are listed
@@ -58,7 +58,7 @@ class Pack:
     def step(self, step):
         """A step: what the script and the answers say of it."""
         serial = step.message.serial if step.message else None
-        label = label_of(step)
+        label = label_of(step, self.replay)
         stop = step.text.split()[1:4] if step.stop is not None else None
         return [step.at, step.line, step.command, step.house, step.dirs, step.outcome, step.has_changed, serial, step.answer, label, stop]
 
@@ -120,4 +120,4 @@ class Pack:
 
 def chosen(replay, first, last, directory):
     """The steps between two lines, of a directory or of all."""
-    return layout.Layout(replay, "", first, last, directory).steps
+    return choice.Choice(first, last, directory).steps(replay)

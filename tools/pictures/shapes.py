@@ -45,6 +45,7 @@ FIXED = """text{font-family:Helvetica,Arial,'Liberation Sans','DejaVu Sans',sans
 .hollow{stroke:currentColor;stroke-width:1.4px}
 .refused{stroke-dasharray:2.5 2}.cross{fill:none;stroke:currentColor;stroke-width:2.4px}.lane{fill:none;stroke-width:1.3px}
 .master{stroke-width:3.4px}.secondary{stroke-width:3.4px;stroke-dasharray:11 3}.without{stroke-dasharray:1.5 4}.guide{stroke-width:1px}
+.bar{fill:currentColor;fill-opacity:.16}.stub{font-size:10px;font-weight:bold;fill:currentColor}
 .upright{stroke-width:1.2px;stroke-dasharray:5 3}.leader{stroke-width:1px}
 .open{fill:none;stroke-width:1.2px;stroke-dasharray:6 4}.tag{stroke-width:1px}.bolt{stroke-width:.8px}.pale{opacity:.42}"""
 
@@ -73,12 +74,6 @@ def width_of(text, size=SIZE):
     return len(text) * size * 0.6
 
 
-def brief(stamp):
-    """A stamp as it stands in labels: without the zeros in front of its node, and of a long number the last digits."""
-    time, _, node = stamp.partition("@")
-    return f"{end_of(time, 8)}@{end_of(node.lstrip('0') or '0', 6)}"
-
-
 def end_of(text, most):
     """A text, or its end."""
     return text if len(text) <= most else "…" + text[2 - most :]
@@ -95,9 +90,9 @@ def styles():
     return "\n".join(["<style>", FIXED, *light, *dashes, media, "</style>"])
 
 
-def titled(kind, title, *shapes):
-    """A group of shapes with a hover text."""
-    named = f' class="{kind}"' if kind else ""
+def titled(kind, title, *shapes, name=None):
+    """A group of shapes with a hover text, and with a name to which links lead."""
+    named = (f' id="{name}"' if name else "") + (f' class="{kind}"' if kind else "")
     return f'<g{named}><title>{escaped(title)}</title>{"".join(shapes)}</g>'
 
 

@@ -2,7 +2,7 @@
 from . import commands
 from .shapes import end_of, short
 
-LONGEST_LABEL, LONGEST_LINE, MOST_LINES = 24, 160, 12
+LONGEST_LABEL, LONGEST_READ, LONGEST_LINE, MOST_LINES = 24, 36, 160, 12
 
 
 def cut(lines):
@@ -25,11 +25,40 @@ def name_of(message):
     return f"message {message.serial}: {message.kind}{stamp}, {way}, directory {message.dir}, epoch {message.epoch}"
 
 
-def label_of(step):
+def said_of(digits):
+    """A value in a label: as a text, if it is one."""
+    octets = bytes.fromhex(digits)
+    return short(f'"{octets.decode("ascii")}"' if all(0x20 <= it <= 0x7E for it in octets) else digits, 16)
+
+
+def label_of_read(step):
+    """A read in brief: of which entry and attribute, at which confidence, and the values."""
+    words, answer = step.words, step.answer.split()[3:]
+    label = f"read {words[2].split('/')[-1]} {words[3]} {words[1]}"
+    if step.outcome != "ok":
+        return short(label, LONGEST_READ - len(step.outcome)) + f": {step.outcome}"
+    return short(f"{label} = {' '.join(map(said_of, answer)) or 'none'}", LONGEST_READ)
+
+
+SIGNS = {"create": "+{0}", "link": "+{0}", "delete": "-{0}", "mkdir": "+{0}", "repoint": "{0} anew", "add": "+{0}.{1}", "remove": "-{0}.{1}",
+         "put": "={0}.{1}", "clear": "-{0}.{1}"}
+
+
+def effect_of(message, replay):
+    """What an Update brings, if the step that posted it says that."""
+    step = replay.steps[message.posted]
+    if message.kind != "Update" or step.command not in SIGNS:
+        return ""
+    return " " + SIGNS[step.command].format(*(it or "" for it in (*step.words[2:4], "")))
+
+
+def label_of(step, replay):
     """The words above a step's column: the command in brief, or the message that is delivered; and why it came to nothing."""
     words, command = step.words, step.command
+    if command == "read":
+        return label_of_read(step)
     if command == "deliver" and step.message:
-        label = f"{step.message.kind} {words[0]}"
+        label = f"{step.message.kind} {words[0]}{effect_of(step.message, replay)}"
     elif command in ("deliver", "lose", "decode"):
         label = f"{command} {words[0]}"
     elif command == "epoch":
