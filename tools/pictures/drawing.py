@@ -2,9 +2,8 @@
 import math
 
 from . import commands
-from .choice import Choice
+from .clerks import Clerked
 from .facts import plural
-from .folded import Folded
 from .rows import EDGE, LEAST, MARK, OVERHANG, SLOPE
 from .shapes import KINDS, badge, bolt, circle, cross, dots, escaped, head, line, number, path, rect, short, styles, text, width_of
 
@@ -26,6 +25,7 @@ LEGEND = {
         "delivery": "delivery",
         "late": "delivered, and not taken",
         "rise": "AllUpTo rises",
+        "kept": "the clerk's kept answer is used",
     },
     "lines": {
         "lane master": "house is the master",
@@ -41,7 +41,7 @@ LEGEND = {
 }
 
 
-class Picture(Folded):
+class Picture(Clerked):
     """The picture of a replay."""
 
     def draw(self):
@@ -59,6 +59,7 @@ class Picture(Folded):
         for message in self.messages():
             self.draw_message(message)
         self.draw_rises()
+        self.draw_clerk()
         return self.whole()
 
     def end_of_words(self, row):
@@ -157,16 +158,20 @@ def sample(kind, x, y, message):
         return rect(x + 1, y - 7, 26, 14, kind, 3)
     if kind == "rise":
         return rect(x + 3, y - 7, 22, 15, "tag", 2) + text(x + 8, y + 4.5, "▲", "ink")
+    if kind == "kept":
+        return f'<g class="step">{path([(x, y), (x + 28, y)], "line")}{head([(x, y), (x + 28, y)], False)}</g>'
     points = [(x, y), (x + (14 if kind == "elsewhere" else 20), y)]
     ends = {"lost": cross(x + 22, y), "elsewhere": dots(*points)}
     end = ends.get(kind) or circle(x + 22, y, 2.6, "hollow")
     return f'<g class="{message}{" pale" if kind == "pale" else ""}">{path(points, "line")}{end}</g>'
 
 
-def draw(replay, name, choice):
-    """The SVG of a replay; or several, each of a part of the script, where one is too high for programs that show it."""
-    picture = Picture(replay, name, choice)
+def draw(replay, name, choice, room=None):
+    """The SVG of a replay; or several, each of a part of the script, where one is too high for programs that show it. `room` is how many
+    answers its clerk keeps, if there is one.
+    """
+    picture = Picture(replay, name, choice, room)
     drawn = picture.draw()
     if picture.height <= HIGHEST:
         return [drawn]
-    return [Picture(replay, name, choice.part(*lines)).draw() for lines in picture.parts()]
+    return [Picture(replay, name, choice.part(*lines), room).draw() for lines in picture.parts()]

@@ -3,6 +3,7 @@ import bisect
 import math
 
 from .folds import fold
+from .kept import used_answers
 from .rows import EPOCH, FARTHER, LANE, LEFT, LEVEL, MANY, MOST_LEVELS, NARROW, OVERHANG, SLOPE, WIDE, Label, Row
 from .shapes import end_of, width_of
 from .titles import epoch_title, label_of
@@ -14,7 +15,7 @@ MOST_SHOWN = 10  # lines of houses; of more a row has those alone that have to d
 class Layout:
     """The steps, houses, rows and lines of a picture, between two lines of the script, of one directory or of all."""
 
-    def __init__(self, replay, name, choice):
+    def __init__(self, replay, name, choice, room=None):
         self.replay, self.name, self.choice, self.dir = replay, name, choice, choice.dir
         self.steps = choice.steps(replay)
         self.dirs = [choice.dir] if choice.dir else sorted(replay.epochs)
@@ -24,6 +25,7 @@ class Layout:
         self.used = set()
         digits = len(str(self.steps[-1].line))
         self.mark_width = max(22, 9 + 7 * digits)
+        self.used_by_clerk = used_answers(replay, room) if room else {}
         self.choose()
 
     # What is drawn.
@@ -46,6 +48,7 @@ class Layout:
         self.posted = {}
         for message in replay.messages.values():
             self.posted.setdefault(message.posted, []).append(message)
+        self.has_clerk = any(it in self.column for it in self.used_by_clerk)
         self.is_aside = any(self.lane_of(it) == len(self.lanes) for it in self.steps)
 
     def make_lanes(self):
@@ -210,7 +213,11 @@ class Layout:
             for step in column.steps:
                 row.marks.setdefault(self.lane_of(step), []).append(row.x(at))
         levels = max((it.level + 1 for it in placed), default=0)
-        return row.strip + LEVEL * levels + (LANE if self.is_aside else 0) + 12
+        return row.strip + LEVEL * levels + self.below() + 12
+
+    def below(self):
+        """The room of the lines below the houses: for steps of no house, and for the clerk."""
+        return LANE * (self.is_aside + self.has_clerk)
 
     def label_of(self, column):
         """The words above a column."""

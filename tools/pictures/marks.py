@@ -27,7 +27,7 @@ class Marks(Layout):
             self.add("label", titled("", title, text(EDGE, row.y(len(self.lanes)) + 4, "no house", "dim")))
         for label in row.labels:
             x, anchor = (label.x - 5, " end") if label.is_left else (label.x + 5, "")
-            y = row.strip + LEVEL * label.level + 12 + (LANE if self.is_aside else 0)
+            y = row.strip + LEVEL * label.level + 12 + self.below()
             self.add("upright", line(label.x, row.bottom(), label.x, y + 2, "leader"))
             self.add("label", titled("", label.title, text(x, y, label.words, f"ink{anchor}")))
         for column in range(row.first, row.end):
