@@ -1,6 +1,8 @@
 """Draws the tree of names of a cell as one SVG: directories and entries as rows, links and members as arrows beside them."""
-from . import drawing, replay as happened
-from .drawing import EDGE, circle, escaped, number, rect, short, text, titled, width_of
+from .entries import State
+from .facts import plural
+from .rows import EDGE, LEAST
+from .shapes import Undrawable, circle, escaped, head, number, rect, short, styles, text, titled, width_of
 
 ROW, DETAIL, INDENT, TRACK = 24, 18, 20, 13
 COLUMN = EDGE + 26  # where the tree begins, behind the numbers of a search
@@ -17,130 +19,6 @@ MORE = """.soft{stroke-dasharray:5 3}.tree{fill:none;stroke:#8a939d;stroke-width
 @media (prefers-color-scheme: dark){
 .order{fill:#e6edf3}.ordered{fill:#0d1117}.tree{stroke:#77828d}.ring{stroke:#e6edf3}
 }"""
-
-
-class Entry:
-    """An entry as the script made it: its kind, where it leads, and what its attributes have."""
-
-    def __init__(self, kind, lead=None):
-        self.kind, self.lead, self.values = kind, lead, {}
-        self.towers, self.objects, self.members, self.elements = [], [], [], []
-
-    def change(self, command, attribute, value):
-        """A change of the values of an attribute."""
-        own = self.values.setdefault(attribute, [])
-        if command in ("put", "clear"):
-            own.clear()
-        if command in ("add", "put") and value not in own:
-            own.append(value)
-        if command == "remove" and value in own:
-            own.remove(value)
-
-
-class State:
-    """The names of the cell up to a line of the script."""
-
-    def __init__(self, replay, last):
-        self.entries, self.untold, self.epochs, self.born = {}, 0, {}, {}
-        for step in replay.steps:
-            if step.line > last:
-                break
-            if step.is_done():
-                self.take(step)
-        for directory, epochs in replay.epochs.items():
-            known = [it for it in epochs if replay.steps[it.step].line <= last]
-            if known:
-                self.epochs[directory] = known[-1]
-
-    def take(self, step):
-        """Takes a command that was not refused."""
-        command, words = step.command, step.words
-        if command in happened.SERVICES:
-            if step.found:
-                self.serve(command, words, step.found[1:])
-            else:
-                self.untold += 1
-        elif command == "mkdir":
-            self.entries[int(words[1]), words[2]] = Entry("child", int(step.answer.split()[2]))
-        elif command in ("create", "link"):
-            kind = "object" if command == "create" else "link"
-            self.entries[int(words[1]), words[2]] = Entry(kind, words[3] if kind == "link" else None)
-        elif command == "delete":
-            self.entries.pop((int(words[1]), words[2]), None)
-        elif command in ("add", "remove", "put", "clear"):
-            entry = self.entries.get((int(words[1]), words[2]))
-            if entry:
-                entry.change(command, words[3], (words[4] if len(words) > 4 else "").lower())
-
-    def serve(self, command, words, place):
-        """Takes a command of the name service at the entry of a place."""
-        if command in ("export", "groupadd", "profadd"):
-            self.entries.setdefault(place, Entry("object"))
-        entry = self.entries.get(place)
-        if entry is None:
-            return
-        if command == "export":
-            entry.towers += [(words[1].lower(), it) for it in listed(words[2]) if (words[1].lower(), it) not in entry.towers]
-            entry.objects += [it.lower() for it in listed(words[3]) if it.lower() not in entry.objects]
-        elif command == "unexport":
-            entry.towers = [it for it in entry.towers if it[0] != words[1].lower()]
-            entry.objects = [it for it in entry.objects if it not in words[2].lower().split(",")]
-        elif command == "groupadd":
-            entry.members = sorted({*entry.members, words[1]})
-        elif command == "groupdel":
-            entry.members = [it for it in entry.members if it != words[1]]
-        elif command == "profadd":
-            entry.elements = sorted({*entry.elements, element_of(*words[1:5])})
-        else:
-            entry.elements = [it for it in entry.elements if (it[5], it[7]) != (words[1].lower(), words[2])]
-
-    def place_of(self, name, follows=False, left=happened.MOST_LINKS):
-        """The directory and the simple name of a full name; links on the way are followed, and the last one where that is asked."""
-        directory, names = 1, name.split("/")[2:]
-        for at, it in enumerate(names):
-            entry, is_last = self.entries.get((directory, it)), at + 1 == len(names)
-            if entry and entry.kind == "link" and left and (follows or not is_last):
-                return self.place_of("/".join([entry.lead, *names[at + 1 :]]), follows, left - 1)
-            if is_last:
-                return (directory, it) if entry else None
-            if not entry or entry.kind != "child":
-                return None
-            directory = entry.lead
-        return None
-
-    def order(self, name, interface):
-        """The entries that a search from a name comes to, each where it comes first."""
-        order, waiting = [], [name]
-        while waiting:
-            place = self.place_of(waiting.pop(), True)
-            entry = self.entries.get(place)
-            if entry and entry.kind == "object" and place not in order:
-                order.append(place)
-                taken = [it for it in entry.elements if it[5] == "default" or serves(it[5], interface)]
-                waiting += [*(it[7] for it in reversed(taken)), *reversed(entry.members)]
-        return order
-
-
-def listed(words):
-    """The items of a list of words, or none of `-`."""
-    return [] if words == "-" else words.split(",")
-
-
-def element_of(interface, member, priority, note):
-    """An element of a profile, in the order of its octets, with what was said of it."""
-    uuid, _, version = interface.lower().partition(":")
-    major, _, minor = version.partition(".")
-    is_default = interface.lower() == "default"
-    numbers = (0, 0) if is_default else (int(major), int(minor))
-    octets = bytes(16).hex() if is_default else uuid.replace("-", "")
-    return int(priority), octets, *numbers, len(member), interface.lower(), note if note != "-" else "", member
-
-
-def serves(offered, wanted):
-    """Whether an interface that is offered serves the one that is wanted."""
-    (uuid, _, version), (own, _, least) = offered.partition(":"), wanted.lower().partition(":")
-    (major, _, minor), (of, _, at) = version.partition("."), least.partition(".")
-    return uuid == own and major == of and int(minor) >= int(at)
 
 
 def wide(words, kind):
@@ -184,7 +62,7 @@ class Tree:
         """Adds the entries of a directory, below its row."""
         for name in sorted(name for of, name in self.state.entries if of == directory):
             if len(self.rows) > MOST_ROWS:
-                raise drawing.Undrawable(f"a tree of more than {MOST_ROWS} rows; choose a part with --to and --dir")
+                raise Undrawable(f"a tree of more than {MOST_ROWS} rows; choose a part with --to and --dir")
             row = self.add_entry(directory, name, x)
             self.branches.append((parent, row))
             entry = self.state.entries[directory, name]
@@ -251,7 +129,7 @@ class Picture:
         self.last = chosen.line if chosen else steps[-1].line if steps else last
         self.state = State(replay, self.last)
         if (directory or 1) not in self.state.epochs:
-            raise drawing.Undrawable(f"the script makes no {f'directory {directory}' if directory else 'root directory'}")
+            raise Undrawable(f"the script makes no {f'directory {directory}' if directory else 'root directory'}")
         self.tree, self.used, self.shapes = Tree(self.state, directory or 1), set(), []
         self.numbers = {place: at for at, place in enumerate(self.searched(), 1)}
 
@@ -281,7 +159,7 @@ class Picture:
             self.draw_edge(*edge, gutter + 8 + TRACK * track)
         for row in self.tree.rows:
             self.draw_row(row)
-        width = max(drawing.LEAST, gutter + TRACK * (max(tracks, default=-1) + 1) + EDGE + 16)
+        width = max(LEAST, gutter + TRACK * (max(tracks, default=-1) + 1) + EDGE + 16)
         return self.whole(width, y + 12)
 
     def edges(self):
@@ -320,7 +198,7 @@ class Picture:
         turn = 6 if to_y > y else -6
         shape = f"M{number(row.end() + 4)} {number(y)}H{number(x - 6)}q6 0 6 {turn}V{number(to_y - turn)}q0 {turn} -6 {turn}H{number(end)}"
         soft = " soft" if kind == "link" else ""
-        arrow = drawing.head([(x, to_y), (end, to_y)], False)
+        arrow = head([(x, to_y), (end, to_y)], False)
         title = f"{row.lead}: {ARROWS[kind][1]}"
         self.shapes.append(titled(ARROWS[kind][0], title, f'<path d="{shape}" class="arrow{soft}"/>', arrow))
 
@@ -346,7 +224,7 @@ class Picture:
             shapes.append(text(EDGE, y, short(f"line {self.search.line}: {self.search.text}", 128), "dim"))
             y += 17
         if self.state.untold:
-            untold = happened.plural(self.state.untold, "command")
+            untold = plural(self.state.untold, "command")
             shapes.append(text(EDGE, y, f"{untold} of the name service left out: the script does not tell at which entry", "dim"))
             y += 17
         y -= 14
@@ -368,7 +246,7 @@ class Picture:
         inner = "\n".join(self.shapes)
         return (
             f'<svg xmlns="http://www.w3.org/2000/svg" width="{w}" height="{h}" viewBox="0 0 {w} {h}" role="img">\n'
-            f"<title>{escaped(self.name)}: a picture of its names</title>\n{drawing.styles()}\n<style>{MORE}</style>\n"
+            f"<title>{escaped(self.name)}: a picture of its names</title>\n{styles()}\n<style>{MORE}</style>\n"
             f'<rect width="{w}" height="{h}" class="ground"/>\n{heading}\n'
             f'<g transform="translate(0 {number(top)})">\n{inner}\n</g>\n</svg>\n'
         )
@@ -396,7 +274,7 @@ def sample(kind, x, y):
         return sign(kind, x + 8, y)
     points = [(x, y), (x + 28, y)]
     soft = " soft" if kind == "link" else ""
-    return f'<g class="{ARROWS[kind][0]}"><path d="M{number(x)} {number(y)}h26" class="arrow{soft}"/>{drawing.head(points, False)}</g>'
+    return f'<g class="{ARROWS[kind][0]}"><path d="M{number(x)} {number(y)}h26" class="arrow{soft}"/>{head(points, False)}</g>'
 
 
 def draw(replay, name, last=2**63, directory=None):

@@ -1,0 +1,156 @@
+"""Asks the program what each house has after each line of a script, in one run.
+
+The questions `octets house H`, `octets msg N` and, of the form `journal`, `image H` are put between the lines of the script. They change
+nothing; the answers to the script's own lines are compared with those of a run without them.
+"""
+import subprocess
+import tempfile
+
+from . import commands
+from .facts import Fault
+from .shapes import Undrawable
+
+MOST_OCTETS = 400_000_000  # of images that are kept at a time
+
+
+class Broken(Exception):
+    """The program ended as it should not, or answers otherwise when it is asked more."""
+
+
+def lines_from(program, words, script):
+    """The lines that the program writes for a script, one after the other. Its status is 0, or 3 where the script is faulty."""
+    with tempfile.TemporaryFile() as source:
+        source.write(script)
+        source.seek(0)
+        with subprocess.Popen([program, *words], stdin=source, stdout=subprocess.PIPE) as ran:
+            yield from ran.stdout
+    if ran.returncode not in (0, 3):
+        raise Broken(f"`{program} {' '.join(words)}` ended with status {ran.returncode}")
+
+
+def run(program, words, script):
+    """All that the program writes for a script."""
+    return b"".join(lines_from(program, words, script))
+
+
+def houses_of(step, replay):
+    """The houses whose images a step may change: None is each of them."""
+    if step.command in commands.SERVICES:
+        return [step.house] if step.found else None
+    named = [step.house, step.stop]
+    if step.command == "mkdir":
+        named.append(int(step.words[3]))
+    return sorted({it for it in named if it in replay.nodes})
+
+
+class Script:
+    """A script that grows by questions. `owners` has for each line the line of the script that it is, or what it asks."""
+
+    def __init__(self, is_journal):
+        self.lines, self.owners, self.is_journal = [], [], is_journal
+
+    def add(self, text, owner):
+        """Adds a line."""
+        self.lines.append(text)
+        self.owners.append(owner)
+
+    def ask_house(self, at, house):
+        """Asks what a house has after a step."""
+        self.add(f"octets house {house}", ("house", at, house))
+        if self.is_journal:
+            self.add(f"image {house}", ("journal", at, house))
+
+    def octets(self):
+        """The whole script."""
+        return "".join(f"{it}\n" for it in self.lines).encode()
+
+
+class Asked:
+    """What the program answered: `images` by step and house, -1 being before the first one, and `loads` by the serial of a message."""
+
+    def __init__(self):
+        self.answers, self.images, self.journals, self.loads, self.last, self.size = [], {}, {}, {}, {}, 0
+
+    def take(self, owner, said):
+        """Takes a line of an answer, without its number."""
+        if isinstance(owner, int):
+            self.answers.append(f"{owner} {said}")
+        elif said.startswith("ok "):
+            found = {"house": self.images, "journal": self.journals, "message": self.loads}[owner[0]]
+            found[owner[1:] if len(owner) > 2 else owner[1]] = self.kept(owner, bytes.fromhex(said.split()[2]))
+
+    def kept(self, owner, octets):
+        """The octets, once where those of a house are the same as before."""
+        place = owner[0], owner[-1]
+        if self.last.get(place) != octets:
+            self.last[place] = octets
+            self.size += len(octets)
+        if self.size > MOST_OCTETS:
+            raise Undrawable(f"what houses have takes more than {MOST_OCTETS} octets; choose a part with --from, --to and --dir")
+        return self.last[place]
+
+
+def leaders(replay):
+    """For each message the serial of one that carries the same: the first one of its step that went to several houses."""
+    found, before = {}, None
+    for message in replay.messages.values():
+        is_same = before is not None and before.posted == message.posted and is_mate(before, message)
+        found[message.serial] = found[before.serial] if is_same else message.serial
+        before = message
+    return found
+
+
+def is_mate(one, other):
+    """Whether two messages of a step carry the same: those that go to several houses have ascending receivers."""
+    if one.receiver is None or other.receiver is None:
+        return False
+    return one.kind == other.kind and one.dir == other.dir and one.receiver < other.receiver
+
+
+def asked_at(replay):
+    """For each step the serials of the messages that are asked about after it."""
+    found = {}
+    for serial in sorted(set(leaders(replay).values())):
+        message = replay.messages[serial]
+        if message.lost != message.posted:
+            found.setdefault(message.posted, []).append(serial)
+    return found
+
+
+def questions(lines, replay, first, last, is_journal, is_thorough):
+    """The script with its questions: about steps from `first` to `last`, and about all houses before them and after them."""
+    script, begins, posted = Script(is_journal), 0, asked_at(replay)
+    for step in replay.steps[: last + 1]:
+        for line in range(begins, step.line):
+            if line + 1 == step.line and step.at == first:
+                ask_all(script, replay, first - 1)
+            script.add(lines[line], line + 1)
+        begins = step.line
+        for serial in posted.get(step.at, ()):
+            script.add(f"octets msg {serial}", ("message", serial))
+        if step.at >= first:
+            houses = houses_of(step, replay)
+            for house in replay.nodes if houses is None or is_thorough or step.at == last else houses:
+                script.ask_house(step.at, house)
+    for line in range(begins, len(lines)):
+        script.add(lines[line], line + 1)
+    return script
+
+
+def ask_all(script, replay, at):
+    """Asks what each house has."""
+    for house in replay.nodes:
+        script.ask_house(at, house)
+
+
+def ask(program, words, lines, answers, replay, first, last, is_thorough=False):
+    """Asks about the steps from `first` to `last`; `lines` and `answers` are those of the script."""
+    script = questions(lines, replay, first, last, words == ["journal"], is_thorough)
+    asked = Asked()
+    for line in lines_from(program, words, script.octets()):
+        number, _, said = line.decode("ascii").rstrip("\n").partition(" ")
+        asked.take(script.owners[int(number) - 1], said)
+    for at, (one, other) in enumerate(zip([*answers, "nothing"], [*asked.answers, "nothing"]), 1):
+        if one != other:
+            raise Fault("answers", at, f"`{one[:60]}` is not what the program answers: `{other[:60]}`")
+    return asked
