@@ -1,10 +1,10 @@
-use Rattle.std.proofs.Common.{◌≡◌, ◌++◌, ◌∷◌, [], ℕ, false, List, if◌then◌else◌, sym, ◌∙◌, subst}
+use Rattle.std.proofs.Common.{◌≡◌, ◌++◌, ◌∷◌, [], ℕ, true, false, List, if◌then◌else◌, sym, ◌∙◌, subst}
 use Rattle.std.specs.Prelude.{Option}
 use Rattle.std.specs.Option.{option_map, option_map_or}
 use Rattle.std.specs.Str.{bytes_eq}
 use Rattle.house_journal.specs.JournalRecords.{images}
-use Rattle.disk_journals.specs.KeptJournals.{stops_after}
-use Rattle.journal_replay.proofs.StopHouse.{still_last, word_is}
+use Rattle.disk_journals.specs.KeptJournals.{HoldsEither, stops_after}
+use Rattle.journal_replay.proofs.StopHouse.{given_last, still_last, word_is}
 use Rattle.journal_replay.proofs.stopping.stop_kept.Goals as goal
 
 pub returns-then-not-gives-clause-kept : goal.returns-then-not-gives-clause-kept
@@ -28,3 +28,25 @@ returns-then-not-gives-clause-word c new =
     subst (λ (i : List ℕ). images c.stopped_put.new.disk.octets ≡ (if stops then list ++ i ∷ [] else list)) c.deref.ensures.value c.in_ok-journal.ensures.images in
     let other : option_map_or (bytes_eq image) o false ≡ false = cc in
     sym other ∙ word_is stops image list c.stopped_put.new.disk o new kept c.in_ok-journal.ensures.last
+
+pub returns-clause-kept : goal.returns-clause-kept
+returns-clause-kept c =
+    let o : Option (List ℕ) = option_map (λ v. v.items) c.in_ok-journal.given in
+    let same : option_map_or (bytes_eq c.args.image.items) o false ≡ true = cc in
+    (c.in_ok-journal.ensures.«open», given_last c.args.image.items c.stopped_put.new.disk o c.in_ok-journal.ensures.last same)
+
+pub returns-clause-word : goal.returns-clause-word
+returns-clause-word c new =
+    let image = c.args.image.items in
+    let list = images c.args.disk.now.octets in
+    let o : Option (List ℕ) = option_map (λ v. v.items) c.in_ok-journal.given in
+    let stops = stops_after c.args.call c.args.leave in
+    let kept : images c.stopped_put.new.disk.octets ≡ (if stops then list ++ image ∷ [] else list) =
+    subst (λ (i : List ℕ). images c.stopped_put.new.disk.octets ≡ (if stops then list ++ i ∷ [] else list)) c.deref.ensures.value c.in_ok-journal.ensures.images in
+    let same : option_map_or (bytes_eq image) o false ≡ true = cc in
+    sym same ∙ word_is stops image list c.stopped_put.new.disk o new kept c.in_ok-journal.ensures.last
+
+pub returns-clause-crash : goal.returns-clause-crash
+returns-clause-crash c =
+    subst (λ (i : List ℕ). HoldsEither c.stopped_put.new.disk (images c.args.disk.now.octets) (images c.args.disk.now.octets ++ i ∷ []))
+    c.deref.ensures.value c.stopped_put.ensures.crash
