@@ -4,21 +4,33 @@ The questions `octets house H`, `octets msg N` and, of the form `journal`, `imag
 nothing; the answers to the script's own lines are compared with those of a run without them.
 """
 import subprocess
+import tempfile
 
 from . import commands
 from .facts import Fault
+from .shapes import Undrawable
+
+MOST_OCTETS = 400_000_000  # of images that are kept at a time
 
 
 class Broken(Exception):
     """The program ended as it should not, or answers otherwise when it is asked more."""
 
 
-def run(program, words, script):
-    """What the program writes for a script. Its status is 0, or 3 where the script is faulty."""
-    ran = subprocess.run([program, *words], input=script, stdout=subprocess.PIPE, check=False)
+def lines_from(program, words, script):
+    """The lines that the program writes for a script, one after the other. Its status is 0, or 3 where the script is faulty."""
+    with tempfile.TemporaryFile() as source:
+        source.write(script)
+        source.seek(0)
+        with subprocess.Popen([program, *words], stdin=source, stdout=subprocess.PIPE) as ran:
+            yield from ran.stdout
     if ran.returncode not in (0, 3):
         raise Broken(f"`{program} {' '.join(words)}` ended with status {ran.returncode}")
-    return ran.stdout
+
+
+def run(program, words, script):
+    """All that the program writes for a script."""
+    return b"".join(lines_from(program, words, script))
 
 
 def houses_of(step, replay):
@@ -57,7 +69,7 @@ class Asked:
     """What the program answered: `images` by step and house, -1 being before the first one, and `loads` by the serial of a message."""
 
     def __init__(self):
-        self.answers, self.images, self.journals, self.loads = [], {}, {}, {}
+        self.answers, self.images, self.journals, self.loads, self.last, self.size = [], {}, {}, {}, {}, 0
 
     def take(self, owner, said):
         """Takes a line of an answer, without its number."""
@@ -65,7 +77,17 @@ class Asked:
             self.answers.append(f"{owner} {said}")
         elif said.startswith("ok "):
             found = {"house": self.images, "journal": self.journals, "message": self.loads}[owner[0]]
-            found[owner[1:] if len(owner) > 2 else owner[1]] = bytes.fromhex(said.split()[2])
+            found[owner[1:] if len(owner) > 2 else owner[1]] = self.kept(owner, bytes.fromhex(said.split()[2]))
+
+    def kept(self, owner, octets):
+        """The octets, once where those of a house are the same as before."""
+        place = owner[0], owner[-1]
+        if self.last.get(place) != octets:
+            self.last[place] = octets
+            self.size += len(octets)
+        if self.size > MOST_OCTETS:
+            raise Undrawable(f"what houses have takes more than {MOST_OCTETS} octets; choose a part with --from, --to and --dir")
+        return self.last[place]
 
 
 def leaders(replay):
@@ -125,8 +147,8 @@ def ask(program, words, lines, answers, replay, first, last, is_thorough=False):
     """Asks about the steps from `first` to `last`; `lines` and `answers` are those of the script."""
     script = questions(lines, replay, first, last, words == ["journal"], is_thorough)
     asked = Asked()
-    for line in run(program, words, script.octets()).decode("ascii").split("\n")[:-1]:
-        number, _, said = line.partition(" ")
+    for line in lines_from(program, words, script.octets()):
+        number, _, said = line.decode("ascii").rstrip("\n").partition(" ")
         asked.take(script.owners[int(number) - 1], said)
     for at, (one, other) in enumerate(zip([*answers, "nothing"], [*asked.answers, "nothing"]), 1):
         if one != other:

@@ -29,7 +29,8 @@ class Choice:
     def words(self):
         """What is chosen besides lines, for a heading."""
         houses = ", ".join(map(str, sorted(self.houses))) if self.houses else ""
-        parts = [self.dir and f"directory {self.dir}", houses and f"houses {houses}", self.entry and f"entry {self.entry}", self.message and f"message {self.message}"]
+        parts = [self.dir and f"directory {self.dir}", houses and f"houses {houses}"]
+        parts += [self.entry and f"entry {self.entry}", self.message and f"message {self.message}"]
         return "".join(f", {it}" for it in parts if it)
 
     def part(self, first, last):
