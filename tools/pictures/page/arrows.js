@@ -100,7 +100,7 @@ function exitOf(message, at) {
 // A line of the script at which a way goes on, as a link.
 function stubOf([x, y], at, sign, way) {
   return draw("a", { href: `#line-${lineAt(at)}`, tabindex: "-1", "aria-label": `goes on in line ${lineAt(at)}` },
-    draw("text", { x, y: y + (sign === "<" ? -way * 8 : way * 8) + 4, class: "stub" }, sign === "<" ? `<${lineAt(at)}` : `>${lineAt(at)}`));
+    draw("text", { x, y: y + (sign === "<" ? -way * 8 : way * 8) + 4, class: sign === "<" ? "stub end" : "stub" }, sign === "<" ? `<${lineAt(at)}` : `>${lineAt(at)}`));
 }
 
 // A way, and a wider one that a pointer finds.

@@ -1,7 +1,7 @@
 // The time picture around the present line: a window of columns, houses as lines, steps as marks. Arrows are in arrows.js.
 
 const COLUMNS = 30;
-const [LANE, NARROW, SUBLANE, MARK, TOP, HEADS] = [58, 38, 36, 17, 116, 112];
+const [LANE, NARROW, SUBLANE, MARK, TOP, HEADS] = [58, 38, 36, 17, 126, 112];
 const MOST_LANES = 10; // of all houses; of more houses those alone that act in the window
 
 const view = { first: 0, end: 0, pitch: 36, width: 26, lanes: [], tops: [], places: new Map() };

@@ -12,7 +12,7 @@ const messages = new Map(data.messages.map(
 const epochs = data.epochs.map(([dir, number, master, members, secondary, at]) => ({ dir, number, master, members, secondary, at }));
 
 const skulks = data.skulks.map(([dir, house, stamp, start, end, complete], index) =>
-  ({ dir, house, stamp, start, end, complete, answers: data.answered[index] }));
+  ({ dir, house, stamp, start, end, complete, index, answers: data.answered[index] }));
 
 const stepOfLine = new Map(steps.map((step) => [step.line, step]));
 const textOfLine = new Map(data.lines);

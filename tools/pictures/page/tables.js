@@ -25,7 +25,9 @@ function housesWith(dir, at) {
 function signatureOf(number, dir, at) {
   const replica = replicaOf(number, dir);
   replica.signature ??= `${replica.head} ${[...replica.facts].sort(([a], [b]) => a - b).join(" ")}`;
-  return `${isDown(number, at)} ${runningSkulk(number, dir, at)?.skulk.index ?? "-"} ${replica.signature}`;
+  const own = headOf(replica.head)?.members.find((it) => it.house === number);
+  const isMaster = lastEpoch(dir, at).master === number;
+  return `${isMaster} ${own?.kind} ${own?.since} ${isDown(number, at)} ${runningSkulk(number, dir, at)?.skulk.index ?? "-"} ${replica.signature}`;
 }
 
 // The columns of a table: a house each, or of many houses those that have the same.
