@@ -57,9 +57,9 @@ class Reads:
 
     def values(self, house, directory, name, attribute):
         """The values of an attribute that a house shows, in the order of their octets."""
-        front = f"{name}\t{attribute}\t"
+        prefix = f"{name}\t{attribute}\t"
         table = self.tables.get((house, directory), {})
-        return sorted(key[len(front) :] for key, said in table.items() if key.startswith(front) and said.startswith("present"))
+        return sorted(key[len(prefix) :] for key, said in table.items() if key.startswith(prefix) and said.startswith("present"))
 
     def links(self, house, directory, name):
         """The names to which a link leads."""
@@ -83,13 +83,13 @@ class Clerk:
             self.kept[query] = self.kept.pop(query)
             self.used.append(["used", query, *self.kept[query]])
             return self.kept[query][0]
-        told = fresh()
-        if told is not None:
+        answer = fresh()
+        if answer is not None:
             if len(self.kept) == self.room:
                 del self.kept[next(iter(self.kept))]
-            self.kept[query] = told, line
-            self.used.append(["kept", query, told, line])
-        return told
+            self.kept[query] = answer, line
+            self.used.append(["kept", query, answer, line])
+        return answer
 
     def read(self, step):
         """Reads as the program does, and returns the answer."""
@@ -156,7 +156,7 @@ def lists(replay, states, room):
             if f"{step.line} {clerk.read(step)}" != step.answer:
                 found[step.at] = None
                 return found
-            found[step.at] = [[it, *query_text(query), told_text(told), line] for it, query, told, line in clerk.used]
+            found[step.at] = [[it, *query_text(query), answer_text(answer), line] for it, query, answer, line in clerk.used]
     return found
 
 
@@ -167,11 +167,11 @@ def query_text(query):
     return house, f"{asks}, directory {directory} at {', '.join(map(str, (master, *others)))}"
 
 
-def told_text(told):
+def answer_text(answer):
     """An answer in words."""
-    if isinstance(told, list):
-        return " ".join(told) or "no value"
-    kind, house, lead = told
+    if isinstance(answer, list):
+        return " ".join(answer) or "no value"
+    kind, house, lead = answer
     if kind == "child":
         kind = f"child, directory {lead[0]} at {', '.join(map(str, lead[1:2] + lead[2]))}"
     elif kind == "link":

@@ -1,4 +1,4 @@
-"""Columns of several steps in a picture in time: their bars, and the few arrows that stand for many."""
+"""Columns of several steps in a picture in time: their bars, and the few arrows in place of many."""
 from .arrows import Arrows
 from .rows import MARK
 from .shapes import cross, head, path, rect, text, titled
@@ -22,7 +22,7 @@ class Folded(Arrows):
                 self.draw_step(at, step)
 
     def draw_fan(self, row, at, column):
-        """A bar behind the marks of a fan, and an arrow to the nearest mark on each side of the sender."""
+        """A bar below the marks of a fan, and an arrow to the nearest mark on each side of the sender."""
         message, x = column.first.message, row.x(at)
         if message.sender not in self.lane or any(it.message.receiver not in self.lane for it in column.steps):
             return
@@ -41,7 +41,7 @@ class Folded(Arrows):
             self.draw_joint(row, message, (x, row.y(lane)), title)
 
     def draw_joint(self, row, message, end, title):
-        """An arrow that stands for those of a fan, to the edge of its nearest mark."""
+        """An arrow in place of those of a fan, to the edge of its nearest mark."""
         is_home = self.is_in(row, message.posted)
         sign = 1 if row.y(self.lane_for(message.sender, message.dir)) < end[1] else -1 if is_home else self.sign(message)
         end = end[0], end[1] - sign * (MARK / 2 + 1)

@@ -65,7 +65,7 @@ class Layout:
             self.lane[house, directory] = lane
 
     def brief(self, stamp):
-        """A stamp as it stands in labels: with its house, where its node is of one, and of a long time or node the last digits."""
+        """A stamp in a label: with its house, where its node is of one, and of a long time or node the last digits."""
         time, _, node = stamp.partition("@")
         return f"{end_of(time, 8)}@{self.houses_of.get(node) or end_of(node.lstrip('0') or '0', 6)}"
 
@@ -79,7 +79,7 @@ class Layout:
         return step.command == "lose" and step.outcome == "ok" and message.sender in self.lane and message.receiver in self.lane
 
     def lane_of(self, step):
-        """The line that a step stands at, or None where it stands on the way of a message."""
+        """The line that a step is at, or None if it is on the way of a message."""
         if self.is_broken(step):
             return None
         if step.house not in self.lane:
@@ -92,7 +92,7 @@ class Layout:
         return self.dir in (None, directory)
 
     def in_view(self, at):
-        """Whether a step stands in the picture."""
+        """Whether a step is in the picture."""
         return at in self.column
 
     def column_of(self, at):
@@ -100,7 +100,7 @@ class Layout:
         return self.column[at] if at in self.column else bisect.bisect_left(self.ats, at)
 
     def of_dir(self, directory):
-        """How a label tells the directory, where there are several."""
+        """How a label says the directory, if there are several."""
         return f" of dir {directory}" if self.is_dir_told and not self.dir else ""
 
     # Rows.
@@ -110,7 +110,7 @@ class Layout:
         epochs = {epoch.step for directory in self.dirs for epoch in self.replay.epochs[directory]}
         left, begun = FARTHER if self.is_split else LEFT, sum(it in epochs for it in self.ats)
         room = NARROW - OVERHANG - left
-        # Steps stand a little nearer to each other where one row is enough then.
+        # Steps are a little nearer to each other if one row is enough then.
         gaps = [it for it in (9, 8, 7, 6) if (self.mark_width + it) * len(self.columns) + EPOCH * begun <= room]
         self.pitch = self.mark_width + (gaps or [9])[0]
         rooms = [self.pitch + (EPOCH if it in epochs else 0) for it in self.ats]
@@ -169,7 +169,7 @@ class Layout:
         return cuts
 
     def filled(self, rooms, begin, width):
-        """The first column behind a row that begins with one."""
+        """The first column after a row that begins with one."""
         used = 0
         for end in range(begin, len(rooms)):
             used += rooms[end]
@@ -178,7 +178,7 @@ class Layout:
         return len(rooms)
 
     def open_spans(self):
-        """For each column how much is open in front of it: messages on their way, and skulks, which count more."""
+        """For each column how much is open before it: messages on their way, and skulks, which count more."""
         changes = [0] * (len(self.columns) + 1)
         spans = [(it.posted, at, 1) for it in self.messages() for at in (*it.deliveries, it.lost) if at is not None]
         spans += [(it.start, it.end, 6) for it in self.skulks() if it.end is not None]

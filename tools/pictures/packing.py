@@ -6,7 +6,7 @@ MOST_FACTS = 60  # of a message that are listed
 
 
 class Words:
-    """Words that stand once, by their places."""
+    """Words, each once, by their places."""
 
     def __init__(self):
         self.all, self.places = [], {}

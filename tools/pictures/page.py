@@ -26,7 +26,7 @@ def sum_of(text):
 
 
 def as_data(packed):
-    """Data as they stand inside a page: no word of them ends its element."""
+    """Data as a page has them: no word of them ends its element."""
     text = json.dumps(packed, separators=(",", ":"), ensure_ascii=True)
     return text.replace("<", "\\u003c").replace(">", "\\u003e").replace("&", "\\u0026")
 
@@ -49,7 +49,7 @@ def pack(replay, program, words, script, answers, first, last, directory):
 
 
 def texts(lines, steps):
-    """The lines of the script from the first chosen step, with the comments in front of it, to the last one, by their numbers."""
+    """The lines of the script from the first chosen step, with the comments before it, to the last one, by their numbers."""
     begin, end = steps[0].line, steps[-1].line
     while begin > 1 and lines[begin - 2].lstrip()[:1] in ("", "#"):
         begin -= 1

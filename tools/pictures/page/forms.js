@@ -20,7 +20,7 @@ function stopPanel({ stop, outcome, line }) {
   return make("section", { "aria-label": "the put" }, make("h3", {}, `House ${house} puts its image`), make("ol", { class: "calls" }, calls), make("p", {}, end));
 }
 
-// The list of the clerk after the present line, the answer that was used last in front.
+// The list of the clerk after the present line, the answer that was used last first.
 function clerkPanel(step) {
   if (!data.form.startsWith("clerk")) {
     return null;
@@ -34,15 +34,15 @@ function clerkPanel(step) {
     return make("section", {}, head, make("p", {}, "Its list is not known from here on: the program answered otherwise than it says."));
   }
   const now = new Map((data.clerk[step.at] ?? []).map(([what, house, asks]) => [`${house} ${asks}`, what]));
-  const rows = [...list].reverse().map(([key, [house, asks, told, line]]) => make("li", { class: now.has(key) ? "changed" : null },
+  const rows = [...list].reverse().map(([key, [house, asks, answer, line]]) => make("li", { class: now.has(key) ? "changed" : null },
     now.has(key) ? make("strong", {}, now.get(key) === "used" ? "used now: " : "kept now: ") : null,
-    `${asks}, by way of house ${house}: ${told}, since `, lineLink(line)));
+    `${asks}, by way of house ${house}: ${answer}, since `, lineLink(line)));
   const room = Number(data.form.split(" ")[1]);
   return make("section", { "aria-label": "the clerk" }, head, make("p", { class: "quiet" }, `${list.size} of ${room} answers, the one used last first`),
     make("ol", { class: "clerk" }, rows));
 }
 
-// What the clerk keeps, the one that goes first in front.
+// What the clerk keeps, the one that goes next first.
 function clerkList(at) {
   const [list, room] = [new Map(), Number(data.form.split(" ")[1])];
   for (const step of steps) {
@@ -52,13 +52,13 @@ function clerkList(at) {
     if (data.clerk[step.at] === null) {
       return [list, false];
     }
-    for (const [what, house, asks, told, line] of data.clerk[step.at]) {
+    for (const [what, house, asks, answer, line] of data.clerk[step.at]) {
       const key = `${house} ${asks}`;
       list.delete(key);
       if (what === "kept" && list.size === room) {
         list.delete(list.keys().next().value);
       }
-      list.set(key, [house, asks, told, line]);
+      list.set(key, [house, asks, answer, line]);
     }
   }
   return [list, true];

@@ -27,7 +27,7 @@ function sortOf(step) {
   return ["ok", "taken", "complete"].includes(step.outcome) ? (step.outcome === "complete" ? "completed" : "done") : "refused";
 }
 
-// The row of a command, with its answer without the number in front.
+// The row of a command, with its answer, of which the number is left out.
 function stepRow(step, text) {
   const answers = step.answer.split("\n").map((it) => it.slice(it.indexOf(" ") + 1));
   const sign = { refused: "✗", idle: "○", stopped: "⚡", completed: "★", done: "" }[sortOf(step)];

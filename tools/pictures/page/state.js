@@ -53,7 +53,7 @@ function ownWords(step) {
   }
   const time = () => data.clocks.find(([at]) => at === step.at)[2];
   const message = messageOf(step);
-  const words = { house: () => `house ${step.house} is made`, crash: () => `house ${step.house} goes down, and forgets its skulks`,
+  const words = { house: () => `house ${step.house} is made`, crash: () => `house ${step.house} goes down, and its skulks end`,
     start: () => `house ${step.house} is up`, clock: () => `house ${step.house}: clock ${time()}`,
     lose: () => message && `${message.kind} ${message.serial} ${wayOf(message)} is lost${carriedWords(message)}` }[step.command]?.();
   return words ? [words] : [];

@@ -106,7 +106,7 @@ function roleWords(houses, head, epoch, at) {
   const kinds = [...new Set(houses.map((house) => head.members.find((it) => it.house === house)?.kind))];
   const words = kinds.map((it) => ({ m: "master", s: "secondary", r: "read-only" })[it] ?? "unlisted").join(", ");
   const since = head.members.find((it) => it.house === houses[0])?.since;
-  const late = head.epoch < epoch.number ? make("strong", { class: "tag missed" }, " behind") : null;
+  const late = head.epoch < epoch.number ? make("strong", { class: "tag missed" }, ", earlier than the last") : null;
   return [`${words}, epoch ${head.epoch}`, since !== undefined && since !== 1 ? `, since ${since}` : "", late];
 }
 
