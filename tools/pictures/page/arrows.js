@@ -1,5 +1,7 @@
 // The messages of the time picture as arrows; where one goes on out of the window, its end names the line, and leads there.
 
+const MOST_ARROWS = 8; // of one step that end outside of the window; more are counted
+
 // All arrows of the window.
 function arrows() {
   const found = [];
@@ -7,7 +9,8 @@ function arrows() {
   for (const message of messages.values()) {
     if (isInView(message)) {
       const isShown = yOf(message.sender, message.dir) !== undefined && yOf(message.receiver, message.dir) !== undefined;
-      if (isShown && message.lost !== message.posted) {
+      const isEnded = [...message.deliveries, message.lost].some((at) => at !== null && isColumn(at));
+      if (isShown && message.lost !== message.posted && (isEnded || postedAt(message.posted) <= MOST_ARROWS)) {
         found.push(arrowOf(message));
       } else if (message.posted >= view.from && yOf(message.sender, message.dir) !== undefined) {
         hidden.set(message.posted, [...(hidden.get(message.posted) ?? []), message]);
@@ -15,6 +18,16 @@ function arrows() {
     }
   }
   return [...found, ...[...hidden].map(([at, own]) => hiddenOf(at, own))];
+}
+
+// How many messages a step posts.
+let postedCounts = null;
+function postedAt(at) {
+  if (postedCounts === null) {
+    postedCounts = new Map();
+    messages.forEach(({ posted }) => postedCounts.set(posted, (postedCounts.get(posted) ?? 0) + 1));
+  }
+  return postedCounts.get(at) ?? 0;
 }
 
 // Whether a message is posted, delivered or lost in the window.

@@ -1,7 +1,7 @@
 // The state after the present line: what it changed, the directories, the messages under way, and the houses.
 
 const MOST_CHANGES = 14;
-const MOST_MESSAGES = 60; // that are listed one by one
+const MOST_MESSAGES = 40; // that are listed one by one
 
 // The whole pane.
 function showState(step) {

@@ -1,7 +1,7 @@
 // A directory as a table: a column for each house that has to do with it, a row for each fact, as `dump` lists them.
 
 const MOST_COLUMNS = 8; // of single houses; of more those that have the same share one
-const MOST_CELLS = 600;
+const MOST_CELLS = 400;
 const options = { onlyDiffering: false, houses: null, all: new Set() };
 
 // The directories that there are.
@@ -127,7 +127,7 @@ function rowsOf(dir, columns, master, changed, coming) {
   const rows = sorted.map((key) => ({ key, signs: columns.map((column) => signOf(key, column, master)), ...changesOf(key, columns, changed) }));
   const matters = (row) => row.isChanged || row.signs.some((it) => it) || (choice.chosen?.kind === "entry" && choice.chosen.name === row.key.entry);
   const wanted = options.onlyDiffering ? rows.filter(matters) : rows;
-  const most = Math.max(24, Math.floor(MOST_CELLS / columns.length));
+  const most = Math.max(16, Math.floor(MOST_CELLS / columns.length));
   const isAll = wanted.length <= most || options.all.has(dir);
   const chosen = isAll ? wanted : wanted.filter((row, at) => matters(row) || at < most / 2).slice(0, most);
   const comes = (key, { houses }) => (coming(houses[0], dir).get(key.place) ?? [])
