@@ -5,7 +5,7 @@ from collections import OrderedDict
 
 from running import records
 from running.lone_house import NODE, LoneHouse
-from running.runs import Run
+from running.runs import Limited, Run
 
 UUID = "a0000000-0000-0000-0000-000000000001"
 OTHER_UUID = "01020304-0506-0708-090a-0b0c0d0e0f10"
@@ -140,26 +140,46 @@ def batches(bindings, most):
     return [*found, f"end {len(bindings)}"]
 
 
-def bindings():
-    """A server of 200 bindings, which are looked up at once and in batches; and one of 300 interfaces."""
-    house, interface, chance = LoneHouse(), (UUID, 1, 2), random.Random(2)
+def exported(house):
+    """Exports a server of 200 bindings, and returns what begins a lookup of it, and the bindings in their order."""
+    interface, chance = (UUID, 1, 2), random.Random(2)
     every = [(chance.choice([*records.PROTOCOLS]), i * 331 % 65536, (10, i % 3, 0, i)) for i in range(200)]
     for at in range(0, 200, 50):
         said = ",".join(records.binding(*it) for it in every[at : at + 50])
         house.say(f"export /.:/server {records.interface_text(interface)} {said} -", "ok 50" if at else "ok 51")
     every.sort(key=lambda it: records.tower(interface, *it))
+    return f"lookup 1 low /.:/server {records.interface_text(interface)} -", [records.binding(*it) for it in every]
+
+
+def bindings():
+    """A server of 200 bindings, which are looked up at once and in batches."""
+    house = LoneHouse()
+    question, every = exported(house)
     for most in (1, 63, 64, 199, 200, 201, 65535):
-        question = f"lookup 1 low /.:/server {records.interface_text(interface)} - ncacn_ip_tcp,ncadg_ip_udp {most}"
-        house.say(question, *batches([records.binding(*it) for it in every], most))
-    of_udp = [records.binding(*it) for it in every if it[0] == "ncadg_ip_udp"]
-    house.say(f"lookup 1 low /.:/server {records.interface_text(interface)} - ncadg_ip_udp 64", *batches(of_udp, 64))
-    house.say("entrylist 1 low /.:/server", f"interface {records.interface_text(interface)}", "end 1")
-    interfaces = [(UUID if i % 2 else OTHER_UUID, i % 3, i * 7) for i in range(300)]
-    for i, it in enumerate(interfaces):
+        house.say(f"{question} ncacn_ip_tcp,ncadg_ip_udp {most}", *batches(every, most))
+    of_udp = [it for it in every if it.startswith("ncadg_ip_udp")]
+    house.say(f"{question} ncadg_ip_udp 64", *batches(of_udp, 64))
+    house.say("entrylist 1 low /.:/server", f"interface {records.interface_text((UUID, 1, 2))}", "end 1")
+    return run_of("200 bindings", ["inquire"], house)
+
+
+def widest_batch():
+    """A lookup takes memory for what it finds, and not for the most that a batch may have."""
+    house = LoneHouse()
+    question, every = exported(house)
+    house.say(f"{question} ncacn_ip_tcp,ncadg_ip_udp 65535", *batches(every, 65535))
+    return Limited("starved, a batch of 65,535 bindings at most", ["inquire"], house.script(), house.output(), 0)
+
+
+def interfaces():
+    """A server of 300 interfaces. Their versions are little-endian in towers, so 256 comes before 1."""
+    house = LoneHouse()
+    offered = [(UUID if i % 2 else OTHER_UUID, i % 3, i * 7) for i in range(300)]
+    for i, it in enumerate(offered):
         house.say(f"export /.:/offers {records.interface_text(it)} ncacn_ip_tcp:10.0.0.1 -", "ok 1" if i else "ok 2")
-    interfaces.sort(key=lambda it: records.tower(it, "ncacn_ip_tcp", 0, (10, 0, 0, 1)))
-    house.say("entrylist 1 low /.:/offers", *(f"interface {records.interface_text(it)}" for it in interfaces), "end 300")
-    return run_of("200 bindings, and 300 interfaces", ["inquire"], house)
+    offered.sort(key=lambda it: records.tower(it, "ncacn_ip_tcp", 0, (10, 0, 0, 1)))
+    house.say("entrylist 1 low /.:/offers", *(f"interface {records.interface_text(it)}" for it in offered), "end 300")
+    return run_of("300 interfaces", ["inquire"], house)
 
 
 def stop_inside(house, call, what, value):
@@ -200,4 +220,4 @@ def journal():
 def runs():
     """Returns all of these."""
     clerks = [full_clerk(100), full_clerk(1000), busy_clerk(100, 80, 2000), busy_clerk(1000, 700, 4000)]
-    return [*clerks, groups(), profile(), bindings(), journal()]
+    return [*clerks, groups(), profile(), bindings(), interfaces(), journal()]

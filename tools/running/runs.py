@@ -104,23 +104,32 @@ class Mending(Run):
         return f"a command that it writes is in vain: {short(vain[0])}" if vain else None
 
 
-class Starved(Run):
-    """A run with so little memory that it has to end with status 6, after whole answers, and not all of them. `output` is all of them,
-    or nothing if the form writes nothing then. So much memory (in octets) is room for the program itself."""
+class Limited(Run):
+    """A run with little memory beside its stack, in octets, that has to end as any other does."""
 
-    room = 0
+    room = 2**20
+
+    def ended(self, program, prepare=None):
+        """Runs the program with so much memory."""
+        return super().ended(program, lambda: resource.setrlimit(resource.RLIMIT_DATA, (self.room, self.room)))
+
+
+class Starved(Limited):
+    """A run with so little memory that it has to end with status 6, after whole answers, and not after all of them. `output` has all of
+    them, or is empty if the form writes nothing then."""
+
+    room = 24 * 2**20
 
     def fault(self, program):
         """Returns what differs, or None."""
-        limit = self.room or 24 * 2**20
-        status, output, errors = self.ended(program, lambda: resource.setrlimit(resource.RLIMIT_AS, (limit, limit)))
+        status, output, errors = self.ended(program)
         if status != NO_MEMORY or errors:
             return f"status {status}, not {NO_MEMORY}, and standard error has {errors[:100]!r}"
-        if output and not output.endswith(b"\n"):
-            return f"it ends in a part of an answer: {short(output.splitlines()[-1])}"
-        if not self.output.startswith(output) or self.output and self.output == output:
+        if not self.output.startswith(output):
             return difference(self.output, output)
-        return None
+        if self.output and output in (b"", self.output):
+            return f"{len(output)} octets were written"
+        return f"it ends in a part of an answer: {short(output.splitlines()[-1])}" if output and not output.endswith(b"\n") else None
 
 
 class StarvedMending(Starved):

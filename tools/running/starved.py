@@ -1,6 +1,6 @@
-"""Runs with little memory: they end with status 6, after whole answers. The plain program of bench/ has no such ending, and fails them."""
+"""Runs with little memory: they end with status 6, after whole answers. One needs no more than there is."""
 
-from running import large_images
+from running import large_images, large_scripts
 from running.runs import Starved, StarvedMending
 
 HOUSES, EPOCHS, VALUES = 64, 1000, 20
@@ -27,4 +27,5 @@ def runs():
     images = large_images.image_of(2, 1, {it: entries for it in range(1, 321)})
     found = [Starved(f"starved, {' '.join(it)}", it, octets, output, 6) for it in (["run"], ["journal"], ["clerk", "8"], ["inquire"])]
     found.append(StarvedMending("starved, cdsmend 1", ["1"], octets, b"", 6))
-    return found + [Starved(f"starved, {' '.join(it)}", it, images, b"", 6) for it in (["migrate"], ["audit", "1"])]
+    found += [Starved(f"starved, {' '.join(it)}", it, images, b"", 6) for it in (["migrate"], ["audit", "1"])]
+    return [*found, large_scripts.widest_batch()]
