@@ -23,9 +23,10 @@ def script():
 def runs():
     """Returns all of these."""
     octets, output = script()
+    # (images of 13.4 megabytes and of half of that: 16 are read at most)
     entries = large_images.entries_of(1)
-    images = large_images.image_of(2, 1, {it: entries for it in range(1, 321)})
+    whole, half = (large_images.image_of(2, 1, {it: entries for it in range(1, count + 1)}) for count in (250, 125))
     found = [Starved(f"starved, {' '.join(it)}", it, octets, output, 6) for it in (["run"], ["journal"], ["clerk", "8"], ["inquire"])]
     found.append(StarvedMending("starved, cdsmend 1", ["1"], octets, b"", 6))
-    found += [Starved(f"starved, {' '.join(it)}", it, images, b"", 6) for it in (["migrate"], ["audit", "1"])]
+    found += [Starved(f"starved, {words[0]}", words, octets, b"", 6) for words, octets in ((["migrate"], whole), (["audit", "1"], half + half))]
     return [*found, large_scripts.widest_batch()]
