@@ -109,24 +109,35 @@ def is_listed(option, asked, interface):
     }[option]
 
 
-def profile():
-    """A profile of 5,000 elements, which are listed by each kind of question and option."""
-    house, elements = LoneHouse(), []
+def elements():
+    """Returns 5,000 elements of a profile, each once, in no order."""
     for i in range(5000):
         interface = None if i % 50 == 0 else ((UUID, OTHER_UUID)[i % 3 == 0], i * 7 % 5, i * 37 % 300)
-        elements.append((i * 11 % 8 if interface else 8, interface, f"/.:/member-{i % 1250}", "" if i % 4 and i < 1250 else f"note-{i}"))
-        priority, _, member, note = elements[-1]
+        note = "" if i % 4 and i < 1250 else f"note-{i}"
+        yield i * 11 % 8 if interface else 8, interface, f"/.:/member-{i % 1250}", note
+
+
+def questions():
+    """Returns the words of each question of `proflist` about a profile, and what says whether it lists an element."""
+    yield "all - all -", lambda it: True
+    yield "default - all -", lambda it: not it[1]
+    yield "bymbr - all /.:/member-50", lambda it: it[2] == "/.:/member-50"
+    asked, member = (UUID, 4, 109), "/.:/member-7"
+    for option in ("all", "compatible", "exact", "major_only", "upto"):
+        words = f"{records.interface_text(asked)} {option}"
+        yield f"byif {words} -", lambda it, option=option: is_listed(option, asked, it[1])
+        yield f"byboth {words} {member}", lambda it, option=option: is_listed(option, asked, it[1]) and it[2] == member
+
+
+def profile():
+    """A profile of 5,000 elements, which are listed by each kind of question and option."""
+    house = LoneHouse()
+    for i, (priority, interface, member, note) in enumerate(elements()):
         said = records.interface_text(interface) if interface else "default"
         house.say(f"profadd /.:/profile {said} {member} {priority} {note or '-'}", "ok 1" if i else "ok 2")
-    elements.sort(key=lambda it: records.element(*it))
-    asked = UUID, 2, 150
-    questions = {"all - all -": lambda it: True, "default - all -": lambda it: not it[1], "bymbr - all /.:/member-50": lambda it: it[2] == "/.:/member-50"}
-    for option in ("all", "compatible", "exact", "major_only", "upto"):
-        questions[f"byif {records.interface_text(asked)} {option} -"] = lambda it, option=option: is_listed(option, asked, it[1])
-        of_member = lambda it, option=option: is_listed(option, asked, it[1]) and it[2] == "/.:/member-7"
-        questions[f"byboth {records.interface_text(asked)} {option} /.:/member-7"] = of_member
-    for words, is_asked in questions.items():
-        found = [records.element_text(*it) for it in elements if is_asked(it)]
+    every = sorted(elements(), key=lambda it: records.element(*it))
+    for words, is_asked in questions():
+        found = [records.element_text(*it) for it in every if is_asked(it)]
         house.say(f"proflist 1 low /.:/profile {words}", *found, f"end {len(found)}")
     return run_of("5,000 elements of a profile", ["inquire"], house)
 
