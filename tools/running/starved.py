@@ -3,11 +3,11 @@
 from running import large_images, large_scripts
 from running.runs import Starved, StarvedMending
 
-HOUSES, EPOCHS, VALUES = 64, 1000, 20
+HOUSES, EPOCHS, VALUES = 64, 1000, 60
 
 
 def script():
-    """Returns a script whose messages take 80 megabytes and more, and its answers: each epoch posts a copy of all to 63 houses."""
+    """Returns a script whose messages take 60 megabytes and more, and its answers: each epoch posts a copy of all to 63 houses."""
     lines = [f"house {it} {it:012x}" for it in range(1, HOUSES + 1)]
     answers = ["ok"] * HOUSES
     lines += ["root 1", "create 1 1 e", *(f"add 1 1 e A {it:02x}{'00' * 1023}" for it in range(VALUES))]
