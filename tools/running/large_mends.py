@@ -1,0 +1,58 @@
+"""Cells of 64 houses, and long scripts, that `cdsmend` mends; the lines that it writes are those that docs/SCRIPT.md says."""
+
+from running.runs import Mending
+
+HOUSES = 64
+
+
+def mending(posted, down, master, others, words, directory=1):
+    """Returns the lines that mend a directory after so many messages, as text. `words` are the houses as `epoch` has them."""
+    many, lines = len(others), [f"start {it}" for it in sorted(down)]
+    lines.append(f"epoch {directory} {master} {' '.join(words)}".rstrip())
+    lines += [f"deliver {posted + 1 + i}" for i in range(many)]
+    lines.append(f"skulk {master} {directory}")
+    # each of the others gets two messages, and answers each of them
+    lines += [f"deliver {posted + many + 1 + i}" for i in range(4 * many)]
+    return "".join(f"{it}\n" for it in lines).encode()
+
+
+def houses(numbers):
+    """Returns the lines that make these houses."""
+    return [f"house {it} {it:012x}" for it in numbers]
+
+
+def run_of(name, lines, output):
+    """Returns the run of `cdsmend 1` over a script of these lines."""
+    return Mending(f"large, {name}", ["1"], "".join(f"{it}\n" for it in lines).encode(), output, 0)
+
+
+def all_down():
+    """64 houses of all numbers, by which each third is secondary, lost each message, and all of them are down."""
+    numbers = [1 + 4 * i for i in range(HOUSES - 1)] + [255]
+    master, others = numbers[40], [it for it in numbers if it != numbers[40]]
+    words = [f"s{it}" if i % 3 == 0 else str(it) for i, it in enumerate(others)]
+    lines = [*houses(numbers), f"root {master} {' '.join(words)}", *(f"lose {it + 1}" for it in range(HOUSES - 1)), f"create {master} 1 lone"]
+    lines += [f"crash {it}" for it in numbers]
+    return run_of("64 houses that are down", lines, mending(2 * (HOUSES - 1), numbers, master, others, words))
+
+
+def ready():
+    """64 houses that are up, and hold the last epoch: a skulk alone is due."""
+    others = [*range(2, HOUSES + 1)]
+    lines = [*houses(range(1, HOUSES + 1)), f"root 1 {' '.join(map(str, others))}", *(f"deliver {it}" for it in range(1, HOUSES))]
+    output = mending(0, [], 1, others, [])
+    skulk = b"".join(output.splitlines(keepends=True)[HOUSES:])
+    return run_of("64 houses that hold the last epoch", lines, skulk)
+
+
+def long_script():
+    """2,000 lines, and then a master is down whose image has more than 100,000 octets."""
+    lines = [*houses((1, 2, 3)), "root 1", "create 1 1 e", *(f"add 1 1 e A {i:02x}{'00' * 1023}" for i in range(120))]
+    lines += [f"clock 1 {it}" for it in range(2000 - len(lines))]
+    lines += ["epoch 1 1 2 s3", "deliver 1", "lose 2", "create 1 1 f", "crash 1", "crash 3"]
+    return run_of("2,000 lines, and a large house that is down", lines, mending(4, [1, 3], 1, [2, 3], ["2", "s3"]))
+
+
+def runs():
+    """Returns all of these."""
+    return [all_down(), ready(), long_script()]
