@@ -7,7 +7,8 @@ Without --program and --mender `tools/build` builds the proved programs first, w
 scripts. Each script makes a few houses and directories, loses messages, delivers some late or twice, crashes houses, and changes epochs;
 then `cdsmend` mends one of its directories. What it has to write is computed here from the answers of `cdsreplay`: who is listed, who is
 up, which epoch each house holds, which number comes next, and the floor of the master. Then the script followed by these lines is run: no
-added line may be refused or in vain, and the last has to be answered `complete`. Behind that each listed house holds one epoch.
+added line may be refused or in vain, and the last has to be answered `complete`. After the Advances that this answer names, each listed
+house holds one epoch, and their dumps are the same.
 
 Script number K is made from the seed N + K, where N is 1 if it is not given. At the first script that is not mended its seed is printed;
 it stands in out/fuzz-input. The last line is `N cells, all mended`, with how many were in which trouble before it, or `N cells, 1 not`,
@@ -30,7 +31,7 @@ FOUND = f"{ROOT}/out/fuzz-input"
 SECONDS = 60
 LAST_TIME = 2**64 - 1
 # The answers that change nothing.
-IN_VAIN = re.compile(r"\d+ (refused|late|early|stale|absent)\b")
+IN_VAIN = re.compile(r"\d+ (refused|ok (late|early|stale|noreplica|foreign))\b")
 
 
 class Maker:
@@ -181,17 +182,27 @@ def fault_of(program, mender, lines, cell, number):
 
 def vain_in(program, lines, added, asked):
     """Returns what is wrong with the added lines, if anything, where these questions behind them tell what the houses hold."""
-    answers, _ = run(program, ["run"], lines + added + asked)
-    told = {}
+    answers, _ = run(program, ["run"], lines + added)
+    told = [answer for answer in answers if int(answer.split(" ", 1)[0]) > len(lines)]
+    vain = [answer for answer in told if IN_VAIN.match(answer)]
+    if vain or len(told) != len(added) or " complete " not in told[-1]:
+        return f"it is in vain: {vain or told[-1:]}"
+    posted = re.search(r" posted ([0-9 ]+)$", told[-1])
+    advances = [f"deliver {it}" for it in posted[1].split()] if posted else []
+    return difference_in(program, lines + added + advances, asked)
+
+
+def difference_in(program, lines, asked):
+    """Returns how the dumps behind a script differ, if they do."""
+    answers, _ = run(program, ["run"], lines + asked)
+    dumps = {}
     for answer in answers:
-        told.setdefault(int(answer.split(" ", 1)[0]), answer)
-    vain = [told[at] for at in range(len(lines) + 1, len(lines) + len(added) + 1) if IN_VAIN.match(told[at])]
-    last = told[len(lines) + len(added)]
-    if vain or " complete " not in last:
-        return f"it is in vain: {vain or last}"
-    epochs = {" ".join(told[at].split()[1:4]) for at in range(len(lines) + len(added) + 1, len(lines) + len(added) + len(asked) + 1)}
-    if len(epochs) != 1 or not next(iter(epochs)).startswith("dump epoch "):
-        return f"the houses hold {sorted(epochs)}"
+        number, said = answer.split(" ", 1)
+        if int(number) > len(lines):
+            dumps.setdefault(int(number), []).append(said)
+    said = {"\n".join(it) for it in dumps.values()}
+    if len(dumps) != len(asked) or len(said) != 1 or not next(iter(said)).startswith("dump epoch "):
+        return f"the houses hold {sorted(said)}"
     return None
 
 
