@@ -141,15 +141,17 @@ impl Pair {
         alloc: Global,
         letters: &Letters,
     ) -> Result<Option<Letters>> {
-        let message = message_of(alloc, &letters.octets)?;
-        let receiver = match letters.receivers.as_slice() {
-            [HouseNo(1)] => &mut self.first,
-            [HouseNo(2)] => &mut self.second,
-            _ => bail!("not one receiver"),
+        let [receiver] = letters.receivers.as_slice() else {
+            bail!("not one receiver");
         };
-        let house = receiver.number().0;
+        let house = receiver.0;
         let count = letters.octets.len();
-        let Outcome { answer, letters } = receiver.take(alloc, &message)?;
+        let message = message_of(alloc, &letters.octets)?;
+        let Outcome { answer, letters } = match house {
+            1 => self.first.take(alloc, &message)?,
+            2 => self.second.take(alloc, &message)?,
+            _ => bail!("no such house"),
+        };
         println!(rt; "house {house} takes {count} octets: {answer:?}")?;
         Ok(letters)
     }
