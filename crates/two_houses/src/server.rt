@@ -3,7 +3,7 @@ ghost use Rattle.std.specs.Prelude.{◌≡◌, ◌++◌, ◌∷◌, [], Some, Ok
 ghost use Rattle.std.specs.Option.{option_map};
 ghost use Rattle.cds_records.specs.RecordOctets.{image_octets};
 ghost use Rattle.clearinghouse.specs.HouseImages.{image_of, start_of_octets};
-ghost use Rattle.house_journal.specs.JournalRecords.{images, last_image};
+ghost use Rattle.house_journal.specs.JournalRecords.{last_image};
 
 use crate::store::Store;
 use anyhow::{Context, Result, ensure};
@@ -138,8 +138,7 @@ impl<D: Disk + Drop> Server<D> {
     ) -> Result<Option<Letters>>
         ensures house { self.new.house ≡ self.old.house }
         ensures image { OnOk result
-            (images (D.reads self.new.store.disk)
-            ≡ images (D.reads self.old.store.disk) ++ image_octets (image_of self.new.house) ∷ []) }
+            (self.new.store ≡ self.old.store ++ image_octets (image_of self.new.house) ∷ []) }
     {
         self.put_image(alloc)?;
         match outgoing {
@@ -152,8 +151,7 @@ impl<D: Disk + Drop> Server<D> {
     fn put_image(&mut self, alloc: Global) -> Result<()>
         ensures house { self.new.house ≡ self.old.house }
         ensures image { OnOk result
-            (images (D.reads self.new.store.disk)
-            ≡ images (D.reads self.old.store.disk) ++ image_octets (image_of self.new.house) ∷ []) }
+            (self.new.store ≡ self.old.store ++ image_octets (image_of self.new.house) ∷ []) }
     {
         let image = self.house.image(alloc)?;
         self.store.put(alloc, &image)
