@@ -8,6 +8,8 @@ ROOT = os.path.dirname(os.path.dirname(os.path.dirname(os.path.realpath(__file__
 CASES = ("crates/cdsreplay/cases", "crates/cdsmend/cases")
 # Crates whose code is no part of the program: its tests.
 TESTS = ("disk_tests", "service_tests", "house_tests", "run_tests")
+# Programs that show how crates are used; no rule is theirs.
+EXAMPLES = ("two_houses",)
 
 
 @functools.cache
@@ -232,7 +234,8 @@ def reached():
     """
     calls, known = Calls(), set()
     theirs = [it for it in functions() if it.crate not in TESTS]
-    roots = (("cell_replay", "run"), ("cdsreplay", "main"), ("mend_program", "run"), ("cdsmend", "main"))
+    programs = (("cell_replay", "run"), ("cdsreplay", "main"), ("mend_program", "run"), ("cdsmend", "main"))
+    roots = (*programs, ("house_serving", "serve"), ("house_segments", "last_record"))
     begin = [it for it in theirs if (it.crate, it.name) in roots]
     begin += [it for it in theirs if it.trait and it.trait not in traits()]
     while begin:
