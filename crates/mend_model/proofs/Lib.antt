@@ -1,0 +1,4 @@
+pub mod KeptMembers
+pub mod Candidates
+pub mod Joins
+pub mod LeftOut

@@ -1,0 +1,6 @@
+//! The model of mending that leaves houses out of a directory, in logic alone.
+#![tactic(auto)]
+
+mod laws;
+
+pub use laws::leaving;
