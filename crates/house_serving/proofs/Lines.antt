@@ -1,0 +1,191 @@
+-- How one line ends.
+use Rattle.std.proofs.Common.{◌≡◌, inl, inr, ℕ, ◌<◌, List, [], ◌∷◌, ◌++◌, length, take, drop, refl, sym, ◌∙◌, subst, append-nil, take-append-drop}
+use Rattle.std.specs.Prelude.{Option, None, Ok, Err}
+use Rattle.std.specs.Io.KnownBytes.{Appends}
+use Rattle.cds_base.specs.Counts.{Rose}
+use Rattle.cds_base.proofs.KnownOctets.{appends_none}
+use Rattle.house_journal.specs.declared.disk.Disk.{Ghosts}
+use Rattle.house_segments.specs.Segments.{IsAt, disk_of}
+use Rattle.house_segments.specs.declared.segment.Segment.{Segment}
+use Rattle.house_serving.specs.Faults.{line_fault_text, too_long}
+use Rattle.house_serving.specs.PrivateParts.{Keeps, LineServed, Stops}
+use Rattle.house_serving.specs.Turns.{Said, Turn, bodies_in}
+use Rattle.house_serving.specs.declared.ending.Ending.{Ending}
+use Rattle.house_serving.specs.declared.ending.Ending.TheVariants.{InputEnds, BadInput, ReadFault, WriteFault, OutOfMemory, Full, DiskFault, Grown}
+use Rattle.house_serving.specs.declared.faults.TheConstants.{MOST_LINE}
+use Rattle.house_serving.proofs.Works.{line_work, no_work, open_work}
+
+module _ {H D : Type 0} (responds : H → ℕ → List ℕ → Said → H → Type 0) (g : Ghosts D) (before : List ℕ) (bodies : List (List ℕ))
+    (only : (d : D) (c : List ℕ) → g.left_since d (g.moment d) c → g.may_leave d c) (number : ℕ) (line : List ℕ) (house : H) (s : Segment D)
+    (at : IsAt g s before bodies) where
+  -- what is at the segment, where no line is done
+  here : IsAt g s before (bodies ++ [])
+  here = subst (λ (l : List (List ℕ)). IsAt g s before l) (sym (append-nil bodies)) at
+
+  -- a line that is too long
+  pub cut_off : (written written' : Option (List ℕ)) (writes writes' : ℕ) (ending : Ending) → MOST_LINE < length line
+      → Stops written written' writes writes' (too_long number) ending
+      → LineServed responds g before bodies number line house house s s written written' writes writes' (Err ending)
+  cut_off written written' writes writes' BadInput long stops = record {
+    turns = [];
+    over = [];
+    over_one = (None, refl);
+    last = line_fault_text (too_long number);
+    text = line_fault_text (too_long number);
+    at = house;
+    one = line ++ 10 ∷ [];
+    work = no_work responds g before bodies only number house s at written written' (line_fault_text (too_long number)) stops.1;
+    takes = refl;
+    ends = (record { here = refl; none_over = refl; synced = here; all_written = refl }, refl, long, refl);
+    cause = (stops.2, refl);
+  }
+  cut_off written written' writes writes' WriteFault long stops =
+      let whole = line_fault_text (too_long number) in
+      record {
+        turns = [];
+        over = [];
+        over_one = (None, refl);
+        last = whole;
+        text = take stops.1.0 whole;
+        at = house;
+        one = line ++ 10 ∷ [];
+        work = no_work responds g before bodies only number house s at written written' (take stops.1.0 whole) stops.1.1;
+        takes = refl;
+        ends = ((drop stops.1.0 whole, sym (take-append-drop stops.1.0 whole)), refl, inr (refl, long, refl));
+        cause = (stops.2, refl);
+      }
+  cut_off written written' writes writes' OutOfMemory long stops = record {
+    turns = [];
+    over = [];
+    over_one = (None, refl);
+    last = [];
+    text = [];
+    at = house;
+    one = line ++ 10 ∷ [];
+    work = no_work responds g before bodies only number house s at written written' []
+        (subst (λ w. Appends written w []) (sym stops.1) (appends_none written));
+    takes = refl;
+    ends = refl;
+    cause = (stops.2, refl);
+  }
+  cut_off written written' writes writes' ReadFault long stops = absurd (cc (stops.0))
+  cut_off written written' writes writes' InputEnds long stops = absurd stops
+  cut_off written written' writes writes' Full long stops = absurd stops
+  cut_off written written' writes writes' DiskFault long stops = absurd stops
+  cut_off written written' writes writes' Grown long stops = absurd stops
+
+  -- a line of which no reply was made
+  pub line_unmade : (house' : H) (written : Option (List ℕ)) (writes : ℕ)
+      → LineServed responds g before bodies number line house house' s s written written writes writes (Err OutOfMemory)
+  line_unmade house' written writes = record {
+    turns = [];
+    over = [];
+    over_one = (None, refl);
+    last = [];
+    text = [];
+    at = house;
+    one = line ++ 10 ∷ [];
+    work = no_work responds g before bodies only number house s at written written [] (appends_none written);
+    takes = refl;
+    ends = refl;
+    cause = (refl, refl);
+  }
+
+  -- a line whose record was not put, or may have been
+  pub line_kept_open : (house' : H) (s' : Segment D) (body : Option (List ℕ)) (ending : Ending) (written : Option (List ℕ)) (writes : ℕ)
+      → Keeps g before bodies s s' body (Err ending)
+      → LineServed responds g before bodies number line house house' s s' written written writes writes (Err ending)
+  line_kept_open house' s' body OutOfMemory written writes keeps = record {
+    turns = [];
+    over = bodies_in body;
+    over_one = (body, refl);
+    last = [];
+    text = [];
+    at = house;
+    one = line ++ 10 ∷ [];
+    work = open_work responds g before bodies number house (disk_of s) (disk_of s') (bodies_in body) keeps.crash keeps.left written;
+    takes = refl;
+    ends = refl;
+    cause = (refl, keeps.cause);
+  }
+  line_kept_open house' s' body DiskFault written writes keeps = record {
+    turns = [];
+    over = bodies_in body;
+    over_one = (body, refl);
+    last = [];
+    text = [];
+    at = house;
+    one = line ++ 10 ∷ [];
+    work = open_work responds g before bodies number house (disk_of s) (disk_of s') (bodies_in body) keeps.crash keeps.left written;
+    takes = refl;
+    ends = refl;
+    cause = (refl, keeps.cause);
+  }
+  line_kept_open house' s' body Full written writes keeps = record {
+    turns = [];
+    over = bodies_in body;
+    over_one = (body, refl);
+    last = [];
+    text = [];
+    at = house;
+    one = line ++ 10 ∷ [];
+    work = open_work responds g before bodies number house (disk_of s) (disk_of s') (bodies_in body) keeps.crash keeps.left written;
+    takes = refl;
+    ends = (refl, subst (λ (t : Segment D). IsAt g t before (bodies ++ [])) (sym (keeps.full refl)) here);
+    cause = (refl, keeps.cause);
+  }
+  line_kept_open house' s' body InputEnds written writes keeps = absurd keeps.cause
+  line_kept_open house' s' body BadInput written writes keeps = absurd keeps.cause
+  line_kept_open house' s' body ReadFault written writes keeps = absurd keeps.cause
+  line_kept_open house' s' body WriteFault written writes keeps = absurd keeps.cause
+  line_kept_open house' s' body Grown written writes keeps = absurd keeps.cause
+
+  -- a line that was done and answered
+  pub line_answered : (house' : H) (s' : Segment D) (said : Said) → responds house number line said house' → Keeps g before bodies s s' said.body (Ok tt)
+      → (written written' : Option (List ℕ)) (writes writes' : ℕ) → Appends written written' said.text → writes' ≡ writes
+      → LineServed responds g before bodies number line house house' s s' written written' writes writes' (Ok tt)
+  line_answered house' s' said does keeps written written' writes writes' wrote calm =
+      let t : Turn = record { line = line; said = said } in
+      record {
+        turns = t ∷ [];
+        over = [];
+        over_one = (None, refl);
+        last = [];
+        text = said.text;
+        at = house';
+        one = [];
+        work = line_work responds g before bodies number house house' t does (disk_of s) s' keeps.crash keeps.ok written written' said.text wrote;
+        takes = append-nil ((line ++ 10 ∷ []) ++ []) ∙ append-nil (line ++ 10 ∷ []);
+        ends = (
+          record {
+            here = refl;
+            none_over = refl;
+            synced = subst (λ (l : List (List ℕ)). IsAt g s' before (bodies ++ l)) (sym (append-nil (bodies_in said.body))) keeps.ok;
+            all_written = sym (append-nil (said.text ++ []) ∙ append-nil said.text);
+          },
+          refl,
+          refl,
+          refl,
+        );
+        cause = (calm, keeps.cause);
+      }
+
+  -- a line that was done, of whose answer a part was written
+  pub line_written : (house' : H) (s' : Segment D) (said : Said) → responds house number line said house' → Keeps g before bodies s s' said.body (Ok tt)
+      → (written written' : Option (List ℕ)) (writes writes' k : ℕ) → Appends written written' (take k said.text) → Rose writes writes'
+      → LineServed responds g before bodies number line house house' s s' written written' writes writes' (Err WriteFault)
+  line_written house' s' said does keeps written written' writes writes' k wrote rose =
+      let t : Turn = record { line = line; said = said } in
+      record {
+        turns = t ∷ [];
+        over = [];
+        over_one = (None, refl);
+        last = [];
+        text = take k said.text;
+        at = house';
+        one = [];
+        work = line_work responds g before bodies number house house' t does (disk_of s) s' keeps.crash keeps.ok written written' (take k said.text) wrote;
+        takes = append-nil ((line ++ 10 ∷ []) ++ []) ∙ append-nil (line ++ 10 ∷ []);
+        ends = ((drop k said.text, append-nil (said.text ++ []) ∙ append-nil said.text ∙ sym (take-append-drop k said.text)), refl, inl refl);
+        cause = (rose, keeps.cause);
+      }

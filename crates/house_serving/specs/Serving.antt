@@ -1,0 +1,118 @@
+-- How a run of a house ends: what it read, what it wrote, and what of it each crash keeps (own).
+use Rattle.std.specs.Prelude.{◌≡◌, ◌⊎◌, ℕ, ◌+◌, ◌<◌, List, [], ◌∷◌, ◌++◌, length, Option, None}
+use Rattle.std.specs.Io.KnownBytes.{Appends, IsAtEnd}
+use Rattle.cds_base.specs.LineFaults.{IsLine}
+use Rattle.cds_base.specs.Lines.{HasFault, given, held, kept}
+use Rattle.cds_base.specs.Reading.{GrowsByReading}
+use Rattle.cds_base.specs.declared.lines.Lines.{Lines}
+use Rattle.cds_base.specs.declared.scan.LineFault.{LineFault}
+use Rattle.house_journal.specs.declared.disk.Disk.{Ghosts}
+use Rattle.house_journal.specs.Journals.{LeavesOnly}
+use Rattle.house_segments.specs.Segments.{HasBodies, IsAt, disk_of}
+use Rattle.house_segments.specs.declared.segment.Segment.{Segment}
+use Rattle.house_serving.specs.Ending.{HasEndingCause}
+use Rattle.house_serving.specs.Faults.{line_fault_text, shown, too_long}
+use Rattle.house_serving.specs.Turns.{Dialogue, Said, Turn, bodies_in, bodies_of, lines_text, texts_of}
+use Rattle.house_serving.specs.declared.ending.Ending.{Ending}
+use Rattle.house_serving.specs.declared.ending.Ending.TheVariants.{InputEnds, BadInput, ReadFault, WriteFault, OutOfMemory, Full, DiskFault, Grown}
+use Rattle.house_serving.specs.declared.faults.TheConstants.{MOST_LINE}
+
+-- the two ends of a run, before it and after it: the octets that its source had left, and has; those that its sink held, and holds, each
+-- where it tells them; and how often a read and a write had failed, and have (own)
+pub record Run : Type 0 where
+  pub left : Option (List ℕ)
+  pub left' : Option (List ℕ)
+  pub written : Option (List ℕ)
+  pub written' : Option (List ℕ)
+  pub reads : ℕ
+  pub reads' : ℕ
+  pub writes : ℕ
+  pub writes' : ℕ
+
+-- the run of a source and a sink (own)
+abbrev pub run_of : {S K : Type 0} → (left : S → Option (List ℕ)) → (reads : S → ℕ) → (written : K → Option (List ℕ)) → (writes : K → ℕ)
+    → (source source' : S) → (sink sink' : K) → Run
+run_of left reads written writes source source' sink sink' =
+    record {
+      left = left source;
+      left' = left source';
+      written = written sink;
+      written' = written sink';
+      reads = reads source;
+      reads' = reads source';
+      writes = writes sink;
+      writes' = writes sink';
+    }
+
+-- octets of a segment with these bodies, and with a front of these others (own)
+pub record HasFront (before : List ℕ) (bodies more : List (List ℕ)) (octets : List ℕ) : Type 0 where
+  pub front : List (List ℕ)
+  pub rest : List (List ℕ)
+  pub split : more ≡ front ++ rest
+  pub has : HasBodies before (bodies ++ front) octets
+
+-- What was done. The turns are the lines that were done, and this was written. A crash at any moment leaves the records of before and a
+-- front of those of the turns and of one over; one after the last call leaves those of all turns: so all of which anything was written (own)
+pub record Work {H D : Type 0} (responds : H → ℕ → List ℕ → Said → H → Type 0) (g : Ghosts D) (before : List ℕ) (bodies : List (List ℕ)) (number : ℕ)
+    (house : H) (disk disk' : D) (written written' : Option (List ℕ)) (turns : List Turn) (over : List (List ℕ)) (text : List ℕ) (at : H) : Type 0 where
+  pub talk : Dialogue responds number house turns at
+  pub wrote : Appends written written' text
+  pub crash : LeavesOnly g disk disk' (HasFront before bodies (bodies_of turns ++ over))
+  pub acknowledged : (c : List ℕ) → g.may_leave disk' c → HasFront before (bodies ++ bodies_of turns) over c
+
+-- xs is a front of ys (own)
+abbrev pub IsFront : List ℕ → List ℕ → Type 0
+IsFront xs ys = (more : List ℕ) × (ys ≡ xs ++ more)
+
+-- the house is the one after the turns, all their records are synced, and all that is due was written (own)
+pub record IsSettled {H D : Type 0} (g : Ghosts D) (before : List ℕ) (bodies : List (List ℕ)) (segment : Segment D) (turns : List Turn)
+    (over : List (List ℕ)) (last text : List ℕ) (at house : H) : Type 0 where
+  pub here : at ≡ house
+  pub none_over : over ≡ []
+  pub synced : IsAt g segment before (bodies ++ bodies_of turns)
+  pub all_written : text ≡ texts_of turns ++ last
+
+-- why the line of this number is none, and the line that says so: of these octets and what the source has left; or it is a whole line, taken
+-- already, that is too long (own)
+abbrev pub IsFaulty : (number : ℕ) → (one octets : List ℕ) → (left : Option (List ℕ)) → (last : List ℕ) → Type 0
+IsFaulty number one octets left last =
+    ((fault : LineFault) × HasFault number octets left fault × (one ≡ []) × (last ≡ line_fault_text (shown fault)))
+    ⊎ ((line : List ℕ) × IsLine number line × (MOST_LINE < length line) × (one ≡ line ++ 10 ∷ []) × (last ≡ line_fault_text (too_long number)))
+
+-- what an ending says of these, besides which call failed (own)
+abbrev pub EndsSo : {H D : Type 0} → Ghosts D → (before : List ℕ) → (bodies : List (List ℕ)) → (segment : Segment D) → (turns : List Turn)
+    → (over : List (List ℕ)) → (last text : List ℕ) → (at house : H) → (one : List ℕ) → (lines : Lines) → (number : ℕ) → (left : Option (List ℕ)) → Ending → Type 0
+EndsSo g before bodies segment turns over last text at house one lines number left InputEnds =
+    IsSettled g before bodies segment turns over last text at house × (last ≡ []) × (one ≡ []) × (held lines ≡ []) × IsAtEnd left
+EndsSo g before bodies segment turns over last text at house one lines number left BadInput =
+    IsSettled g before bodies segment turns over last text at house × IsFaulty number one (held lines) left last
+EndsSo g before bodies segment turns over last text at house one lines number left ReadFault =
+    IsSettled g before bodies segment turns over last text at house × (last ≡ []) × (one ≡ [])
+EndsSo g before bodies segment turns over last text at house one lines number left WriteFault =
+    IsFront text (texts_of turns ++ last) × (over ≡ []) × ((last ≡ []) ⊎ IsFaulty number one (held lines) left last)
+EndsSo g before bodies segment turns over last text at house one lines number left OutOfMemory = text ≡ texts_of turns
+EndsSo g before bodies segment turns over last text at house one lines number left Full =
+    (text ≡ texts_of turns) × IsAt g segment before (bodies ++ bodies_of turns)
+EndsSo g before bodies segment turns over last text at house one lines number left DiskFault = text ≡ texts_of turns
+EndsSo g before bodies segment turns over last text at house one lines number left Grown =
+    IsSettled g before bodies segment turns over last text at house × (last ≡ []) × (one ≡ []) × (kept lines ≡ None)
+
+-- no body, or one (own)
+abbrev pub IsOneAtMost : List (List ℕ) → Type 0
+IsOneAtMost over = (body : Option (List ℕ)) × (over ≡ bodies_in body)
+
+-- A run of a house over a segment. Of the octets that were read come the lines of the turns, then one line that was taken and not done, if there
+-- is one, and then those that are held (own)
+pub record Served {H D : Type 0} (responds : H → ℕ → List ℕ → Said → H → Type 0) (g : Ghosts D) (before : List ℕ) (bodies : List (List ℕ))
+    (house house' : H) (segment segment' : Segment D) (lines lines' : Lines) (run : Run) (ending : Ending) : Type 0 where
+  pub turns : List Turn
+  pub over : List (List ℕ)
+  pub last : List ℕ
+  pub text : List ℕ
+  pub at : H
+  pub one : List ℕ
+  pub over_one : IsOneAtMost over
+  pub work : Work responds g before bodies (given lines + 1) house (disk_of segment) (disk_of segment') run.written run.written' turns over text at
+  pub read : GrowsByReading run.left run.left' (held lines) (lines_text turns ++ (one ++ held lines'))
+  pub ends : EndsSo g before bodies segment' turns over last text at house' one lines' (given lines + length turns + 1) run.left' ending
+  pub cause : HasEndingCause run.reads run.reads' run.writes run.writes' (g.faults (disk_of segment)) (g.faults (disk_of segment')) ending

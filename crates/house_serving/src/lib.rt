@@ -1,0 +1,13 @@
+//! The run of a house over a source, a sink and a segment: line by line, and nothing is answered before it is durable.
+#![tactic(auto)]
+
+mod answering;
+mod ending;
+mod faults;
+mod responder;
+mod serving;
+
+pub use ending::Ending;
+pub use faults::MOST_LINE;
+pub use responder::{Reply, Responder};
+pub use serving::serve;

@@ -1,0 +1,46 @@
+// The run of a house, line by line.
+ghost use Rattle.std.specs.Prelude.{◌≡◌, ℕ, List, None};
+ghost use Rattle.cds_base.specs.Lines.{kept};
+ghost use Rattle.house_segments.specs.Segments.{IsAt};
+ghost use Rattle.house_serving.specs.Serving.{Served, run_of};
+
+use crate::answering::{answer_line, stop_at};
+use crate::{Ending, Responder};
+use cds_base::{Lines, Sink, Source};
+use house_journal::Disk;
+use house_segments::Segment;
+use std::alloc::Global;
+
+/// Answers the lines of the source up to the end of the input, the first fault, or the first line after which the segment has this
+/// size. A line's record is durable before anything of its answer is written.
+pub fn serve<R: Responder, S: Source, K: Sink, D: Disk>(
+    alloc: Global,
+    house: &mut R,
+    segment: &mut Segment<D>,
+    most: u64,
+    lines: &mut Lines,
+    source: &mut S,
+    sink: &mut K,
+) -> Ending
+    requires ready { (before : List ℕ) × (bodies : List (List ℕ)) × IsAt D.Disk segment.old before bodies }
+    requires unbroken { kept lines.old ≡ None }
+    ensures { (before : List ℕ) (bodies : List (List ℕ)) → IsAt D.Disk segment.old before bodies
+        → Served R.responds D.Disk before bodies house.old house.new segment.old segment.new lines.old lines.new
+        (run_of S.left S.faults K.written K.faults source.old source.new sink.old sink.new) result }
+{
+    'lines: loop {
+        match lines.next(source) {
+            Ok(Some(line)) => {
+                match answer_line(alloc, house, segment, sink, line.number, line.octets) {
+                    Ok(()) => {}
+                    Err(ending) => return ending,
+                }
+            }
+            Ok(None) => return Ending::InputEnds,
+            Err(fault) => return stop_at(alloc, fault, sink),
+        }
+        if segment.size() >= most {
+            return Ending::Grown;
+        }
+    }
+}
