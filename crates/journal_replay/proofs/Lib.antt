@@ -8,3 +8,4 @@ mod StopReplies
 mod Replied
 mod Reopening
 mod StopHouse
+mod Usable
