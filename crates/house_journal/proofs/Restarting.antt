@@ -96,6 +96,23 @@ all_done (s ∷ earlier) file fits = by_synced s.synced (all_done earlier (befor
     by_synced false rest =
         after_more done_by (changes_in earlier old) (change_of s file) (synced_in earlier old) ∙ ap (done_by (change_of s file)) rest ∙ redone s file fits.0
 
+-- where nothing was written since the last sync, that is all that any stop leaves
+synced_all : (steps : List Step) (file : List ℕ) → changes_in steps file ≡ [] → synced_in steps file ≡ file
+synced_all [] file none = refl
+synced_all (s ∷ earlier) file none = by_synced s.synced none
+  where
+    old : List ℕ
+    old = before_step s file
+
+    by_synced : (b : Bool) → (if b then [] else changes_in earlier old ++ change_of s file ∷ []) ≡ [] → (if b then file else synced_in earlier old) ≡ file
+    by_synced true none = refl
+    by_synced false none = absurd (let size = ap length none ∙ refl in let sum = length-append (changes_in earlier old) (change_of s file ∷ []) in omega (arith, size, sum))
+
+pub left_synced : (leave : Leave) (steps : List Step) (file : List ℕ) → changes_in steps file ≡ [] → left_by leave (synced_in steps file) (changes_in steps file) ≡ file
+left_synced Keep steps file none = ap (λ (l : List Change). after_all done_by l (synced_in steps file)) none ∙ synced_all steps file none
+left_synced Drop steps file none = synced_all steps file none
+left_synced Torn steps file none = ap (λ (l : List Change). after_all torn_by l (synced_in steps file)) none ∙ synced_all steps file none
+
 -- ---- a crash may leave it
 
 -- nothing, of a step

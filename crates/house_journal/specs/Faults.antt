@@ -1,18 +1,20 @@
 -- Journals as callers see them, why a call of one puts nothing, and what a put leaves the disk to tell (own).
-use Rattle.std.specs.Prelude.{◌≡◌, ℕ, ◌≤◌, ◌<◌, Bool, List, Option, Result, Ok, Err}
+use Rattle.std.specs.Prelude.{◌≡◌, ◌⊎◌, ℕ, ◌≤◌, ◌<◌, Bool, List, length, Option, Result, Ok, Err}
 use Rattle.cds_base.specs.Counts.{Rose}
 use Rattle.cds_stamps.specs.declared.alloc_or.AllocOr.{AllocOr}
 use Rattle.cds_stamps.specs.declared.alloc_or.AllocOr.TheVariants.{Fault, OutOfMemory}
 use Rattle.house_journal.specs.Disks.{Told}
-use Rattle.house_journal.specs.Tellings.{Call, Done, Failed}
+use Rattle.house_journal.specs.Tellings.{Call, Done, Failed, FailedAt}
 use Rattle.house_journal.specs.declared.disk.DiskError.{DiskError}
 use Rattle.house_journal.specs.declared.disk.DiskError.TheVariants as disk
 use Rattle.house_journal.specs.declared.journal.JournalFault.{JournalFault}
+use Rattle.house_journal.specs.declared.list_end.Span.{Span}
 use Rattle.house_journal.specs.declared.journal.JournalFault.TheVariants.{DiskFault, Full, Reopen}
 
--- a journal: the place of its closed gate, and whether it has to be opened again (own)
+-- a journal: the place of its closed gate, where its last image is, and whether it has to be opened again (own)
 pub record JournalState : Type 0 where
   pub place : ℕ
+  pub last : Option Span
   pub broken : Bool
 
 -- what a fault of the disk is to a journal (own)
@@ -56,3 +58,11 @@ IsUntried (Err (Fault Full)) = Unit {0}
 IsUntried (Err (Fault Reopen)) = Unit {0}
 IsUntried (Err OutOfMemory) = Unit {0}
 IsUntried _ = ⊥
+
+-- what is told after an open: all its calls were done; or one failed, or a read after the first of them; or memory ran out before one, and
+-- not before the first (own)
+abbrev pub TellsOpen : {T : Type 0} → List Call → List ℕ → Told → Result T (AllocOr JournalFault) → Option Told → Type 0
+TellsOpen calls file t (Ok x) new = Done calls file t (length calls) new
+TellsOpen calls file t (Err (Fault DiskFault)) new = ((k : ℕ) × FailedAt calls file t k new) ⊎ Done calls file t 1 new
+TellsOpen calls file t (Err OutOfMemory) new = (k : ℕ) × (1 ≤ k) × (k < length calls) × Done calls file t k new
+TellsOpen calls file t (Err _) new = ⊥

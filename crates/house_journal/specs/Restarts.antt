@@ -1,5 +1,5 @@
 -- What a disk in memory reads as after a stop (own).
-use Rattle.std.specs.Prelude.{ℕ, ◌+◌, ◌-◌, ◌/◌, List, [], ◌∷◌, ◌++◌, length, take, replicate}
+use Rattle.std.specs.Prelude.{◌≢◌, ℕ, ◌+◌, ◌-◌, ◌/◌, List, [], ◌∷◌, ◌++◌, length, take, replicate}
 use Rattle.house_journal.specs.Disks.{Change, Wrote, CutTo, written}
 use Rattle.house_journal.specs.MemoryDisks.{MemState, left_now, synced_in, changes_in}
 use Rattle.house_journal.specs.Records.{IsOpenable}
@@ -54,3 +54,15 @@ restarted m = restarted_by m.stop m
 -- a journal can be opened, whatever a crash leaves of the disk (own)
 abbrev pub CanBeOpened : MemState → Type 0
 CanBeOpened m = (c : List ℕ) → left_now m.steps m.octets c → IsOpenable c
+
+-- a stop takes back something that was written or cut since the last sync (own)
+abbrev pub MayLose : Leave → MemState → Type 0
+MayLose Keep m = ⊥
+MayLose Drop m = changes_in m.steps m.octets ≢ []
+MayLose Torn m = changes_in m.steps m.octets ≢ []
+
+-- and so does the end of such a stop (own)
+abbrev pub MayLoseBy : Stop → MemState → Type 0
+MayLoseBy Never m = ⊥
+MayLoseBy (After left leave) m = MayLose leave m
+MayLoseBy (Stopped leave) m = MayLose leave m

@@ -1,5 +1,5 @@
 -- How a disk in memory goes back over its steps (own).
-use Rattle.std.specs.Prelude.{ℕ, if◌then◌else◌, List, [], ◌∷◌}
+use Rattle.std.specs.Prelude.{ℕ, ◌≤◌, if◌then◌else◌, MatchBool, List, [], ◌∷◌}
 use Rattle.house_journal.specs.Disks.{written}
 use Rattle.house_journal.specs.MemoryDisks.{before_step, change_of}
 use Rattle.house_journal.specs.Restarts.{filled_to, torn_by}
@@ -19,3 +19,15 @@ all_torn (t ∷ earlier) file = torn_onto t (all_torn earlier file)
 abbrev pub torn_in : List Step → List ℕ → List ℕ
 torn_in [] file = file
 torn_in (s ∷ earlier) file = if s.synced then file else torn_by (change_of s file) (torn_in earlier (before_step s file))
+
+-- ---- the end of the octets that they touch
+
+-- of steps, the newest first, those since the last sync are at no place before this one (own)
+abbrev pub AreFrom : ℕ → List Step → Type 0
+AreFrom low [] = Unit {0}
+AreFrom low (s ∷ earlier) = MatchBool s.synced (Unit {0}) ((low ≤ s.at) × AreFrom low earlier)
+
+-- nor are these first halves of writes (own)
+abbrev pub TearFrom : ℕ → List Tear → Type 0
+TearFrom low [] = Unit {0}
+TearFrom low (t ∷ tears) = (low ≤ t.at) × TearFrom low tears

@@ -1,6 +1,6 @@
 // How a record is put after the others, call by call.
 ghost use Rattle.std.specs.Prelude.{◌≡◌, ◌≢◌, ◌+◌, ◌-◌, ◌^◌, ◌<◌, ◌≤◌, ◌++◌, ◌∷◌, [], ℕ, List};
-ghost use Rattle.std.specs.Prelude.{Some, Err, length, IfOk, OnOk};
+ghost use Rattle.std.specs.Prelude.{Some, Err, length, take, drop, IfOk, OnOk};
 ghost use Rattle.house_journal.specs.Disks.{HasDiskCause, Told};
 ghost use Rattle.house_journal.specs.Tellings.{TellsPut, put_calls};
 ghost use Rattle.house_journal.specs.Journals.{IsCalm, IsReady, LeavesOnly};
@@ -31,6 +31,8 @@ pub(crate) fn append<D: Disk>(disk: &mut D, place: u64, octets: &[u8]) -> Result
     ensures ok { (image : List ℕ) → IsRecordOf image octets.now → OnOk result
         (IsReady D.Disk disk.new (place + length octets.now - 1)
         × (images (D.reads disk.new) ≡ images (D.reads disk.old) ++ image ∷ [])) }
+    ensures placed { (image : List ℕ) → IsRecordOf image octets.now
+        → OnOk result (take (length image) (drop (place + 9) (D.reads disk.new)) ≡ image) }
     ensures any_moment { (image : List ℕ) → IsRecordOf image octets.now
         → LeavesOnly D.Disk disk.old disk.new (IsBeforeOrAfter (images (D.reads disk.old)) image) }
     ensures told { (t : Told) → D.told disk.old ≡ Some t

@@ -1,7 +1,8 @@
 // How the end of a journal is put in order: all after the gate that ends the list is cut off, and that gate is closed.
 ghost use Rattle.std.specs.Prelude.{◌≡◌, ◌≢◌, ◌+◌, ◌^◌, ◌≤◌, ◌++◌, ◌∷◌, [], length, take, slice_get};
-ghost use Rattle.std.specs.Prelude.{Err, IfOk, OnOk};
-ghost use Rattle.house_journal.specs.Disks.{HasDiskCause, Only, OnlyReads};
+ghost use Rattle.std.specs.Prelude.{Some, Err, IfOk, OnOk};
+ghost use Rattle.house_journal.specs.Disks.{HasDiskCause, Only, OnlyReads, Told};
+ghost use Rattle.house_journal.specs.Tellings.{TellsReading, TellsRun, close_calls, gate_calls};
 ghost use Rattle.house_journal.specs.Journals.{IsCalm, IsListed, LeavesOnly};
 ghost use Rattle.house_journal.specs.Records.{HasImagesOf, IsOpenable, gate_of};
 
@@ -37,6 +38,8 @@ fn close_gate<D: Disk>(disk: &mut D, place: u64, gate: Option<u8>) -> Result<(),
     ensures rests { OnOk result (D.reads disk.new ≡ take place (D.reads disk.old) ++ 0 ∷ []) }
     ensures durable { OnOk result (Only (D.reads disk.new) (D.may_leave disk.new)) }
     ensures listed { OnOk result (IsListed (D.told disk.new)) }
+    ensures told { (t : Told) → D.told disk.old ≡ Some t
+        → TellsRun (gate_calls place gate) (D.reads disk.old) t result (D.told disk.new) }
     ensures cause { HasDiskCause (D.faults disk.old) (D.faults disk.new) result }
     ensures calm { IsCalm (D.told disk.old)
         → (result ≢ Err DiskError.Failed) × IsCalm (D.told disk.new) }
@@ -61,6 +64,8 @@ pub(crate) fn close<D: Disk>(disk: &mut D, size: u64, place: u64) -> Result<(), 
     ensures rests { OnOk result (D.reads disk.new ≡ take place (D.reads disk.old) ++ 0 ∷ []) }
     ensures durable { OnOk result (Only (D.reads disk.new) (D.may_leave disk.new)) }
     ensures listed { OnOk result (IsListed (D.told disk.new)) }
+    ensures told { (t : Told) → D.told disk.old ≡ Some t → TellsReading 0
+        (close_calls (D.reads disk.old)) (D.reads disk.old) t result (D.told disk.new) }
     ensures cause { HasDiskCause (D.faults disk.old) (D.faults disk.new) result }
     ensures calm { IsCalm (D.told disk.old)
         → (result ≢ Err DiskError.Failed) × IsCalm (D.told disk.new) }

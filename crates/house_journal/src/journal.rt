@@ -5,14 +5,16 @@ ghost use Rattle.std.specs.Option.{option_map};
 ghost use Rattle.cds_stamps.specs.declared.alloc_or.AllocOr.TheVariants.{Fault, OutOfMemory};
 ghost use Rattle.house_journal.specs.Disks.{Told};
 ghost use Rattle.house_journal.specs.Faults.{IsRefused, IsBreaking, IsOpenFault, HasJournalCause};
-ghost use Rattle.house_journal.specs.Faults.{IsUntried, TellsTried, fault_of};
-ghost use Rattle.house_journal.specs.Tellings.{put_calls};
+ghost use Rattle.house_journal.specs.Faults.{IsUntried, TellsOpen, TellsTried, fault_of};
+ghost use Rattle.house_journal.specs.Tellings.{open_calls, put_calls};
 ghost use Rattle.house_journal.specs.Journals.{IsCalm, IsKept, IsKeptSince, IsListed, IsReady};
 ghost use Rattle.house_journal.specs.Journals.{LeavesOnly, Settles};
-ghost use Rattle.house_journal.specs.Records.{HasImagesOf, IsBeforeOrAfter, IsRecordOf};
+ghost use Rattle.house_journal.specs.ListEnds.{Leads};
+ghost use Rattle.house_journal.specs.Records.{HasImagesOf, IsBeforeOrAfter, IsClean, IsRecordOf};
 ghost use Rattle.house_journal.specs.Records.{gate_of, images, last_image};
 
 use crate::append::{append, record_of};
+use crate::list_end::{ListEnd, Span};
 use crate::settle::settle;
 use crate::{Disk, DiskError};
 use cds_stamps::AllocOr;
@@ -48,10 +50,11 @@ impl From<DiskError> for AllocOr<JournalFault> {
     }
 }
 
-/// A journal: the place of its closed gate, and whether it has to be opened again.
+/// A journal: the place of its closed gate, where its last image is, and whether it has to be opened again.
 #[derive(Drop)]
 pub struct Journal {
     place: u64,
+    last: Option<Span>,
     broken: bool,
 }
 
@@ -61,15 +64,16 @@ impl Model for Journal {
 
     ghost Value = { JournalState };
 
-    ghost view = { λ j. record { place = j.place; broken = j.broken } };
+    ghost view = { λ j. record { place = j.place; last = j.last; broken = j.broken } };
 
     ghost invariant = { λ j. j.place < 2 ^ 40 };
 }
 
 impl Journal {
-    /// Opens the journal of a disk, in whatever state a crash or a failure left it, and answers the last image. From
-    /// its first sync on a crash at any moment leaves that image; a second open changes nothing. After OutOfMemory
-    /// or a fault of the disk it can be opened again.
+    /// Opens the journal of a disk, in whatever state a crash or a failure left it, and answers the last image. It
+    /// syncs and reads; then it cuts off all after the gate that ends the list, and syncs; and where that gate is not
+    /// 0, or missing, it writes 0 there, and syncs. From its first sync on a crash at any moment leaves that image; a
+    /// second open changes nothing. After OutOfMemory or a fault of the disk it can be opened again.
     pub fn open<D: Disk>(
         alloc: Global,
         disk: &mut D,
@@ -79,10 +83,13 @@ impl Journal {
             ≡ last_image (D.reads disk.old)) }
         ensures ready { IfOk result (λ r. IsReady D.Disk disk.new r.0.place
             × (r.0.broken ≡ false)) }
+        ensures leads { IfOk result (λ r. Leads (D.reads disk.new) r.0.place r.0.last) }
         ensures size { OnOk result (length (D.reads disk.new) ≤ 2 ^ 40) }
         ensures rests { OnOk result (D.reads disk.new
             ≡ take (gate_of (D.reads disk.old)) (D.reads disk.old) ++ 0 ∷ []) }
-        ensures any_moment { IsKept D.Disk disk.old
+        ensures told { (t : Told) → D.told disk.old ≡ Some t → TellsOpen
+            (open_calls (D.reads disk.old)) (D.reads disk.old) t result (D.told disk.new) }
+        ensures any_moment { IsClean (D.reads disk.old)
             → Settles D.Disk disk.old disk.new (HasImagesOf (D.reads disk.old)) result }
         ensures kept { IsKept D.Disk disk.old → IsKept D.Disk disk.new }
         ensures kept_since { IsKept D.Disk disk.old → IsKeptSince D.Disk disk.old disk.new }
@@ -92,9 +99,51 @@ impl Journal {
         ensures calm { IsCalm (D.told disk.old)
             → (result ≢ Err (Fault JournalFault.DiskFault)) × IsCalm (D.told disk.new) }
     {
-        let (place, image) = settle(alloc, disk)?;
+        let start = Journal {
+            place: 0,
+            last: None,
+            broken: true,
+        };
+        Journal::open_after(alloc, disk, &start)
+    }
+
+    /// Opens the journal of a disk whose list begins with all that this journal had when it was opened or last put into,
+    /// as after a stop of a put. It does what `open` does, and reads from there on alone.
+    pub fn open_after<D: Disk>(
+        alloc: Global,
+        disk: &mut D,
+        before: &Journal,
+    ) -> Result<(Journal, Option<Vec<u8>>), AllocOr<JournalFault>>
+        requires size { length (D.reads disk.old) ≤ 2 ^ 40 }
+        requires before { Leads (D.reads disk.old) before.now.place before.now.last }
+        ensures image { IfOk result (λ r. option_map (λ v. v.items) r.1
+            ≡ last_image (D.reads disk.old)) }
+        ensures ready { IfOk result (λ r. IsReady D.Disk disk.new r.0.place
+            × (r.0.broken ≡ false)) }
+        ensures leads { IfOk result (λ r. Leads (D.reads disk.new) r.0.place r.0.last) }
+        ensures size { OnOk result (length (D.reads disk.new) ≤ 2 ^ 40) }
+        ensures rests { OnOk result (D.reads disk.new
+            ≡ take (gate_of (D.reads disk.old)) (D.reads disk.old) ++ 0 ∷ []) }
+        ensures told { (t : Told) → D.told disk.old ≡ Some t → TellsOpen
+            (open_calls (D.reads disk.old)) (D.reads disk.old) t result (D.told disk.new) }
+        ensures any_moment { IsClean (D.reads disk.old)
+            → Settles D.Disk disk.old disk.new (HasImagesOf (D.reads disk.old)) result }
+        ensures kept { IsKept D.Disk disk.old → IsKept D.Disk disk.new }
+        ensures kept_since { IsKept D.Disk disk.old → IsKeptSince D.Disk disk.old disk.new }
+        ensures open_list { OnOk result (IsListed (D.told disk.new)) }
+        ensures faults { IfErr result IsOpenFault }
+        ensures cause { HasJournalCause (D.faults disk.old) (D.faults disk.new) result }
+        ensures calm { IsCalm (D.told disk.old)
+            → (result ≢ Err (Fault JournalFault.DiskFault)) × IsCalm (D.told disk.new) }
+    {
+        let from = ListEnd {
+            place: before.place,
+            image: before.last,
+        };
+        let (end, image) = settle(alloc, disk, from)?;
         let journal = Journal {
-            place,
+            place: end.place,
+            last: end.image,
             broken: false,
         };
         Ok((journal, image))
@@ -125,7 +174,10 @@ impl Journal {
         ensures ok { OnOk result (IsReady D.Disk disk.new self.new.place × (self.new.broken ≡ false)
             × (images (D.reads disk.new) ≡ images (D.reads disk.old) ++ image.now ∷ [])) }
         ensures size { OnOk result (length (D.reads disk.new) ≤ 2 ^ 40) }
+        ensures leads { OnOk result (Leads (D.reads disk.new) self.new.place self.new.last) }
         ensures broken { IsBreaking result → self.new.broken ≡ true }
+        ensures still { IsBreaking result
+            → (self.new.place ≡ self.old.place) × (self.new.last ≡ self.old.last) }
         ensures any_moment { self.old.broken ≡ false → LeavesOnly D.Disk disk.old disk.new
             (IsBeforeOrAfter (images (D.reads disk.old)) image.now) }
         ensures told { (t : Told) → D.told disk.old ≡ Some t
@@ -148,6 +200,10 @@ impl Journal {
         self.broken = true;
         let octets = record_of(alloc, image)?;
         append(disk, self.place, &octets)?;
+        self.last = Some(Span {
+            at: self.place + 9,
+            len: image.len() as u64,
+        });
         self.place += octets.len() as u64 - 1;
         self.broken = false;
         Ok(())

@@ -5,7 +5,7 @@ ghost use Rattle.std.specs.Option.{option_map};
 ghost use Rattle.house_journal.specs.Disks.{HasDiskCause, OnlyReads};
 ghost use Rattle.house_journal.specs.Journals.{IsCalm};
 ghost use Rattle.house_journal.specs.Records.{gate_of, is_open, last_image, length_at};
-ghost use Rattle.house_journal.specs.ListEnds.{IsWithin, octets_of};
+ghost use Rattle.house_journal.specs.ListEnds.{IsWithin, Leads, octets_of};
 
 use crate::{Disk, DiskError};
 use std::alloc::Global;
@@ -52,9 +52,15 @@ fn open_len<D: Disk>(disk: &mut D, size: u64, at: u64) -> Result<Option<u64>, Di
     }
 }
 
-/// The end of the list. Reads nine octets of each record.
-pub(crate) fn find_end<D: Disk>(disk: &mut D, size: u64) -> Result<ListEnd, DiskError>
-    requires { size ≡ length (D.reads disk.old) }
+/// The end of the list, from a place on up to which it was read. Reads nine octets of each record from there on.
+pub(crate) fn find_end<D: Disk>(
+    disk: &mut D,
+    size: u64,
+    from: ListEnd,
+) -> Result<ListEnd, DiskError>
+    requires size { size ≡ length (D.reads disk.old) }
+    requires from { Leads (D.reads disk.old) from.place from.image }
+    ensures leads { IfOk result (λ end. Leads (D.reads disk.old) end.place end.image) }
     ensures place { IfOk result (λ end. end.place ≡ gate_of (D.reads disk.old)) }
     ensures image { IfOk result (λ end. option_map (octets_of (D.reads disk.old)) end.image
         ≡ last_image (D.reads disk.old)) }
@@ -64,8 +70,8 @@ pub(crate) fn find_end<D: Disk>(disk: &mut D, size: u64) -> Result<ListEnd, Disk
     ensures calm { IsCalm (D.told disk.old)
         → (result ≢ Err DiskError.Failed) × IsCalm (D.told disk.new) }
 {
-    let mut place = 0;
-    let mut image = None;
+    let mut place = from.place;
+    let mut image = from.image;
     'records: while let Some(len) = open_len(disk, size, place)? {
         image = Some(Span { at: place + 9, len });
         place += len + 9;

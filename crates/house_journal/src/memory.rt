@@ -1,16 +1,15 @@
 // A disk in memory, which can be stopped at each of its writing calls and started again.
-ghost use Rattle.std.specs.Prelude.{◌≡◌, ◌≤◌, ◌↔◌, ℕ, List, [], true, false, Some, length, OnOk, OnErr};
+ghost use Rattle.std.specs.Prelude.{◌≡◌, ◌≤◌, ◌↔◌, ◌++◌, ℕ, List, [], true, false, Some, length, take, IsTrue, OnOk, OnErr};
 ghost use Rattle.cds_base.specs.Counts.{HasCause};
 ghost use Rattle.house_journal.specs.Disks.{written};
 ghost use Rattle.house_journal.specs.MemoryDisks.{counted, missed, fails, has_stopped, noted_write, noted_cut, noted_sync};
-ghost use Rattle.house_journal.specs.MemoryDisks.{left_now, left_from, moment_of, told_of, stop_with};
+ghost use Rattle.house_journal.specs.MemoryDisks.{changes_in, left_now, left_from, moment_of, told_of, stop_with};
 ghost use Rattle.house_journal.specs.CrashSets.{IsLeft};
-ghost use Rattle.house_journal.specs.Restarts.{CanBeOpened, begun_with, left_of, restarted};
-ghost use Rattle.house_journal.specs.declared.leave.Leave.TheVariants.{Keep};
+ghost use Rattle.house_journal.specs.Restarts.{CanBeOpened, MayLose, MayLoseBy, begun_with, left_of, restarted};
 ghost use Rattle.house_journal.specs.ClockProofs.{reads_left_lem, counts_now_lem, only_now_lem};
 ghost use Rattle.house_journal.specs.declared.step.Stop.TheVariants.{Never};
 
-use crate::restart::{synced, torn};
+use crate::restart::{first_changed, synced, torn};
 use crate::step::{Step, Stop};
 use crate::{Disk, DiskError, Leave};
 use cds_base::Failed;
@@ -98,6 +97,7 @@ impl MemDisk {
         ensures lawful { OnOk result (left_now self.old.steps self.old.octets self.new.octets) }
         ensures kept { CanBeOpened self.old → CanBeOpened self.new }
         ensures err { OnErr result (self.new ≡ self.old) }
+        ensures memory { OnErr result (MayLoseBy self.old.stop self.old) }
     {
         match self.stop {
             Stop::Never => Ok(()),
@@ -105,40 +105,73 @@ impl MemDisk {
         }
     }
 
+    /// Ends the stop with all that was written, whatever its leave is. Takes no memory.
+    pub fn restart_with_all(&mut self)
+        ensures on { self.new ≡ begun_with self.old.octets self.old }
+        ensures lawful { left_now self.old.steps self.old.octets self.new.octets }
+        ensures kept { CanBeOpened self.old → CanBeOpened self.new }
+    {
+        self.begin()
+    }
+
     // Begins anew with what a stop leaves.
     fn begin_by(&mut self, leave: Leave) -> Result<(), AllocError>
         ensures ok { OnOk result (self.new ≡ begun_with (left_of leave self.old) self.old) }
         ensures err { OnErr result (self.new ≡ self.old) }
+        ensures memory { OnErr result (MayLose leave self.old) }
     {
+        if self.is_synced() {
+            self.begin();
+            return Ok(());
+        }
         match leave {
-            Leave::Keep => self.begin(),
+            Leave::Keep => {
+                self.begin();
+                Ok(())
+            }
             Leave::Drop => {
-                let octets = synced(self.alloc, &self.steps, &self.octets)?;
-                self.begin_with(octets);
+                let low = first_changed(&self.steps, self.octets.len());
+                let end = synced(self.alloc, &self.steps, &self.octets, low)?;
+                self.begin_with(low, &end)
             }
             Leave::Torn => {
-                let octets = torn(self.alloc, &self.steps, &self.octets)?;
-                self.begin_with(octets);
+                let low = first_changed(&self.steps, self.octets.len());
+                let end = torn(self.alloc, &self.steps, &self.octets, low)?;
+                self.begin_with(low, &end)
             }
         }
-        Ok(())
+    }
+
+    // Whether nothing was written or cut since the last sync.
+    fn is_synced(&self) -> bool
+        ensures { IsTrue result ↔ (changes_in self.now.steps self.now.octets ≡ []) }
+    {
+        if self.steps.is_empty() {
+            return true;
+        }
+        self.steps[self.steps.len() - 1].synced
     }
 
     // Begins anew with the octets that are there: all that was written.
     fn begin(&mut self)
-        ensures { self.new ≡ begun_with (left_of Keep self.old) self.old }
+        ensures { self.new ≡ begun_with self.old.octets self.old }
     {
         self.steps.clear();
         self.stop = Stop::Never;
     }
 
-    // Begins anew with these octets.
-    fn begin_with(&mut self, octets: Vec<u8>)
-        ensures { self.new ≡ begun_with octets.items self.old }
+    // Begins anew with other octets from a place on. Those before it are not copied.
+    fn begin_with(&mut self, low: usize, end: &[u8]) -> Result<(), AllocError>
+        requires { low ≤ length self.old.octets }
+        ensures ok { OnOk result (self.new
+            ≡ begun_with (take low self.old.octets ++ end.now) self.old) }
+        ensures err { OnErr result (self.new ≡ self.old) }
     {
-        self.octets = octets;
+        overwrite(&mut self.octets, low, end)?;
+        self.octets.truncate(low + end.len());
         self.steps.clear();
         self.stop = Stop::Never;
+        Ok(())
     }
 
     /// What a crash may leave is said by its steps. It is what one sentence says: octets of a size between the least

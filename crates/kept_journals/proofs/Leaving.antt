@@ -5,7 +5,9 @@ use Rattle.std.proofs.lemmas.Bool.Decides.{nat_tests}
 use Rattle.house_journal.specs.declared.disk.Disk.{Ghosts}
 use Rattle.house_journal.specs.Journals.{LeavesOnly, SafeFrom, Settles}
 use Rattle.house_journal.specs.MemoryDisks.{MemState, left_now}
+use Rattle.house_journal.specs.ClockProofs.{reads_left_lem}
 use Rattle.house_journal.specs.Records.{IsOpenable, images, images_after}
+use Rattle.house_journal.specs.Restarts.{begun_with}
 use Rattle.kept_journals.specs.KeptJournals.{Holds, HoldsEither, IsNew, is_last}
 
 module _ {D : Type 0} (g : Ghosts D) (counts_now : (d : D) (t : ℕ) (c : List ℕ) → t ≤ g.moment d → g.may_leave d c → g.left_since d t c)
@@ -39,6 +41,16 @@ always_ok (Err e) p = tt
 pub ok_then : {T E P Q : Type 0} (r : Result T E) → (P → Q) → OnOk r P → OnOk r Q
 ok_then (Ok x) then p = then p
 ok_then (Err e) then p = tt
+
+pub ok_both : {T E P Q R : Type 0} (r : Result T E) → (P → Q → R) → OnOk r P → OnOk r Q → OnOk r R
+ok_both (Ok x) then p q = then p q
+ok_both (Err e) then p q = tt
+
+-- a disk that began anew with all that was written holds what it might hold before
+pub begun_holds : (m new : MemState) (list other : List (List ℕ)) → new ≡ begun_with m.octets m → HoldsEither m list other → HoldsEither new list other
+begun_holds m new list other is holds =
+    subst (λ (n : MemState). HoldsEither n list other) (sym is)
+    (λ c here. subst (λ (f : List ℕ). ((images f ≡ list) ⊎ (images f ≡ other)) × IsOpenable f) (sym here) (holds m.octets (reads_left_lem m.steps m.octets)))
 
 -- a disk that restarted holds what is read of it, and so it does when it was opened
 pub one_image : (old new : MemState) (list other : List (List ℕ)) → old.steps ≡ []

@@ -1,10 +1,12 @@
 -- How large a journal is, by its images.
-use Rattle.std.proofs.Common.{◌≡◌, ◌↔◌, ℕ, ◌+◌, ◌-◌, ◌<◌, ◌≤◌, Bool, true, false, List, [], ◌∷◌, ◌++◌, length, drop, refl, sym, ◌∙◌, ap, arith, length-append, length-drop}
-use Rattle.std.specs.Prelude.{Result, Ok, Err, nat_lt}
+use Rattle.std.proofs.Common.{◌≡◌, ◌↔◌, ℕ, ◌+◌, ◌<◌, ◌≤◌, Bool, true, false, List, [], ◌∷◌, ◌++◌, length, refl, ◌∙◌, ap, arith, length-append, length-drop}
+use Rattle.std.specs.Prelude.{nat_lt}
 use Rattle.std.proofs.lemmas.Bool.Decides.{nat_tests}
 use Rattle.house_journal.specs.Records.{IsAtRest, images}
-use Rattle.house_journal.proofs.Records.{AreRecords, IsRecord, images_of, joined, rests}
-use Rattle.kept_journals.specs.KeptJournals.{size_of}
+use Rattle.house_journal.proofs.Records.{AreRecords, images_of, joined, rests}
+use Rattle.house_journal.specs.MemoryDisks.{MemState}
+use Rattle.kept_journals.specs.KeptJournals.{IsNew, size_of}
+use Rattle.kept_journals.proofs.Leaving.{no_images}
 
 size_more : (list : List (List ℕ)) (image : List ℕ) → size_of (list ++ image ∷ []) ≡ size_of list + 9 + length image
 size_more [] image = refl
@@ -35,3 +37,9 @@ has_room full B most n exactly b not_full = by_test (nat_lt most n) refl
     by_test : (t : Bool) → nat_lt most n ≡ t → n ≤ most
     by_test true is = let more : most < n = grind (arith, nat_tests) in absurd (not_full (exactly.1 (b, more)))
     by_test false is = grind (arith, nat_tests)
+
+-- the first image of a new disk
+pub size_first : (m : MemState) (image : List ℕ) → IsNew m → size_of (images m.octets ++ image ∷ []) ≡ length image + 10
+size_first m image new =
+    let one : size_of ([] ++ image ∷ []) ≡ length image + 10 = omega arith in
+    ap (λ (l : List (List ℕ)). size_of (l ++ image ∷ [])) (ap images new.octets ∙ no_images) ∙ one

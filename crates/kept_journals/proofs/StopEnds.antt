@@ -1,6 +1,6 @@
 -- How a put ends on a disk that stops at one of its calls.
-use Rattle.std.proofs.Common.{◌≡◌, ◌⊎◌, inl, inr, ⊎_elim, ℕ, ◌+◌, ◌-◌, ◌<◌, ◌≤◌, ◌^◌, nat_le, Bool, true, false, List, [], ◌∷◌, ◌++◌, length, take, drop, refl, sym, ◌∙◌, ap, subst, if◌then◌else◌, arith, length-append}
-use Rattle.std.specs.Prelude.{Option, Some, Result, Ok, Err, nat_lt}
+use Rattle.std.proofs.Common.{◌≡◌, ◌⊎◌, ⊎_elim, ℕ, ◌+◌, ◌-◌, ◌<◌, ◌≤◌, ◌^◌, Bool, true, false, List, [], ◌∷◌, ◌++◌, length, take, drop, refl, sym, ◌∙◌, ap, subst, if◌then◌else◌, arith, length-append}
+use Rattle.std.specs.Prelude.{Some, Result, Ok, Err, nat_lt}
 use Rattle.std.proofs.lemmas.Bool.Decides.{nat_tests}
 use Rattle.cds_stamps.specs.declared.alloc_or.AllocOr.{AllocOr}
 use Rattle.cds_stamps.specs.declared.alloc_or.AllocOr.TheVariants.{Fault, OutOfMemory}
@@ -15,7 +15,8 @@ use Rattle.house_journal.specs.declared.journal.JournalFault.TheVariants.{DiskFa
 use Rattle.house_journal.specs.declared.leave.Leave.{Leave}
 use Rattle.house_journal.specs.declared.leave.Leave.TheVariants.{Keep, Drop, Torn}
 use Rattle.house_journal.specs.declared.step.Stop.TheVariants as stop
-use Rattle.kept_journals.specs.KeptJournals.{stops_after}
+use Rattle.cds_base.specs.Counts.{Rose}
+use Rattle.kept_journals.specs.KeptJournals.{StopsPutAt, stopping, stops_after}
 use Rattle.kept_journals.proofs.StoppedPuts.{failed_plan, stop_is, stopped_early, stopped_late, synced_all}
 
 record_length : (image octets : List ℕ) → IsRecordOf image octets → length octets ≡ length image + 10
@@ -107,6 +108,14 @@ module _ (d e : MemState) (place : ℕ) (image : List ℕ) (call : ℕ) (leave :
             ∙ stopped_late d.octets place rest image octets is within leave
             ∙ ap (λ (b : Bool). if b then images d.octets ++ image ∷ [] else images d.octets) (sym word)
 
+    at_call : (k : ℕ) → Failed (put_calls place octets) d.octets t k (Some (told_of e))
+        → told_of e ≡ told_failed (call - 1) (put_calls place octets) d.octets (told_of d)
+    at_call k f =
+        let here : k ≡ call - 1 = at (call - 1) leave k (subst (MayAnswer k) plan f.answered)
+        (subst (λ p. may_fail (plan_after_calls k p) ≡ true) plan f.fails) in
+        let same : told_of e ≡ told_failed k (put_calls place octets) d.octets t = (let told = f.tells in cc) in
+        same ∙ ap (λ (n : ℕ). told_failed n (put_calls place octets) d.octets t) here
+
     failed : (k : ℕ) → Failed (put_calls place octets) d.octets t k (Some (told_of e)) → (e.stop ≡ stop.Stopped leave) × (images left ≡ wanted)
     failed k f =
         let here : k ≡ call - 1 = at (call - 1) leave k (subst (MayAnswer k) plan f.answered)
@@ -125,6 +134,25 @@ module _ (d e : MemState) (place : ℕ) (image : List ℕ) (call : ℕ) (leave :
   disk_failed (Err (Fault Reopen)) tells is = absurd (cc)
   disk_failed (Err (Fault DiskFault)) tells is =
       ⊎_elim (λ untried. absurd untried.0) (λ tried. failed tried.0 tried.1 tried.2.0 tried.2.1) (tells t refl)
+
+  -- and it has stopped at its call
+  pub put_stops : (old : MemState) → d ≡ stopping call leave old → Rose old.faults e.faults → (r : Result (Unit {0}) (AllocOr JournalFault)) → Tells r
+      → r ≡ Err (Fault DiskFault) → StopsPutAt place image call leave old e
+  put_stops old d_is rose (Ok x) tells is = absurd (cc)
+  put_stops old d_is rose (Err OutOfMemory) tells is = absurd (cc)
+  put_stops old d_is rose (Err (Fault Full)) tells is = absurd (cc)
+  put_stops old d_is rose (Err (Fault Reopen)) tells is = absurd (cc)
+  put_stops old d_is rose (Err (Fault DiskFault)) tells is =
+      ⊎_elim (λ untried. absurd untried.0)
+      (λ tried. record {
+        octets = tried.0;
+        whole = tried.1;
+        told = at_call tried.0 tried.1 tried.2.0 tried.2.1
+            ∙ ap (λ (m : MemState). told_failed (call - 1) (put_calls place tried.0) m.octets (told_of m)) d_is;
+        stopped = (failed tried.0 tried.1 tried.2.0 tried.2.1).0;
+        rose = rose;
+      })
+      (tells t refl)
 
   -- and after a restart
   pub images_then : (f : MemState) → f ≡ restarted e → e.stop ≡ stop.Stopped leave → f.octets ≡ left

@@ -1,20 +1,19 @@
 -- What a put leaves that is stopped at one of its calls.
-use Rattle.std.proofs.Common.{◌≡◌, ℕ, zero, suc, ◌+◌, ◌-◌, ◌/◌, ◌<◌, ◌≤◌, ◌^◌, nat_le, Bool, true, false, List, [], ◌∷◌, ◌++◌, length, take, drop, replicate, refl, sym, ◌∙◌, ap, subst, if◌then◌else◌, arith, append_assoc, length-append, add-zero}
-use Rattle.std.specs.Prelude.{Option, Some}
+use Rattle.std.proofs.Common.{◌≡◌, ℕ, zero, suc, ◌+◌, ◌-◌, ◌/◌, ◌<◌, ◌≤◌, ◌^◌, Bool, true, false, List, [], ◌∷◌, ◌++◌, length, take, drop, replicate, refl, sym, ◌∙◌, ap, if◌then◌else◌, arith, append_assoc, length-append, add-zero}
 use Rattle.std.proofs.lemmas.List.{append-nil, take_at, take-append-drop}
 use Rattle.house_journal.specs.Disks.{Change, Plan, Stops, Stopped, Told, Wrote, written}
 use Rattle.house_journal.specs.Disks as plans
 use Rattle.house_journal.specs.MemoryDisks.{before_step, change_of, changes_in, plan_of, synced_in}
 use Rattle.house_journal.specs.Records.{IsAtRest, IsRecordOf, images}
 use Rattle.house_journal.specs.Restarts.{filled_to, left_by}
-use Rattle.house_journal.specs.Tellings.{TellsOne, told_failed, put_calls}
+use Rattle.house_journal.specs.Tellings.{told_failed, put_calls}
 use Rattle.house_journal.specs.declared.leave.Leave.{Leave}
 use Rattle.house_journal.specs.declared.leave.Leave.TheVariants.{Keep, Drop, Torn}
 use Rattle.house_journal.specs.declared.step.Step.{Step}
 use Rattle.house_journal.specs.declared.step.Stop.{Stop}
 use Rattle.house_journal.specs.declared.step.Stop.TheVariants as stop
 use Rattle.house_journal.proofs.Records.{Rests, closed_images, joined, rests}
-use Rattle.house_journal.proofs.Appending.{done, done_images, first_done, second_done, staged, staged_size}
+use Rattle.house_journal.proofs.Appending.{done_images, first_done, second_done, staged_size}
 use Rattle.kept_journals.specs.KeptJournals.{stops_after}
 
 module _ (file : List ℕ) (place : ℕ) (rest : IsAtRest file place) (image octets : List ℕ) (is : IsRecordOf image octets) (room : place + length octets ≤ 2 ^ 40) where

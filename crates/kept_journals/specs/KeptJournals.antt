@@ -1,14 +1,18 @@
 -- The journal of one house on its disk, the images in it, and what a stop of a put leaves (own).
-use Rattle.std.specs.Prelude.{◌≡◌, ◌⊎◌, ℕ, ◌+◌, ◌^◌, ◌≤◌, nat_le, Bool, true, false, if◌then◌else◌, List, [], ◌∷◌, ◌++◌, length, Option, Some, None}
+use Rattle.std.specs.Prelude.{◌≡◌, ◌⊎◌, ℕ, ◌+◌, ◌-◌, ◌^◌, ◌≤◌, nat_le, Bool, false, if◌then◌else◌, List, [], ◌∷◌, ◌++◌, length, Option, Some, None}
 use Rattle.std.specs.List.{last_or}
 use Rattle.std.specs.Option.{option_map_or}
 use Rattle.std.specs.Str.{bytes_eq}
+use Rattle.cds_base.specs.Counts.{Rose}
+use Rattle.house_journal.specs.Disks.{Told}
 use Rattle.house_journal.specs.Faults.{JournalState}
-use Rattle.house_journal.specs.MemoryDisks.{MemState, changes_in, left_now}
-use Rattle.house_journal.specs.Records.{IsAtRest, IsOpenable, images, last_image}
+use Rattle.house_journal.specs.MemoryDisks.{MemState, changes_in, left_now, stop_with, told_of}
+use Rattle.house_journal.specs.Records.{IsAtRest, IsOpenable, IsRecordOf, images, last_image}
+use Rattle.house_journal.specs.Restarts.{restarted}
+use Rattle.house_journal.specs.Tellings.{open_calls, put_calls, told_after, told_failed}
 use Rattle.house_journal.specs.declared.leave.Leave.{Leave}
 use Rattle.house_journal.specs.declared.leave.Leave.TheVariants.{Keep, Drop, Torn}
-use Rattle.house_journal.specs.declared.step.Stop.TheVariants.{Never}
+use Rattle.house_journal.specs.declared.step.Stop.TheVariants.{Never, Stopped}
 use Rattle.kept_journals.specs.declared.kept.KeptHouse.{KeptHouse}
 
 -- ---- images
@@ -61,3 +65,34 @@ pub record IsOpen (j : JournalState) (m : MemState) : Type 0 where
 abbrev pub IsKept : Option KeptHouse → MemState → Type 0
 IsKept None m = IsNew m
 IsKept (Some k) m = IsOpen k.journal m × (last_image m.octets ≡ Some k.image.items)
+
+-- ---- what disks tell of their calls
+
+-- what a disk tells once its journal was opened (own)
+abbrev pub told_opened : MemState → Told
+told_opened m = told_after (length (open_calls m.octets)) (open_calls m.octets) m.octets (told_of m)
+
+-- a disk tells that an image was put, where the closed gate of its list was at this place: the four calls were done (own)
+pub record TellsPutAt (place : ℕ) (image : List ℕ) (old new : MemState) : Type 0 where
+  pub octets : List ℕ
+  pub whole : IsRecordOf image octets
+  pub told : told_of new ≡ told_after 4 (put_calls place octets) old.octets (told_of old)
+
+-- a disk that is to stop at this call (own)
+abbrev pub stopping : (call : ℕ) → Leave → MemState → MemState
+stopping call leave m = record m { stop = stop_with call leave m.stop }
+
+-- a put was stopped at this of its calls, counted from 1: those before it were done, it failed, and the disk has stopped by it (own)
+pub record StopsPutAt (place : ℕ) (image : List ℕ) (call : ℕ) (leave : Leave) (old new : MemState) : Type 0 where
+  pub octets : List ℕ
+  pub whole : IsRecordOf image octets
+  pub told : told_of new ≡ told_failed (call - 1) (put_calls place octets) old.octets (told_of (stopping call leave old))
+  pub stopped : new.stop ≡ Stopped leave
+  pub rose : Rose old.faults new.faults
+
+-- a put was stopped so, the disk was restarted, and then its journal was opened (own)
+pub record StopsAndOpens (place : ℕ) (image : List ℕ) (call : ℕ) (leave : Leave) (old new : MemState) : Type 0 where
+  pub between : MemState
+  pub stops : StopsPutAt place image call leave old between
+  pub opens : told_of new ≡ told_opened (restarted between)
+  pub read : images new.octets ≡ images (restarted between).octets

@@ -1,10 +1,13 @@
-// Journals on disks in memory that never stop but where they are told to.
-ghost use Rattle.std.specs.Prelude.{◌≡◌, ◌≢◌, ◌+◌, ◌^◌, ◌<◌, ◌≤◌, ◌++◌, ◌∷◌, [], ℕ, List, true, Some, Err, IfOk, OnOk, length, if◌then◌else◌};
+// Journals on disks in memory that never stop but where they are told to. After each call they do not stop any more.
+ghost use Rattle.std.specs.Prelude.{◌≡◌, ◌≢◌, ◌+◌, ◌^◌, ◌<◌, ◌≤◌, ◌++◌, ◌∷◌, [], ℕ, List, true, Some, Err, IfOk, OnOk, OnErr, length, if◌then◌else◌};
 ghost use Rattle.std.specs.Option.{option_map};
 ghost use Rattle.house_journal.specs.Records.{images, last_image};
 ghost use Rattle.house_journal.specs.Restarts.{CanBeOpened};
 ghost use Rattle.house_journal.specs.declared.step.Stop.TheVariants.{Never};
+ghost use Rattle.house_journal.specs.MemoryDisks.{left_now, told_of};
+ghost use Rattle.house_journal.specs.Restarts.{begun_with, restarted};
 ghost use Rattle.kept_journals.specs.KeptJournals.{Holds, HoldsEither, IsOpen, size_of, stops_after};
+ghost use Rattle.kept_journals.specs.KeptJournals.{StopsAndOpens, TellsPutAt, told_opened};
 ghost use Rattle.kept_journals.specs.declared.faults.Unkept.TheVariants as why;
 
 use crate::faults::Unkept;
@@ -22,6 +25,8 @@ pub fn open(alloc: Global, disk: &mut MemDisk) -> Result<(Journal, Option<Vec<u8
     ensures images { OnOk result (images disk.new.octets ≡ images disk.old.octets) }
     ensures last { IfOk result (λ r. option_map (λ v. v.items) r.1 ≡ last_image disk.old.octets) }
     ensures crash { (list : List (List ℕ)) → Holds disk.old list → Holds disk.new list }
+    ensures told { OnOk result (told_of disk.new ≡ told_opened disk.old) }
+    ensures never { disk.new.stop ≡ Never }
     ensures memory { result ≢ Err why.Full }
 {
     match Journal::open(alloc, disk) {
@@ -44,6 +49,9 @@ pub fn put(
     ensures crash { HoldsEither disk.new (images disk.old.octets) (images disk.old.octets ++ image.now ∷ []) }
     ensures room { OnOk result (size_of (images disk.old.octets ++ image.now ∷ []) ≤ 2 ^ 40) }
     ensures full { result ≡ Err why.Full → 2 ^ 40 < size_of (images disk.old.octets ++ image.now ∷ []) }
+    ensures lacking { 2 ^ 40 < size_of (images disk.old.octets ++ image.now ∷ []) → result ≡ Err why.Full }
+    ensures told { OnOk result (TellsPutAt journal.old.place image.now disk.old disk.new) }
+    ensures never { disk.new.stop ≡ Never }
 {
     match journal.put(alloc, disk, image) {
         Ok(()) => Ok(()),
@@ -53,8 +61,9 @@ pub fn put(
     }
 }
 
-/// Puts an image, if there is room, and stops the disk at this writing call, 1 to 4. Then the disk starts again, and the journal is
-/// opened. It has the image where the gate was written and is kept.
+/// Puts an image, if there is room, and stops the disk at this writing call of the put, 1 to 4. Then the disk starts again, with this
+/// leave, and the journal is opened. It has the image where the gate was written and is kept. Where memory runs out on the way the disk
+/// starts again with all that was written.
 pub fn stopped_put(
     alloc: Global,
     journal: &mut Journal,
@@ -73,6 +82,9 @@ pub fn stopped_put(
     ensures crash { HoldsEither disk.new (images disk.old.octets) (images disk.old.octets ++ image.now ∷ []) }
     ensures room { OnOk result (size_of (images disk.old.octets ++ image.now ∷ []) ≤ 2 ^ 40) }
     ensures full { result ≡ Err why.Full → 2 ^ 40 < size_of (images disk.old.octets ++ image.now ∷ []) }
+    ensures lacking { 2 ^ 40 < size_of (images disk.old.octets ++ image.now ∷ []) → result ≡ Err why.Full }
+    ensures stops { OnOk result (StopsAndOpens journal.old.place image.now call leave disk.old disk.new) }
+    ensures never { disk.new.stop ≡ Never }
 {
     a_put_is_told_by_its_calls();
     a_stop_comes_at_its_call();
@@ -82,11 +94,30 @@ pub fn stopped_put(
     disk.stop(u64::from(call), leave);
     match journal.put(alloc, disk, image) {
         Err(AllocOr::Fault(JournalFault::DiskFault)) => {}
-        Err(AllocOr::OutOfMemory) => return Err(Unkept::OutOfMemory),
+        Err(AllocOr::OutOfMemory) => {
+            disk.restart_with_all();
+            return Err(Unkept::OutOfMemory);
+        }
         Err(AllocOr::Fault(JournalFault::Full)) => unreachable!(),
         Err(AllocOr::Fault(JournalFault::Reopen)) => unreachable!(),
         Ok(()) => unreachable!(),
     }
-    disk.restart()?;
+    restart(disk)?;
     open(alloc, disk)
+}
+
+// Starts a disk again; where memory runs out for that, with all that was written.
+fn restart(disk: &mut MemDisk) -> Result<(), Unkept>
+    ensures ok { OnOk result (disk.new ≡ restarted disk.old) }
+    ensures err { OnErr result (disk.new ≡ begun_with disk.old.octets disk.old) }
+    ensures lawful { left_now disk.old.steps disk.old.octets disk.new.octets }
+    ensures memory { result ≢ Err why.Full }
+{
+    match disk.restart() {
+        Ok(()) => Ok(()),
+        Err(_) => {
+            disk.restart_with_all();
+            Err(Unkept::OutOfMemory)
+        }
+    }
 }

@@ -1,13 +1,17 @@
 // The journal of a house, and its last image.
 ghost use Rattle.std.specs.Prelude.{◌≡◌, ◌^◌, ◌<◌, ◌≤◌, ◌++◌, ◌∷◌, [], false, Some, Err, IfOk, OnOk};
 ghost use Rattle.house_journal.specs.Records.{images};
+ghost use Rattle.house_journal.specs.declared.step.Stop.TheVariants.{Never};
 ghost use Rattle.kept_journals.specs.KeptJournals.{HoldsEither, IsKept, IsNew, is_last, noted, size_of};
 ghost use Rattle.kept_journals.specs.declared.faults.Unkept.TheVariants as why;
 
 use crate::calls::{open, put};
 use crate::faults::Unkept;
-use house_journal::{Journal, MemDisk};
+use house_journal::{Journal, MOST_OCTETS, MemDisk};
 use std::alloc::Global;
+
+// The octets of the greatest image that has room in a new journal.
+const MOST_FIRST: u64 = MOST_OCTETS - 10;
 
 /// The journal of a house, and the last image in it.
 #[derive(Drop)]
@@ -32,6 +36,9 @@ pub fn keep(
         → size_of (images disk.old.octets ++ image.items ∷ []) ≤ 2 ^ 40) }
     ensures full { result ≡ Err why.Full → (is_last image.items (images disk.old.octets) ≡ false)
         × (2 ^ 40 < size_of (images disk.old.octets ++ image.items ∷ [])) }
+    ensures lacking { is_last image.items (images disk.old.octets) ≡ false
+        → 2 ^ 40 < size_of (images disk.old.octets ++ image.items ∷ []) → result ≡ Err why.Full }
+    ensures never { disk.new.stop ≡ Never }
 {
     match house {
         Some(kept) => keep_next(alloc, kept, disk, image),
@@ -50,7 +57,12 @@ fn keep_first(alloc: Global, disk: &mut MemDisk, image: Vec<u8>) -> Result<KeptH
     ensures crash { HoldsEither disk.new (images disk.old.octets) (images disk.old.octets ++ image.items ∷ []) }
     ensures room { OnOk result (size_of (images disk.old.octets ++ image.items ∷ []) ≤ 2 ^ 40) }
     ensures full { result ≡ Err why.Full → 2 ^ 40 < size_of (images disk.old.octets ++ image.items ∷ []) }
+    ensures lacking { 2 ^ 40 < size_of (images disk.old.octets ++ image.items ∷ []) → result ≡ Err why.Full }
+    ensures never { disk.new.stop ≡ Never }
 {
+    if image.len() as u64 > MOST_FIRST {
+        return Err(Unkept::Full);
+    }
     let (mut journal, _) = open(alloc, disk)?;
     put(alloc, &mut journal, disk, &image)?;
     Ok(KeptHouse { journal, image })
@@ -71,6 +83,9 @@ fn keep_next(
         → size_of (images disk.old.octets ++ image.items ∷ []) ≤ 2 ^ 40) }
     ensures full { result ≡ Err why.Full → (is_last image.items (images disk.old.octets) ≡ false)
         × (2 ^ 40 < size_of (images disk.old.octets ++ image.items ∷ [])) }
+    ensures lacking { is_last image.items (images disk.old.octets) ≡ false
+        → 2 ^ 40 < size_of (images disk.old.octets ++ image.items ∷ []) → result ≡ Err why.Full }
+    ensures never { disk.new.stop ≡ Never }
 {
     if image == kept.image {
         return Ok(());

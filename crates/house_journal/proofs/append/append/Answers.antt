@@ -6,7 +6,7 @@ use Rattle.house_journal.specs.Disks.{Only, Told, Wrote, told_change, told_sync,
 use Rattle.house_journal.specs.Tellings.{put_calls}
 use Rattle.house_journal.proofs.Tellings.{answered, allowed, failed_tells, ended_tells}
 use Rattle.house_journal.specs.Records.{IsRecordOf}
-use Rattle.house_journal.proofs.Appending.{second_done}
+use Rattle.house_journal.proofs.Appending.{done_placed, second_done}
 use Rattle.house_journal.proofs.Appended.{after_first, after_sync, after_second, appended, first_piece, told_synced}
 use Rattle.house_journal.proofs.append.append.Goals as goal
 
@@ -169,3 +169,14 @@ returns-clause-told g c t is =
       answered = (one, (two, (three, (four, tt))));
       tells = c.in_ok-sync-2.ensures.told ∙ (λ i. option_map (told_sync (opened i) false) (third i));
     }
+
+pub returns-clause-placed : goal.returns-clause-placed
+returns-clause-placed g c image is =
+    let d0 = c.args.disk.now in
+    let staged = c.in_ok-write_at.ensures.written
+    ∙ first_piece g.D.Disk g.met.D.Disk.only_now d0 c.args.place c.requires.ready image c.args.octets.now is c.requires.room _ (rest_of c.args.octets.now) in
+    let reads = c.in_ok-sync-2.ensures.synced.0 ∙ c.in_ok-write_at-2.ensures.written
+    ∙ (λ i. written ((c.in_ok-sync.ensures.synced.0 ∙ staged) i) c.args.place (gate_of image c.args.octets.now is i))
+    ∙ second_done (g.D.Disk.reads d0) c.args.place c.requires.ready.rest image c.args.octets.now is c.requires.room in
+    ap (λ (l : List ℕ). take (length image) (drop (c.args.place + 9) l)) reads
+    ∙ done_placed (g.D.Disk.reads d0) c.args.place c.requires.ready.rest image c.args.octets.now is c.requires.room

@@ -1,4 +1,5 @@
-use Rattle.std.proofs.Common.{◌≡◌, ap, ◌∙◌}
+use Rattle.std.proofs.Common.{⊎_elim, ap, refl, subst, ◌∙◌, ◌<◌, ◌^◌, ℕ}
+use Rattle.house_journal.specs.MemoryDisks.{told_of}
 use Rattle.std.specs.Prelude.{Err}
 use Rattle.cds_stamps.specs.declared.alloc_or.AllocOr.TheVariants.{Fault}
 use Rattle.house_journal.specs.ClockProofs.{counts_now_lem}
@@ -22,3 +23,20 @@ returns-in-Err-Fault-Full-clause-full c is =
     let fault = c.in-Err-Fault-Full in
     let full = fault.is ∙ ap Err (fault.field-0-is ∙ ap Fault fault.field-0-0-is) in
     rw (size_at_rest c.args.disk.now.octets c.args.journal.now.place c.args.image.now c.requires.rest) (c.put.ensures.full.0 full).1
+
+pub returns-in-Ok-clause-lacking : goal.returns-in-Ok-clause-lacking
+returns-in-Ok-clause-lacking c more =
+    let size = size_at_rest c.args.disk.now.octets c.args.journal.now.place c.args.image.now c.requires.rest in
+    absurd (let is = c.in-Ok.ensures.full.1 (c.requires.whole, subst (λ (n : ℕ). 2 ^ 40 < n) size more) in cc)
+
+pub returns-in-Err-OutOfMemory-clause-lacking : goal.returns-in-Err-OutOfMemory-clause-lacking
+returns-in-Err-OutOfMemory-clause-lacking c more =
+    let size = size_at_rest c.args.disk.now.octets c.args.journal.now.place c.args.image.now c.requires.rest in
+    absurd (let is = c.in-Err-OutOfMemory.ensures.full.1 (c.requires.whole, subst (λ (n : ℕ). 2 ^ 40 < n) size more) in
+    let memory = c.in-Err-OutOfMemory.field-0-is in cc)
+
+pub returns-in-Ok-clause-told : goal.returns-in-Ok-clause-told
+returns-in-Ok-clause-told c =
+    ⊎_elim (λ untried. absurd untried.0)
+    (λ tried. record { octets = tried.0; whole = tried.1; told = (let told = tried.2.tells in cc) })
+    (c.in-Ok.ensures.told (told_of c.args.disk.now) refl)

@@ -1,9 +1,8 @@
-use Rattle.std.proofs.Common.{◌≡◌, ◌++◌, ◌∷◌, [], List, ℕ, sym, ◌∙◌, ap, subst}
-use Rattle.std.specs.Prelude.{Err, Option}
+use Rattle.std.proofs.Common.{◌≡◌, sym, ◌∙◌, ap, subst}
+use Rattle.std.specs.Prelude.{Err}
 use Rattle.std.proofs.lemmas.Result.{err_from_is_err_and}
 use Rattle.house_journal.specs.Records.{images}
 use Rattle.kept_journals.specs.KeptJournals.{HoldsEither, IsKept, IsNew}
-use Rattle.kept_journals.specs.declared.faults.Unkept.{Unkept}
 use Rattle.kept_journals.specs.declared.faults.Unkept.TheVariants.{Full}
 use Rattle.kept_journals.proofs.Lasts.{noted_new}
 use Rattle.kept_journals.proofs.Leaving.{none_last}
