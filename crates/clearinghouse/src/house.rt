@@ -74,7 +74,8 @@ impl Clearinghouse {
         self.floor.time
     }
 
-    /// True once a call ran out of memory. From then on each call that can answer so answers so; start the house from its last image.
+    /// True once a call ran out of memory. From then on each call that can answer so answers so. Send nothing more of this house, drop
+    /// it, and `start` it from the last image that was put: what it did since then was not sent, so no other house misses it.
     pub fn is_spent(&self) -> bool
         ensures { result ≡ self.now.spent }
     {
@@ -104,7 +105,8 @@ impl Clearinghouse {
     }
 
     /// Makes a directory of which it is the master: in epoch 1, with a replica that is empty. It posts Joins to the other
-    /// members.
+    /// members. It requires that the house never had the directory, not even one that it left (test: `state(dir).is_none()`), and
+    /// that the list names this house as the master (test: `members.master() == number()`).
     pub fn create_directory(
         &mut self,
         alloc: Global,
@@ -127,7 +129,8 @@ impl Clearinghouse {
         self.posted(alloc, dir, Some(&outgoing))
     }
 
-    /// Makes a directory, as `create_directory` does. What is to be posted.
+    /// Makes a directory, as `create_directory` does and with what that requires: `state(dir).is_none()`, and `members.master() ==
+    /// number()`. What is to be posted: put the `image` first, and then give it to `letters`.
     pub fn found(
         &mut self,
         alloc: Global,
@@ -200,7 +203,7 @@ impl Clearinghouse {
         }
     }
 
-    /// Takes an update, as `accept` does, or refuses it. What is to be posted.
+    /// Takes an update, as `accept` does, or refuses it. What is to be posted: put the `image` first, and then give it to `letters`.
     pub fn accept_update(
         &mut self,
         alloc: Global,
@@ -290,7 +293,8 @@ impl Clearinghouse {
         }
     }
 
-    /// Begins a skulk, as `start_skulk` does. What is to be posted. It takes no memory.
+    /// Begins a skulk, as `start_skulk` does. It takes no memory. What is to be posted: put the `image` first, and then give it to
+    /// `letters`. (The image has the floor, and so the stamp of the skulk is given once; a skulk itself ends at a crash.)
     pub fn begin_skulk(
         &mut self,
         clock: u64,
@@ -339,7 +343,8 @@ impl Clearinghouse {
     }
 
     /// Takes a new epoch of a directory, of which it is to be the master, and posts Joins to the other members and Leaves to
-    /// the houses that are members no more. Or refuses it.
+    /// the houses that are members no more. Or refuses it. It requires that the list names this house as the master (test:
+    /// `members.master() == number()`).
     pub fn new_epoch(
         &mut self,
         alloc: Global,
@@ -376,8 +381,9 @@ impl Clearinghouse {
         Ok(EpochSet::Done(posted))
     }
 
-    /// Takes a new epoch, as `new_epoch` does, or refuses it. A Join is to be posted, and a Leave to each house that is a
-    /// member no more.
+    /// Takes a new epoch, as `new_epoch` does and with what that requires: `members.master() == number()`. Or refuses it. A Join is
+    /// to be posted, and a Leave to each house that is a member no more: put the `image` first, and then give `Outgoing::Join` to
+    /// `letters`, and those houses to `leaves`.
     pub fn enter_epoch(
         &mut self,
         alloc: Global,

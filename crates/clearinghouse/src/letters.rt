@@ -23,7 +23,9 @@ pub struct Letters {
 }
 
 impl Clearinghouse {
-    /// The message about a directory that says this, and its receivers; none, where nobody is to be told.
+    /// The message about a directory that says this, and its receivers; none if there is no receiver. It encodes what the house holds
+    /// *now*: call it before the next call that changes the house. And put the `image` first: a crash undoes at the sender what is on
+    /// no disk, and the sender would give the stamp that others have to a second update.
     pub fn letters(
         &self,
         alloc: Global,
@@ -44,7 +46,8 @@ impl Clearinghouse {
         }
     }
 
-    /// The Leave of an epoch to each of these houses.
+    /// The Leave of an epoch to each of these houses. As with `letters`: after the `image` is put, and before the next call that
+    /// changes the house.
     pub fn leaves(
         &self,
         alloc: Global,

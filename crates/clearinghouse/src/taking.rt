@@ -61,7 +61,8 @@ impl Clearinghouse {
         })
     }
 
-    /// Takes a message, as `take` does. What is to be posted.
+    /// Takes a message, as `take` does. What is to be posted: put the `image` first, and then give it to `letters`. Any message that
+    /// `decode` gives may be taken; one that is not taken changes nothing and posts nothing.
     pub fn take_message(
         &mut self,
         alloc: Global,

@@ -12,7 +12,7 @@ use directory::Fragment;
 use std::alloc::{AllocError, Global};
 
 /// What a house has to post about a directory that it holds. A replica or a member list that belongs to it is the one that
-/// the house holds.
+/// the house holds when `Clearinghouse::letters` encodes it.
 #[derive(Drop)]
 pub enum Outgoing {
     /// To each other member: the marks of an update.
@@ -31,7 +31,7 @@ pub enum Outgoing {
     Join,
 }
 
-/// What a call comes to, before anything is posted: its answer, and what is to be posted, if anything.
+/// What a call gives before anything is posted: its answer, and what is to be posted, if anything (`Clearinghouse::letters`).
 #[derive(Drop)]
 pub struct Turn<A> {
     pub answer: A,

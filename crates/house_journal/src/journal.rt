@@ -33,6 +33,7 @@ pub enum JournalFault {
     DiskFault,
     #[error("the journal would be too large")]
     Full,
+    /// An earlier put failed. Drop the journal and open its disk again: that gives the image of before that put, or that one.
     #[error("the journal has to be opened again")]
     Reopen,
 }
@@ -70,7 +71,8 @@ impl Journal {
     /// Opens the journal of a disk, in whatever state a crash or a failure left it, and answers the last image. It
     /// syncs and reads; then it cuts off all after the gate that ends the list, and syncs; and where that gate is not
     /// 0, or missing, it writes 0 there, and syncs. From its first sync on a crash at any moment leaves that image; a
-    /// second open changes nothing. After OutOfMemory or a fault of the disk it can be opened again.
+    /// second open changes nothing. After OutOfMemory or a fault of the disk it can be opened again. It requires at most
+    /// 2^40 octets (test: `disk.size()? <= MOST_OCTETS`).
     pub fn open<D: Disk>(
         alloc: Global,
         disk: &mut D,
@@ -111,9 +113,10 @@ impl Journal {
         len <= MOST_OCTETS - FRAME && self.place <= MOST_OCTETS - FRAME - len
     }
 
-    /// Puts an image after the others. A crash at any moment leaves the earlier images, or those and this one; after
-    /// Ok, these. Reopen and Full change nothing; after another error the journal answers Reopen until it is opened
-    /// again.
+    /// Puts an image after the others. It requires the disk that the journal was opened on, with nothing done to it in between:
+    /// keep the two in one value (`crates/two_houses/src/store.rt`). A crash at any moment leaves the earlier images, or those
+    /// and this one; after Ok, these. Reopen and Full change nothing; after another error the journal answers Reopen until it is
+    /// opened again.
     pub fn put<D: Disk>(
         &mut self,
         alloc: Global,
