@@ -7,7 +7,7 @@ BANDS = {
     "forms": ["script_replay", "clerk_replay", "inquire_replay", "journal_replay", "mend_replay", "reply_buffer", "inquire_forms", "journal_forms", "ns_commands"],
     "cells and houses": ["cds_cell", "clearinghouse", "house_directory", "cell_model", "mend_model"],
     "names and servers": ["resolver", "clerk_cache", "ns_import", "ns_inquire", "ns_groups", "ns_profiles", "server_entries"],
-    "scripts": ["cell_script", "script_answers"],
+    "scripts": ["cell_script", "script_answers", "house_lines"],
     "records and disks": ["cds_records", "cds_messages", "record_fields", "image_audit", "house_journal", "disk_journals", "file_disk", "house_segments", "house_entries", "house_serving"],
     "replicas": ["purge_rule", "skulk_core", "directory", "attr_sets"],
     "base": ["cds_stamps", "cell_names", "tower_codec", "compact_map", "cds_base"],
