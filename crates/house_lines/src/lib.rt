@@ -1,0 +1,16 @@
+//! The lines that a house reads: what they say.
+#![tactic(auto)]
+
+mod given;
+mod line;
+mod listing;
+mod parse;
+mod questions;
+mod replicas;
+#[cfg(test)]
+mod tests;
+mod updates;
+
+pub use given::GivenMembers;
+pub use line::{EpochList, HouseLine};
+pub use parse::parse_house_line;

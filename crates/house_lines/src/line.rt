@@ -1,0 +1,34 @@
+// What a line of a house says.
+use crate::given::GivenMembers;
+use cds_stamps::{AttrName, DirId, EpochNo, HouseNo, Node, SimpleName};
+use cell_script::{HouseNos, Listeds, Octets};
+use directory::Update;
+
+/// The members of an epoch as a line lists them, and the houses that are members no more.
+#[derive(Drop)]
+pub struct EpochList {
+    pub members: GivenMembers,
+    pub leaving: HouseNos,
+}
+
+/// What a line of a house says. Its fields are in the order of its words.
+#[derive(Drop)]
+pub enum HouseLine {
+    House(HouseNo, Node),
+    Clock(u64),
+    Root(Listeds),
+    /// A child of a directory, and the number of its own directory.
+    Mkdir(DirId, SimpleName, DirId, Listeds),
+    /// Where a child leads: the master of its directory, and further houses.
+    Repoint(DirId, SimpleName, HouseNo, HouseNos),
+    /// Makes or changes an entry of a directory: never a child.
+    Update(DirId, Update),
+    Skulk(DirId),
+    Epoch(DirId, EpochNo, EpochList),
+    /// Octets in front of those of the next message.
+    More(Octets),
+    Take(Octets),
+    Dump(DirId),
+    Look(DirId, SimpleName, AttrName),
+    Image,
+}
