@@ -3,6 +3,7 @@
 
 mod body;
 mod head;
+pub mod laws;
 
-pub use body::body_octets;
+pub use body::{Body, body_octets, read_body};
 pub use head::head_octets;

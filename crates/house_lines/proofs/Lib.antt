@@ -1,0 +1,3 @@
+pub mod LineFamilies
+pub mod ListingLemmas
+mod Examples

@@ -1,0 +1,4 @@
+pub mod MemberWords
+pub mod Listings
+pub mod LineRows
+pub mod PrivateLineRows

@@ -7,8 +7,6 @@ mod listing;
 mod parse;
 mod questions;
 mod replicas;
-#[cfg(test)]
-mod tests;
 mod updates;
 
 pub use given::GivenMembers;

@@ -1,17 +1,33 @@
 // Lines to what they say.
+ghost use Rattle.std.specs.Prelude.{◌≡◌, ◌∷◌, Ok, Err, None, IfSome};
+ghost use Rattle.cds_stamps.specs.Outcomes.{Answers};
+ghost use Rattle.cds_stamps.specs.declared.alloc_or.AllocOr.TheVariants.{Fault};
+ghost use Rattle.cell_script.specs.Words.{words_of};
+ghost use Rattle.house_lines.specs.LineRows.{early_by, early_fault, said_by, said_in};
+ghost use Rattle.house_lines.specs.PrivateLineRows.{Says, by_entry_rows, by_making_rows, by_message_rows, by_question_rows, by_value_rows, saying_by};
+
 use crate::line::HouseLine;
 use crate::{questions, replicas, updates};
 use cds_stamps::AllocOr;
 use cell_script::{ParseFault, Parsed, Words};
 use std::alloc::Global;
 
-// What the words after the first one say, whatever the first one is.
-fn said_after(alloc: Global, word: &[u8], words: &mut Words<'_>) -> Parsed<HouseLine> {
+// What the words after the first one say: an epoch, or another line.
+#[tactic(auto, unfolding(crate::specs::PrivateLineRows::saying_by))]
+fn said_after(alloc: Global, word: &[u8], words: &mut Words<'_>) -> Parsed<HouseLine>
+    ensures { Says result (saying_by word.now words.old) }
+{
+    if word == b"epoch".as_slice() {
+        return replicas::epoch(alloc, words);
+    }
     made(alloc, word, words)
 }
 
-// What they say if the first one is of a line that makes a house or directories, or of another.
-fn made(alloc: Global, word: &[u8], words: &mut Words<'_>) -> Parsed<HouseLine> {
+// What they say if the first one is of a line that makes the house or directories, or of another.
+#[tactic(auto, unfolding(crate::specs::PrivateLineRows::by_making_rows))]
+fn made(alloc: Global, word: &[u8], words: &mut Words<'_>) -> Parsed<HouseLine>
+    ensures { Says result (by_making_rows word.now words.old) }
+{
     if word == b"house".as_slice() {
         return replicas::house(words);
     }
@@ -31,7 +47,10 @@ fn made(alloc: Global, word: &[u8], words: &mut Words<'_>) -> Parsed<HouseLine> 
 }
 
 // The same of an update of an entry, or of another.
-fn updated(alloc: Global, word: &[u8], words: &mut Words<'_>) -> Parsed<HouseLine> {
+#[tactic(auto, unfolding(crate::specs::PrivateLineRows::by_entry_rows))]
+fn updated(alloc: Global, word: &[u8], words: &mut Words<'_>) -> Parsed<HouseLine>
+    ensures { Says result (by_entry_rows word.now words.old) }
+{
     if word == b"create".as_slice() {
         return updates::create(alloc, words);
     }
@@ -45,7 +64,10 @@ fn updated(alloc: Global, word: &[u8], words: &mut Words<'_>) -> Parsed<HouseLin
 }
 
 // The same of a change of an entry's values, or of another.
-fn changed(alloc: Global, word: &[u8], words: &mut Words<'_>) -> Parsed<HouseLine> {
+#[tactic(auto, unfolding(crate::specs::PrivateLineRows::by_value_rows))]
+fn changed(alloc: Global, word: &[u8], words: &mut Words<'_>) -> Parsed<HouseLine>
+    ensures { Says result (by_value_rows word.now words.old) }
+{
     if word == b"add".as_slice() {
         return updates::add(alloc, words);
     }
@@ -58,16 +80,16 @@ fn changed(alloc: Global, word: &[u8], words: &mut Words<'_>) -> Parsed<HouseLin
     if word == b"clear".as_slice() {
         return updates::clear(alloc, words);
     }
-    replicated(alloc, word, words)
+    handed(alloc, word, words)
 }
 
-// The same of a line about all replicas of a directory, or that hands over a message, or of another.
-fn replicated(alloc: Global, word: &[u8], words: &mut Words<'_>) -> Parsed<HouseLine> {
+// The same of a skulk, or of octets of a message, or of another.
+#[tactic(auto, unfolding(crate::specs::PrivateLineRows::by_message_rows))]
+fn handed(alloc: Global, word: &[u8], words: &mut Words<'_>) -> Parsed<HouseLine>
+    ensures { Says result (by_message_rows word.now words.old) }
+{
     if word == b"skulk".as_slice() {
         return replicas::skulk(words);
-    }
-    if word == b"epoch".as_slice() {
-        return replicas::epoch(alloc, words);
     }
     if word == b"more".as_slice() {
         return replicas::more(alloc, words);
@@ -79,7 +101,10 @@ fn replicated(alloc: Global, word: &[u8], words: &mut Words<'_>) -> Parsed<House
 }
 
 // The same of a question, or the fault of a word of no command.
-fn asked(alloc: Global, word: &[u8], words: &mut Words<'_>) -> Parsed<HouseLine> {
+#[tactic(auto, unfolding(crate::specs::PrivateLineRows::by_question_rows))]
+fn asked(alloc: Global, word: &[u8], words: &mut Words<'_>) -> Parsed<HouseLine>
+    ensures { Says result (by_question_rows word.now words.old) }
+{
     if word == b"dump".as_slice() {
         return questions::dump(words);
     }
@@ -97,7 +122,11 @@ fn asked(alloc: Global, word: &[u8], words: &mut Words<'_>) -> Parsed<HouseLine>
 pub fn parse_house_line(
     alloc: Global,
     line: &[u8],
-) -> Result<Option<HouseLine>, AllocOr<ParseFault>> {
+) -> Result<Option<HouseLine>, AllocOr<ParseFault>>
+    ensures answer { Answers result (said_in (words_of line.now)) }
+    ensures passed_over { said_in (words_of line.now) ≡ Ok None → result ≡ Ok None }
+    ensures early { IfSome (early_fault (words_of line.now)) (λ fault. result ≡ Err (Fault fault)) }
+{
     let mut words = Words::of(line);
     match words.next() {
         None => Ok(None),
@@ -105,10 +134,26 @@ pub fn parse_house_line(
     }
 }
 
+// What the words after the first one say, or their fault.
+#[tactic(auto, using(crate::proofs::LineFamilies::says_answers, crate::proofs::LineFamilies::says_early))]
+fn line_after(alloc: Global, word: &[u8], words: &mut Words<'_>) -> Parsed<HouseLine>
+    ensures answer { Answers result (said_by word.now words.old) }
+    ensures early { IfSome (early_by word.now words.old) (λ fault. result ≡ Err (Fault fault)) }
+{
+    said_after(alloc, word, words)
+}
+
 // What a line of this first word says.
-fn said_from(alloc: Global, word: &[u8], words: &mut Words<'_>) -> Parsed<Option<HouseLine>> {
+#[tactic(auto, using(cell_script::proofs::Reading::some_line_says))]
+fn said_from(alloc: Global, word: &[u8], words: &mut Words<'_>) -> Parsed<Option<HouseLine>>
+    requires { words.old.read ≡ 1 }
+    ensures answer { Answers result (said_in (word.now ∷ words.old.rest)) }
+    ensures passed_over { said_in (word.now ∷ words.old.rest) ≡ Ok None → result ≡ Ok None }
+    ensures early { IfSome (early_fault (word.now ∷ words.old.rest))
+        (λ fault. result ≡ Err (Fault fault)) }
+{
     if word.starts_with(b"#") {
         return Ok(None);
     }
-    Ok(Some(said_after(alloc, word, words)?))
+    Ok(Some(line_after(alloc, word, words)?))
 }

@@ -1,14 +1,23 @@
 // The questions: what the house holds and shows.
+#![tactic(auto, unfolding(crate::specs::PrivateLineRows::by_question_rows))]
+
+ghost use Rattle.std.specs.Prelude.{codes};
+ghost use Rattle.house_lines.specs.PrivateLineRows.{Says, by_question_rows};
+
 use crate::line::HouseLine;
 use cell_script::{Parsed, Words};
 use std::alloc::Global;
 
-pub(crate) fn dump(words: &mut Words<'_>) -> Parsed<HouseLine> {
+pub(crate) fn dump(words: &mut Words<'_>) -> Parsed<HouseLine>
+    ensures { Says result (by_question_rows (codes "dump") words.old) }
+{
     words.exactly(1)?;
     Ok(HouseLine::Dump(words.directory()?))
 }
 
-pub(crate) fn look(alloc: Global, words: &mut Words<'_>) -> Parsed<HouseLine> {
+pub(crate) fn look(alloc: Global, words: &mut Words<'_>) -> Parsed<HouseLine>
+    ensures { Says result (by_question_rows (codes "look") words.old) }
+{
     words.exactly(3)?;
     Ok(HouseLine::Look(
         words.directory()?,
@@ -17,7 +26,9 @@ pub(crate) fn look(alloc: Global, words: &mut Words<'_>) -> Parsed<HouseLine> {
     ))
 }
 
-pub(crate) fn image(words: &mut Words<'_>) -> Parsed<HouseLine> {
+pub(crate) fn image(words: &mut Words<'_>) -> Parsed<HouseLine>
+    ensures { Says result (by_question_rows (codes "image") words.old) }
+{
     words.exactly(0)?;
     Ok(HouseLine::Image)
 }

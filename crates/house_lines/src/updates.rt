@@ -1,10 +1,17 @@
 // The updates of an entry, and of its values.
+#![tactic(auto, unfolding(crate::specs::PrivateLineRows::by_entry_rows, crate::specs::PrivateLineRows::by_value_rows))]
+
+ghost use Rattle.std.specs.Prelude.{codes};
+ghost use Rattle.house_lines.specs.PrivateLineRows.{Says, by_entry_rows, by_value_rows};
+
 use crate::line::HouseLine;
 use cell_script::{Parsed, Words};
 use directory::Update;
 use std::alloc::Global;
 
-pub(crate) fn create(alloc: Global, words: &mut Words<'_>) -> Parsed<HouseLine> {
+pub(crate) fn create(alloc: Global, words: &mut Words<'_>) -> Parsed<HouseLine>
+    ensures { Says result (by_entry_rows (codes "create") words.old) }
+{
     words.exactly(2)?;
     Ok(HouseLine::Update(
         words.directory()?,
@@ -12,7 +19,9 @@ pub(crate) fn create(alloc: Global, words: &mut Words<'_>) -> Parsed<HouseLine> 
     ))
 }
 
-pub(crate) fn link(alloc: Global, words: &mut Words<'_>) -> Parsed<HouseLine> {
+pub(crate) fn link(alloc: Global, words: &mut Words<'_>) -> Parsed<HouseLine>
+    ensures { Says result (by_entry_rows (codes "link") words.old) }
+{
     words.exactly(3)?;
     Ok(HouseLine::Update(
         words.directory()?,
@@ -20,7 +29,9 @@ pub(crate) fn link(alloc: Global, words: &mut Words<'_>) -> Parsed<HouseLine> {
     ))
 }
 
-pub(crate) fn delete(alloc: Global, words: &mut Words<'_>) -> Parsed<HouseLine> {
+pub(crate) fn delete(alloc: Global, words: &mut Words<'_>) -> Parsed<HouseLine>
+    ensures { Says result (by_entry_rows (codes "delete") words.old) }
+{
     words.exactly(2)?;
     Ok(HouseLine::Update(
         words.directory()?,
@@ -28,7 +39,9 @@ pub(crate) fn delete(alloc: Global, words: &mut Words<'_>) -> Parsed<HouseLine> 
     ))
 }
 
-pub(crate) fn add(alloc: Global, words: &mut Words<'_>) -> Parsed<HouseLine> {
+pub(crate) fn add(alloc: Global, words: &mut Words<'_>) -> Parsed<HouseLine>
+    ensures { Says result (by_value_rows (codes "add") words.old) }
+{
     words.exactly(4)?;
     Ok(HouseLine::Update(
         words.directory()?,
@@ -40,7 +53,9 @@ pub(crate) fn add(alloc: Global, words: &mut Words<'_>) -> Parsed<HouseLine> {
     ))
 }
 
-pub(crate) fn remove(alloc: Global, words: &mut Words<'_>) -> Parsed<HouseLine> {
+pub(crate) fn remove(alloc: Global, words: &mut Words<'_>) -> Parsed<HouseLine>
+    ensures { Says result (by_value_rows (codes "remove") words.old) }
+{
     words.exactly(4)?;
     Ok(HouseLine::Update(
         words.directory()?,
@@ -52,7 +67,9 @@ pub(crate) fn remove(alloc: Global, words: &mut Words<'_>) -> Parsed<HouseLine> 
     ))
 }
 
-pub(crate) fn put(alloc: Global, words: &mut Words<'_>) -> Parsed<HouseLine> {
+pub(crate) fn put(alloc: Global, words: &mut Words<'_>) -> Parsed<HouseLine>
+    ensures { Says result (by_value_rows (codes "put") words.old) }
+{
     words.exactly(4)?;
     Ok(HouseLine::Update(
         words.directory()?,
@@ -64,7 +81,9 @@ pub(crate) fn put(alloc: Global, words: &mut Words<'_>) -> Parsed<HouseLine> {
     ))
 }
 
-pub(crate) fn clear(alloc: Global, words: &mut Words<'_>) -> Parsed<HouseLine> {
+pub(crate) fn clear(alloc: Global, words: &mut Words<'_>) -> Parsed<HouseLine>
+    ensures { Says result (by_value_rows (codes "clear") words.old) }
+{
     words.exactly(3)?;
     Ok(HouseLine::Update(
         words.directory()?,
