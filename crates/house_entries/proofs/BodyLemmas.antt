@@ -148,10 +148,10 @@ body_is octets front rest text tail n c len mark i low long first last is fits b
     let ns : take 8 front ≡ to_be_bytes w64 n = sym (eight_are front 0 n octet (omega (arith, size)) number) in
     let cs : take 8 (drop 8 front) ≡ to_be_bytes w64 c = sym (eight_are front 8 c octet (omega (arith, size)) clock) in
     let ls : take 4 (drop 17 front) ≡ to_be_bytes w32 (length text) =
-        sym (four_are front 17 len octet (omega (arith, size)) is) ∙ ap (λ (k : ℕ). to_be_bytes w32 k) (sym text_len) in
+    sym (four_are front 17 len octet (omega (arith, size)) is) ∙ ap (λ (k : ℕ). to_be_bytes w32 k) (sym text_len) in
     let whole : octets ≡ front ++ rest = sym (take-append-drop 21 octets) ∙ ap (λ (l : List ℕ). l ++ drop 21 octets) (sym first) ∙ ap (λ (l : List ℕ). front ++ l) (sym last) in
     let ends : rest ≡ text ++ image_in i =
-        sym (take-append-drop len rest) ∙ ap (λ (l : List ℕ). l ++ drop len rest) (sym body) ∙ ap (λ (l : List ℕ). text ++ l) (sym after ∙ image) in
+    sym (take-append-drop len rest) ∙ ap (λ (l : List ℕ). l ++ drop len rest) (sym body) ∙ ap (λ (l : List ℕ). text ++ l) (sym after ∙ image) in
     record {
       numbered = low_n;
       timed = low_c;

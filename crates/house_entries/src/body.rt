@@ -45,7 +45,8 @@ pub fn body_octets(
 // Eight octets as a number.
 fn number_at(octets: &[u8], at: usize) -> u64
     requires { at + 8 ≤ length octets.now }
-    ensures { result ≡ from_be_bytes w64 (take 8 (drop at octets.now)) }
+    ensures number { result ≡ from_be_bytes w64 (take 8 (drop at octets.now)) }
+    ensures fits { result < 2 ^ 64 }
 {
     let mut eight = [0; 8];
     eight.copy_from_slice(&octets[at..at + 8]);
@@ -55,7 +56,8 @@ fn number_at(octets: &[u8], at: usize) -> u64
 // Four octets as a length.
 fn length_at(octets: &[u8], at: usize) -> usize
     requires { at + 4 ≤ length octets.now }
-    ensures { result ≡ from_be_bytes w32 (take 4 (drop at octets.now)) }
+    ensures length { result ≡ from_be_bytes w32 (take 4 (drop at octets.now)) }
+    ensures fits { result < 2 ^ 32 }
 {
     let mut four = [0; 4];
     four.copy_from_slice(&octets[at..at + 4]);
@@ -77,7 +79,7 @@ fn image_after(mark: u8, rest: &[u8]) -> Option<Option<&[u8]>>
 }
 
 /// The record that octets are; none, if they are the octets of no record.
-#[tactic(auto, using(crate::proofs::BodyLemmas::body_is, crate::proofs::BodyLemmas::few_octets, crate::proofs::BodyLemmas::text_fits, crate::proofs::BodyLemmas::image_fits))]
+#[tactic(auto, using(crate::proofs::BodyLemmas::few_octets, crate::proofs::BodyLemmas::text_fits, crate::proofs::BodyLemmas::image_fits))]
 pub fn read_body(octets: &[u8]) -> Option<Body<'_>>
     ensures some { IfSome result
         (λ b. IsBody octets.now b.number b.clock b.text.now (option_copied b.image)) }

@@ -1,6 +1,7 @@
 -- The words of the list of an epoch, one by one.
 use Rattle.std.proofs.Common.{◌≡◌, ◌+◌, ℕ, suc, Bool, true, false, ◌&&◌, nat_le, List, [], ◌∷◌, ◌++◌, length, ap, sym, ◌∙◌, refl, if◌then◌else◌, append_assoc, append-nil, arith}
 use Rattle.std.specs.Prelude.{Result, Ok, Err}
+use Rattle.std.proofs.lemmas.Bool.{le-leb}
 use Rattle.cds_stamps.specs.declared.alloc_or.AllocOr.{AllocOr}
 use Rattle.cds_stamps.specs.declared.alloc_or.AllocOr.TheVariants.{Fault, OutOfMemory}
 use Rattle.cds_stamps.specs.declared.members.Member.{Member}
@@ -24,11 +25,11 @@ parted w [] is = absurd (by_dash (is_dash w) is)
     by_dash : (b : Bool) → (b && false) ≡ true → ⊥
     by_dash true is = cc
     by_dash false is = cc
-parted w (v ∷ ws) is = by_dash (is_dash w) refl is
+parted w (v ∷ ws) is = by_dash (is_dash w) refl (nat_le 1 (length (v ∷ ws))) is
   where
-    by_dash : (b : Bool) → is_dash w ≡ b → (b && true) ≡ true → Parts w (v ∷ ws)
-    by_dash true dash is = record { before = rw dash refl; after = rw dash refl }
-    by_dash false dash is = absurd (cc)
+    by_dash : (b : Bool) → is_dash w ≡ b → (more : Bool) → (b && more) ≡ true → Parts w (v ∷ ws)
+    by_dash true dash more is = record { before = rw dash refl; after = rw dash refl }
+    by_dash false dash more is = absurd (cc)
 
 -- any other word is before it
 pub record Before (w : List ℕ) (ws : List (List ℕ)) : Type 0 where
@@ -37,11 +38,16 @@ pub record Before (w : List ℕ) (ws : List (List ℕ)) : Type 0 where
 
 pub unparted : (w : List ℕ) (ws : List (List ℕ)) → (is_dash w && nat_le 1 (length ws)) ≡ false → Before w ws
 unparted w [] is = record { before = refl; after = refl }
-unparted w (v ∷ ws) is = by_dash (is_dash w) refl is
+unparted w (v ∷ ws) is = by_dash (is_dash w) refl (nat_le 1 (length (v ∷ ws))) (le-leb 1 (length (v ∷ ws)) (omega arith)) is
   where
-    by_dash : (b : Bool) → is_dash w ≡ b → (b && true) ≡ false → Before w (v ∷ ws)
-    by_dash true dash is = absurd (cc)
-    by_dash false dash is = record { before = rw dash refl; after = rw dash refl }
+    by_dash : (b : Bool) → is_dash w ≡ b → (more : Bool) → more ≡ true → (b && more) ≡ false → Before w (v ∷ ws)
+    by_dash true dash more there is = absurd (cc)
+    by_dash false dash more there is = record { before = rw dash refl; after = rw dash refl }
+
+-- what was said, without the words that are left
+without_words : {A : Type 0} → Result (A × Words) ParseFault → Result A ParseFault
+without_words (Ok p) = Ok p.0
+without_words (Err e) = Err e
 
 -- words that are taken as a list are that list
 pub all_are_each : (r : Result (List HouseNo) (AllocOr ParseFault)) (s left : Words) → Takes r left (take_words Houses s)
@@ -52,7 +58,7 @@ all_are_each r s left takes = by_said (each_word house_of s.read s.rest) r takes
     by_said : (said : Result (List HouseNo) ParseFault) (r : Result (List HouseNo) (AllocOr ParseFault))
         → Takes r left (said >>= λ xs. Ok (xs, (record { read = s.read + length s.rest; rest = [] })))
         → Answers r said
-    by_said (Ok xs) (Ok h) takes = cc
+    by_said (Ok xs) (Ok h) takes = ap (λ (r : Result (List HouseNo × Words) ParseFault). without_words r) takes
     by_said (Ok xs) (Err (Fault f)) takes = absurd (cc)
     by_said (Ok xs) (Err OutOfMemory) takes = tt
     by_said (Err e) (Ok h) takes = absurd (cc)
@@ -80,9 +86,10 @@ pub reading_ends : (first : Member) (s now : Words) (ms : List Member) → IsRea
     → (members_said first s ≡ Ok ms) × (each_word house_of now.read now.rest ≡ leaving_said s)
 reading_ends first s now ms so none =
     let after : after_dash s.rest ≡ [] = so.leaving ∙ ap (λ (l : List (List ℕ)). after_dash l) none in
-    let read = s.read + length (before_dash s.rest) + 1 in
-    (last_said first s now ms so (ap (λ (l : List (List ℕ)). before_dash l) none),
-    ap (λ (l : List (List ℕ)). each_word house_of now.read l) none ∙ sym (ap (λ (l : List (List ℕ)). each_word house_of read l) after))
+    let read = s.read + length (before_dash s.rest) + 1 in (
+      last_said first s now ms so (ap (λ (l : List (List ℕ)). before_dash l) none),
+      ap (λ (l : List (List ℕ)). each_word house_of now.read l) none ∙ sym (ap (λ (l : List (List ℕ)). each_word house_of read l) after),
+    )
 
 -- a dash parts them
 pub reading_parts : (first : Member) (s now next : Words) (ms : List Member) (w : List ℕ) → IsReading first s ms now → now.rest ≡ w ∷ next.rest
@@ -94,10 +101,11 @@ reading_parts first s now next ms w so is dash read =
     let after : after_dash s.rest ≡ next.rest = so.leaving ∙ ap (λ (l : List (List ℕ)). after_dash l) is ∙ parts.after in
     let zero_left : length (before_dash now.rest) ≡ 0 = ap (λ (l : List (List ℕ)). length l) none in
     let before = so.read in
-    let at : next.read ≡ s.read + length (before_dash s.rest) + 1 = omega (arith, zero_left, before, read) in
-    (last_said first s now ms so none,
-    ap (λ (n : ℕ). each_word house_of n next.rest) at
-    ∙ sym (ap (λ (l : List (List ℕ)). each_word house_of (s.read + length (before_dash s.rest) + 1) l) after))
+    let at : next.read ≡ s.read + length (before_dash s.rest) + 1 = omega (arith, zero_left, before, read) in (
+      last_said first s now ms so none,
+      ap (λ (n : ℕ). each_word house_of n next.rest) at
+          ∙ sym (ap (λ (l : List (List ℕ)). each_word house_of (s.read + length (before_dash s.rest) + 1) l) after),
+    )
 
 -- a word is no member
 pub reading_fails : (first : Member) (s now : Words) (ms : List Member) (w : List ℕ) (ws : List (List ℕ)) (e : ParseFault) → IsReading first s ms now
