@@ -235,7 +235,8 @@ def reached():
     calls, known = Calls(), set()
     theirs = [it for it in functions() if it.crate not in TESTS]
     programs = (("cell_replay", "run"), ("cdsreplay", "main"), ("mend_program", "run"), ("cdsmend", "main"))
-    roots = (*programs, ("house_serving", "serve"), ("house_segments", "last_record"))
+    houses = (("house_serving", "serve"), ("house_segments", "last_record"), ("house_entries", "body_octets"), ("house_entries", "read_body"))
+    roots = (*programs, *houses, ("house_lines", "parse_house_line"))
     begin = [it for it in theirs if (it.crate, it.name) in roots]
     begin += [it for it in theirs if it.trait and it.trait not in traits()]
     while begin:

@@ -45,7 +45,7 @@ unparted w (v ∷ ws) is = by_dash (is_dash w) refl (nat_le 1 (length (v ∷ ws)
     by_dash false dash more there is = record { before = rw dash refl; after = rw dash refl }
 
 -- what was said, without the words that are left
-without_words : {A : Type 0} → Result (A × Words) ParseFault → Result A ParseFault
+abbrev without_words : {A : Type 0} → Result (A × Words) ParseFault → Result A ParseFault
 without_words (Ok p) = Ok p.0
 without_words (Err e) = Err e
 
