@@ -81,7 +81,7 @@ fn handed(alloc: Global, line: &[u8]) -> Result<Octets, Fail> {
 // A line of the most octets: a word, and these octets again and again.
 fn longest(alloc: Global, word: &[u8], again: &[u8]) -> Result<Vec<u8>, Fail> {
     let mut line = Vec::from_slice(alloc, word)?;
-    'octets: while line.len() < LONGEST {
+    'octets: for made in 0..LONGEST {
         line.extend_from_slice(again)?;
     }
     line.truncate(LONGEST);
