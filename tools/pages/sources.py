@@ -7,7 +7,7 @@ import re
 ROOT = os.path.dirname(os.path.dirname(os.path.dirname(os.path.realpath(__file__))))
 CASES = ("crates/cdsreplay/cases", "crates/cdsmend/cases")
 # Crates whose code is no part of the program: its tests.
-TESTS = ("disk_tests", "service_tests", "house_tests", "run_tests")
+TESTS = ("disk_tests", "service_tests", "house_tests", "line_tests", "run_tests")
 # Programs that show how crates are used; no rule is theirs.
 EXAMPLES = ("two_houses",)
 

@@ -1,0 +1,7 @@
+//! Tests of the lines and the records of a house, of what no clause says: calls that take memory answer a value where there is enough.
+#![tactic(auto)]
+
+#[cfg(test)]
+mod lines;
+#[cfg(test)]
+mod records;
