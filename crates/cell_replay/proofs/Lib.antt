@@ -5,6 +5,7 @@ pub mod Turns
 pub mod LinesLeft
 pub mod FormsKept
 pub mod NewDisks
+pub mod FullJournals
 pub mod Streams
 pub mod TowerTurns
 pub mod TowerLaws

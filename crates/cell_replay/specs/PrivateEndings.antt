@@ -1,5 +1,5 @@
 -- Words of private contracts: how the parts of a run end (own).
-use Rattle.std.specs.Prelude.{◌≡◌, ◌⊎◌, ℕ, ◌<◌, List, ◌++◌, length, take, Option}
+use Rattle.std.specs.Prelude.{◌≡◌, ◌⊎◌, ℕ, ◌<◌, Bool, true, false, List, ◌++◌, length, take, Option}
 use Rattle.std.specs.Io.KnownBytes.{Appends}
 use Rattle.cds_base.specs.Counts.{Rose}
 use Rattle.cell_replay.specs.declared.endings.Status.{Status}
@@ -64,3 +64,13 @@ IsQueued status text waited waits result = ((result ≡ status) × (waits ≡ wa
 abbrev pub StopsWith : (sink sink' : Side) → Status → (text waited : List ℕ) → Status → Type 0
 StopsWith sink sink' status text waited result =
     (mid : Status) × (waits : List ℕ) × IsQueued status text waited waits mid × Finishes sink sink' waits mid result
+
+-- whether a journal had no room, by how the run ended: a run that ends out of memory met no full journal. The sink may fail after one
+abbrev pub TellsFull : Status → (full : Bool) → Type 0
+TellsFull AllRead full = full ≡ false
+TellsFull Usage full = full ≡ false
+TellsFull BadInput full = full ≡ false
+TellsFull ReadFault full = full ≡ false
+TellsFull WriteFault full = Unit {0}
+TellsFull OutOfMemory full = full ≡ false
+TellsFull JournalFull full = full ≡ true

@@ -1,5 +1,5 @@
 -- Words of private contracts: what a form of the program is at, and what it makes of a line (own).
-use Rattle.std.specs.Prelude.{◌≡◌, ℕ, ◌≤◌, Bool, List, [], Option, Result, Ok, Err, is_some}
+use Rattle.std.specs.Prelude.{◌≡◌, ℕ, ◌≤◌, Bool, false, List, [], Option, Result, Ok, Err, is_some}
 use Rattle.cell_script.specs.declared.command.ScriptLine.{ScriptLine}
 use Rattle.cell_script.specs.declared.fault.ParseFault.{ParseFault}
 use Rattle.reply_buffer.specs.LineEnds.{Ends}
@@ -87,6 +87,11 @@ IsAt (form.Journal journals) state = KeepsTo journals state
 abbrev pub disks_of : LineForm → List MemState
 disks_of (form.Journal journals) = journals.keeper.disks.items
 disks_of _ = []
+
+-- whether a journal of a form had no room for an image: `journal` alone has any
+abbrev pub full_of : LineForm → Bool
+full_of (form.Journal journals) = journals.keeper.full
+full_of _ = false
 
 -- what a form is left with at a faulty line: its disks
 abbrev pub IsKept : LineForm → LineState → Type 0

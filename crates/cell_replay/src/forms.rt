@@ -8,7 +8,9 @@ ghost use Rattle.cds_stamps.specs.Outcomes.{Answers};
 ghost use Rattle.cell_replay.specs.LineStates.{LineState, line_check, response};
 ghost use Rattle.cell_replay.specs.Demand.{end_text, told_fault};
 ghost use Rattle.cell_replay.specs.Forms.{form_named, form_numbered, form_of};
-ghost use Rattle.cell_replay.specs.PrivateStanding.{IsAt, IsBroken, IsForm, IsKept, IsShort, Replies, Counts, counted, disks_of, has_command, start_of};
+ghost use Rattle.cell_replay.specs.PrivateStanding.{IsAt, IsBroken, IsForm, IsKept, IsShort, Replies, Counts, counted, disks_of, full_of, has_command, start_of};
+ghost use Rattle.journal_replay.specs.CellDisks.{AreUsable};
+ghost use Rattle.journal_replay.specs.Keeping.{TellsRoom};
 ghost use Rattle.reply_buffer.specs.declared.replies.LineEnd.TheVariants as end;
 
 use crate::check::Tally;
@@ -134,6 +136,9 @@ impl LineForm {
             → IsKept self.new state }
         ensures broken { (state : LineState) → IsAt self.old state → IsShort result
             → IsBroken self.new number state line.now }
+        ensures usable { AreUsable (disks_of self.old) → AreUsable (disks_of self.new) }
+        ensures full { (state : LineState) → IsAt self.old state
+            → TellsRoom result (full_of self.old) (full_of self.new) }
         ensures counted { counted self.new ≤ number }
     {
         match self {

@@ -1,11 +1,11 @@
 // The run over a source and a sink.
-ghost use Rattle.std.specs.Prelude.{◌≡◌, ◌≢◌, ◌≤◌, ◌↔◌, ℕ, None, Some, IfOk, IfSome, map, string_bytes};
+ghost use Rattle.std.specs.Prelude.{◌≡◌, ◌≢◌, ◌≤◌, ◌↔◌, ℕ, false, None, Some, IfOk, IfSome, map, string_bytes};
 ghost use Rattle.cds_base.specs.Lines.{IsFresh};
 ghost use Rattle.cell_model.specs.Cells.{empty_cell};
 ghost use Rattle.clerk_replay.specs.Clerking.{clerk_dialogue, start};
 ghost use Rattle.inquire_replay.specs.Inquiring.{inquire_dialogue};
 ghost use Rattle.journal_replay.specs.CellJournals.{empty_state};
-ghost use Rattle.journal_replay.specs.CellDisks.{AreNew};
+ghost use Rattle.journal_replay.specs.CellDisks.{AreNew, AreUsable};
 ghost use Rattle.cell_replay.specs.LineStates.{LineState, Journaling};
 ghost use Rattle.cell_replay.specs.Demand.{end_text, told_fault};
 ghost use Rattle.cell_replay.specs.Forms.{ByLines, clerking_with, form_of, inquiring_form, run_form, with_journals};
@@ -13,8 +13,8 @@ ghost use Rattle.cell_replay.specs.Scripts.{IsReplay, IsReplayBy};
 ghost use Rattle.cell_replay.specs.JournalRuns.{AreOnDisks, ArePut, IsJournalReplay};
 ghost use Rattle.cell_replay.specs.Runs.{Ended, ReadsNothing, run_of};
 ghost use Rattle.cell_replay.specs.Leaving.{Leaves};
-ghost use Rattle.cell_replay.specs.PrivateStanding.{IsAt, IsBroken, IsForm, IsKept, counted, start_of};
-ghost use Rattle.cell_replay.specs.PrivateEndings.{StopsWith, side_of};
+ghost use Rattle.cell_replay.specs.PrivateStanding.{IsAt, IsBroken, IsForm, IsKept, counted, disks_of, full_of, start_of};
+ghost use Rattle.cell_replay.specs.PrivateEndings.{StopsWith, TellsFull, side_of};
 ghost use Rattle.cell_replay.specs.declared.limits.TheConstants.{MOST_KEPT};
 
 use crate::check::Tally;
@@ -86,6 +86,9 @@ fn answer_lines<S: Source, K: Sink>(
     ensures leaves { (state : LineState) → IsAt form.old state
         → Leaves (IsKept form.new) (IsBroken form.new) state
         (run_of S.left S.faults K.written K.faults source.old source.new sink.old sink.new) result }
+    ensures usable { AreUsable (disks_of form.old) → AreUsable (disks_of form.new) }
+    ensures full { (state : LineState) → IsAt form.old state → full_of form.old ≡ false
+        → TellsFull result (full_of form.new) }
 {
     let mut waiting = Waiting::new(alloc);
     'lines: loop {
@@ -119,6 +122,9 @@ fn serve_form<S: Source, K: Sink>(
     ensures leaves { (state : LineState) → IsAt form.old state
         → Leaves (IsKept form.new) (IsBroken form.new) state
         (run_of S.left S.faults K.written K.faults source.old source.new sink.old sink.new) result }
+    ensures usable { AreUsable (disks_of form.old) → AreUsable (disks_of form.new) }
+    ensures full { (state : LineState) → IsAt form.old state → full_of form.old ≡ false
+        → TellsFull result (full_of form.new) }
 {
     match Lines::new(alloc) {
         Ok(mut lines) => answer_lines(alloc, form, &mut lines, source, sink),
@@ -141,7 +147,7 @@ pub(crate) fn serve_lines<S: Source, K: Sink>(
 }
 
 /// The form `journal` over these disks, that of house H at place H - 1: a script is replayed on a cell whose houses put their images into
-/// journals. The disks are left at each ending with what the houses had put.
+/// journals. All disks come back at each ending, with what the houses had put, and none of them is set to stop.
 pub fn run_journal<S: Source, K: Sink>(
     alloc: Global,
     source: &mut S,
@@ -157,6 +163,7 @@ pub fn run_journal<S: Source, K: Sink>(
     ensures disks { Leaves (AreOnDisks disks.new.items) (ArePut disks.new.items)
         (Journaling empty_state)
         (run_of S.left S.faults K.written K.faults source.old source.new sink.old sink.new) result }
+    ensures usable { AreUsable disks.new.items }
 {
     match Journals::new(alloc, disks) {
         Ok(journals) => {

@@ -2,6 +2,7 @@ use Rattle.std.proofs.Common.{refl, ◌∙◌, arith}
 use Rattle.cell_replay.proofs.Turns.{first_line, counts_on, write_fails, turned, line_goes_on, line_stops, line_fills, line_without_memory, input_ends, ends_at_fault}
 use Rattle.cell_replay.proofs.LinesLeft.{input_ends_so, at_kept, ends_at_fault_so, fills_so, flushed_so, goes_on_so, memory_so, none_so, nothing_or_ready, stops_so}
 use Rattle.cell_replay.proofs.LinesLeft.{write_fails_so}
+use Rattle.cell_replay.proofs.FullJournals.{fault_tells, finish_tells, stop_tells}
 use Rattle.cell_replay.specs.PrivateStanding.{IsAt, IsBroken, IsKept}
 use Rattle.cell_replay.proofs.replay.answer_lines.Goals as goal
 
@@ -18,6 +19,8 @@ lines-init g c = record {
   so = λ state at. (state, at, none_so state _ _ _ _ _ c.requires.fresh.empty c.new-waiting.ensures c.requires.fresh.number);
   unbroken = c.requires.fresh.fault;
   counted = omega (arith, c.requires.start);
+  usable = λ u. u;
+  full = λ state at. refl;
 }
 
 pub returns-in_default-clause-ends : goal.returns-in_default-clause-ends
@@ -45,6 +48,10 @@ lines-preserved g c =
           _ (IsAt c.answer.new.self) (c.in-GoesOn.ensures.reply so.0 so.1);
       unbroken = next.fault;
       counted = counts_on _ _ _ _ _ _ _ next c.answer.ensures.counted;
+      usable = λ u. c.answer.ensures.usable (c.lines.invariant.usable u);
+      full = λ state at.
+          let so = c.lines.invariant.so state at in
+          c.in-GoesOn.ensures.full so.0 so.1 ∙ c.lines.invariant.full state at;
     }
 
 pub returns-in-Stops-clause-ends : goal.returns-in-Stops-clause-ends
@@ -143,3 +150,31 @@ returns-in-Err-clause-leaves g c state at =
     ends_at_fault_so g.S.Source.left g.S.Source.faults c.lines.source c.next.new.source state _ _ _ _ _ _ _ _ so.0 flushed c.lines.invariant.unbroken
     g.K.Sink.written g.K.Sink.faults _ _ _ _ _ _ _ refl moved (nothing_or_ready _ _ _ _ c.lines.lines way.ok c.has_line-ready.ensures) c.stop_at.ensures.read
     (c.stop_at.ensures.other so.0 so.1) (at_kept _ so.0 so.1)
+
+-- ---- a full journal
+
+pub returns-in-Stops-clause-full : goal.returns-in-Stops-clause-full
+returns-in-Stops-clause-full g c state at none =
+    let so = c.lines.invariant.so state at in
+    finish_tells _ _ _ _ _ _ (c.in-Stops.ensures.full so.0 so.1 ∙ c.lines.invariant.full state at ∙ none) c.finish.ensures
+
+pub returns-in-NoMemory-clause-full : goal.returns-in-NoMemory-clause-full
+returns-in-NoMemory-clause-full g c state at none =
+    let so = c.lines.invariant.so state at in
+    finish_tells _ _ _ _ _ _ (c.in-NoMemory.ensures.full so.0 so.1 ∙ c.lines.invariant.full state at ∙ none) c.finish-in-NoMemory.ensures
+
+pub returns-in-Full-clause-full : goal.returns-in-Full-clause-full
+returns-in-Full-clause-full g c state at none =
+    let so = c.lines.invariant.so state at in
+    finish_tells _ _ _ _ _ _ (c.in-Full.ensures.full so.0 so.1) c.finish-in-Full.ensures
+
+pub returns-in-Ok-None-clause-full : goal.returns-in-Ok-None-clause-full
+returns-in-Ok-None-clause-full g c state at none =
+    let so = c.lines.invariant.so state at in
+    let still = c.lines.invariant.full state at ∙ none in
+    stop_tells _ _ _ _ _ _ _ still still (c.stop_at_end.ensures so.0 so.1)
+
+pub returns-in-Err-clause-full : goal.returns-in-Err-clause-full
+returns-in-Err-clause-full g c state at none =
+    let so = c.lines.invariant.so state at in
+    fault_tells _ _ _ _ _ _ _ _ (c.lines.invariant.full state at ∙ none) c.stop_at.ensures.read (c.stop_at.ensures.other so.0 so.1)

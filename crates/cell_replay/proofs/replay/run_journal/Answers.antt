@@ -4,6 +4,8 @@ use Rattle.cell_replay.specs.JournalRuns.{AreOnDisks, ArePut}
 use Rattle.cell_replay.specs.Leaving.{Leaves}
 use Rattle.cell_replay.specs.LineStates.{Journaling}
 use Rattle.cell_replay.specs.Runs.{run_of}
+use Rattle.journal_replay.specs.CellDisks.{AreNew, AreUsable}
+use Rattle.journal_replay.proofs.Usable.{new_usable}
 use Rattle.cell_replay.proofs.JournalReplays.{is_journal_replay}
 use Rattle.cell_replay.proofs.LinesLeft.{unread_left}
 use Rattle.cell_replay.proofs.NewDisks.{new_on_disks}
@@ -28,3 +30,10 @@ pub returns-in-Err-clause-disks : goal.returns-in-Err-clause-disks
 returns-in-Err-clause-disks g c =
     unread_left (AreOnDisks c.new.new.disks.items) (ArePut c.new.new.disks.items) (Journaling empty_state) _ _ _ _
     (new_on_disks c.args.disks.now.items c.new.new.disks.items c.requires c.in-Err.ensures.err)
+
+pub returns-in-Ok-clause-usable : goal.returns-in-Ok-clause-usable
+returns-in-Ok-clause-usable g c =
+    subst AreUsable (sym c.into_disks.ensures) (c.serve_form-status.ensures.usable c.in-Ok.ensures.usable)
+
+pub returns-in-Err-clause-usable : goal.returns-in-Err-clause-usable
+returns-in-Err-clause-usable g c = new_usable c.new.new.disks.items (subst AreNew (sym c.in-Err.ensures.err) c.requires)
