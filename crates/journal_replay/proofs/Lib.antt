@@ -8,3 +8,6 @@ mod StopReplies
 mod Replied
 mod Reopening
 mod StopHouse
+pub mod Usable
+mod DiskUses
+mod FullTold

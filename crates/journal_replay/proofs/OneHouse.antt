@@ -182,6 +182,22 @@ module _ (g : Cell) (h at : ℕ) (house : h ≡ at + 1) (image : List ℕ) (is :
       by_last true last = rw (has_it, last) (none last)
       by_last false last = rw (has_it, last) (one last)
 
+  -- where it has no room, that is told
+  pub house_lacks : (is_last image (images before.octets) ≡ false → 2 ^ 40 < size_of (images before.octets ++ image ∷ []) → r ≡ Err Full)
+      → lacks_room lists (puts_of g (h ∷ []) lists) ≡ true → r ≡ Err Full
+  house_lacks told = by_last (is_last image (images before.octets)) refl
+    where
+      by_room : is_last image (images before.octets) ≡ false → (b : Bool) → nat_lt (2 ^ 40) (size_of (images before.octets ++ image ∷ [])) ≡ b
+          → lacks_room lists (p ∷ []) ≡ true → r ≡ Err Full
+      by_room last true test none = told last (grind (arith, nat_tests))
+      by_room last false test none = absurd (let e = sym (lacks false test) ∙ none in cc)
+
+      by_last : (b : Bool) → is_last image (images before.octets) ≡ b → lacks_room lists (puts_of g (h ∷ []) lists) ≡ true → r ≡ Err Full
+      by_last true last none = absurd (let e = rw (has_it, last) at none in cc)
+      by_last false last none =
+          let e = rw (has_it, last) at none in
+          by_room last (nat_lt (2 ^ 40) (size_of (images before.octets ++ image ∷ []))) refl e
+
 -- a house that was not made puts nothing, nor does one with a number that no house has
 pub none_puts : (g : Cell) (h : ℕ) (lists : Lists) → (nat_lt 0 h && has h g.made) ≡ false → puts_of g (h ∷ []) lists ≡ []
 none_puts g h lists is = by_test (nat_lt 0 h) (has h g.made) is

@@ -77,6 +77,14 @@ module _ (h at : ℕ) (house : h ≡ at + 1) (image : List ℕ) (old new : List 
       (is (ap (is_last image) reads ∙ other), stop_held stops k kept images_then, stop_room few)
   house_stops stops k (Err e) other kept is images_then few full = stop_up e (λ same. full (ap Err same))
 
+  -- where it has no room, that is told
+  pub stop_lacks : (r : Result Bool Unkept) → (2 ^ 40 < size_of longer → r ≡ Err Full) → lacks_room lists (p ∷ []) ≡ true → r ≡ Err Full
+  stop_lacks r told none = by_room (nat_lt (2 ^ 40) (size_of longer)) refl
+    where
+      by_room : (b : Bool) → nat_lt (2 ^ 40) (size_of longer) ≡ b → r ≡ Err Full
+      by_room true test = told (grind (arith, nat_tests))
+      by_room false test = absurd (let e = sym (lacks false test) ∙ none in cc)
+
 -- ---- one house
 
 -- the word: the journal gives the image where it was kept

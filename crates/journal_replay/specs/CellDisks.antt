@@ -2,6 +2,7 @@
 use Rattle.std.specs.Prelude.{◌≡◌, ◌⊎◌, ℕ, ◌+◌, ◌<◌, if◌then◌else◌, List, [], ◌∷◌, length, slice_get, Option, Some, None, IfSome}
 use Rattle.std.specs.List.{last_or}
 use Rattle.house_journal.specs.MemoryDisks.{MemState}
+use Rattle.house_journal.specs.declared.step.Stop.TheVariants.{Never}
 use Rattle.disk_journals.specs.KeptJournals.{Holds, HoldsEither, IsKept, IsNew}
 use Rattle.disk_journals.specs.declared.kept.KeptHouse.{KeptHouse}
 use Rattle.cell_model.specs.Cells.{Cell}
@@ -46,3 +47,8 @@ pub record AreKept (houses : List (Option KeptHouse)) (disks : List MemState) : 
 pub record AreNew (disks : List MemState) : Type 0 where
   pub count : length disks ≡ disk_count
   pub each : (i : ℕ) → IfSome (slice_get disks i) IsNew
+
+-- all disks are there, and none of them is set to stop (own)
+pub record AreUsable (disks : List MemState) : Type 0 where
+  pub count : length disks ≡ disk_count
+  pub each : (i : ℕ) → IfSome (slice_get disks i) (λ m. m.stop ≡ Never)

@@ -1,5 +1,5 @@
 -- How the disks of a cell's houses are kept, and what is on them behind a line of the form `journal` (own).
-use Rattle.std.specs.Prelude.{◌≡◌, false, Option, Result}
+use Rattle.std.specs.Prelude.{◌≡◌, Bool, true, false, Option, Result}
 use Rattle.cell_script.specs.declared.fault.ParseFault.{ParseFault}
 use Rattle.journal_forms.specs.declared.journal_line.JournalLine.{JournalLine}
 use Rattle.cds_cell.specs.ModelCells.{Stands}
@@ -29,3 +29,10 @@ LeavesDisks line.GoesOn s said j = Unit {0}
 LeavesDisks line.Stops s said j = HoldAll j.keeper.disks.items s.lists
 LeavesDisks line.NoMemory s said j = ArePutting j.keeper.disks.items s.lists (puts_by s said)
 LeavesDisks line.Full s said j = ArePutting j.keeper.disks.items s.lists (puts_by s said)
+
+-- whether a journal had no room so far: it is known so exactly if a line ended for that, and else as before (own)
+abbrev pub TellsRoom : LineEnd → (before after : Bool) → Type 0
+TellsRoom line.Full before after = after ≡ true
+TellsRoom line.GoesOn before after = after ≡ before
+TellsRoom line.Stops before after = after ≡ before
+TellsRoom line.NoMemory before after = after ≡ before

@@ -31,6 +31,12 @@ abbrev pub GivesUp : Unkept → List MemState → Lists → List Put → Type 0
 GivesUp OutOfMemory disks lists ps = ArePutting disks lists ps
 GivesUp Full disks lists ps = ArePutting disks lists ps × (lacks_room lists ps ≡ true)
 
+-- whether a journal had no room so far: it is known so exactly if that was the reason, and else as before (own)
+abbrev pub Tells : {A : Type 0} → Result A Unkept → (before after : Bool) → Type 0
+Tells (Ok x) before after = after ≡ before
+Tells (Err Full) before after = after ≡ true
+Tells (Err OutOfMemory) before after = after ≡ before
+
 -- images were put, each in its journal, which had room; or this was given up (own)
 abbrev pub PutsAll : Result (Unit {0}) Unkept → List MemState → Lists → List Put → Type 0
 PutsAll (Ok x) disks lists ps = HoldAll disks (with_puts ps lists) × (lacks_room lists ps ≡ false)

@@ -37,15 +37,18 @@ impl Journals {
     ghost use Rattle.reply_buffer.specs.LineEnds.{Ends};
     ghost use Rattle.journal_replay.specs.CellJournals.{JournaledCell, empty_state, journal_response, lacks_room, puts_in};
     ghost use Rattle.journal_replay.specs.CellJournals.{reply_text, response_to, state_after};
-    ghost use Rattle.journal_replay.specs.Keeping.{LeavesDisks, StandsJournals};
-    ghost use Rattle.journal_replay.specs.PrivateJournals.{GivesUp};
-    ghost use Rattle.journal_replay.specs.CellDisks.{AreNew};
+    ghost use Rattle.journal_replay.specs.Keeping.{LeavesDisks, StandsJournals, TellsRoom};
+    ghost use Rattle.journal_replay.specs.PrivateJournals.{GivesUp, Tells};
+    ghost use Rattle.journal_replay.specs.CellDisks.{AreNew, AreUsable};
+    ghost use Rattle.journal_replay.specs.DiskCalls.{EndCalls, LineCalls};
 
     /// Over a cell without houses, and these new disks, which it takes: 255. After `OutOfMemory` they are where they were.
     pub fn new(alloc: Global, disks: &mut Vec<MemDisk>) -> Result<Journals, AllocError>
         requires { AreNew disks.old.items }
         ensures stands { IfOk result (λ j. StandsJournals j empty_state) }
         ensures steps { IfOk result (λ j. j.keeper.replayer.steps ≡ 0) }
+        ensures usable { IfOk result (λ j. AreUsable j.keeper.disks.items) }
+        ensures full { IfOk result (λ j. j.keeper.full ≡ false) }
         ensures taken { OnOk result (disks.new.items ≡ []) }
         ensures err { OnErr result (disks.new.items ≡ disks.old.items) }
     {
@@ -78,10 +81,19 @@ impl Journals {
             (StandsJournals self.new) }
         ensures disks { (s : JournaledCell) → StandsJournals self.old s
             → LeavesDisks result s (said_in (words_of line.now)) self.new }
+        ensures calls { (s : JournaledCell) → StandsJournals self.old s
+            → EndCalls result s (said_in (words_of line.now)) self.old.keeper.disks.items
+            self.new.keeper.disks.items }
+        ensures usable { AreUsable self.old.keeper.disks.items → AreUsable self.new.keeper.disks.items }
+        ensures full { TellsRoom result self.old.keeper.full self.new.keeper.full }
         ensures steps { self.new.keeper.replayer.steps ≤ number }
     {
         if self.spent {
-            return LineEnd::NoMemory;
+            return if self.keeper.full {
+                LineEnd::Full
+            } else {
+                LineEnd::NoMemory
+            };
         }
         match parse_journal_line(alloc, line) {
             Ok(Some(line)) => self.reply_to_line(alloc, number, line, waiting),
@@ -106,6 +118,11 @@ impl Journals {
             (StandsJournals self.new) }
         ensures disks { (s : JournaledCell) → StandsJournals self.old s
             → LeavesDisks result s (Ok (Some line)) self.new }
+        ensures calls { (s : JournaledCell) → StandsJournals self.old s
+            → EndCalls result s (Ok (Some line)) self.old.keeper.disks.items
+            self.new.keeper.disks.items }
+        ensures usable { AreUsable self.old.keeper.disks.items → AreUsable self.new.keeper.disks.items }
+        ensures full { TellsRoom result self.old.keeper.full self.new.keeper.full }
         ensures steps { self.new.keeper.replayer.steps ≤ self.old.keeper.replayer.steps + 1 }
     {
         match self.answer(alloc, number, line, waiting) {
@@ -132,6 +149,11 @@ impl Journals {
             × (lacks_room s.lists (puts_in s line) ≡ false)) }
         ensures given_up { (s : JournaledCell) → StandsJournals self.old s
             → IfErr result (λ e. GivesUp e self.new.keeper.disks.items s.lists (puts_in s line)) }
+        ensures calls { (s : JournaledCell) → StandsJournals self.old s
+            → OnOk result (LineCalls s line self.old.keeper.disks.items
+            self.new.keeper.disks.items) }
+        ensures usable { AreUsable self.old.keeper.disks.items → AreUsable self.new.keeper.disks.items }
+        ensures full { Tells result self.old.keeper.full self.new.keeper.full }
         ensures err { OnErr result (waiting.new ≡ waiting.old) }
         ensures steps { self.new.keeper.replayer.steps ≤ self.old.keeper.replayer.steps + 1 }
     {

@@ -1,8 +1,9 @@
 // A cell whose houses put their images into journals, and what it replies to a line.
-ghost use Rattle.std.specs.Prelude.{◌≡◌, ◌≢◌, ◌++◌, ◌+◌, ◌<◌, ◌≤◌, [], true, None, Err, IfOk, IfSome, IfNone, OnOk, OnErr, replicate};
+ghost use Rattle.std.specs.Prelude.{◌≡◌, ◌≢◌, ◌++◌, ◌+◌, ◌<◌, ◌≤◌, [], true, false, None, Some, Err, IfOk, IfSome, IfNone, OnOk, OnErr, replicate};
 ghost use Rattle.std.specs.Option.{option_map};
 ghost use Rattle.cds_base.specs.declared.scan.TheConstants.{MOST_LINES};
 ghost use Rattle.cell_model.specs.Cells as model;
+ghost use Rattle.cell_model.specs.Sets.{has};
 ghost use Rattle.cds_cell.specs.CommandImages.{octets_at};
 ghost use Rattle.cds_cell.specs.ModelCells.{Stands};
 ghost use Rattle.script_answers.specs.declared.answer.Answer.TheVariants as answer;
@@ -11,10 +12,11 @@ ghost use Rattle.cell_script.specs.declared.command.Command.TheVariants as comma
 ghost use Rattle.journal_forms.specs.JournalLines.{HasNumbers};
 ghost use Rattle.journal_forms.specs.declared.journal_line.JournalLine.TheVariants as line;
 ghost use Rattle.script_replay.specs.Replies.{asked_of, question_said, said_of};
-ghost use Rattle.journal_replay.specs.CellDisks.{AreKept, AreNew, HoldAll};
-ghost use Rattle.journal_replay.specs.CellJournals.{JournaledCell, Lists, empty_state, puts_of};
+ghost use Rattle.journal_replay.specs.CellDisks.{AreKept, AreNew, AreUsable, HoldAll};
+ghost use Rattle.journal_replay.specs.CellJournals.{JournaledCell, Lists, empty_state, lacks_room, puts_of};
+ghost use Rattle.journal_replay.specs.DiskCalls.{LineCalls, OpensJournal, PlainCalls};
 ghost use Rattle.journal_replay.specs.Keeping.{StandsKeeper};
-ghost use Rattle.journal_replay.specs.PrivateJournals.{Does, IsGiven, PutsAll, Replies, acts};
+ghost use Rattle.journal_replay.specs.PrivateJournals.{Does, IsGiven, PutsAll, Replies, Tells, acts};
 ghost use Rattle.disk_journals.specs.declared.faults.Unkept.TheVariants as why;
 
 use crate::images::{actors_of, image_of};
@@ -38,6 +40,8 @@ pub(crate) struct Keeper {
     pub(crate) replayer: Replayer,
     pub(crate) houses: Vec<Option<KeptHouse>>,
     pub(crate) disks: Vec<MemDisk>,
+    // Whether a journal had no room for an image.
+    pub(crate) full: bool,
 }
 
 /// The place of a house's disk; none of a number that no house has.
@@ -46,6 +50,16 @@ pub(crate) fn place_of(house: HouseNo) -> Option<usize>
     ensures none { IfNone result (house.0 ≡ 0) }
 {
     usize::from(house.0).checked_sub(1)
+}
+
+/// Whether a journal had no room, after a put.
+pub(crate) fn full_after<A>(put: &Result<A, Unkept>, before: bool) -> bool
+    ensures { Tells put.now before result }
+{
+    match put {
+        Err(Unkept::Full) => true,
+        Err(Unkept::OutOfMemory) | Ok(_) => before,
+    }
 }
 
 // No house has a journal.
@@ -66,6 +80,8 @@ impl Keeper {
         ensures kept { IfOk result (λ k. AreKept k.houses.items k.disks.items) }
         ensures stands { IfOk result (λ k. StandsKeeper k empty_state) }
         ensures steps { IfOk result (λ k. k.replayer.steps ≡ 0) }
+        ensures usable { IfOk result (λ k. AreUsable k.disks.items) }
+        ensures full { IfOk result (λ k. k.full ≡ false) }
         ensures taken { OnOk result (disks.new.items ≡ []) }
         ensures err { OnErr result (disks.new.items ≡ disks.old.items) }
     {
@@ -74,6 +90,7 @@ impl Keeper {
             replayer: Replayer::new(alloc),
             houses,
             disks: mem::replace(disks, Vec::new(alloc)),
+            full: false,
         })
     }
 
@@ -95,7 +112,11 @@ impl Keeper {
         requires kept { AreKept self.old.houses.items self.old.disks.items }
         ensures reply { (s : JournaledCell) → StandsKeeper self.old s
             → Replies result self.new s line }
+        ensures calls { (s : JournaledCell) → StandsKeeper self.old s
+            → OnOk result (LineCalls s line self.old.disks.items self.new.disks.items) }
         ensures kept { OnOk result (AreKept self.new.houses.items self.new.disks.items) }
+        ensures usable { AreUsable self.old.disks.items → AreUsable self.new.disks.items }
+        ensures full { Tells result self.old.full self.new.full }
         ensures steps { self.new.replayer.steps ≤ self.old.replayer.steps + 1 }
     {
         match line {
@@ -116,7 +137,11 @@ impl Keeper {
         requires kept { AreKept self.old.houses.items self.old.disks.items }
         ensures does { (s : JournaledCell) → StandsKeeper self.old s
             → Does result self.new s (said_of s.cell line) }
+        ensures calls { (s : JournaledCell) → StandsKeeper self.old s
+            → OnOk result (PlainCalls s line self.old.disks.items self.new.disks.items) }
         ensures kept { OnOk result (AreKept self.new.houses.items self.new.disks.items) }
+        ensures usable { AreUsable self.old.disks.items → AreUsable self.new.disks.items }
+        ensures full { Tells result self.old.full self.new.full }
         ensures steps { self.new.replayer.steps ≤ self.old.replayer.steps + 1 }
     {
         match line {
@@ -133,6 +158,8 @@ impl Keeper {
         ensures does { (s : JournaledCell) → StandsKeeper self.old s
             → Does result self.new s (said_of s.cell (script.Cell command)) }
         ensures kept { OnOk result (AreKept self.new.houses.items self.new.disks.items) }
+        ensures usable { AreUsable self.old.disks.items → AreUsable self.new.disks.items }
+        ensures full { Tells result self.old.full self.new.full }
         ensures steps { self.new.replayer.steps ≤ self.old.replayer.steps + 1 }
     {
         images_stay();
@@ -149,6 +176,8 @@ impl Keeper {
         ensures does { (s : JournaledCell) → StandsKeeper self.old s
             → Does result self.new s (question_said s.cell question.now) }
         ensures kept { OnOk result (AreKept self.new.houses.items self.new.disks.items) }
+        ensures usable { AreUsable self.old.disks.items → AreUsable self.new.disks.items }
+        ensures full { Tells result self.old.full self.new.full }
         ensures steps { self.new.replayer.steps ≤ self.old.replayer.steps + 1 }
     {
         images_stay();
@@ -172,6 +201,8 @@ impl Keeper {
         requires kept { AreKept self.old.houses.items self.old.disks.items }
         ensures same { self.new.replayer ≡ self.old.replayer }
         ensures kept { OnOk result (AreKept self.new.houses.items self.new.disks.items) }
+        ensures usable { AreUsable self.old.disks.items → AreUsable self.new.disks.items }
+        ensures full { Tells result self.old.full self.new.full }
         ensures puts { (g : model.Cell) (lists : Lists) → Stands self.old.replayer.cell g
             → HoldAll self.old.disks.items lists
             → PutsAll result self.new.disks.items lists
@@ -186,6 +217,8 @@ impl Keeper {
         requires kept { AreKept self.old.houses.items self.old.disks.items }
         ensures same { self.new.replayer ≡ self.old.replayer }
         ensures kept { OnOk result (AreKept self.new.houses.items self.new.disks.items) }
+        ensures usable { AreUsable self.old.disks.items → AreUsable self.new.disks.items }
+        ensures full { Tells result self.old.full self.new.full }
         ensures puts { (g : model.Cell) (lists : Lists) → Stands self.old.replayer.cell g
             → HoldAll self.old.disks.items lists
             → PutsAll result self.new.disks.items lists (puts_of g (acts house) lists) }
@@ -199,7 +232,34 @@ impl Keeper {
         let Some(image) = image_of(alloc, self.replayer.cell(), house)? else {
             return Ok(());
         };
-        keep(alloc, &mut self.houses[at], &mut self.disks[at], image)
+        self.keep_image(alloc, house, at, image)
+    }
+
+    // The image of the house of a disk is put, if it is another than the last in its journal.
+    fn keep_image(
+        &mut self,
+        alloc: Global,
+        house: HouseNo,
+        at: usize,
+        image: Vec<u8>,
+    ) -> Result<(), Unkept>
+        requires house { house.0 ≡ at + 1 }
+        requires place { at < DISKS }
+        requires kept { AreKept self.old.houses.items self.old.disks.items }
+        ensures same { self.new.replayer ≡ self.old.replayer }
+        ensures kept { OnOk result (AreKept self.new.houses.items self.new.disks.items) }
+        ensures usable { AreUsable self.old.disks.items → AreUsable self.new.disks.items }
+        ensures full { Tells result self.old.full self.new.full }
+        ensures puts { (g : model.Cell) (lists : Lists) → octets_at g house.0 ≡ image.items
+            → has house.0 g.made ≡ true → HoldAll self.old.disks.items lists
+            → PutsAll result self.new.disks.items lists (puts_of g (acts (Some house)) lists) }
+        ensures lacking { (g : model.Cell) (lists : Lists) → octets_at g house.0 ≡ image.items
+            → has house.0 g.made ≡ true → HoldAll self.old.disks.items lists
+            → lacks_room lists (puts_of g (acts (Some house)) lists) ≡ true → result ≡ Err why.Full }
+    {
+        let put = keep(alloc, &mut self.houses[at], &mut self.disks[at], image);
+        self.full = full_after(&put, self.full);
+        put
     }
 
     // What the journal of a house gives, which is opened for that; nothing of a house without one.
@@ -208,9 +268,13 @@ impl Keeper {
         ensures same { self.new.replayer ≡ self.old.replayer }
         ensures given { (s : JournaledCell) → StandsKeeper self.old s
             → IfOk result (λ o. IsGiven (option_map (λ v. v.items) o) s.cell house.0) }
+        ensures calls { (s : JournaledCell) → StandsKeeper self.old s
+            → OnOk result (OpensJournal s house.0 self.old.disks.items self.new.disks.items) }
         ensures disks { (lists : Lists) → HoldAll self.old.disks.items lists
             → HoldAll self.new.disks.items lists }
         ensures kept { OnOk result (AreKept self.new.houses.items self.new.disks.items) }
+        ensures usable { AreUsable self.old.disks.items → AreUsable self.new.disks.items }
+        ensures full { Tells result self.old.full self.new.full }
         ensures memory { result ≢ Err why.Full }
     {
         let Some(at) = place_of(house) else {
@@ -234,9 +298,13 @@ impl Keeper {
         ensures answer { (s : JournaledCell) → StandsKeeper self.old s
             → IfOk result
             (λ a. a ≡ asked_of s.cell house.0 (answer.Octets (octets_at s.cell house.0))) }
+        ensures calls { (s : JournaledCell) → StandsKeeper self.old s
+            → OnOk result (OpensJournal s house.0 self.old.disks.items self.new.disks.items) }
         ensures disks { (lists : Lists) → HoldAll self.old.disks.items lists
             → HoldAll self.new.disks.items lists }
         ensures kept { OnOk result (AreKept self.new.houses.items self.new.disks.items) }
+        ensures usable { AreUsable self.old.disks.items → AreUsable self.new.disks.items }
+        ensures full { Tells result self.old.full self.new.full }
         ensures memory { result ≢ Err why.Full }
     {
         match self.reopened(alloc, house)? {
@@ -251,7 +319,11 @@ impl Keeper {
         requires kept { AreKept self.old.houses.items self.old.disks.items }
         ensures does { (s : JournaledCell) → StandsKeeper self.old s
             → Does result self.new s (said_of s.cell (script.Cell (command.Start house))) }
+        ensures calls { (s : JournaledCell) → StandsKeeper self.old s
+            → OnOk result (OpensJournal s house.0 self.old.disks.items self.new.disks.items) }
         ensures kept { OnOk result (AreKept self.new.houses.items self.new.disks.items) }
+        ensures usable { AreUsable self.old.disks.items → AreUsable self.new.disks.items }
+        ensures full { Tells result self.old.full self.new.full }
         ensures steps { self.new.replayer.steps ≤ self.old.replayer.steps + 1 }
     {
         images_stay();

@@ -1,5 +1,5 @@
 // Lines that stop a put.
-ghost use Rattle.std.specs.Prelude.{◌≡◌, ◌≢◌, ◌+◌, ◌^◌, ◌<◌, ◌≤◌, ◌++◌, ◌∷◌, [], false, Some, Err, IfOk, OnOk, if◌then◌else◌, option_copied};
+ghost use Rattle.std.specs.Prelude.{◌≡◌, ◌≢◌, ◌+◌, ◌^◌, ◌<◌, ◌≤◌, ◌++◌, ◌∷◌, [], true, false, Some, Err, IfOk, OnOk, if◌then◌else◌, option_copied};
 ghost use Rattle.std.specs.Option.{option_map, option_map_or};
 ghost use Rattle.std.specs.Str.{bytes_eq};
 ghost use Rattle.cds_base.specs.declared.scan.TheConstants.{MOST_LINES};
@@ -8,16 +8,18 @@ ghost use Rattle.cell_model.specs.Steps.{outcome};
 ghost use Rattle.cds_cell.specs.Scripted.{step_of};
 ghost use Rattle.cds_cell.specs.ModelCells.{Stands};
 ghost use Rattle.house_journal.specs.JournalRecords.{images};
+ghost use Rattle.house_journal.specs.declared.step.Stop.TheVariants.{Never};
 ghost use Rattle.journal_replay.specs.declared.stopping.Stopping.TheVariants as stop;
 ghost use Rattle.journal_forms.specs.declared.journal_line.JournalLine.TheVariants as line;
-ghost use Rattle.journal_replay.specs.CellDisks.{AreKept, HoldAll};
-ghost use Rattle.disk_journals.specs.KeptJournals.{HoldsEither, IsKept, is_last, size_of, stops_after};
+ghost use Rattle.journal_replay.specs.CellDisks.{AreKept, AreUsable, HoldAll};
+ghost use Rattle.disk_journals.specs.KeptJournals.{HoldsEither, IsKept, StopsAndOpens, is_last, size_of, stops_after};
 ghost use Rattle.disk_journals.specs.declared.faults.Unkept.TheVariants as why;
-ghost use Rattle.journal_replay.specs.CellJournals.{JournaledCell, Lists};
+ghost use Rattle.journal_replay.specs.CellJournals.{JournaledCell, Lists, lacks_room, puts_in};
+ghost use Rattle.journal_replay.specs.DiskCalls.{IsStopped, LineCalls, UsesDisk};
 ghost use Rattle.journal_replay.specs.Keeping.{StandsKeeper};
-ghost use Rattle.journal_replay.specs.PrivateJournals.{IsToStop, Replies, StopsPut};
+ghost use Rattle.journal_replay.specs.PrivateJournals.{IsToStop, Replies, StopsPut, Tells};
 
-use crate::keeper::{Keeper, place_of};
+use crate::keeper::{Keeper, full_after, place_of};
 use crate::stops::{acts_alone, lacks_message};
 use cds_cell::laws::images_stay;
 use cds_stamps::HouseNo;
@@ -72,6 +74,11 @@ fn stop_kept(
     ensures room { OnOk result (size_of (images disk.old.octets ++ image.items ∷ []) ≤ 2 ^ 40) }
     ensures full { result ≡ Err why.Full
         → 2 ^ 40 < size_of (images disk.old.octets ++ image.items ∷ []) }
+    ensures lacking { 2 ^ 40 < size_of (images disk.old.octets ++ image.items ∷ [])
+        → result ≡ Err why.Full }
+    ensures stops { OnOk result
+        (StopsAndOpens kept.old.journal.place image.items call leave disk.old disk.new) }
+    ensures never { disk.new.stop ≡ Never }
 {
     let (journal, given) = stopped_put(alloc, &mut kept.journal, disk, &image, call, leave)?;
     kept.journal = journal;
@@ -99,7 +106,12 @@ impl Keeper {
         requires kept { AreKept self.old.houses.items self.old.disks.items }
         ensures reply { (s : JournaledCell) → StandsKeeper self.old s
             → Replies result self.new s (line.Stop house call leave command) }
+        ensures calls { (s : JournaledCell) → StandsKeeper self.old s
+            → OnOk result (LineCalls s (line.Stop house call leave command) self.old.disks.items
+            self.new.disks.items) }
         ensures kept { OnOk result (AreKept self.new.houses.items self.new.disks.items) }
+        ensures usable { AreUsable self.old.disks.items → AreUsable self.new.disks.items }
+        ensures full { Tells result self.old.full self.new.full }
         ensures steps { self.new.replayer.steps ≤ self.old.replayer.steps + 1 }
     {
         match self.stopping(alloc, house, &command) {
@@ -165,7 +177,17 @@ impl Keeper {
         ensures reply { (s : JournaledCell) → StandsKeeper self.old s
             → IsToStop (stop.Put image) s.cell house.0 (step_of command)
             → Replies result self.new s (line.Stop house call leave command) }
+        ensures lacking { (s : JournaledCell) → StandsKeeper self.old s
+            → IsToStop (stop.Put image) s.cell house.0 (step_of command)
+            → lacks_room s.lists (puts_in s (line.Stop house call leave command)) ≡ true
+            → result ≡ Err why.Full }
+        ensures calls { (s : JournaledCell) → StandsKeeper self.old s
+            → IsToStop (stop.Put image) s.cell house.0 (step_of command)
+            → OnOk result (UsesDisk (IsStopped image.items call leave) house.0
+            self.old.disks.items self.new.disks.items) }
         ensures kept { OnOk result (AreKept self.new.houses.items self.new.disks.items) }
+        ensures usable { AreUsable self.old.disks.items → AreUsable self.new.disks.items }
+        ensures full { Tells result self.old.full self.new.full }
         ensures steps { self.new.replayer.steps ≤ self.old.replayer.steps + 1 }
     {
         images_stay();
@@ -187,6 +209,7 @@ impl Keeper {
         requires few { self.old.replayer.steps < MOST_LINES }
         ensures houses { self.new.houses ≡ self.old.houses }
         ensures disks { self.new.disks ≡ self.old.disks }
+        ensures full { self.new.full ≡ self.old.full }
         ensures step { (g : model.Cell) → Stands self.old.replayer.cell g
             → OnOk result (Stands self.new.replayer.cell
             (if wanted then (outcome g (step_of command)).cell else g)) }
@@ -218,13 +241,27 @@ impl Keeper {
             → is_last image.items (lists house.0) ≡ false → lists house.0 ≢ []
             → StopsPut result self.new.disks.items lists (stops_after call leave)
             (record { house = house.0; image = image.items }) }
+        ensures lacking { (lists : Lists) → HoldAll self.old.disks.items lists
+            → is_last image.items (lists house.0) ≡ false → lists house.0 ≢ []
+            → lacks_room lists (record { house = house.0; image = image.items } ∷ []) ≡ true
+            → result ≡ Err why.Full }
+        ensures calls { (lists : Lists) → HoldAll self.old.disks.items lists
+            → lists house.0 ≢ []
+            → OnOk result (UsesDisk (IsStopped image.items call leave) house.0
+            self.old.disks.items self.new.disks.items) }
         ensures kept { OnOk result (AreKept self.new.houses.items self.new.disks.items) }
+        ensures usable { AreUsable self.old.disks.items → AreUsable self.new.disks.items }
+        ensures full { Tells result self.old.full self.new.full }
     {
         let Some(at) = place_of(house) else {
             return Ok(false);
         };
         match &mut self.houses[at] {
-            Some(kept) => stop_kept(alloc, kept, &mut self.disks[at], image, call, leave),
+            Some(kept) => {
+                let stopped = stop_kept(alloc, kept, &mut self.disks[at], image, call, leave);
+                self.full = full_after(&stopped, self.full);
+                stopped
+            }
             None => Ok(false),
         }
     }

@@ -1,10 +1,11 @@
-use Rattle.std.proofs.Common.{◌≡◌, ◌++◌, ◌∷◌, [], ℕ, true, false, List, if◌then◌else◌, sym, ◌∙◌, subst}
+use Rattle.std.proofs.Common.{◌≡◌, ◌^◌, ◌<◌, ◌++◌, ◌∷◌, [], ℕ, true, false, List, if◌then◌else◌, sym, ◌∙◌, subst}
 use Rattle.std.specs.Prelude.{Option}
 use Rattle.std.specs.Option.{option_map, option_map_or}
 use Rattle.std.specs.Str.{bytes_eq}
 use Rattle.house_journal.specs.JournalRecords.{images}
-use Rattle.disk_journals.specs.KeptJournals.{HoldsEither, stops_after}
+use Rattle.disk_journals.specs.KeptJournals.{HoldsEither, StopsAndOpens, size_of, stops_after}
 use Rattle.journal_replay.proofs.StopHouse.{given_last, still_last, word_is}
+use Rattle.journal_replay.proofs.FullTold.{full_up}
 use Rattle.journal_replay.proofs.stopping.stop_kept.Goals as goal
 
 pub returns-then-not-gives-clause-kept : goal.returns-then-not-gives-clause-kept
@@ -50,3 +51,19 @@ pub returns-clause-crash : goal.returns-clause-crash
 returns-clause-crash c =
     subst (λ (i : List ℕ). HoldsEither c.stopped_put.new.disk (images c.args.disk.now.octets) (images c.args.disk.now.octets ++ i ∷ []))
     c.deref.ensures.value c.stopped_put.ensures.crash
+
+pub returns-then-not-gives-clause-stops : goal.returns-then-not-gives-clause-stops
+returns-then-not-gives-clause-stops c =
+    subst (λ (i : List ℕ). StopsAndOpens c.args.kept.now.journal.place i c.args.call c.args.leave c.args.disk.now c.stopped_put.new.disk)
+    c.deref.ensures.value c.in_ok-journal.ensures.stops
+
+pub returns-clause-stops : goal.returns-clause-stops
+returns-clause-stops c =
+    subst (λ (i : List ℕ). StopsAndOpens c.args.kept.now.journal.place i c.args.call c.args.leave c.args.disk.now c.stopped_put.new.disk)
+    c.deref.ensures.value c.in_ok-journal.ensures.stops
+
+pub returns-in_err-journal-clause-lacking : goal.returns-in_err-journal-clause-lacking
+returns-in_err-journal-clause-lacking c many =
+    full_up _ c.from_residual.result c.in_err-journal.field-0.0 c.from_residual.ensures.1
+    (c.in_err-journal.ensures.lacking
+    (subst (λ (i : List ℕ). 2 ^ 40 < size_of (images c.args.disk.now.octets ++ i ∷ [])) (sym c.deref.ensures.value) many))

@@ -1,4 +1,4 @@
-use Rattle.std.proofs.Common.{◌≡◌, ◌≤◌, sym, subst, arith}
+use Rattle.std.proofs.Common.{◌≡◌, ◌≤◌, refl, sym, subst, arith}
 use Rattle.std.specs.Prelude.{Ok}
 use Rattle.cell_model.specs.Steps.{replay_from}
 use Rattle.cds_cell.specs.ModelCells.{Stands}
@@ -8,6 +8,7 @@ use Rattle.script_replay.specs.Replies.{Said, does, question_said}
 use Rattle.journal_replay.specs.CellDisks.{disk_count}
 use Rattle.journal_replay.specs.PrivateJournals.{AreDone, GivesUp, said_puts}
 use Rattle.journal_replay.proofs.Doing.{asked_done, asked_up, does_give_up, does_memory}
+use Rattle.journal_replay.proofs.FullTold.{tells_memory, tells_up}
 use Rattle.journal_replay.proofs.keeper.Keeper.ask.Goals as goal
 
 pub returns-in_err-answer-clause-does : goal.returns-in_err-answer-clause-does
@@ -44,3 +45,13 @@ returns-in_ok-keep_both-in-Updates-clause-does c s stands =
     subst (AreDone c.in_ok-answer-in-Updates.answer c.keep_both.new.self s) (sym said)
     (asked_done s ch few stands.gives c.images_stay.ensures c.in_ok-answer-in-Updates.answer c.keep_both.new.self stands.cell.reached done.answer
     (subst (λ (r : Replayer). Stands r.cell next) (sym c.keep_both.ensures.same) done.stands) puts.0 puts.1)
+
+pub returns-in_err-answer-clause-full : goal.returns-in_err-answer-clause-full
+returns-in_err-answer-clause-full c = tells_memory c.from_residual.result _ _ c.from_residual.ensures.1 refl
+
+pub returns-in_err-answer-in-Updates-clause-full : goal.returns-in_err-answer-in-Updates-clause-full
+returns-in_err-answer-in-Updates-clause-full c = tells_memory c.from_residual-in_err-answer-in-Updates.result _ _ c.from_residual-in_err-answer-in-Updates.ensures.1 refl
+
+pub returns-in_err-keep_both-in-Updates-clause-full : goal.returns-in_err-keep_both-in-Updates-clause-full
+returns-in_err-keep_both-in-Updates-clause-full c =
+    tells_up (Unit {0}) c.from_residual-in_err-keep_both-in-Updates.result c.in_err-keep_both-in-Updates.field-0.0 _ _ c.from_residual-in_err-keep_both-in-Updates.ensures.1 c.in_err-keep_both-in-Updates.ensures.full

@@ -4,6 +4,7 @@ use Rattle.script_replay.specs.declared.replayer.Replayer.{Replayer}
 use Rattle.journal_replay.specs.CellJournals.{puts_of, with_puts}
 use Rattle.journal_replay.specs.PrivateJournals.{acts}
 use Rattle.journal_replay.proofs.Doing.{both_first, both_later}
+use Rattle.journal_replay.proofs.FullTold.{tells_later, tells_up}
 use Rattle.journal_replay.proofs.keeper.Keeper.keep_both.Goals as goal
 
 pub returns-in_err-keep_one-clause-puts : goal.returns-in_err-keep_one-clause-puts
@@ -17,3 +18,12 @@ returns-clause-puts c g lists s hold =
     let still : Stands c.keep_one.new.self.replayer.cell g = subst (λ (r : Replayer). Stands r.cell g) (sym c.keep_one.ensures.same) s in
     both_later g (acts c.args.first) (acts c.args.second) lists c.keep_one-2.result c.keep_one-2.new.self.disks.items one.1
     (c.keep_one-2.ensures.puts g (with_puts (puts_of g (acts c.args.first) lists) lists) still one.0)
+
+pub returns-in_err-keep_one-clause-full : goal.returns-in_err-keep_one-clause-full
+returns-in_err-keep_one-clause-full c =
+    tells_up (Unit {0}) c.from_residual.result c.in_err-keep_one.field-0.0 _ _ c.from_residual.ensures.1 c.in_err-keep_one.ensures.full
+
+pub returns-clause-full : goal.returns-clause-full
+returns-clause-full c =
+    tells_later c.keep_one-2.result c.args.self.now.full c.keep_one.new.self.full c.keep_one-2.new.self.full c.in_ok-keep_one.ensures.full
+    c.keep_one-2.ensures.full

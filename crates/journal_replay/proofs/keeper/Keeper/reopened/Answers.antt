@@ -1,7 +1,10 @@
-use Rattle.std.proofs.Common.{Some, None, arith, ap, ◌∙◌}
+use Rattle.std.proofs.Common.{Some, None, arith, ap, refl, sym, ◌∙◌}
 use Rattle.std.specs.List.{last_or}
 use Rattle.disk_journals.specs.KeptJournals.{IsKept}
 use Rattle.journal_replay.proofs.Reopening.{given, new_there, none_there, open_can, open_there, opened_hold, opened_kept}
+use Rattle.journal_replay.proofs.FullTold.{tells_opened}
+use Rattle.journal_replay.proofs.DiskUses.{used_there}
+use Rattle.journal_replay.proofs.Usable.{set_usable}
 use Rattle.journal_replay.proofs.keeper.Keeper.reopened.Goals as goal
 
 pub returns-in_default-clause-given : goal.returns-in_default-clause-given
@@ -58,3 +61,40 @@ returns-in-None-clause-given c s stands =
     c.index_mut.ensures.value c.in-None.is in
     given s c.args.house.0 c.in-Some.at c.args.self.now.disks.items new.0 None place.0 c.requires.kept.all_disks place.1 new.1 stands.disks stands.gives
     (none_there new.0 new.2)
+
+-- ---- the calls of the disk
+
+pub returns-in_default-clause-calls : goal.returns-in_default-clause-calls
+returns-in_default-clause-calls c s stands made at house = absurd (omega (arith, house, c.in_default.ensures.none))
+
+pub returns-in_ok-journal-in-Some-index_mut-clause-calls : goal.returns-in_ok-journal-in-Some-index_mut-clause-calls
+returns-in_ok-journal-in-Some-index_mut-clause-calls c s stands made =
+    let place = c.in-Some.ensures.some in
+    used_there _ c.args.house.0 c.in-Some.at c.args.self.now.disks.items c.index_mut-in-Some-index_mut.result.now c.open.new.disk place.0
+    c.requires.kept.all_disks place.1 c.index_mut-in-Some-index_mut.ensures.value c.in_ok-journal-in-Some-index_mut.ensures.told
+
+pub returns-in-None-clause-calls : goal.returns-in-None-clause-calls
+returns-in-None-clause-calls c s stands made at house =
+    let place = c.in-Some.ensures.some in
+    let new =
+    new_there c.args.self.now.houses.items c.args.self.now.disks.items c.in-Some.at c.index_mut.result.now c.requires.kept place.1
+    c.index_mut.ensures.value c.in-None.is in
+    let none =
+    given s c.args.house.0 c.in-Some.at c.args.self.now.disks.items new.0 None place.0 c.requires.kept.all_disks place.1 new.1 stands.disks stands.gives
+    (none_there new.0 new.2) in
+    absurd (let unmade = sym made ∙ none (omega (arith, house)) in cc)
+
+-- ---- the disks
+
+pub returns-in_err-journal-in-Some-index_mut-clause-usable : goal.returns-in_err-journal-in-Some-index_mut-clause-usable
+returns-in_err-journal-in-Some-index_mut-clause-usable c usable =
+    set_usable c.args.self.now.disks.items c.in-Some.at c.open.new.disk c.in-Some.ensures.some.1 c.in_err-journal-in-Some-index_mut.ensures.never usable
+
+pub returns-in_ok-journal-in-Some-index_mut-clause-usable : goal.returns-in_ok-journal-in-Some-index_mut-clause-usable
+returns-in_ok-journal-in-Some-index_mut-clause-usable c usable =
+    set_usable c.args.self.now.disks.items c.in-Some.at c.open.new.disk c.in-Some.ensures.some.1 c.in_ok-journal-in-Some-index_mut.ensures.never usable
+
+pub returns-in_err-journal-in-Some-index_mut-clause-full : goal.returns-in_err-journal-in-Some-index_mut-clause-full
+returns-in_err-journal-in-Some-index_mut-clause-full c =
+    tells_opened _ c.from_residual.result c.in_err-journal-in-Some-index_mut.field-0.0 _ _ c.from_residual.ensures.1
+    c.in_err-journal-in-Some-index_mut.ensures.memory refl

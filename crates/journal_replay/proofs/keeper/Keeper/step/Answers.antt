@@ -1,4 +1,4 @@
-use Rattle.std.proofs.Common.{◌≡◌, ◌∷◌, [], false, List, ℕ, sym, subst}
+use Rattle.std.proofs.Common.{◌≡◌, ◌∷◌, [], false, List, ℕ, refl, sym, subst}
 use Rattle.cell_model.specs.Steps.{outcome}
 use Rattle.cell_script.specs.declared.command.ScriptLine.TheVariants as script
 use Rattle.cds_cell.specs.Scripted.{step_of}
@@ -8,6 +8,7 @@ use Rattle.script_replay.specs.Replies.{said_of}
 use Rattle.journal_replay.specs.CellJournals.{lacks_room, puts_of, with_puts}
 use Rattle.journal_replay.specs.CellDisks.{HoldAll}
 use Rattle.journal_replay.proofs.Doing.{does_memory, done_all, give_done, one_spares}
+use Rattle.journal_replay.proofs.FullTold.{tells_memory, tells_up}
 use Rattle.journal_replay.proofs.keeper.Keeper.step.Goals as goal
 
 pub returns-in_err-answer-clause-does : goal.returns-in_err-answer-clause-does
@@ -27,3 +28,10 @@ returns-clause-does c s stands =
     (give_done c.images_stay.ensures s (step_of c.args.command ∷ []) stands.cell.reached stands.gives (one_spares g (step_of c.args.command)))
     (subst (λ (xs : List ℕ). HoldAll c.keep_both.new.self.disks.items (with_puts (puts_of next xs s.lists) s.lists)) acting puts.0)
     (subst (λ (xs : List ℕ). lacks_room s.lists (puts_of next xs s.lists) ≡ false) acting puts.1)
+
+pub returns-in_err-answer-clause-full : goal.returns-in_err-answer-clause-full
+returns-in_err-answer-clause-full c = tells_memory c.from_residual.result _ _ c.from_residual.ensures.1 refl
+
+pub returns-in_err-keep_both-clause-full : goal.returns-in_err-keep_both-clause-full
+returns-in_err-keep_both-clause-full c =
+    tells_up (Unit {0}) c.from_residual-in_err-keep_both.result c.in_err-keep_both.field-0.0 _ _ c.from_residual-in_err-keep_both.ensures.1 c.in_err-keep_both.ensures.full

@@ -9,11 +9,12 @@ use Rattle.script_replay.specs.declared.replayer.Replayer.{Replayer}
 use Rattle.journal_forms.specs.declared.journal_line.JournalLine.{JournalLine}
 use Rattle.journal_forms.specs.declared.journal_line.JournalLine.TheVariants as line
 use Rattle.disk_journals.specs.KeptJournals.{stops_after}
-use Rattle.journal_replay.specs.CellJournals.{Put, with_put}
+use Rattle.journal_replay.specs.CellJournals.{Put, lacks_room, with_put}
 use Rattle.journal_replay.specs.CellDisks.{HoldAll, disk_count}
-use Rattle.journal_replay.specs.PrivateJournals.{GivesUp}
+use Rattle.journal_replay.specs.PrivateJournals.{GivesUp, Tells}
 use Rattle.journal_replay.proofs.StopPuts.{new_image}
 use Rattle.journal_replay.proofs.StopReplies.{replied_after, replied_before, stopped_memory, stopped_put_is, stopped_up}
+use Rattle.journal_replay.proofs.FullTold.{full_up, tells_memory, tells_up}
 use Rattle.journal_replay.proofs.keeper.Keeper.stop_put.Goals as goal
 
 pub returns-in_err-after-clause-reply : goal.returns-in_err-after-clause-reply
@@ -114,3 +115,78 @@ returns-else-after-clause-reply c s stands to =
     replied_before c.images_stay.ensures _ s l h after step image is refl refl refl c.requires.house few stands.cell.reached stands.gives to.0 to.1
     (subst (λ (disks : List MemState). HoldAll disks s.lists) (sym same) hold, puts.2)
     (subst (λ (n : ℕ). Stands c.crash_after.new.self.cell (replay_from s.cell (crash_losing s.cell h n))) posted (c.in_ok-crash_after.ensures.crash s.cell stepped))
+
+-- ---- a full journal
+
+pub returns-in_err-after-clause-full : goal.returns-in_err-after-clause-full
+returns-in_err-after-clause-full c =
+    let so = tells_up Bool c.from_residual.result c.in_err-after.field-0.0 c.args.self.now.full c.put_stopped-stopped.new.self.full c.from_residual.ensures.1 c.in_err-after.ensures.full in
+    subst (λ (b : Bool). Tells c.from_residual.result c.args.self.now.full b) (sym c.step_if-stepped.ensures.full) so
+
+pub returns-in_err-stepped-clause-full : goal.returns-in_err-stepped-clause-full
+returns-in_err-stepped-clause-full c =
+    tells_memory c.from_residual-in_err-stepped.result _ _ c.from_residual-in_err-stepped.ensures.1 (c.step_if-stepped.ensures.full ∙ c.in_ok-after.ensures.full)
+
+pub returns-in_err-crash_after-clause-full : goal.returns-in_err-crash_after-clause-full
+returns-in_err-crash_after-clause-full c =
+    tells_memory c.from_residual-in_err-crash_after.result _ _ c.from_residual-in_err-crash_after.ensures.1 (c.step_if-stepped.ensures.full ∙ c.in_ok-after.ensures.full)
+
+pub returns-in_err-after-clause-lacking : goal.returns-in_err-after-clause-lacking
+returns-in_err-after-clause-lacking c s stands to none =
+    let h = c.args.house.0 in
+    let few : h ≤ disk_count = omega arith in
+    let step = step_of c.args.command in
+    let image = c.args.image.items in
+    let l : JournalLine = line.Stop c.args.house c.args.call c.args.leave c.args.command in
+    let new = new_image s h step image c.requires.house few stands.gives to.0 to.1 in
+    let puts = stopped_put_is s l h step image refl c.requires.house few stands.gives to.0 to.1 in
+    full_up _ c.from_residual.result c.in_err-after.field-0.0 c.from_residual.ensures.1
+    (c.in_err-after.ensures.lacking s.lists stands.disks new.0 new.1 (subst (λ (ps : List Put). lacks_room s.lists ps ≡ true) puts none))
+
+pub returns-in_err-stepped-clause-lacking : goal.returns-in_err-stepped-clause-lacking
+returns-in_err-stepped-clause-lacking c s stands to none =
+    let h = c.args.house.0 in
+    let few : h ≤ disk_count = omega arith in
+    let step = step_of c.args.command in
+    let image = c.args.image.items in
+    let l : JournalLine = line.Stop c.args.house c.args.call c.args.leave c.args.command in
+    let new = new_image s h step image c.requires.house few stands.gives to.0 to.1 in
+    let puts = stopped_put_is s l h step image refl c.requires.house few stands.gives to.0 to.1 in
+    let room = (c.in_ok-after.ensures.puts s.lists stands.disks new.0 new.1).2 in
+    absurd (let e = sym room ∙ subst (λ (ps : List Put). lacks_room s.lists ps ≡ true) puts none in cc)
+
+pub returns-in_err-crash_after-clause-lacking : goal.returns-in_err-crash_after-clause-lacking
+returns-in_err-crash_after-clause-lacking c s stands to none =
+    let h = c.args.house.0 in
+    let few : h ≤ disk_count = omega arith in
+    let step = step_of c.args.command in
+    let image = c.args.image.items in
+    let l : JournalLine = line.Stop c.args.house c.args.call c.args.leave c.args.command in
+    let new = new_image s h step image c.requires.house few stands.gives to.0 to.1 in
+    let puts = stopped_put_is s l h step image refl c.requires.house few stands.gives to.0 to.1 in
+    let room = (c.in_ok-after.ensures.puts s.lists stands.disks new.0 new.1).2 in
+    absurd (let e = sym room ∙ subst (λ (ps : List Put). lacks_room s.lists ps ≡ true) puts none in cc)
+
+pub returns-then-after-clause-lacking : goal.returns-then-after-clause-lacking
+returns-then-after-clause-lacking c s stands to none =
+    let h = c.args.house.0 in
+    let few : h ≤ disk_count = omega arith in
+    let step = step_of c.args.command in
+    let image = c.args.image.items in
+    let l : JournalLine = line.Stop c.args.house c.args.call c.args.leave c.args.command in
+    let new = new_image s h step image c.requires.house few stands.gives to.0 to.1 in
+    let puts = stopped_put_is s l h step image refl c.requires.house few stands.gives to.0 to.1 in
+    let room = (c.in_ok-after.ensures.puts s.lists stands.disks new.0 new.1).2 in
+    absurd (let e = sym room ∙ subst (λ (ps : List Put). lacks_room s.lists ps ≡ true) puts none in cc)
+
+pub returns-else-after-clause-lacking : goal.returns-else-after-clause-lacking
+returns-else-after-clause-lacking c s stands to none =
+    let h = c.args.house.0 in
+    let few : h ≤ disk_count = omega arith in
+    let step = step_of c.args.command in
+    let image = c.args.image.items in
+    let l : JournalLine = line.Stop c.args.house c.args.call c.args.leave c.args.command in
+    let new = new_image s h step image c.requires.house few stands.gives to.0 to.1 in
+    let puts = stopped_put_is s l h step image refl c.requires.house few stands.gives to.0 to.1 in
+    let room = (c.in_ok-after.ensures.puts s.lists stands.disks new.0 new.1).2 in
+    absurd (let e = sym room ∙ subst (λ (ps : List Put). lacks_room s.lists ps ≡ true) puts none in cc)
