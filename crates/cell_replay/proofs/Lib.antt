@@ -16,5 +16,7 @@ pub mod HeadlineLaws
 pub mod Scripts
 pub mod JournalReplays
 mod Examples
+pub mod WithoutJournals
+pub mod InquiredScripts
 pub mod Tasks
 pub mod CheckedLines

@@ -12,6 +12,7 @@ use Rattle.cell_replay.specs.Demand.{Demand, Sound, Faulty, CutShort, Filled, Is
 use Rattle.cell_replay.specs.TowerDemand.{IsTaken}
 use Rattle.cell_replay.specs.Forms.{FormState, ByLines, ByTowers, ByWhole, WithoutInput, Demands}
 use Rattle.cell_replay.specs.Fillings.{IsUnfilled}
+use Rattle.cell_replay.specs.LineStates.{Journaling}
 
 -- xs is a front of ys (own)
 abbrev pub IsFront : List ℕ → List ℕ → Type 0
@@ -82,6 +83,21 @@ NoCallFailed WriteFault = ⊥
 NoCallFailed OutOfMemory = Unit {0}
 NoCallFailed JournalFull = Unit {0}
 
+-- a form that keeps no journals (own)
+abbrev pub HasNoJournals : FormState → Type 0
+HasNoJournals (ByLines (Journaling s)) = ⊥
+HasNoJournals other = Unit {0}
+
+-- the endings of such a form that no failed call causes (own)
+abbrev pub IsCalmEnding : Status → Type 0
+IsCalmEnding AllRead = Unit {0}
+IsCalmEnding Usage = Unit {0}
+IsCalmEnding BadInput = Unit {0}
+IsCalmEnding ReadFault = ⊥
+IsCalmEnding WriteFault = ⊥
+IsCalmEnding OutOfMemory = Unit {0}
+IsCalmEnding JournalFull = ⊥
+
 -- ---- what is read
 
 -- the form has nothing more to read: its source is at its end, or it reads none (own)
@@ -98,6 +114,13 @@ ReadsNothing (Some (ByLines state)) = ⊥
 ReadsNothing (Some ByTowers) = ⊥
 ReadsNothing (Some (ByWhole task)) = ⊥
 ReadsNothing (Some (WithoutInput text)) = Unit {0}
+
+-- a form that reads its whole input reads at most one octet more than it may have, whatever the ending (own)
+abbrev pub ReadsFew : FormState → Run → Type 0
+ReadsFew (ByLines state) run = Unit {0}
+ReadsFew ByTowers run = Unit {0}
+ReadsFew (ByWhole task) run = (read : List ℕ) × Consumes run.left run.left' read × (length read ≤ WHOLE_SIGHT)
+ReadsFew (WithoutInput text) run = Unit {0}
 
 -- what a form takes at once: a line with its end, or a tower; of a whole input nothing is taken before all is read (own)
 abbrev pub IsTakenAtOnce : FormState → List ℕ → Type 0

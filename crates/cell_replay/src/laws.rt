@@ -1,5 +1,5 @@
 // The laws of what an input demands, each the contract of a function that does nothing.
-ghost use Rattle.std.specs.Prelude.{◌≡◌, ℕ, ◌+◌, ◌*◌, ◌^◌, ◌++◌, List, Option};
+ghost use Rattle.std.specs.Prelude.{◌≡◌, ◌≢◌, ℕ, ◌+◌, ◌*◌, ◌^◌, ◌++◌, List, Option};
 ghost use Rattle.hex.specs.Hex.{IsBytes};
 ghost use Rattle.cell_model.specs.Cells.{Cell};
 ghost use Rattle.cell_model.specs.Reached.{IsReached};
@@ -8,21 +8,23 @@ ghost use Rattle.tower_codec.specs.declared.rpc.Interface.{Interface};
 ghost use Rattle.ns_commands.specs.Asks.{add_element, add_member, delete_element, delete_member, export, unexport};
 ghost use Rattle.inquire_forms.specs.declared.inquire_line.InquireLine.{InquireLine};
 ghost use Rattle.inquire_forms.specs.InquireLines.{inquired_in};
-ghost use Rattle.inquire_replay.specs.Inquiring.{inquire_dialogue};
+ghost use Rattle.inquire_replay.specs.Inquiring.{inquire_dialogue, plain_lines};
 ghost use Rattle.clerk_replay.specs.Clerking.{Clerked, clerk_dialogue};
 ghost use Rattle.script_replay.specs.Dialogues.{NumberedOf, transcript_by};
 ghost use Rattle.script_replay.specs.Replies.{LacksStampsAlone, Numbered, transcript, trusted_reader};
-ghost use Rattle.cell_replay.specs.Demand.{Demand, Sound, Faulty, line_demand, whole};
+ghost use Rattle.cell_replay.specs.Demand.{Demand, Sound, Faulty, Filled, line_demand, whole};
 ghost use Rattle.cell_replay.specs.LineStates.{Clerking, Inquiring, Replaying, Spelling};
 ghost use Rattle.cell_replay.specs.Forms.{FormState, ByLines, ByTowers, Demands};
-ghost use Rattle.cell_replay.specs.Runs.{Ended, IsFront, NoCallFailed, Run};
+ghost use Rattle.cell_replay.specs.Runs.{Ended, HasNoJournals, IsCalmEnding, IsFront, NoCallFailed, Run};
 ghost use Rattle.cell_replay.specs.declared.endings.Status.{Status as Status'};
+ghost use Rattle.cell_replay.specs.declared.endings.Status.TheVariants as ends;
 ghost use Rattle.cds_base.specs.Counts.{Rose};
 ghost use Rattle.cell_replay.specs.Scripts.{IsScript, IsScriptOf, text_of};
 
 use crate::limits::{MOST_KEPT, MOST_ROUNDS, MOST_TOWERS, MOST_WHOLE, TOWER_SIGHT, WHOLE_SIGHT};
 use cds_cell::laws::{asked_houses_accept, masters_refuse_for_stamps_alone};
 use cell_model::holdings;
+use inquire_replay::laws::scripts_are_answered_as_before;
 use ns_groups::laws::group_updates_are_accepted;
 use ns_profiles::laws::profile_updates_are_accepted;
 use reply_buffer::{LONGEST_TOWER, MOST_WAITING};
@@ -84,6 +86,29 @@ pub fn calm_runs_meet_no_failed_call()
         → ¬ (Rose run.reads run.reads')
         → ¬ (Rose run.writes run.writes') → NoCallFailed status }
 {}
+
+/// Only `journal` finds no room: no input demands that of another form, and no run of another form ends so. So a run of it in which
+/// neither count of failures rose ends Ok, Usage, BadInput or OutOfMemory.
+pub fn journals_alone_lack_room()
+    ensures demands { (form : FormState) (octets : List ℕ) (d : Demand) → HasNoJournals form
+        → Demands form octets d → d.verdict ≢ Filled }
+    ensures runs { (form : FormState) (run : Run) → HasNoJournals form
+        → ¬ (Ended form run ends.JournalFull) }
+    ensures calm { (form : FormState) (run : Run) (status : Status') → HasNoJournals form
+        → Ended form run status → ¬ (Rose run.reads run.reads')
+        → ¬ (Rose run.writes run.writes') → IsCalmEnding status }
+{}
+
+/// A script of `run` is answered by `inquire` as by `run`, lines that say nothing included.
+pub fn scripts_are_inquired_as_run()
+    ensures script { (lines : List (List ℕ)) (said : List Numbered) → IsScript 1 lines said
+        → IsScriptOf inquired_in 1 lines (plain_lines said) }
+    ensures demand { (g : Cell) (lines : List (List ℕ)) (said : List Numbered)
+        → IsScript 1 lines said
+        → line_demand (Inquiring g) (text_of lines) ≡ line_demand (Replaying g) (text_of lines) }
+{
+    scripts_are_answered_as_before();
+}
 
 /// `untowers` gives back the octets whose text `towers` wrote.
 pub fn towers_come_back()

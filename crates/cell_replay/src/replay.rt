@@ -11,7 +11,7 @@ ghost use Rattle.cell_replay.specs.Demand.{end_text, told_fault};
 ghost use Rattle.cell_replay.specs.Forms.{ByLines, clerking_with, form_of, inquiring_form, run_form, with_journals};
 ghost use Rattle.cell_replay.specs.Scripts.{IsReplay, IsReplayBy};
 ghost use Rattle.cell_replay.specs.JournalRuns.{AreOnDisks, ArePut, IsJournalReplay};
-ghost use Rattle.cell_replay.specs.Runs.{Ended, ReadsNothing, run_of};
+ghost use Rattle.cell_replay.specs.Runs.{Ended, ReadsFew, ReadsNothing, run_of};
 ghost use Rattle.cell_replay.specs.Leaving.{Leaves};
 ghost use Rattle.cell_replay.specs.PrivateStanding.{IsAt, IsBroken, IsForm, IsKept, counted, disks_of, full_of, start_of};
 ghost use Rattle.cell_replay.specs.PrivateEndings.{StopsWith, TellsFull, side_of};
@@ -224,6 +224,8 @@ fn serve<S: Source, K: Sink>(alloc: Global, form: Form, source: &mut S, sink: &m
     requires { IsForm form }
     ensures ends { Ended (start_of form)
         (run_of S.left S.faults K.written K.faults source.old source.new sink.old sink.new) result }
+    ensures few { ReadsFew (start_of form)
+        (run_of S.left S.faults K.written K.faults source.old source.new sink.old sink.new) }
     ensures unread { ReadsNothing (Some (start_of form)) → source.new ≡ source.old }
 {
     match form {
@@ -255,6 +257,8 @@ pub fn run<S: Source, K: Sink>(
     ensures unread { ReadsNothing (form_of (map string_bytes words.now)) → source.new ≡ source.old }
     ensures ends { IfSome (form_of (map string_bytes words.now)) (λ form. Ended form
         (run_of S.left S.faults K.written K.faults source.old source.new sink.old sink.new) result) }
+    ensures few { IfSome (form_of (map string_bytes words.now)) (λ form. ReadsFew form
+        (run_of S.left S.faults K.written K.faults source.old source.new sink.old sink.new)) }
     ensures transcript { form_of (map string_bytes words.now) ≡ Some run_form → result ≡ Status.Ok
         → IsReplay (run_of S.left S.faults K.written K.faults source.old source.new sink.old sink.new) }
     ensures inquired { form_of (map string_bytes words.now) ≡ Some inquiring_form

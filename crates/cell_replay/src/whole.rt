@@ -2,7 +2,7 @@
 ghost use Rattle.std.specs.Prelude.{◌≡◌, [], IfOk, Err};
 ghost use Rattle.cell_replay.specs.Forms.{ByWhole};
 ghost use Rattle.cell_replay.specs.WholeDemand.{Migrating, Auditing, said_of, too_long_text};
-ghost use Rattle.cell_replay.specs.Runs.{Ended, run_of};
+ghost use Rattle.cell_replay.specs.Runs.{Ended, ReadsFew, run_of};
 ghost use Rattle.cell_replay.specs.PrivateEndings.{Finishes, side_of};
 ghost use Rattle.cell_replay.specs.PrivateWholes.{IsSaid, SaysEnd, task_of};
 
@@ -106,8 +106,10 @@ fn read_whole<S: Source, K: Sink>(
 ) -> Status
     requires empty { window.octets ≡ [] }
     requires room { window.room ≡ WHOLE_SIGHT }
-    ensures { Ended (ByWhole (task_of whole))
+    ensures ends { Ended (ByWhole (task_of whole))
         (run_of S.left S.faults K.written K.faults source.old source.new sink.old sink.new) result }
+    ensures few { ReadsFew (ByWhole (task_of whole))
+        (run_of S.left S.faults K.written K.faults source.old source.new sink.old sink.new) }
 {
     match window.fill(source) {
         Ok(true) => end_saying(say(alloc, whole, window.octets()), sink),
@@ -123,8 +125,10 @@ pub(crate) fn say_whole<S: Source, K: Sink>(
     source: &mut S,
     sink: &mut K,
 ) -> Status
-    ensures { Ended (ByWhole (task_of whole))
+    ensures ends { Ended (ByWhole (task_of whole))
         (run_of S.left S.faults K.written K.faults source.old source.new sink.old sink.new) result }
+    ensures few { ReadsFew (ByWhole (task_of whole))
+        (run_of S.left S.faults K.written K.faults source.old source.new sink.old sink.new) }
 {
     match Window::new(alloc, WHOLE_SIGHT) {
         Ok(window) => read_whole(alloc, whole, window, source, sink),

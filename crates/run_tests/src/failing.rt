@@ -1,12 +1,12 @@
 // Runs over sources and sinks that fail, and how much is read ahead and held back.
-ghost use Rattle.std.specs.Prelude.{◌<◌};
+ghost use Rattle.std.specs.Prelude.{◌<◌, Some};
 
 use crate::scripts::{
     IMAGES, IMAGES_VERDICT, INQUIRIES, INQUIRIES_ANSWERS, KEPT_READS, KEPT_READS_ANSWERS,
     OLD_MASTER, OLD_MASTER_ANSWERS, PLAIN, PLAIN_ANSWERS, STOPPED_ADD, STOPPED_ADD_ANSWERS,
     TROUBLE, TROUBLE_MENDED, USUAL_CELL, USUAL_CELL_ANSWERS,
 };
-use cds_base::{MemSink, MemSource};
+use cds_base::{Failed, MemSink, MemSource, Sink};
 use cds_stamps::DirId;
 use cell_replay::{Status, mend, run};
 use std::alloc::{AllocError, Global};
@@ -77,6 +77,20 @@ static SCRIPTS: [(&str, &[u8], &[u8]); 8] = [
 // The most octets of a read or a write where each of them fails in turn.
 const PIECE: usize = 64;
 
+// How a form ends over a source and a sink.
+fn end_of<K: Sink>(
+    alloc: Global,
+    form: &str,
+    source: &mut MemSource,
+    sink: &mut K,
+) -> Result<Status, AllocError> {
+    if form == MEND {
+        return Ok(mend(alloc, DirId(1), source, sink));
+    }
+    let words = words_of(alloc, form)?;
+    Ok(run(alloc, &words, source, sink))
+}
+
 // What a form writes over octets that are read and written in pieces, and how it ends, where the read and the write of these numbers
 // fail.
 fn outcome_of(
@@ -88,14 +102,9 @@ fn outcome_of(
 ) -> Result<(Vec<u8>, Status), AllocError>
     requires { 0 < most }
 {
-    let words = words_of(alloc, form)?;
     let mut source = MemSource::new(octets.to_vec(alloc)?, vec![in alloc; failing.0]?, most);
     let mut sink = MemSink::new(alloc, ROOM, vec![in alloc; failing.1]?, most)?;
-    let status = if form == MEND {
-        mend(alloc, DirId(1), &mut source, &mut sink)
-    } else {
-        run(alloc, &words, &mut source, &mut sink)
-    };
+    let status = end_of(alloc, form, &mut source, &mut sink)?;
     Ok((sink.written().to_vec(alloc)?, status))
 }
 
@@ -132,6 +141,64 @@ fn each_read_and_each_write_fails_in_turn(rt: HostRuntime) -> Result<(), Fail> {
         assert_eq!(rt; reads, script.len().div_ceil(PIECE) + 1, "{form}");
         let writes = runs_that_fail(alloc, form, script, answers, Status::WriteFault)?;
         assert!(rt; writes >= answers.len().div_ceil(PIECE), "{form}");
+    }
+    Ok(())
+}
+
+// A sink that counts its calls.
+#[derive(Drop)]
+struct Counted {
+    sink: MemSink,
+    calls: u64,
+}
+
+impl Sink for Counted {
+    ghost written = { λ s. Some s.sink.written };
+
+    ghost faults = { λ s. s.sink.faults };
+
+    fn write(&mut self, piece: &[u8]) -> Result<usize, Failed> {
+        self.calls = self.calls.saturating_add(1);
+        self.sink.write(piece)
+    }
+}
+
+// How many writes of one octet a form makes, and how it ends, where the write of this number fails. The input is read at once.
+fn writes_made(
+    alloc: Global,
+    form: &str,
+    octets: &[u8],
+    failing: u64,
+) -> Result<(u64, Status), Fail> {
+    let mut source = MemSource::new(octets.to_vec(alloc)?, Vec::new(alloc), ROOM);
+    let mut sink = Counted {
+        sink: MemSink::new(alloc, ROOM, vec![in alloc; failing]?, 1)?,
+        calls: 0,
+    };
+    let status = end_of(alloc, form, &mut source, &mut sink)?;
+    Ok((sink.calls, status))
+}
+
+// Forms, and what they read, where something is written after the last read: the line of a fault, the counts of `check`, and a tower.
+static LAST_WRITES: [(&str, &[u8]); 4] = [
+    ("run", b"house 1 00000000000a\nmove\n"),
+    ("inquire", b"house 1 00000000000a\nmove\n"),
+    ("check", PLAIN),
+    ("towers", MAPPER),
+];
+
+#[test]
+fn no_write_comes_after_a_failed_one(rt: HostRuntime) -> Result<(), Fail> {
+    let alloc = rt.alloc();
+    for failing in 1..4 {
+        for (form, octets, _) in SCRIPTS {
+            let made = writes_made(alloc, form, octets, failing)?;
+            assert!(rt; made == (failing, Status::WriteFault), "{form}");
+        }
+        for (form, octets) in LAST_WRITES {
+            let made = writes_made(alloc, form, octets, failing)?;
+            assert!(rt; made == (failing, Status::WriteFault), "{form}");
+        }
     }
     Ok(())
 }

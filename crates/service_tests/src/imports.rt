@@ -1,5 +1,5 @@
 // Imports over two entries in memory, and the bindings of towers in any order.
-ghost use Rattle.std.specs.Prelude.{◌≡◌, true, IfOk};
+ghost use Rattle.std.specs.Prelude.{◌≡◌, ◌≤◌, true, IfOk};
 ghost use Rattle.resolver.specs.ListedReaders.{objects_in};
 ghost use Rattle.resolver.specs.Nears.{Knows};
 ghost use Rattle.resolver.specs.ListedReaderProofs.{listed_shows_only};
@@ -144,6 +144,31 @@ fn a_lookup_gives_batches(rt: HostRuntime) -> Result<(), Fail> {
     for batch in [Some(1), Some(1), None] {
         assert_eq!(rt; lookup.next(alloc)?.map(|bindings| bindings.len()), batch);
     }
+    Ok(())
+}
+
+// What a look-up of `a` gives in batches of so many bindings, where there is no memory for what `b` has: the numbers of the bindings of
+// two batches, or none where memory ran out.
+fn batches_before_b(alloc: Global, most: usize) -> Result<[Option<usize>; 2], Fail>
+    requires { 1 ≤ most }
+{
+    let reader = pair_of(alloc, true)?;
+    let name = FullName::parse(alloc, b"/.:/a")?;
+    let mut lookup = Lookup::begin(alloc, &reader, &name, wanted(&reader.tower)?, most)?;
+    let mut sizes = [None; 2];
+    for size in &mut sizes {
+        if let Ok(Some(batch)) = lookup.next(alloc) {
+            *size = Some(batch.len());
+        }
+    }
+    Ok(sizes)
+}
+
+#[test]
+fn a_lookup_reads_no_entry_before_its_batch_needs_it(rt: HostRuntime) -> Result<(), Fail> {
+    // The entry at which it begins is read alone until the first batch is full.
+    assert!(rt; batches_before_b(rt.alloc(), 1)? == [Some(1), None]);
+    assert!(rt; batches_before_b(rt.alloc(), 2)? == [None, None]);
     Ok(())
 }
 

@@ -24,3 +24,21 @@ returns-in-Inquire-clause-ends g c = rw c.in-Inquire.is (c.serve_lines-in-Inquir
 
 pub returns-in-Journal-clause-ends : goal.returns-in-Journal-clause-ends
 returns-in-Journal-clause-ends g c = rw c.in-Journal.is c.journal_over_new_disks.ensures
+
+pub returns-in-Run-clause-few : goal.returns-in-Run-clause-few
+returns-in-Run-clause-few g c = rw c.in-Run.is tt
+
+pub returns-in-Check-clause-few : goal.returns-in-Check-clause-few
+returns-in-Check-clause-few g c = rw c.in-Check.is tt
+
+pub returns-in-Load-clause-few : goal.returns-in-Load-clause-few
+returns-in-Load-clause-few g c = rw c.in-Load.is tt
+
+pub returns-in-Clerk-clause-few : goal.returns-in-Clerk-clause-few
+returns-in-Clerk-clause-few g c = rw c.in-Clerk.is tt
+
+pub returns-in-Inquire-clause-few : goal.returns-in-Inquire-clause-few
+returns-in-Inquire-clause-few g c = rw c.in-Inquire.is tt
+
+pub returns-in-Journal-clause-few : goal.returns-in-Journal-clause-few
+returns-in-Journal-clause-few g c = rw c.in-Journal.is tt
