@@ -8,3 +8,8 @@ pub returns-in_err-audit-clause-wanting : goal.returns-in_err-audit-clause-wanti
 returns-in_err-audit-clause-wanting c =
     wants {T = Verdict} {E = PairFault} c.from_residual.result
     (has_head c.args.octets.now c.in-Ok.read.0 c.in-Ok.read.1 c.in-Ok.ensures.answer)
+
+pub returns-in-Err-second_image-clause-wanting : goal.returns-in-Err-second_image-clause-wanting
+returns-in-Err-second_image-clause-wanting c =
+    wants {T = Verdict} {E = PairFault} (Err c.in-Err-second_image.error)
+    (has_head c.args.octets.now c.in-Ok.read.0 c.in-Ok.read.1 c.in-Ok.ensures.answer)
