@@ -5,3 +5,4 @@ pub mod PutLines
 pub mod ReadBack
 pub mod Readying
 pub mod Ready
+pub mod Choosing

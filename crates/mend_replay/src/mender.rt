@@ -5,6 +5,7 @@ ghost use Rattle.cell_model.specs.Cells as model;
 ghost use Rattle.cell_script.specs.Words.{words_of};
 ghost use Rattle.cell_script.specs.CommandRows.{said_in};
 ghost use Rattle.cds_cell.specs.ModelCells.{Stands};
+ghost use Rattle.house_directory.specs.HouseMessages.{numbers_of};
 ghost use Rattle.script_replay.specs.Dialogues.{reply_of};
 ghost use Rattle.script_replay.specs.Replies.{cell_after};
 ghost use Rattle.mend_replay.specs.MendLines.{mend_text};
@@ -12,7 +13,7 @@ ghost use Rattle.mend_replay.specs.Menders.{Mends, UnlessNoMemory};
 ghost use Rattle.mend_replay.specs.Quiet.{running_quietly};
 
 use crate::commands::mend_text;
-use cds_stamps::{AllocOr, DirId};
+use cds_stamps::{AllocOr, DirId, HouseNo};
 use cell_script::{ScriptLine, parse_line};
 use reply_buffer::{LineEnd, Waiting, reply_to_fault};
 use script_replay::Replayer;
@@ -26,18 +27,21 @@ const MOST_POSTED: u64 = 4_611_686_018_427_387_904;
 pub struct Mender {
     replayer: Replayer,
     dir: DirId,
+    without: Vec<HouseNo>,
 }
 
 impl Mender {
-    /// Over a cell without houses. Takes no memory.
-    pub fn new(alloc: Global, dir: DirId) -> Mender
+    /// Over a cell without houses; it mends this directory without those houses. Takes no memory.
+    pub fn new(alloc: Global, dir: DirId, without: Vec<HouseNo>) -> Mender
         ensures cell { Stands result.replayer.cell model.empty_cell }
         ensures dir { result.dir ≡ dir }
+        ensures without { result.without ≡ without }
         ensures steps { result.replayer.steps ≡ 0 }
     {
         Mender {
             replayer: Replayer::new(alloc),
             dir,
+            without,
         }
     }
 
@@ -56,6 +60,7 @@ impl Mender {
             (reply_of running_quietly number g
             (said_in (words_of line.now))) waiting.old waiting.new self.new }
         ensures dir { self.new.dir ≡ self.old.dir }
+        ensures without { self.new.without ≡ self.old.without }
         ensures steps { self.new.replayer.steps ≤ number }
     {
         match parse_line(alloc, line) {
@@ -72,6 +77,7 @@ impl Mender {
         ensures done { (g : model.Cell) → Stands self.old.replayer.cell g
             → UnlessNoMemory result (Stands self.new.replayer.cell (cell_after g line)) }
         ensures dir { self.new.dir ≡ self.old.dir }
+        ensures without { self.new.without ≡ self.old.without }
         ensures steps { self.new.replayer.steps ≤ self.old.replayer.steps + 1 }
     {
         match self.replayer.reply(alloc, line) {
@@ -83,12 +89,13 @@ impl Mender {
     /// The lines that mend the directory, or the line of the reason why none do.
     pub fn print_lines(&self, alloc: Global) -> Result<Vec<u8>, AllocError>
         ensures { (g : model.Cell) → Stands self.now.replayer.cell g
-            → IfOk result (λ text. text.items ≡ mend_text self.now.dir.0 g) }
+            → IfOk result (λ text. text.items
+            ≡ mend_text self.now.dir.0 (numbers_of self.now.without.items) g) }
     {
         let cell = self.replayer.cell();
         if cell.posted() > MOST_POSTED {
             return Err(AllocError);
         }
-        mend_text(alloc, cell, self.dir)
+        mend_text(alloc, cell, self.dir, self.without.as_slice())
     }
 }
