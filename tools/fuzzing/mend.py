@@ -150,7 +150,7 @@ def houses_left_out(source, cell, number):
         return []
     listed = [it for it, _ in directory.listed]
     most = len(listed) if source.random() < 0.1 else max(1, len(listed) - 1)
-    chosen = source.sample(listed, source.randint(1, most))
+    chosen = source.sample(listed, min(source.randint(1, most), source.randint(1, most)))
     return chosen + ([source.randint(1, 255)] if source.random() < 0.1 else [])
 
 
@@ -218,7 +218,7 @@ def fault_of(program, mender, lines, cell, number, without):
     """Returns what is wrong with what mends the directory without these houses, if anything, and the name of the trouble."""
     due, trouble = wanted(program, lines, cell, number, without)
     words = [str(number), *(["-", *map(str, without)] if without else [])]
-    tool, *first = shlex.split(mender)
+    tool, *first = [mender] if os.path.isfile(mender) else shlex.split(mender)
     added, status = run(tool, [*first, *words], lines)
     if status or added != due:
         return f"cdsmend {' '.join(words)} ends with status {status} and {added}, not {due}", trouble
