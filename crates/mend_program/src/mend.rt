@@ -109,10 +109,24 @@ pub fn run<S: Source, K: Sink>(
         (run_of S.left S.faults K.written K.faults source.old source.new sink.old sink.new) }
 {
     match directory_in(words) {
-        Some(dir) => match houses_in(alloc, words) {
-            Ok(without) => mend(alloc, dir, without, source, sink),
-            Err(AllocError) => Status::OutOfMemory,
-        },
+        Some(dir) => mend_by_words(alloc, words, dir, source, sink),
         None => Status::Usage,
+    }
+}
+
+// The same of this directory, without the houses that the words name.
+fn mend_by_words<S: Source, K: Sink>(
+    alloc: Global,
+    words: &[String],
+    dir: DirId,
+    source: &mut S,
+    sink: &mut K,
+) -> Status
+    ensures { Ended (mend_form dir.0 (houses_named (map string_bytes words.now)))
+        (run_of S.left S.faults K.written K.faults source.old source.new sink.old sink.new) result }
+{
+    match houses_in(alloc, words) {
+        Ok(without) => mend(alloc, dir, without, source, sink),
+        Err(AllocError) => Status::OutOfMemory,
     }
 }

@@ -6,3 +6,4 @@ pub mod ReadBack
 pub mod Readying
 pub mod Ready
 pub mod Choosing
+pub mod Rooms
