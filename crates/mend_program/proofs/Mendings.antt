@@ -11,7 +11,7 @@ use Rattle.cell_model.specs.Mending.{skulking_at}
 use Rattle.cell_model.specs.Sets.{has}
 use Rattle.cell_model.specs.Steps.{is_unknown}
 use Rattle.cell_model.specs.Turns.{stamp_at}
-use Rattle.cell_model.proofs.Agreed.{ready_lem, some_epoch}
+use Rattle.cell_model.proofs.Agreed.{ready_lem}
 use Rattle.cell_model.proofs.Mended.{mended_lem}
 use Rattle.cell_model.proofs.PresentLists.{IsProper, tidy_lem}
 use Rattle.mend_replay.specs.Readiness.{is_ready}
@@ -20,7 +20,7 @@ use Rattle.script_replay.specs.Replies.{Numbered}
 use Rattle.cell_replay.specs.Headline.{cell_after_script, commands_of}
 use Rattle.cell_replay.specs.Scripts.{IsScript}
 use Rattle.mend_model.specs.Leaving.{leaving_commands, new_master, smaller_list}
-use Rattle.mend_model.proofs.LeftOut.{chosen_leads, leaving_lem}
+use Rattle.mend_model.proofs.LeftOut.{chosen_stays, leaving_lem}
 use Rattle.mend_replay.specs.MendLines.{command_line, command_lines, leaving_text, mend_text, mending_text, mends, refusal_line, text_led_by}
 use Rattle.mend_replay.specs.SayableCommands.{IsDirectory, IsHouse}
 use Rattle.mend_replay.proofs.Ready.{ready_is}
@@ -117,10 +117,10 @@ module _ (lines : List (List ℕ)) (said : List Numbered) (script : IsScript 1 l
     left_mended : IsMended lines said d t (smaller_list (cell_after_script said) d (h ∷ hs) m) (mend_text d (h ∷ hs) (cell_after_script said))
     left_mended =
         let out = leaving_lem all d (h ∷ hs) m t known is stamp in
-        let lead = chosen_leads all d (some_epoch (g.top d) known) (h ∷ hs) m is in
-        let can = leaving_mend g d dir known proper houses (h ∷ hs) m lead.listed lead.stays in
+        let lead = chosen_stays all d (h ∷ hs) m known is in
+        let can = leaving_mend g d dir known proper houses (h ∷ hs) m lead.0 lead.1 in
         commands_mend lines said d t (smaller_list g d (h ∷ hs) m) (leaving_commands g d (h ∷ hs) m) (mend_text d (h ∷ hs) g) script text_left out.few
-        (λ serials. leaving_said g d dir known proper houses (h ∷ hs) m lead.listed lead.stays serials)
+        (λ serials. leaving_said g d dir known proper houses (h ∷ hs) m lead.0 lead.1 serials)
         (settled_mends said (1 + length lines) d (g.top d + 1) t (smaller_list g d (h ∷ hs) m) (leaving_commands g d (h ∷ hs) m) can out.settled)
 
   -- with any houses
