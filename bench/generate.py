@@ -23,6 +23,11 @@
     generate.py crowded N    the same of 2,000 entries, of which few fit into the room of the clerk
     generate.py journals N   N updates of a house of 100 entries, of which each hundredth is stopped, for the form `journal`
     generate.py idle N       two houses of 100 entries, and N commands that change nothing of them, for the form `journal`
+    generate.py resumed N    a journal of N images, and then 100 times its last image, a `crash` and a `start`, for the form `journal`
+    generate.py wide N       a directory at 64 houses, and N updates at its master, whose messages are delivered to four houses and lost to the others
+    generate.py deep N       a path of 200 directories, and N reads at its end
+    generate.py linked N     a chain of 63 links, and N reads through all of it
+    generate.py small N      one command: what it costs to begin
     generate.py mends N      a cell of 64 houses in trouble, N lines, for the program `cdsmend`
     generate.py migrate N    the image, in format 1, of a house with N entries of four values each, for the form `migrate`
     generate.py audits N     two such images, of N entries each, of houses that agree, for the form `audit 1`
@@ -346,6 +351,49 @@ def idle(count):
         yield (f"deliver {i % 200 + 2}\n", f"create 1 1 entry-{i % 100:02}\n", f"add 2 1 entry-{i % 100:02} Attribute 01\n", "clock 1 0\n")[i % 4]
 
 
+def resumed(count):
+    yield "house 1 00000000000a\nroot 1\ncreate 1 1 entry\n"
+    for i in range(count):
+        yield f"{'remove' if i & 1 else 'add'} 1 1 entry Attribute 01\n"
+    for _ in range(100):
+        yield "image 1\ncrash 1\nstart 1\n"
+
+
+def wide(count):
+    yield "".join(f"house {house} {house:012x}\n" for house in range(1, 65))
+    yield f"root 1 {' '.join(map(str, range(2, 65)))}\n"
+    yield from delivered(range(1, 64), 1)
+    yield "".join(f"create 1 1 entry-{i:02}\n" for i in range(16))
+    serial = 64
+    for i in range(16):
+        yield from delivered(range(serial, serial + 63), 1)
+        serial += 63
+    random = pseudorandom(count)
+    for _ in range(count):
+        x = next(random)
+        yield f"{'add' if x & 3 else 'remove'} 1 1 entry-{x >> 2 & 15:02} Attribute {x >> 6 & 7:02x}\n"
+        yield from delivered(range(serial, serial + 4), 1)
+        yield "".join(f"lose {it}\n" for it in range(serial + 4, serial + 63))
+        serial += 63
+
+
+def deep(count):
+    yield "house 1 00000000000a\nroot 1\n"
+    yield "".join(f"mkdir 1 {i + 1} d 1\n" for i in range(200))
+    yield "create 1 201 entry\nadd 1 201 entry Attribute 01\n"
+    yield from (f"read 1 {'high' if i % 2 else 'low'} /.:{'/d' * 200}/entry Attribute\n" for i in range(count))
+
+
+def linked(count):
+    yield "house 1 00000000000a\nroot 1\ncreate 1 1 entry-00\nadd 1 1 entry-00 Attribute 01\n"
+    yield "".join(f"link 1 1 entry-{i:02} /.:/entry-{i - 1:02}\n" for i in range(1, 64))
+    yield from (f"read 1 {'high' if i % 2 else 'low'} /.:/entry-63 Attribute\n" for i in range(count))
+
+
+def small(count):
+    yield "house 1 00000000000a\n"
+
+
 def mends(count):
     """House 1 is the master, 2 to 8 are secondary, and 9 to 64 read-only. Joins were lost or wait; houses are down; a skulk waits for them."""
     for house in range(1, 65):
@@ -484,6 +532,11 @@ KINDS = {
     "crowded": lambda count: encoded(reads(2_000, count)),
     "journals": lambda count: encoded(journals(count)),
     "idle": lambda count: encoded(idle(count)),
+    "resumed": lambda count: encoded(resumed(count)),
+    "wide": lambda count: encoded(wide(count)),
+    "deep": lambda count: encoded(deep(count)),
+    "linked": lambda count: encoded(linked(count)),
+    "small": lambda count: encoded(small(count)),
     "mends": lambda count: encoded(mends(count)),
     "migrate": migrate,
     "audits": audits,

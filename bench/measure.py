@@ -51,6 +51,11 @@ SIZES = {
     "crowded": 200_000,
     "journals": 20_000,
     "idle": 10_000,
+    "resumed": 20_000,
+    "wide": 2_000,
+    "deep": 2_000,
+    "linked": 10_000,
+    "small": 1,
     "mends": 1_000,
     "migrate": 115_000,
     "audits": 57_500,
@@ -62,7 +67,7 @@ FORMS = {
     **{it: [it] for it in ("check", "towers", "untowers", "migrate")},
     **dict.fromkeys(["lookups", "inquiries"], ["inquire"]),
     **dict.fromkeys(["cached", "crowded"], ["clerk", "1000"]),
-    **dict.fromkeys(["journals", "idle"], ["journal"]),
+    **dict.fromkeys(["journals", "idle", "resumed"], ["journal"]),
     **dict.fromkeys(["audits", "differing"], ["audit", "1"]),
 }
 # GNU time has a small peak of its own; this process would lend its children a greater one.
@@ -154,7 +159,7 @@ def main():
     all_agreed, rows = True, []
     with tempfile.TemporaryDirectory() as folder:
         for kind in args.kinds.split(","):
-            size = SIZES[kind] // args.divide
+            size = max(1, SIZES[kind] // args.divide)
             times, agreed = measure(kind, size, programs, args.runs, folder)
             all_agreed &= agreed
             counts = count(kind, max(size // args.instructions, 1), programs, folder) if args.instructions else []

@@ -1,8 +1,8 @@
 -- What a clerk keeps, by the test for questions.
-use Rattle.std.proofs.Common.{Bool, List, [], ap, arith, length, refl, subst, sym, true, ℕ, ◌∙◌, ◌∷◌, ◌≡◌, ◌≤◌}
+use Rattle.std.proofs.Common.{Bool, List, [], ap, arith, inr, length, refl, subst, sym, true, ℕ, ◌∙◌, ◌∷◌, ◌≡◌, ◌≤◌, ◌<◌}
 use Rattle.std.specs.Prelude.{Option, Some, None, Err}
 use Rattle.std.specs.Option.{option_map}
-use Rattle.resolver.specs.ChangingReaders.{Ending, IsPartWalked}
+use Rattle.resolver.specs.ChangingReaders.{Ending}
 use Rattle.resolver.specs.ChangingEnds.{found_at, resolution_of}
 use Rattle.resolver.proofs.ChangingLaws.{ending_is}
 use Rattle.resolver.specs.Walks.{start}
@@ -14,7 +14,7 @@ use Rattle.resolver.specs.Readers.{Sight, sight_of}
 use Rattle.clerk_cache.specs.declared.query.Query.{Query}
 use Rattle.clerk_cache.specs.contracts.query.QueryPartialEq.TheImpl.{eq-value}
 use Rattle.clerk_cache.specs.Clerks.{is_query, seen_told, kept_sight, kept_values, to_front, sight_by, values_by, sight_answer, clerk_reader}
-use Rattle.clerk_cache.specs.Resolutions.{IsPartFrom}
+use Rattle.clerk_cache.specs.Resolutions.{RanOutFrom}
 use Rattle.clerk_cache.specs.declared.clerk.Clerk.{Clerk}
 use Rattle.resolver.specs.Readers.{Reader}
 use Rattle.resolver.specs.Walks.{Walker, Goes, Stops, step, step_from}
@@ -23,7 +23,7 @@ use Rattle.resolver.specs.declared.walk.End.TheVariants.{Refused}
 use Rattle.resolver.specs.declared.refusal.Refusal.TheVariants.{RootName, Unreachable}
 use Rattle.std.proofs.lemmas.List.{at_drop_all}
 use Rattle.resolver.specs.ChangingReaders.{ChangingReader, look_of, state_after, ComesTo, goes_on, EndsChanging, stops}
-use Rattle.resolver.specs.PassWords.{Saw, first_walker}
+use Rattle.resolver.specs.PassWords.{IsNoRefusal, Saw, first_walker}
 use Rattle.resolver.proofs.PassLaws.{saw_by}
 
 -- what `==` computes of questions is the test
@@ -103,14 +103,26 @@ rootless_resolved {S} reader s (c ∷ cs) h n =
           (option_map (λ (p : Pointer). (p, c)) o) s,
     )) n
 
--- some of the look-ups of the walk of a name
-pub part_walked : {S : Type 0} (reader : ChangingReader S) (s t : S) (name : List (List ℕ)) (root : Pointer) (w : Walker)
+-- where memory ran out in the walk of a name
+pub ran_out : {S : Type 0} (reader : ChangingReader S) (s t : S) (name : List (List ℕ)) (root : Pointer) (w : Walker)
     → (reader.tells s).root ≡ Some root → w ≡ first_walker root name
-    → IsPartFrom reader true s w t → IsPartWalked reader true s name t
-part_walked {S} reader s t name root w is_root is part = record {
-  state = part.state;
-  walker = part.walker;
-  comes = subst (λ (v : Walker). ComesTo reader true s v part.state part.walker)
-      (is ∙ ap (λ (o : Option Pointer). record { name = name; at = o; done = 0; came_up = name ∷ []; links = 0 }) (sym is_root)) part.comes;
-  is = part.is;
+    → RanOutFrom reader true s w t → RanOutFrom reader true s (start (reader.tells s) name) t
+ran_out {S} reader s t name root w is_root is part =
+    subst (λ (v : Walker). RanOutFrom reader true s v t)
+    (is ∙ ap (λ (o : Option Pointer). record { name = name; at = o; done = 0; came_up = name ∷ []; links = 0 }) (sym is_root)) part
+
+-- and where it ran out after a look-up, the step refuses nothing
+pub lacks : {S : Type 0} (reader : ChangingReader S) (last here : Bool) {s₀ s t : S} {w₀ w : Walker} → here ≡ last → ComesTo reader last s₀ w₀ s w
+    → w.done < length w.name → state_after reader s w ≡ t → IsNoRefusal (step (reader.tells s) here w) → RanOutFrom reader last s₀ w₀ t
+lacks {S} reader last here {s₀} {s} {t} {w₀} {w} same comes within is none = record {
+  state = s;
+  walker = w;
+  comes = comes;
+  within = within;
+  is = inr (sym is, subst (λ (l : Bool). IsNoRefusal (step (reader.tells s) l w)) same none);
 }
+
+-- a name that is not empty has a component
+pub some_length : (name : List (List ℕ)) → (length name ≡ 0 → ⊥) → 0 < length name
+some_length [] some = absurd (some refl)
+some_length (c ∷ cs) some = omega arith

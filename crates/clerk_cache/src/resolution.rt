@@ -6,7 +6,7 @@ ghost use Rattle.resolver.specs.declared.refusal.Refusal.TheVariants.{RootName};
 ghost use Rattle.resolver.specs.ChangingReaders.{EndsChanging};
 ghost use Rattle.resolver.specs.PassWords.{walker_of};
 ghost use Rattle.clerk_cache.specs.Clerks.{clerk_reader};
-ghost use Rattle.clerk_cache.specs.Resolutions.{IsPartFrom, IsResolution};
+ghost use Rattle.clerk_cache.specs.Resolutions.{IsResolution, RanOutFrom};
 
 use crate::clerk::Clerk;
 use cds_stamps::{AllocOr, DirId};
@@ -18,7 +18,8 @@ impl Clerk {
     /// The entry that a full name leads to, links followed, and the pointer to the directory where it
     /// was found: the walk of `resolver::resolve`, each look-up at low confidence through the clerk,
     /// at the line `now`. Whatever it answers, a refusal or out of memory too, what its look-ups did
-    /// to the list stays.
+    /// to the list stays. Where memory runs out a component of the name is still to be passed, and
+    /// once that is looked up the walk is not refused there.
     pub fn resolve<R: EntryReader>(
         &mut self,
         alloc: Global,
@@ -67,7 +68,7 @@ impl Clerk {
             IfOk result (λ r. EndsChanging asked true self.old (walker_of walk.entry)
             (record { end = r.0; at = Some (pointer_in r.1); state = self.new })) }
         ensures memory { let asked = clerk_reader now (R.tells reader.now) in
-            OnErr result (IsPartFrom asked true self.old (walker_of walk.entry) self.new) }
+            OnErr result (RanOutFrom asked true self.old (walker_of walk.entry) self.new) }
     {
         'steps: loop {
             let Some((dir, component)) = walk.next_look() else {

@@ -1,4 +1,5 @@
 pub mod LastAnswers
+pub mod LoneMasters
 pub mod Goings
 pub mod Trios
 pub mod SkulkRuns

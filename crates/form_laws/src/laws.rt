@@ -1,7 +1,7 @@
 // A law is a function without parameters and with an empty body: its contract is the theorem.
 ghost use Rattle.std.specs.Prelude.{ℕ, ◌≤◌, ◌≡◌, List, Contains, None};
 ghost use Rattle.cell_model.specs.Cells.{Cell};
-ghost use Rattle.form_laws.specs.LastAnswers.{CompletesAtLast};
+ghost use Rattle.form_laws.specs.LastAnswers.{CompletesAlone, CompletesAtLast};
 ghost use Rattle.cell_script.specs.Generated.{script};
 ghost use Rattle.form_laws.specs.Unrefused.{IsNeverRefused, AllCommandsWork, AllComplete, Loads};
 ghost use Rattle.form_laws.specs.Summaries.{CountsAll};
@@ -15,6 +15,11 @@ ghost use Rattle.form_laws.specs.Honesty.{IsHonest, cell_after_lines, dialogue_s
 /// A delivery answers Complete exactly where it brings the last missing answer of a second round.
 pub fn a_last_answer_completes()
     ensures { (g : Cell) (n : ℕ) → CompletesAtLast g n }
+{}
+
+/// A skulk completes in the step that begins it exactly where its master is alone.
+pub fn a_lone_master_completes()
+    ensures { (g : Cell) (h d : ℕ) → CompletesAlone g h d }
 {}
 
 /// The model refuses no command of a script of up to 20000 rounds, and none of them is in vain: each update is accepted,

@@ -5,6 +5,6 @@
 mod laws;
 
 pub use laws::{
-    a_last_answer_completes, all_else_is_as_by_run, kept_answers_are_honest,
-    script_is_never_refused,
+    a_last_answer_completes, a_lone_master_completes, all_else_is_as_by_run,
+    kept_answers_are_honest, script_is_never_refused,
 };

@@ -1,5 +1,5 @@
 -- The record at the front of octets, and a chain that is read record by record.
-use Rattle.std.proofs.Common.{◌≡◌, ◌≢◌, ℕ, ◌+◌, ◌≤◌, ◌<◌, ◌==◌, nat_le, true, List, [], ◌∷◌, ◌++◌, length, take, drop, slice_index, sym, ◌∙◌, ap, subst}
+use Rattle.std.proofs.Common.{◌≡◌, ◌≢◌, ℕ, ◌+◌, ◌≤◌, ◌<◌, ◌==◌, nat_le, true, List, [], ◌∷◌, ◌++◌, length, take, drop, slice_index, refl, sym, ◌∙◌, ap, subst}
 use Rattle.std.proofs.Common.{arith, append_assoc, append-nil, take-append-drop}
 use Rattle.std.proofs.lemmas.List.{drop-drop}
 use Rattle.std.proofs.lemmas.Bool.{and_from, and_left, and_right, eq-eqb, ne_eqb, le-leb, lt-leb}
@@ -21,6 +21,10 @@ front_open f n on len long =
     opened f open_gate
     ∙ ap (λ (k : ℕ). take k (drop 9 f) ∷ images (drop (k + 9) f)) (sym len)
     ∙ ap (λ (l : List ℕ). take n (drop 9 f) ∷ images l) (ap (λ (k : ℕ). drop k f) same ∙ sym (drop-drop n 9 f))
+
+-- the same of octets after an open gate
+pub sized_open : (f : List ℕ) (n : ℕ) → n ≡ length_at (1 ∷ f) → n + 8 < length f → images (1 ∷ f) ≡ take n (drop 8 f) ∷ images (drop n (drop 8 f))
+sized_open f n len long = front_open (1 ∷ f) n refl len (omega (arith, long))
 
 pub few_none : (f : List ℕ) → length f < 10 → images f ≡ []
 few_none f few = closed f (few_shut f few)

@@ -13,27 +13,42 @@ pub struct LastRecord<'a> {
     pub digest: [u8; 32],
 }
 
+// The record of which octets begin with the length, and what follows it.
+#[tactic(auto, using(crate::proofs::ReadLemmas::sized_open, crate::proofs::ReadLemmas::few_none, crate::proofs::ReadLemmas::long_none))]
+fn sized_record(octets: &[u8]) -> Option<(&[u8], &[u8])>
+    ensures some { IfSome result (λ r. images (1 ∷ octets.now) ≡ r.0.now ∷ images r.1.now) }
+    ensures shorter { IfSome result (λ r. length r.1.now < length octets.now) }
+    ensures none { IfNone result (images (1 ∷ octets.now) ≡ []) }
+{
+    if octets.len() < 9 {
+        return None;
+    }
+    let mut head = [0; 8];
+    head.copy_from_slice(&octets[..8]);
+    let len = u64::from_be_bytes(head);
+    let (_, rest) = octets.split_at(8);
+    if len >= rest.len() as u64 {
+        return None;
+    }
+    Some(rest.split_at(len as usize))
+}
+
 // The record at the front of octets and what follows it, if the gate there is open.
-#[tactic(auto, using(crate::proofs::ReadLemmas::front_open, crate::proofs::ReadLemmas::few_none, crate::proofs::ReadLemmas::other_none, crate::proofs::ReadLemmas::long_none))]
+#[tactic(auto, using(crate::proofs::ReadLemmas::other_none))]
 fn first_record(octets: &[u8]) -> Option<(&[u8], &[u8])>
     ensures some { IfSome result (λ r. images octets.now ≡ r.0.now ∷ images r.1.now) }
     ensures shorter { IfSome result (λ r. length r.1.now < length octets.now) }
     ensures none { IfNone result (images octets.now ≡ []) }
 {
-    if octets.len() < 10 {
-        return None;
+    match octets.split_first() {
+        None => None,
+        Some((gate, rest)) => {
+            if *gate != 1 {
+                return None;
+            }
+            sized_record(rest)
+        }
     }
-    if octets[0] != 1 {
-        return None;
-    }
-    let mut head = [0; 8];
-    head.copy_from_slice(&octets[1..9]);
-    let len = u64::from_be_bytes(head);
-    let (_, rest) = octets.split_at(9);
-    if len >= rest.len() as u64 {
-        return None;
-    }
-    Some(rest.split_at(len as usize))
 }
 
 // The body and the digest of a record, if it comes after a record with this digest.
@@ -77,8 +92,23 @@ fn head_of<'a>(title: &[u8], octets: &'a [u8]) -> Option<LastRecord<'a>>
     Some(LastRecord { body, digest })
 }
 
+// Whether the list ended later once, which no crash undoes: the gate at the front of these octets is open and no record follows, or a
+// record follows that comes after a record with this digest, and the gate after it is open.
+fn went_on(before: &[u8], octets: &[u8]) -> bool {
+    let Some((gate, rest)) = octets.split_first() else {
+        return false;
+    };
+    if *gate == 1 {
+        return true;
+    }
+    let Some((next, behind)) = sized_record(rest) else {
+        return false;
+    };
+    behind.first() == Some(&1) && unsealed(before, next).is_some()
+}
+
 /// The last record of a segment whose head is this text and a digest; none, if the octets are no such segment: if a record does not
-/// end in the digest of the record before and of itself.
+/// end in the digest of the record before and of itself, or if the list ended later once.
 pub fn last_record<'a>(title: &[u8], octets: &'a [u8]) -> Option<LastRecord<'a>>
     ensures { IfSome result (λ r. IsLast title.now (images octets.now) r.body.now r.digest) }
 {
@@ -87,6 +117,9 @@ pub fn last_record<'a>(title: &[u8], octets: &'a [u8]) -> Option<LastRecord<'a>>
     'records: while let Some((next, behind)) = first_record(rest) {
         last = unsealed(&last.digest, next)?;
         rest = behind;
+    }
+    if went_on(&last.digest, rest) {
+        return None;
     }
     Some(last)
 }

@@ -225,7 +225,7 @@ fn a_house_that_is_listed_no_more_leaves(rt: HostRuntime) -> Result<(), Fail> {
 }
 
 // The fault of the image of a house.
-fn start_fault(alloc: Global, octets: &[u8]) -> Option<RecordFault> {
+pub fn start_fault(alloc: Global, octets: &[u8]) -> Option<RecordFault> {
     match Clearinghouse::start(alloc, octets) {
         Err(AllocOr::Fault(StartFault::BadImage(fault))) => Some(fault),
         _ => None,

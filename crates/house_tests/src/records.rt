@@ -1,10 +1,12 @@
 // Messages and images that are copied and written again whole, as the program does in parts; with one octet more behind them, and with
 // each of their octets damaged.
+use crate::houses::start_fault;
 use cds_messages::Image;
 use cds_records::{
     RecordFault, decode, decode_image, encode, encode_image, migrate_image, whole_image,
 };
 use cds_stamps::AllocOr;
+use clearinghouse::Clearinghouse;
 use std::alloc::Global;
 use std::test::Fail;
 
@@ -192,6 +194,24 @@ fn is_told(alloc: Global, octets: &[u8], fault: RecordFault) -> bool {
 fn the_first_fault_of_an_image_is_told(rt: HostRuntime) -> Result<(), Fail> {
     for (octets, fault) in FAULTY_IMAGES {
         assert!(rt; is_told(rt.alloc(), octets, fault));
+    }
+    Ok(())
+}
+
+#[test]
+fn a_house_starts_of_an_image_of_either_format(rt: HostRuntime) -> Result<(), Fail> {
+    let alloc = rt.alloc();
+    for octets in [FORMER_IMAGE, IMAGE] {
+        let house = Clearinghouse::start(alloc, octets)?;
+        assert!(rt; house.image(alloc)?.as_slice() == IMAGE);
+    }
+    Ok(())
+}
+
+#[test]
+fn a_house_starts_of_no_faulty_image(rt: HostRuntime) -> Result<(), Fail> {
+    for (octets, fault) in FAULTY_IMAGES {
+        assert_eq!(rt; start_fault(rt.alloc(), octets), Some(fault));
     }
     Ok(())
 }

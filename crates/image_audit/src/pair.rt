@@ -6,7 +6,7 @@ ghost use Rattle.record_fields.specs.MemoryFaults.{IfWant};
 ghost use Rattle.cds_records.specs.Images.{either_image};
 ghost use Rattle.cds_records.specs.RecordMemory.{WantsForImage};
 ghost use Rattle.image_audit.specs.Pairs.{audit_verdict};
-ghost use Rattle.image_audit.specs.PrivatePairs.{error_in};
+ghost use Rattle.image_audit.specs.PrivatePairs.{error_in, second_of};
 
 use crate::auditor::audit;
 use crate::verdict::Verdict;
@@ -52,8 +52,20 @@ fn of_image(image: u8, error: AllocOr<RecordFault>) -> AllocOr<PairFault>
     }
 }
 
+// The second image, of either format: all that the octets are. Else the first fault.
+fn second_image(alloc: Global, octets: &[u8]) -> Result<Image, AllocOr<PairFault>>
+    ensures answer { Answers result (second_of octets.now) }
+    ensures wanting { IfWant (WantsForImage 1 2 octets.now) result }
+{
+    match whole_image(alloc, octets) {
+        Ok(second) => Ok(second),
+        Err(error) => Err(of_image(2, error)),
+    }
+}
+
 /// Audits a directory in the two images that the octets are, one after the other, each of either format. Else the first fault of the
-/// first image that has one; where octets follow the second it is Trailing.
+/// first image that has one; where octets follow the second it is Trailing. Of each image memory is asked for only after a whole
+/// head of it.
 pub fn audit_octets(alloc: Global, octets: &[u8], dir: DirId) -> Result<Verdict, AllocOr<PairFault>>
     ensures answer { Answers result (audit_verdict octets.now dir) }
     ensures wanting { IfWant (WantsForImage 1 2 octets.now) result }
@@ -62,9 +74,9 @@ pub fn audit_octets(alloc: Global, octets: &[u8], dir: DirId) -> Result<Verdict,
         Ok(read) => read,
         Err(error) => return Err(of_image(1, error)),
     };
-    let second = match whole_image(alloc, &octets[used..]) {
+    let second = match second_image(alloc, &octets[used..]) {
         Ok(second) => second,
-        Err(error) => return Err(of_image(2, error)),
+        Err(error) => return Err(error),
     };
     Ok(audit(alloc, &first, &second, dir)?)
 }

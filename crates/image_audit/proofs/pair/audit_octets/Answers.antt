@@ -4,11 +4,6 @@ use Rattle.image_audit.specs.declared.verdict.Verdict.{Verdict}
 use Rattle.image_audit.proofs.FrontImages.{has_head, wants}
 use Rattle.image_audit.proofs.pair.audit_octets.Goals as goal
 
-pub returns-in-Err-whole_image-clause-wanting : goal.returns-in-Err-whole_image-clause-wanting
-returns-in-Err-whole_image-clause-wanting c =
-    wants {T = Verdict} {E = PairFault} (Err c.of_image-in-Err-whole_image.result)
-    (has_head c.args.octets.now c.in-Ok.read.0 c.in-Ok.read.1 c.in-Ok.ensures.answer)
-
 pub returns-in_err-audit-clause-wanting : goal.returns-in_err-audit-clause-wanting
 returns-in_err-audit-clause-wanting c =
     wants {T = Verdict} {E = PairFault} c.from_residual.result

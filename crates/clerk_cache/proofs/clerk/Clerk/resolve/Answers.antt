@@ -7,7 +7,7 @@ use Rattle.resolver.specs.ChangingReaders.{begins}
 use Rattle.resolver.specs.ChangingEnds.{found_at}
 use Rattle.resolver.specs.PassWords.{walker_of}
 use Rattle.clerk_cache.specs.Clerks.{clerk_reader}
-use Rattle.clerk_cache.proofs.ClerkLaws.{empty_resolved, rootless_resolved, resolved, part_walked}
+use Rattle.clerk_cache.proofs.ClerkLaws.{empty_resolved, rootless_resolved, resolved, ran_out, some_length}
 use Rattle.clerk_cache.proofs.clerk.Clerk.resolve.Goals as goal
 
 pub returns-then-len-eq0-clause-answer : goal.returns-then-len-eq0-clause-answer
@@ -19,6 +19,7 @@ returns-in-Err-clause-answer g c = record {
   state = c.args.self.now;
   walker = start (g.R.EntryReader.tells c.args.reader.now) c.args.name.now;
   comes = begins;
+  within = some_length c.args.name.now (λ empty. c.if-len-eq0.false (c.len.ensures ∙ empty));
   is = inl refl;
 }
 
@@ -27,7 +28,7 @@ returns-in-None-clause-answer g c = rootless_resolved (clerk_reader c.args.now (
     (λ empty. c.if-len-eq0.false (c.len.ensures ∙ empty)) (sym c.in-Ok.ensures ∙ ap (option_map pointer_in) c.in-None.is)
 
 pub returns-in-Err-walk_on-clause-answer : goal.returns-in-Err-walk_on-clause-answer
-returns-in-Err-walk_on-clause-answer g c = part_walked (clerk_reader c.args.now (g.R.EntryReader.tells c.args.reader.now)) c.args.self.now c.walk_on.new.self c.args.name.now
+returns-in-Err-walk_on-clause-answer g c = ran_out (clerk_reader c.args.now (g.R.EntryReader.tells c.args.reader.now)) c.args.self.now c.walk_on.new.self c.args.name.now
     (pointer_in c.in-Some.root) (walker_of c.new-walk.result) (sym c.in-Ok.ensures ∙ ap (option_map pointer_in) c.in-Some.is) c.new-walk.ensures.walker
     c.in-Err-walk_on.ensures.memory
 
