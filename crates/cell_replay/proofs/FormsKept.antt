@@ -4,6 +4,7 @@ use Rattle.std.specs.Prelude.{Result, IfOk}
 use Rattle.std.specs.declared.alloc.AllocError.{AllocError}
 use Rattle.std.specs.declared.vec.Vec.{Vec}
 use Rattle.cds_stamps.specs.declared.numbers.DirId.{DirId}
+use Rattle.cds_stamps.specs.declared.numbers.HouseNo.{HouseNo}
 use Rattle.cell_model.specs.Cells as model
 use Rattle.cell_script.specs.CommandRows as command
 use Rattle.cds_cell.specs.ModelCells.{Stands}
@@ -12,6 +13,7 @@ use Rattle.mend_replay.specs.MendLines.{mend_text}
 use Rattle.mend_replay.specs.Quiet.{running_quietly}
 use Rattle.mend_replay.specs.declared.mender.Mender.{Mender}
 use Rattle.cell_replay.specs.Demand.{end_text}
+use Rattle.house_directory.specs.HouseMessages.{numbers_of}
 use Rattle.house_journal.specs.MemoryDisks.{MemState}
 use Rattle.cell_script.specs.Words.{words_of}
 use Rattle.journal_forms.specs.JournalLines.{said_in}
@@ -82,18 +84,22 @@ journal_ends j j' e number octets waited waits state at ends = absurd at
 
 -- so a line ends of the form of `cdsmend`
 pub mend_ends : (m m' : Mender) (e : LineEnd) (number : ℕ) (octets waited waits : List ℕ) (state : LineState) → MendsAt m state → m'.dir ≡ m.dir
+    → m'.without ≡ m.without
     → ((g : model.Cell) → Stands m.replayer.cell g
     → Ends e (reply_of running_quietly number g (command.said_in (words_of octets))) waited waits (Stands m'.replayer.cell))
     → Ends e (response number state octets) waited waits (MendsAt m')
-mend_ends m m' e number octets waited waits (Mending d g) at same ends =
-    state_ends e (reply_of running_quietly number g (command.said_in (words_of octets))) (Mending d) waited waits (Stands m'.replayer.cell) (MendsAt m')
-    (λ next stands. (ap (λ (dir : DirId). dir.0) same ∙ at.0, stands)) (ends g at.1)
-mend_ends m m' e number octets waited waits state at same ends = absurd at
+mend_ends m m' e number octets waited waits (Mending d hs g) at same kept ends =
+    state_ends e (reply_of running_quietly number g (command.said_in (words_of octets))) (Mending d hs) waited waits (Stands m'.replayer.cell) (MendsAt m')
+    (λ next stands. (ap (λ (dir : DirId). dir.0) same ∙ at.0, ap (λ (v : Vec HouseNo Global). numbers_of v.items) kept ∙ at.1, stands)) (ends g at.2)
+mend_ends m m' e number octets waited waits state at same kept ends = absurd at
 
 -- and so its end is told
 pub mend_told : (m : Mender) (r : Result (Vec ℕ Global) AllocError) (state : LineState) → MendsAt m state
-    → ((g : model.Cell) → Stands m.replayer.cell g → IfOk r (λ text. text.items ≡ mend_text m.dir.0 g)) → IfOk r (λ text. text.items ≡ end_text state)
-mend_told m r (Mending d g) at told = subst (λ (n : ℕ). IfOk r (λ text. text.items ≡ mend_text n g)) at.0 (told g at.1)
+    → ((g : model.Cell) → Stands m.replayer.cell g → IfOk r (λ text. text.items ≡ mend_text m.dir.0 (numbers_of m.without.items) g))
+    → IfOk r (λ text. text.items ≡ end_text state)
+mend_told m r (Mending d hs g) at told =
+    subst (λ (n : ℕ). IfOk r (λ text. text.items ≡ mend_text n hs g)) at.0
+    (subst (λ (l : List ℕ). IfOk r (λ text. text.items ≡ mend_text m.dir.0 l g)) at.1 (told g at.2))
 mend_told m r state at told = absurd at
 
 module _ (j j' : Journals) (end : LineEnd) (number : ℕ) (octets : List ℕ) (state : LineState) (at : KeepsTo j state)

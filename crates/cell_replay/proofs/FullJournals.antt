@@ -86,7 +86,7 @@ clerking_state r (Clerking s) at = (s, at)
 clerking_state r state at = absurd at
 
 pub mending_cell : (m : Mender) (state : LineState) → MendsAt m state → (g : model.Cell) × Stands m.replayer.cell g
-mending_cell m (Mending d g) at = (g, at.1)
+mending_cell m (Mending d hs g) at = (g, at.2)
 mending_cell m state at = absurd at
 
 -- ---- endings

@@ -61,7 +61,7 @@ line_goes : (number : ℕ) (state : LineState) (line : List ℕ) → HasNoJourna
 line_goes number (Replaying g) line none = dialogue_goes Replaying run_dialogue number g (said_in (words_of line)) (λ g. tt)
 line_goes number (Checking lines commands) line none = check_goes number commands (said_in (words_of line))
 line_goes number Spelling line none = spelling_goes (tower_said (words_of line))
-line_goes number (Mending d g) line none = dialogue_goes (Mending d) running_quietly number g (said_in (words_of line)) (λ g. tt)
+line_goes number (Mending d hs g) line none = dialogue_goes (Mending d hs) running_quietly number g (said_in (words_of line)) (λ g. tt)
 line_goes number (Inquiring g) line none = dialogue_goes Inquiring inquire_dialogue number g (inquired_in (words_of line)) (λ g. tt)
 line_goes number (Clerking s) line none = dialogue_goes Clerking clerk_dialogue number s (said_in (words_of line)) (λ s. tt)
 line_goes number (Journaling s) line none = absurd none

@@ -61,7 +61,7 @@ abbrev pub told_fault : LineState → LineFault → List ℕ
 told_fault (Replaying g) fault = line_fault_text fault
 told_fault (Checking lines commands) fault = line_fault_text fault
 told_fault Spelling fault = []
-told_fault (Mending d g) fault = line_fault_text fault
+told_fault (Mending d hs g) fault = line_fault_text fault
 told_fault (Inquiring g) fault = line_fault_text fault
 told_fault (Clerking s) fault = line_fault_text fault
 told_fault (Journaling s) fault = line_fault_text fault
@@ -72,7 +72,7 @@ abbrev pub end_text : LineState → List ℕ
 end_text (Replaying g) = []
 end_text (Checking lines commands) = codes "ok " ++ (decimal lines ++ (32 ∷ (decimal commands ++ 10 ∷ [])))
 end_text Spelling = []
-end_text (Mending d g) = mend_text d g
+end_text (Mending d hs g) = mend_text d hs g
 end_text (Inquiring g) = []
 end_text (Clerking s) = []
 end_text (Journaling s) = []

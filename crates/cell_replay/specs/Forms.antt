@@ -29,9 +29,9 @@ run_form = ByLines (Replaying empty_cell)
 abbrev pub inquiring_form : FormState
 inquiring_form = ByLines (Inquiring empty_cell)
 
--- the form of `cdsmend`: it replays a script on such a cell, and writes what mends the directory d behind it (own)
-abbrev pub mend_form : (d : ℕ) → FormState
-mend_form d = ByLines (Mending d empty_cell)
+-- the form of `cdsmend`: it replays a script on such a cell, and writes what mends the directory d behind it, without the houses hs (own)
+abbrev pub mend_form : (d : ℕ) → (hs : List ℕ) → FormState
+mend_form d hs = ByLines (Mending d hs empty_cell)
 
 -- the form that replays a script on a cell without houses, and keeps their journals (own)
 abbrev pub with_journals : FormState

@@ -18,12 +18,12 @@ use Rattle.clerk_replay.specs.Clerking.{Clerked, clerk_dialogue}
 
 -- the state of a form that reads lines, between two of them: `run` replays a cell, `check` has seen this many lines and
 -- commands, `untowers` keeps nothing, `inquire` replays a cell that it asks as well, `clerk` has a clerk beside its cell, and `journal`
--- replays a cell whose houses have journals. `cdsmend` replays a cell in which the directory d is to be mended (own)
+-- replays a cell whose houses have journals. `cdsmend` replays a cell in which the directory d is to be mended, without the houses hs (own)
 pub data LineState : Type 0 where
   Replaying : (g : Cell) → LineState
   Checking : (lines commands : ℕ) → LineState
   Spelling : LineState
-  Mending : (d : ℕ) → (g : Cell) → LineState
+  Mending : (d : ℕ) → (hs : List ℕ) → (g : Cell) → LineState
   Inquiring : (g : Cell) → LineState
   Clerking : (s : Clerked) → LineState
   Journaling : (s : JournaledCell) → LineState
@@ -43,7 +43,7 @@ abbrev pub response : ℕ → LineState → List ℕ → Response
 response number (Replaying g) line = in_state Replaying (reply_of run_dialogue number g (said_in (words_of line)))
 response number (Checking lines commands) line = line_check number commands (said_in (words_of line))
 response number Spelling line = in_state (λ _. Spelling) (spell_response (tower_said (words_of line)))
-response number (Mending d g) line = in_state (Mending d) (reply_of running_quietly number g (said_in (words_of line)))
+response number (Mending d hs g) line = in_state (Mending d hs) (reply_of running_quietly number g (said_in (words_of line)))
 response number (Inquiring g) line = in_state Inquiring (reply_of inquire_dialogue number g (inquired_in (words_of line)))
 response number (Clerking s) line = in_state Clerking (reply_of clerk_dialogue number s (said_in (words_of line)))
 response number (Journaling s) line = in_state Journaling (journal_response number s line)

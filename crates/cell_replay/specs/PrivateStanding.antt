@@ -9,6 +9,7 @@ use Rattle.cds_cell.specs.declared.cell.Cell.{Cell}
 use Rattle.cds_cell.specs.ModelCells.{Stands}
 use Rattle.clerk_replay.specs.declared.replayer.ClerkReplayer.{ClerkReplayer}
 use Rattle.clerk_replay.specs.ClerkLines as clerk
+use Rattle.house_directory.specs.HouseMessages.{numbers_of}
 use Rattle.house_journal.specs.MemoryDisks.{MemState}
 use Rattle.journal_replay.specs.Keeping.{StandsJournals}
 use Rattle.journal_replay.specs.declared.journals.Journals.{Journals}
@@ -63,9 +64,9 @@ abbrev pub CountsTo : Tally → LineState → Type 0
 CountsTo t (Checking lines commands) = (t.lines ≡ lines) × (t.commands ≡ commands)
 CountsTo t other = ⊥
 
--- what the cell of `cdsmend` stands for, and the directory
+-- what the cell of `cdsmend` stands for, the directory, and the houses that are left out
 abbrev pub MendsAt : Mender → LineState → Type 0
-MendsAt m (Mending d g) = (m.dir.0 ≡ d) × Stands m.replayer.cell g
+MendsAt m (Mending d hs g) = (m.dir.0 ≡ d) × (numbers_of m.without.items ≡ hs) × Stands m.replayer.cell g
 MendsAt m other = ⊥
 
 -- what the journals of `journal` stand for

@@ -5,3 +5,5 @@ pub mod PutLines
 pub mod ReadBack
 pub mod Readying
 pub mod Ready
+pub mod Choosing
+pub mod Rooms

@@ -4,3 +4,4 @@ pub mod SayableCommands
 pub mod Quiet
 pub mod PrivateLines
 pub mod Menders
+pub mod PrivateMasters

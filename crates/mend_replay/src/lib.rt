@@ -3,7 +3,9 @@
 
 mod commands;
 pub mod laws;
+mod leaving;
 mod lines;
+mod masters;
 mod mender;
 mod readiness;
 

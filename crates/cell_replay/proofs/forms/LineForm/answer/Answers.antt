@@ -46,7 +46,7 @@ returns-in-Mend-clause-broken c state at short = (mending_asks c.in-Mend.mender 
 pub returns-in-Mend-clause-reply : goal.returns-in-Mend-clause-reply
 returns-in-Mend-clause-reply c state at =
     mend_ends c.in-Mend.mender c.take_line.new.self c.take_line.result c.args.number c.args.line.now _ _ state
-    (rw c.in-Mend.is at at) c.take_line.ensures.dir c.take_line.ensures.reply
+    (rw c.in-Mend.is at at) c.take_line.ensures.dir c.take_line.ensures.without c.take_line.ensures.reply
 
 pub returns-in-Journal-clause-kept : goal.returns-in-Journal-clause-kept
 returns-in-Journal-clause-kept c state at is =
