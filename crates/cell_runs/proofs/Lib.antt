@@ -1,0 +1,2 @@
+pub mod OrderTurns
+pub mod Posted

@@ -1,5 +1,5 @@
 -- Orders of the entries of houses, by octets and numbers alone, and the commands that such an order is (own).
-use Rattle.std.specs.Prelude.{◌≡◌, ℕ, zero, ◌+◌, Bool, true, false, ◌&&◌, ◌==◌, if◌then◌else◌, List, [], ◌∷◌, ◌++◌, map}
+use Rattle.std.specs.Prelude.{◌≡◌, ℕ, zero, suc, ◌+◌, Bool, true, false, ◌&&◌, ◌==◌, if◌then◌else◌, List, [], ◌∷◌, ◌++◌, map}
 use Rattle.std.specs.Str.{bytes_eq}
 use Rattle.cds_stamps.specs.Members.{Member, is_listed, others_of, secondaries_of}
 use Rattle.cds_stamps.specs.Numbers.{root_dir}
@@ -87,7 +87,7 @@ entries_of x (e ∷ line) = if e.0 == x then e.1 ∷ entries_of x line else entr
 -- where the first message of these octets to the house x is among those that were posted, from 0 (own)
 abbrev pub place_of : (x : ℕ) → (octets : List ℕ) → List Post → ℕ
 place_of x octets [] = zero
-place_of x octets (p ∷ ps) = if (p.to == x) && bytes_eq octets p.octets then zero else place_of x octets ps + 1
+place_of x octets (p ∷ ps) = if (p.to == x) && bytes_eq octets p.octets then zero else suc (place_of x octets ps)
 
 -- the command that an order of the house x is (own)
 abbrev pub command_of : Seen → (x : ℕ) → Order → Command
@@ -96,7 +96,7 @@ command_of s x (Mkdir d n made rs ss) = commands.Mkdir x d n x rs ss
 command_of s x (Accept d u) = commands.Accept x d u
 command_of s x (Skulk d) = commands.Skulk x d
 command_of s x (Epoch d k ms left) = commands.Epoch d x (others_of x ms) (secondaries_of ms)
-command_of s x (Take octets) = commands.Deliver (place_of x octets s.posts + 1)
+command_of s x (Take octets) = commands.Deliver (suc (place_of x octets s.posts))
 
 -- the commands that an entry is: a crash and a start; or the clock, and the command of its order (own)
 abbrev pub entry_commands : Seen → (x : ℕ) → Entry → List Command
