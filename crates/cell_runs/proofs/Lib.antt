@@ -1,2 +1,3 @@
 pub mod OrderTurns
 pub mod Posted
+pub mod Worked
