@@ -1,3 +1,5 @@
 pub mod OrderTurns
 pub mod Posted
 pub mod Worked
+pub mod RunSteps
+pub mod Runs

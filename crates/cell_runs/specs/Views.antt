@@ -52,13 +52,10 @@ abbrev pub taking_seen : Cell → Option Message → Outcome → Option (ℕ × 
 taking_seen g None o = None
 taking_seen g (Some m) o = turn_seen g m.receiver (Take (or_none (octets_of m))) o
 
--- a house started, if it was down (own)
-abbrev pub start_seen : (x : ℕ) → Outcome → Option (ℕ × Entry)
-start_seen x o = start_answered o.answer
-  where
-    start_answered : Answer → Option (ℕ × Entry)
-    start_answered commands.Done = Some (x, Started (image_in o.cell x))
-    start_answered other = None
+-- the entry of a start, if a house was down (own)
+abbrev pub start_seen : (x : ℕ) → Cell → Answer → Option (ℕ × Entry)
+start_seen x g commands.Done = Some (x, Started (image_in g x))
+start_seen x g other = None
 
 -- an epoch, with the members that the console gives it, and those that leave (own, after C705, new epochs)
 abbrev pub epoch_order : Cell → (d : ℕ) → (k : ℕ) → (m : ℕ) → (rs ss : List ℕ) → Order
@@ -77,7 +74,7 @@ seen_at g (commands.Accept h d u) = turn_seen g h (Accept d u) (outcome g (comma
 seen_at g (commands.Epoch d m rs ss) = turn_seen g m (epoch_order g d (g.top d + 1) m rs ss) (outcome g (commands.Epoch d m rs ss))
 seen_at g (commands.Skulk h d) = turn_seen g h (Skulk d) (outcome g (commands.Skulk h d))
 seen_at g (commands.Deliver n) = taking_seen g (message_at g n) (outcome g (commands.Deliver n))
-seen_at g (commands.Start h) = start_seen h (outcome g (commands.Start h))
+seen_at g (commands.Start h) = start_seen h (outcome g (commands.Start h)).cell (outcome g (commands.Start h)).answer
 seen_at g other = None
 
 -- the entries of the house x, with one before them if it is of x (own)
