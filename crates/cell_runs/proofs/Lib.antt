@@ -3,3 +3,4 @@ pub mod Posted
 pub mod Worked
 pub mod RunSteps
 pub mod Runs
+pub mod Making

@@ -1,12 +1,8 @@
-use Rattle.cell_runs.proofs.OrderTurns.{turn_fine}
-use Rattle.cell_runs.proofs.Posted.{found_at}
-use Rattle.cell_runs.proofs.Worked.{take_worked}
-use Rattle.cell_runs.proofs.RunSteps.{Matches}
-use Rattle.cell_runs.proofs.Runs.{entries_done}
+use Rattle.cell_runs.proofs.Making.{none_refused, own_entries}
 use Rattle.cell_runs.proofs.laws.runs_are_cells.Goals as goal
 
 pub returns-clause-views : goal.returns-clause-views
-returns-clause-views c = ?
+returns-clause-views c houses logs line runs order = own_entries houses logs line runs order
 
 pub returns-clause-done : goal.returns-clause-done
-returns-clause-done c = ?
+returns-clause-done c houses logs line runs order = none_refused houses logs line runs order
