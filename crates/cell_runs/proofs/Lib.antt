@@ -4,3 +4,6 @@ pub mod Worked
 pub mod RunSteps
 pub mod Runs
 pub mod Making
+pub mod Examples
+pub mod Given
+pub mod Goings

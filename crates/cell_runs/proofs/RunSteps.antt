@@ -36,10 +36,10 @@ use Rattle.cell_runs.proofs.Worked.{CanAct, Worked, accept_worked, epoch_worked,
 
 -- ---- entries
 
-entries_here : (x : ℕ) (e : Entry) (line : List (ℕ × Entry)) → entries_of x ((x, e) ∷ line) ≡ e ∷ entries_of x line
+pub entries_here : (x : ℕ) (e : Entry) (line : List (ℕ × Entry)) → entries_of x ((x, e) ∷ line) ≡ e ∷ entries_of x line
 entries_here x e line = let on : eqb x x ≡ true = grind arith in ap (λ (b : Bool). cond b (e ∷ entries_of x line) (entries_of x line)) on
 
-entries_there : (x y : ℕ) (e : Entry) (line : List (ℕ × Entry)) → y ≢ x → entries_of y ((x, e) ∷ line) ≡ entries_of y line
+pub entries_there : (x y : ℕ) (e : Entry) (line : List (ℕ × Entry)) → y ≢ x → entries_of y ((x, e) ∷ line) ≡ entries_of y line
 entries_there x y e line apart =
     let off : eqb x y ≡ false = grind (arith, apart) in
     ap (λ (b : Bool). cond b (e ∷ entries_of y line) (entries_of y line)) off
@@ -105,7 +105,7 @@ reached_after : (g : Cell) (c : Command) (o : Outcome) → IsReached g → outco
 reached_after g c o reached is = subst (λ (z : Outcome). IsReached z.cell) is (reached_lem.after g c reached)
 
 -- what holds of the house x, and of all others, holds of each
-each : (P : ℕ → Type 0) (x : ℕ) → P x → ((y : ℕ) → y ≢ x → P y) → (y : ℕ) → P y
+pub each : (P : ℕ → Type 0) (x : ℕ) → P x → ((y : ℕ) → y ≢ x → P y) → (y : ℕ) → P y
 each P x here there y = by (eqb y x) refl
   where
     by : (b : Bool) → eqb y x ≡ b → P y
