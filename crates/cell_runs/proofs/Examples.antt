@@ -72,6 +72,6 @@ two_made : (h : ℕ) → In h (2 ∷ []) → has h (1 ∷ 2 ∷ []) ≡ true
 two_made h (inl is) = subst (λ (k : ℕ). has k (1 ∷ 2 ∷ []) ≡ true) (sym is) refl
 two_made h (inr i) = elim i [ ]
 
-pub next-epoch : CanFollow (after_all (nothing_seen (1 ∷ 2 ∷ [])) line) 1
+next-epoch : CanFollow (after_all (nothing_seen (1 ∷ 2 ∷ [])) line) 1
     (Epoch 1 2 (record { house = 1; since = 1; kind = Master } ∷ record { house = 2; since = 1; kind = ReadOnly } ∷ []) [])
 next-epoch = record { next = refl; listed = refl; made = two_made; good = refl; members = refl; leaving = refl }

@@ -1,5 +1,4 @@
 use Rattle.cell_runs.proofs.Goings.{goes_on}
-use Rattle.cell_runs.proofs.Examples.{next-epoch}
 use Rattle.cell_runs.proofs.laws.every_order_goes_on.Goals as goal
 
 pub returns : goal.returns
