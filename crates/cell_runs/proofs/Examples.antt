@@ -1,13 +1,18 @@
 -- The definitions at single values, by computing.
 use Rattle.std.proofs.Common.{◌≡◌, ℕ, inl, inr, true, List, [], ◌∷◌, refl, subst, sym}
 use Rattle.cds_stamps.specs.declared.members.MemberKind.TheVariants.{Master, ReadOnly}
+use Rattle.std.specs.FinMap.{empty, get-empty}
+use Rattle.cds_messages.specs.Dirs.{dir_cmp}
 use Rattle.directory.specs.Updates.{Create}
-use Rattle.cell_model.specs.Cells.{empty_cell}
+use Rattle.cds_messages.specs.declared.image.Image.{Image}
+use Rattle.cds_records.specs.RecordOctets.{image_octets}
+use Rattle.cell_model.specs.Cells.{Leave, empty_cell}
 use Rattle.cell_model.specs.Commands as commands
 use Rattle.cell_model.specs.Commands.{Command}
 use Rattle.cell_model.specs.Sets.{In, has}
-use Rattle.cell_runs.specs.Entries.{Root, Skulk, Epoch, Take, Entry, Started, Turned}
-use Rattle.cell_runs.specs.Orders.{CanFollow, MadeHouse, after_all, commands_of, nothing_seen, place_of}
+use Rattle.cell_runs.specs.Entries.{Root, Skulk, Epoch, Take, Post, Entry, Started, Turned}
+use Rattle.cell_runs.specs.HonestRuns.{IsHonest}
+use Rattle.cell_runs.specs.Orders.{CanFollow, MadeHouse, after_all, commands_of, new_house, nothing_seen, place_of}
 use Rattle.cell_runs.specs.Views.{view_from}
 
 -- house 1 founds the root with house 2, which takes the Join; house 1 starts again, and begins a skulk
@@ -75,3 +80,20 @@ two_made h (inr i) = elim i [ ]
 next-epoch : CanFollow (after_all (nothing_seen (1 ∷ 2 ∷ [])) line) 1
     (Epoch 1 2 (record { house = 1; since = 1; kind = Master } ∷ record { house = 2; since = 1; kind = ReadOnly } ∷ []) [])
 next-epoch = record { next = refl; listed = refl; made = two_made; good = refl; members = refl; leaving = refl }
+
+-- ---- honest entries
+
+-- a new house that starts again has the image of a house without directories
+abbrev bare_image : Image
+bare_image = record { house = record { 0 = 1 }; node = 11; floor = 0; dirs = empty }
+
+started-honest : IsHonest 1 (new_house 11) (Started (image_octets bare_image) ∷ [])
+started-honest = (record { image = bare_image; octets_are = refl; house = refl; node = refl; floor = refl; dirs = λ d. get-empty dir_cmp d }, tt)
+
+-- it has no directory to skulk: whatever such an entry tells, it is not honest
+no-skulk : (clock : ℕ) (posts : List Post) (answer image : List ℕ)
+    → IsHonest 1 (new_house 11) (Turned (record { clock = clock; order = Skulk 1; posts = posts; answer = answer; image = image }) ∷ []) → ⊥
+no-skulk clock posts answer image h =
+    let t = h.1 (record { receiver = 0; dir = 0; sender = 0; epoch = 0; floor = 0; body = Leave }) tt in
+    let z = t.1.step_is in
+    absurd (cc (z))
