@@ -1,15 +1,13 @@
 -- What the console gave in a list of entries that can follow one another: each epoch of each directory once, one after the other.
-use Rattle.std.proofs.Common.{◌≡◌, ◌≢◌, ℕ, ◌+◌, ◌<◌, ◌≤◌, ◌⊎◌, inl, inr, Bool, true, false, eqb, cond, List, [], ◌∷◌, ◌++◌, Option, Some, None, refl, sym, ap, subst, ◌∙◌, arith, append_assoc, le_refl, ⊎_elim}
+use Rattle.std.proofs.Common.{◌≡◌, ◌≢◌, ℕ, ◌+◌, ◌<◌, ◌≤◌, Bool, true, false, eqb, cond, List, [], ◌++◌, Option, Some, None, refl, sym, ap, subst, ◌∙◌, arith, le_refl, ⊎_elim}
 use Rattle.std.proofs.lemmas.Bool.{cases_lt}
-use Rattle.cds_stamps.specs.Members.{Member, is_listed, others_of, secondaries_of}
+use Rattle.cds_stamps.specs.Members.{Member, is_listed}
 use Rattle.cds_stamps.specs.Numbers.{root_dir}
 use Rattle.cell_model.specs.Cells.{put}
-use Rattle.cell_model.specs.Sets.{In, has}
-use Rattle.cell_model.specs.Steps.{left_members, member_list_of}
-use Rattle.cell_model.proofs.Lists.{In-append_cases, In-append_left, In-append_right, append_nil}
-use Rattle.cell_model.proofs.Views.{put_other, put_same}
-use Rattle.cell_runs.specs.Entries.{Order, Root, Mkdir, Accept, Skulk, Epoch, Take, Post, TurnEntry, Entry, Started, Turned}
-use Rattle.cell_runs.specs.Orders.{CanFollow, EntryFollows, Follows, IsGiven, Seen, after, after_all, nothing_seen, order_seen}
+use Rattle.cell_model.specs.Sets.{In}
+use Rattle.cell_model.specs.Steps.{member_list_of}
+use Rattle.cell_runs.specs.Entries.{Order, Root, Mkdir, Accept, Skulk, Epoch, Take, Post, Entry, Started, Turned}
+use Rattle.cell_runs.specs.Orders.{CanFollow, EntryFollows, Seen, after, order_seen}
 use Rattle.cell_runs.proofs.RunSteps.{posts_in}
 
 -- an epoch of a directory, with its members

@@ -4,13 +4,12 @@ use Rattle.std.proofs.lemmas.Bool.{cases_lt}
 use Rattle.std.proofs.lemmas.List.{append_cancel_left}
 use Rattle.cds_stamps.specs.Members.{Member, is_listed, others_of, secondaries_of}
 use Rattle.cds_stamps.specs.Numbers.{root_dir}
-use Rattle.cell_model.specs.Cells.{put}
 use Rattle.cell_model.specs.Sets.{In, has}
 use Rattle.cell_model.specs.Steps.{left_members, member_list_of}
 use Rattle.cell_model.proofs.Lists.{In-append_cases, In-append_left, In-append_right, append_nil}
 use Rattle.cell_model.proofs.Views.{put_other, put_same}
 use Rattle.cell_runs.specs.Entries.{Order, Root, Mkdir, Accept, Skulk, Epoch, Take, Post, TurnEntry, Entry, Started, Turned}
-use Rattle.cell_runs.specs.Orders.{CanFollow, EntryFollows, Follows, HasNext, IsGiven, IsOrderOf, MadeHouse, Seen, after, after_all, entries_of, nothing_seen, numbers_in, order_seen}
+use Rattle.cell_runs.specs.Orders.{CanFollow, EntryFollows, Follows, HasNext, IsOrderOf, MadeHouse, Seen, after, after_all, entries_of, nothing_seen, numbers_in, order_seen}
 use Rattle.cell_runs.proofs.Given.{Counted, Epoched, Gave, Knows, Noted, Sent, counted_next, gives, noted, order_gives}
 use Rattle.cell_runs.proofs.RunSteps.{each, entries_here, entries_there, posts_in}
 

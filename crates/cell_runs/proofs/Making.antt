@@ -1,8 +1,7 @@
 -- The houses of a cell are made first, and nobody sees that.
-use Rattle.std.proofs.Common.{◌≡◌, ◌≢◌, ℕ, ◌⊎◌, inl, inr, Bool, true, false, ◌||◌, not, eqb, cond, List, [], ◌∷◌, ◌++◌, map, Option, Some, None, refl, sym, ap, subst, ◌∙◌, arith, append_assoc}
-use Rattle.std.specs.Prelude.{◌==◌, if◌then◌else◌}
+use Rattle.std.proofs.Common.{◌≡◌, ◌≢◌, ℕ, ◌⊎◌, inl, inr, Bool, true, false, ◌||◌, eqb, List, [], ◌∷◌, ◌++◌, map, refl, sym, ap, subst, ◌∙◌, arith, append_assoc}
 use Rattle.std.specs.List.{list_any}
-use Rattle.cell_model.specs.Cells.{Cell, House, Message, empty_cell, put}
+use Rattle.cell_model.specs.Cells.{Cell, House, Message, empty_cell}
 use Rattle.cell_model.specs.Commands as commands
 use Rattle.cell_model.specs.Commands.{Answer, Command, Refusal}
 use Rattle.cell_model.specs.Reached.{IsReached}
@@ -13,9 +12,9 @@ use Rattle.cell_model.proofs.Deliveries.{not_refused}
 use Rattle.cell_model.proofs.Lists.{In-append_cases, In-from_has, append_nil, has-from_In, or_left, or_right}
 use Rattle.cell_model.proofs.Standing.{reached_lem}
 use Rattle.cell_model.proofs.Views.{put_other, put_same}
-use Rattle.cell_runs.specs.Entries.{Entry, Post}
+use Rattle.cell_runs.specs.Entries.{Entry}
 use Rattle.cell_runs.specs.HonestRuns.{IsHonest}
-use Rattle.cell_runs.specs.Orders.{AreRuns, IsOrderOf, Follows, MadeHouse, Seen, commands_of, entries_of, house_commands, line_commands, new_house, nothing_seen, numbers_in}
+use Rattle.cell_runs.specs.Orders.{AreRuns, IsOrderOf, Follows, MadeHouse, Seen, commands_of, house_commands, line_commands, new_house, nothing_seen, numbers_in}
 use Rattle.cell_runs.specs.OrderSteps.{ArePosts}
 use Rattle.cell_runs.specs.Views.{view_from}
 use Rattle.cell_runs.proofs.RunSteps.{Matches}

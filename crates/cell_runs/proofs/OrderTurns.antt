@@ -1,9 +1,8 @@
 -- A turn of a house says so in its answer, and a house that is up stays up.
-use Rattle.std.proofs.Common.{◌≡◌, ℕ, List, [], ◌∷◌, ◌++◌, Bool, true, false, refl, sym, ap, ◌∙◌, subst}
+use Rattle.std.proofs.Common.{◌≡◌, ℕ, List, [], ◌∷◌, Bool, true, false, refl, sym, ap, ◌∙◌, subst}
 use Rattle.std.specs.Prelude.{Option, Some, None, nat_le, nat_lt, if◌then◌else◌, ◌==◌, ◌&&◌}
 use Rattle.cds_stamps.specs.declared.stamp.Stamp.{Stamp}
 use Rattle.cds_stamps.specs.Members.{Member, is_listed, master_of, others_of, since_in}
-use Rattle.cds_stamps.specs.Numbers.{root_dir}
 use Rattle.cds_stamps.specs.Stamps.{is_stamp}
 use Rattle.directory.specs.declared.update.UpdateRefusal.{UpdateRefusal}
 use Rattle.directory.specs.Updates.{Change, MakeChild}

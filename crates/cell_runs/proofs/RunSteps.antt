@@ -1,11 +1,9 @@
 -- One entry more: its commands are done, and the houses of the cell are those of the entries that are left.
-use Rattle.std.proofs.Common.{◌≡◌, ◌≢◌, ℕ, suc, Bool, true, false, ◌||◌, not, eqb, cond, List, [], ◌∷◌, ◌++◌, length, drop, map, Option, Some, None, refl, sym, ap, subst, ◌∙◌, arith}
-use Rattle.std.specs.Prelude.{slice_get, ◌==◌, if◌then◌else◌}
-use Rattle.std.specs.FinMap.{get, same_map}
+use Rattle.std.proofs.Common.{◌≡◌, ◌≢◌, ℕ, Bool, true, false, ◌||◌, not, eqb, cond, List, [], ◌∷◌, ◌++◌, length, drop, map, Some, None, refl, sym, ap, subst, ◌∙◌, arith}
+use Rattle.std.specs.Prelude.{slice_get}
+use Rattle.std.specs.FinMap.{same_map}
 use Rattle.std.proofs.Math.Seq.{drop-append_seam}
-use Rattle.cds_stamps.specs.declared.numbers.DirId.{DirId}
-use Rattle.cds_messages.specs.Dirs.{dir_cmp, dir_exact, dir_total}
-use Rattle.cds_messages.specs.declared.image.Image.{Image}
+use Rattle.cds_messages.specs.Dirs.{dir_exact, dir_total}
 use Rattle.cds_records.specs.RecordOctets.{image_octets}
 use Rattle.cell_model.specs.Cells as model
 use Rattle.cell_model.specs.Cells.{Cell, House, Message, put}
@@ -14,9 +12,9 @@ use Rattle.cell_model.specs.Commands.{Answer, Command, Refusal}
 use Rattle.cell_model.specs.Holdings.{NumbersHold}
 use Rattle.cell_model.specs.Reached.{IsReached}
 use Rattle.cell_model.specs.Sets.{In, has}
-use Rattle.cell_model.specs.Steps.{Outcome, crash, is_down, is_missing, outcome, set_clock, start, stays}
+use Rattle.cell_model.specs.Steps.{Outcome, crash, is_missing, outcome, set_clock, start, stays}
 use Rattle.cell_model.specs.Taking.{CanTake}
-use Rattle.cell_model.specs.Turns.{HouseStep, Turns, Turn, crashed_house, started_house}
+use Rattle.cell_model.specs.Turns.{Turns, Turn, crashed_house, started_house}
 use Rattle.cell_model.proofs.Deliveries.{not_refused}
 use Rattle.cell_model.proofs.Lists.{In-from_get, append_nil}
 use Rattle.cell_model.proofs.Numbers.{numbers_lem}
@@ -28,7 +26,7 @@ use Rattle.cell_runs.specs.Entries.{Order, Root, Mkdir, Accept, Skulk, Epoch, Ta
 use Rattle.cell_runs.specs.HonestRuns.{HasGoodList, IsHonest, IsImageOf, IsTurnOf, at_clock, restarted}
 use Rattle.cell_runs.specs.LineAnswers.{answer_said}
 use Rattle.cell_runs.specs.OrderSteps.{ArePosts, Carries, order_step}
-use Rattle.cell_runs.specs.Orders.{CanFollow, EntryFollows, Seen, after, command_of, entries_of, entry_commands, order_seen, place_of}
+use Rattle.cell_runs.specs.Orders.{CanFollow, Seen, after, command_of, entries_of, place_of}
 use Rattle.cell_runs.specs.Views.{image_in, is_turn, post_of, seen_at, start_seen, turn_seen}
 use Rattle.cell_runs.proofs.OrderTurns.{turn_fine}
 use Rattle.cell_runs.proofs.Posted.{found_at, posts_append, posts_are}
@@ -125,13 +123,16 @@ turn_seen_as : (g : Cell) (x : ℕ) (e : TurnEntry) (o : Outcome) (posts : List 
 turn_seen_as g x e o posts clock on bag are said image =
     let posted : map post_of (drop (length g.bag) o.cell.bag) ≡ e.posts =
     ap (λ (l : List Message). map post_of (drop (length g.bag) l)) bag ∙ ap (map post_of) (drop-append_seam g.bag posts) ∙ posts_are e.posts posts are in
-    ap (λ (b : Bool). cond b (Some (x, Turned (record {
-      clock = (g.house x).clock;
-      order = e.order;
-      posts = map post_of (drop (length g.bag) o.cell.bag);
-      answer = answer_said o.answer;
-      image = image_in o.cell x;
-    }))) None) on
+    ap (λ (b : Bool). cond b (Some (
+      x,
+      Turned (record {
+        clock = (g.house x).clock;
+        order = e.order;
+        posts = map post_of (drop (length g.bag) o.cell.bag);
+        answer = answer_said o.answer;
+        image = image_in o.cell x;
+      }),
+    )) None) on
     ∙ (λ i. Some (x, Turned (record { clock = clock i; order = e.order; posts = posted i; answer = sym said i; image = image i })))
 
 -- a message that an order took is at the place of its octets

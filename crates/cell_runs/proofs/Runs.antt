@@ -1,13 +1,12 @@
 -- Orders of entries, from the first one on.
-use Rattle.std.proofs.Common.{◌≡◌, ◌≢◌, ℕ, suc, ◌⊎◌, inl, inr, Bool, true, false, ◌||◌, not, eqb, cond, List, [], ◌∷◌, ◌++◌, map, Option, Some, None, refl, sym, ap, subst, ◌∙◌, arith}
-use Rattle.std.specs.Prelude.{◌==◌, if◌then◌else◌}
-use Rattle.cell_model.specs.Cells.{Cell, House, empty_cell, put}
+use Rattle.std.proofs.Common.{◌≡◌, ℕ, inl, inr, List, [], ◌∷◌, ◌++◌, Option, Some, refl, sym, ap, subst, ◌∙◌}
+use Rattle.cell_model.specs.Cells.{Cell}
 use Rattle.cell_model.specs.Commands as commands
 use Rattle.cell_model.specs.Commands.{Answer, Command, Refusal}
-use Rattle.cell_model.specs.Sets.{In, has}
-use Rattle.cell_model.specs.Steps.{Outcome, answers_from, outcome, replay_from, stays}
-use Rattle.cell_runs.specs.Entries.{Post, TurnEntry, Entry, Started, Turned}
-use Rattle.cell_runs.specs.Orders.{EntryFollows, Follows, Seen, after, command_of, entries_of, entry_commands, line_commands}
+use Rattle.cell_model.specs.Sets.{In}
+use Rattle.cell_model.specs.Steps.{Outcome, answers_from, outcome}
+use Rattle.cell_runs.specs.Entries.{Post, Entry, Started, Turned}
+use Rattle.cell_runs.specs.Orders.{Follows, Seen, after, command_of, entries_of, line_commands}
 use Rattle.cell_runs.specs.Views.{if_of, seen_at, view_from}
 use Rattle.cell_runs.proofs.RunSteps.{EntryDone, Matches, posts_in, start_done, turn_done}
 use Rattle.cell_runs.proofs.Worked.{seen_of}

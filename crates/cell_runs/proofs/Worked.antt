@@ -1,10 +1,9 @@
 -- The command of an order is the turn of its house.
-use Rattle.std.proofs.Common.{◌≡◌, ◌≢◌, ℕ, zero, suc, ◌+◌, ◌-◌, Bool, true, false, ◌||◌, not, eqb, cond, List, [], ◌∷◌, ◌++◌, length, Option, Some, None, refl, sym, ap, subst, ◌∙◌, arith, inl, inr, append_assoc}
+use Rattle.std.proofs.Common.{◌≡◌, ◌≢◌, ℕ, suc, ◌+◌, ◌-◌, Bool, true, false, ◌||◌, not, eqb, cond, List, [], ◌∷◌, ◌++◌, Option, Some, None, refl, sym, ap, subst, ◌∙◌, arith, inl, inr, append_assoc}
 use Rattle.std.specs.Prelude.{slice_get, ◌==◌, nat_le, if◌then◌else◌}
-use Rattle.std.specs.List.{list_any}
 use Rattle.std.proofs.lemmas.Bool.Decides.{nat_tests}
 use Rattle.cds_stamps.specs.declared.stamp.Stamp.{Stamp}
-use Rattle.cds_stamps.specs.Members.{Member, is_listed, others_of, secondaries_of, since_in}
+use Rattle.cds_stamps.specs.Members.{Member, others_of, secondaries_of, since_in}
 use Rattle.cds_stamps.specs.Numbers.{root_dir}
 use Rattle.directory.specs.declared.update.UpdateRefusal.{UpdateRefusal}
 use Rattle.directory.specs.Updates.{Change, MakeChild}
@@ -15,21 +14,19 @@ use Rattle.cell_model.specs.Commands.{Answer, Command}
 use Rattle.cell_model.specs.Holdings.{NumbersHold}
 use Rattle.cell_model.specs.Reached.{IsReached}
 use Rattle.cell_model.specs.Sets.{In, has}
-use Rattle.cell_model.specs.Steps.{Outcome, at_house, cell_with_directory, deliver, effect, first_refusal, is_bad_list, is_down, is_missing, is_unknown, left_members, member_list_of, message_at, move_house, note_epoch, outcome, refusal_outcome, refusals_of, root, serials_of, sorted_houses, with_directory, with_epoch}
+use Rattle.cell_model.specs.Steps.{Outcome, at_house, deliver, is_bad_list, is_down, is_missing, is_unknown, left_members, member_list_of, message_at, note_epoch, outcome, refusal_outcome, root, serials_of, sorted_houses, with_directory, with_epoch}
 use Rattle.cell_model.specs.Turns as turns
 use Rattle.cell_model.specs.Turns.{HouseStep, Stays, Turns, Turn, first_joins, found_directory}
 use Rattle.cell_model.proofs.AtHouses.{answer_of}
-use Rattle.cell_model.proofs.Deliveries.{Fails, not_refused}
+use Rattle.cell_model.proofs.Deliveries.{not_refused}
 use Rattle.cell_model.proofs.Numbers.{numbers_lem}
 use Rattle.cell_model.proofs.Standing.{on_reached}
 use Rattle.cell_model.proofs.Views.{put_other, put_same}
-use Rattle.cds_cell.specs.Recorded.{octets_of}
 use Rattle.cell_runs.specs.Entries.{Order, Root, Mkdir, Accept, Skulk, Epoch, Take, Post}
-use Rattle.cell_runs.specs.HonestRuns.{HasGoodList}
 use Rattle.cell_runs.specs.LineAnswers.{answer_said}
 use Rattle.cell_runs.specs.OrderSteps.{IsLetterOf, order_step, then_found, with_number}
-use Rattle.cell_runs.specs.Orders.{CanFollow, Seen, IsGiven, command_of, order_seen, place_of}
-use Rattle.cell_runs.specs.Views.{is_turn, or_none, seen_at, taking_seen, turn_seen}
+use Rattle.cell_runs.specs.Orders.{Seen, IsGiven, order_seen, place_of}
+use Rattle.cell_runs.specs.Views.{is_turn, seen_at, taking_seen, turn_seen}
 use Rattle.cell_runs.proofs.OrderTurns.{accept_held, epoch_held, skulk_held, turn_fine}
 use Rattle.cell_runs.proofs.Posted.{letter_octets}
 
@@ -220,8 +217,13 @@ epoch_worked g posts x can answer m t d k ms left given is said =
     let ns : List ℕ = serials_of g t.posts in
     let e : Outcome = record o { cell = note_epoch o.cell d k ms } in
     let is_e : outcome g c ≡ e =
-    not_refused g c (known g x d can.reached (epoch_held x (g.house x) d k ms left t is), (not_missing g (x ∷ rs) (with_first g x rs can.made given.made),
-    (given.good, (ap not given.listed, (not_down g x can, tt)))))
+    not_refused g c (
+      known g x d can.reached (epoch_held x (g.house x) d k ms left t is),
+      (
+        not_missing g (x ∷ rs) (with_first g x rs can.made given.made),
+        (given.good, (ap not given.listed, (not_down g x can, tt))),
+      ),
+    )
     ∙ sym (λ i. with_epoch (by (given.next i) (members i) (leaving i)) d (members i) (by (given.next i) (members i) (leaving i)).answer)
     ∙ ap (λ (s : HouseStep). with_epoch (at_house g x s) d ms (at_house g x s).answer) is
     ∙ epoch_noted o d k ms ns (epoch_said x (g.house x) d k ms left t is ns) in
@@ -261,8 +263,12 @@ accept_stamped x now d u t is = by_slot (now.slots d) is
 record Child (x d : ℕ) (ms : List Member) (s : HouseStep) (t : Turn) : Type 0 where
   first : Turn
   is : s ≡ Turns first
-  whole : record { house = (found_directory x first.house d ms).house; posts = first.posts ++ (found_directory x first.house d ms).posts;
-      answer = λ ns. with_number d (first.answer ns); accepted = first.accepted } ≡ t
+  whole : record {
+    house = (found_directory x first.house d ms).house;
+    posts = first.posts ++ (found_directory x first.house d ms).posts;
+    answer = λ ns. with_number d (first.answer ns);
+    accepted = first.accepted;
+  } ≡ t
 
 child_of : (x d : ℕ) (ms : List Member) (s : HouseStep) (t : Turn) → then_found x d ms s ≡ Turns t → Child x d ms s t
 child_of x d ms (Stays a) t is = absurd (cc (is))
@@ -290,9 +296,13 @@ mkdir_worked g posts x can answer m t d n made rs ss number there good is said =
         let c : Command = commands.Mkdir x d n x rs ss in
         let e : Outcome = with_directory o next x ms (commands.Stamped s ns) in
         let is_e : outcome g c ≡ e =
-        not_refused g c (known g x d can.reached (accept_held x (g.house x) d u first child.is),
-        (not_missing g (x ∷ x ∷ rs) (with_first g x (x ∷ rs) can.made (with_first g x rs can.made there)),
-        (good, (ap (λ (b : Bool). b || b) (not_down g x can), tt))))
+        not_refused g c (
+          known g x d can.reached (accept_held x (g.house x) d u first child.is),
+          (
+            not_missing g (x ∷ x ∷ rs) (with_first g x (x ∷ rs) can.made (with_first g x rs can.made there)),
+            (good, (ap (λ (b : Bool). b || b) (not_down g x can), tt)),
+          ),
+        )
         ∙ ap (λ (z : HouseStep). with_directory (at_house g x z) next x ms (at_house g x z).answer) child.is
         ∙ ap (with_directory o next x ms) (stamped.1 ns) in
         let one : put g.house x first.house x ≡ first.house = put_same g.house x first.house in
@@ -308,7 +318,7 @@ mkdir_worked g posts x can answer m t d n made rs ss number there good is said =
           knows = refl;
           turn = refl;
           said = said ns ∙ ap (λ (z : Turn). answer_said (z.answer ns)) (sym child.whole)
-          ∙ ap (λ (a : Answer). answer_said (with_number next a)) (stamped.1 ns);
+              ∙ ap (λ (a : Answer). answer_said (with_number next a)) (stamped.1 ns);
           seen = ap (λ (b : Bool). cond b (turn_seen g x (Mkdir d n next rs ss) (outcome g c)) None) (itself x)
-          ∙ ap (turn_seen g x (Mkdir d n next rs ss)) is_e;
+              ∙ ap (turn_seen g x (Mkdir d n next rs ss)) is_e;
         })

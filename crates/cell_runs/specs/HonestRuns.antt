@@ -4,7 +4,7 @@ use Rattle.std.specs.FinMap.{get}
 use Rattle.cds_messages.specs.declared.image.Image.{Image}
 use Rattle.cds_records.specs.RecordOctets.{image_octets}
 use Rattle.cds_stamps.specs.declared.numbers.DirId.{DirId}
-use Rattle.cell_model.specs.Cells.{House, Message, Slot, Absent}
+use Rattle.cell_model.specs.Cells.{House, Message}
 use Rattle.cell_model.specs.Steps.{is_bad_list}
 use Rattle.cell_model.specs.Turns.{HouseStep, Turns, Turn, crashed_house, started_house}
 use Rattle.cds_cell.specs.Recorded.{kept_in}

@@ -1,5 +1,5 @@
 -- Orders of the entries of houses, by octets and numbers alone, and the commands that such an order is (own).
-use Rattle.std.specs.Prelude.{◌≡◌, ℕ, zero, suc, ◌+◌, Bool, true, false, ◌&&◌, ◌==◌, if◌then◌else◌, List, [], ◌∷◌, ◌++◌, map}
+use Rattle.std.specs.Prelude.{◌≡◌, ℕ, zero, suc, ◌+◌, true, false, ◌&&◌, ◌==◌, if◌then◌else◌, List, [], ◌∷◌, ◌++◌, map}
 use Rattle.std.specs.Str.{bytes_eq}
 use Rattle.cds_stamps.specs.Members.{Member, is_listed, others_of, secondaries_of}
 use Rattle.cds_stamps.specs.Numbers.{root_dir}
@@ -8,7 +8,7 @@ use Rattle.cell_model.specs.Commands as commands
 use Rattle.cell_model.specs.Commands.{Command, Answer, Refusal, Refused}
 use Rattle.cell_model.specs.Sets.{In, has}
 use Rattle.cell_model.specs.Steps.{answers, is_bad_list, left_members, member_list_of, stands_twice}
-use Rattle.cell_runs.specs.Entries.{Order, Root, Mkdir, Accept, Skulk, Epoch, Take, Post, Entry, Started, Turned, TurnEntry}
+use Rattle.cell_runs.specs.Entries.{Order, Root, Mkdir, Accept, Skulk, Epoch, Take, Post, Entry, Started, Turned}
 use Rattle.cell_runs.specs.HonestRuns.{IsHonest}
 
 -- ---- what is known

@@ -37,14 +37,16 @@ image_in g x = image_octets (image_at g x)
 abbrev pub turn_seen : Cell → (x : ℕ) → Order → Outcome → Option (ℕ × Entry)
 turn_seen g x order o =
     if is_turn o.answer
-    then Some
-    (x, Turned (record {
-      clock = (g.house x).clock;
-      order = order;
-      posts = map post_of (drop (length g.bag) o.cell.bag);
-      answer = answer_said o.answer;
-      image = image_in o.cell x;
-    }))
+    then Some (
+      x,
+      Turned (record {
+        clock = (g.house x).clock;
+        order = order;
+        posts = map post_of (drop (length g.bag) o.cell.bag);
+        answer = answer_said o.answer;
+        image = image_in o.cell x;
+      }),
+    )
     else None
 
 -- a message was delivered: its receiver took these octets (own)
