@@ -15,7 +15,8 @@ use Rattle.cell_runs.specs.HonestRuns.{IsHonest}
 use Rattle.cell_runs.specs.Orders.{CanFollow, MadeHouse, after_all, commands_of, new_house, nothing_seen, place_of}
 use Rattle.cell_runs.specs.Views.{view_from}
 
--- house 1 founds the root with house 2, which takes the Join; house 1 starts again, and begins a skulk
+-- house 1 founds the root with house 2, which takes the Join; house 1 starts again, and begins a
+-- skulk
 abbrev two : List MadeHouse
 two = record { house = 1; node = 11 } ∷ record { house = 2; node = 12 } ∷ []
 
@@ -48,7 +49,8 @@ first-sees = refl
 second-sees : clocks (view_from empty_cell 2 cs) ≡ 6 ∷ []
 second-sees = refl
 
--- a message that was delivered twice is seen twice; an update at a house that is read-only, and a skulk there, are not seen
+-- a message that was delivered twice is seen twice; an update at a house that is read-only, and a
+-- skulk there, are not seen
 twice-seen : clocks (view_from empty_cell 2 (commands.House 1 11 ∷ commands.House 2 12 ∷ commands.Root 1 (2 ∷ []) [] ∷ commands.Deliver 1 ∷ commands.Deliver 1
     ∷ commands.Accept 2 1 (Create (65 ∷ [])) ∷ commands.Skulk 2 1 ∷ [])) ≡ 0 ∷ 0 ∷ []
 twice-seen = refl
@@ -69,7 +71,8 @@ not-posted i = elim i [ ]
 can-take : CanFollow (after_all (nothing_seen (1 ∷ 2 ∷ [])) line) 2 (Take (7 ∷ 8 ∷ []))
 can-take = inl refl
 
--- after that line the console's last epoch of the root is 1, and the next directory is 2: the epoch 2 of the root with the same houses can follow
+-- after that line the console's last epoch of the root is 1, and the next directory is 2: the epoch
+-- 2 of the root with the same houses can follow
 known-top : (after_all (nothing_seen (1 ∷ 2 ∷ [])) line).top 1 ≡ 1
 known-top = refl
 

@@ -1,4 +1,5 @@
--- What the console gave in a list of entries that can follow one another: each epoch of each directory once, one after the other.
+-- What the console gave in a list of entries that can follow one another: each epoch of each
+-- directory once, one after the other.
 use Rattle.std.proofs.Common.{◌≡◌, ◌≢◌, ℕ, ◌+◌, ◌<◌, ◌≤◌, Bool, true, false, eqb, cond, List, [], ◌++◌, Option, Some, None, refl, sym, ap, subst, ◌∙◌, arith, le_refl, ⊎_elim}
 use Rattle.std.proofs.lemmas.Bool.{cases_lt}
 use Rattle.cds_stamps.specs.Members.{Member, is_listed}
@@ -43,7 +44,8 @@ pub record Sent (line : List (ℕ × Entry)) (p : Post) : Type 0 where
 
 -- ---- numbers
 
--- the directories are those from 2 to the next one, and maybe the root; one without an epoch has no members
+-- the directories are those from 2 to the next one, and maybe the root; one without an epoch has no
+-- members
 pub record Counted (s : Seen) : Type 0 where
   pub two : 2 ≤ s.next_dir
   pub below : (d : ℕ) → 2 ≤ d → d < s.next_dir → 1 ≤ s.top d

@@ -208,7 +208,8 @@ later_given (e ∷ line) s c f v g =
 
 -- ---- an entry that could follow can still follow
 
--- what was done before an entry, and what is done now: all of before is done, and what is done was before it or comes after it
+-- what was done before an entry, and what is done now: all of before is done, and what is done was
+-- before it or comes after it
 pub record Between (before done later : List (ℕ × Entry)) : Type 0 where
   pub part : (p : ℕ × Entry) → In p before → In p done
   pub rest : (p : ℕ × Entry) → In p done → In p before ⊎ In p later

@@ -1,4 +1,5 @@
--- One entry more: its commands are done, and the houses of the cell are those of the entries that are left.
+-- One entry more: its commands are done, and the houses of the cell are those of the entries that
+-- are left.
 use Rattle.std.proofs.Common.{◌≡◌, ◌≢◌, ℕ, Bool, true, false, ◌||◌, not, eqb, cond, List, [], ◌∷◌, ◌++◌, length, drop, map, Some, None, refl, sym, ap, subst, ◌∙◌, arith}
 use Rattle.std.specs.Prelude.{slice_get}
 use Rattle.std.specs.FinMap.{same_map}
@@ -23,7 +24,7 @@ use Rattle.cell_model.proofs.Views.{put_other, put_same}
 use Rattle.cds_cell.specs.Recorded.{image_at, kept_in}
 use Rattle.cds_cell.proofs.RecordedLaws.{got_recorded}
 use Rattle.cell_runs.specs.Entries.{Order, Root, Mkdir, Accept, Skulk, Epoch, Take, Post, TurnEntry, Entry, Started, Turned}
-use Rattle.cell_runs.specs.HonestRuns.{HasGoodList, IsHonest, IsImageOf, IsTurnOf, at_clock, restarted}
+use Rattle.cell_runs.specs.HonestRuns.{HasGoodList, IsHonest, IsImageOf, IsTurnOf, at_clock, restarted_house}
 use Rattle.cell_runs.specs.LineAnswers.{answer_said}
 use Rattle.cell_runs.specs.OrderSteps.{ArePosts, Carries, order_step}
 use Rattle.cell_runs.specs.Orders.{CanFollow, Seen, after, command_of, entries_of, place_of}
@@ -68,8 +69,8 @@ image_is g x now octets reached is i =
 
 -- ---- what holds between entries
 
--- the cell after some entries, and those that are left: the messages that were posted are the cell's; each house is up, and the entries that are
--- left are those of an honest house from it on
+-- the cell after some entries, and those that are left: the messages that were posted are the
+-- cell's; each house is up, and the entries that are left are those of an honest house from it on
 pub record Matches (g : Cell) (posts : List Post) (line : List (ℕ × Entry)) : Type 0 where
   pub reached : IsReached g
   pub up : (x : ℕ) → has x g.made ≡ true → (g.house x).up ≡ true
@@ -303,7 +304,7 @@ module _ (g : Cell) (posts : List Post) (x : ℕ) (image : List ℕ) (line : Lis
       not_refused down (commands.Start x)
       (not_missing_alone g x made_so, (ap (λ (h : House). not (not h.up)) down_is, tt))
 
-  then_is : after_start.cell.house x ≡ restarted (g.house x)
+  then_is : after_start.cell.house x ≡ restarted_house (g.house x)
   then_is = put_same down.house x (started_house (down.house x)) ∙ ap started_house down_is
 
   then_there : (y : ℕ) → y ≢ x → after_start.cell.house y ≡ g.house y
@@ -323,7 +324,7 @@ module _ (g : Cell) (posts : List Post) (x : ℕ) (image : List ℕ) (line : Lis
     second_is = start_is;
     first_seen = refl;
     second_seen = ap (λ (o : Outcome). start_seen x o.cell o.answer) start_is
-        ∙ ap (λ (i : List ℕ). Some (x, Started i)) (image_is after_start.cell x (restarted (g.house x)) image start_reached then_is start_own.0);
+        ∙ ap (λ (i : List ℕ). Some (x, Started i)) (image_is after_start.cell x (restarted_house (g.house x)) image start_reached then_is start_own.0);
     done = λ r is. absurd (cc (is));
     knows = ap (λ (p : List Post). seen_of p g) (sym (append_nil posts));
     matches = record {

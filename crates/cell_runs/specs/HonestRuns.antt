@@ -12,7 +12,8 @@ use Rattle.cell_runs.specs.Entries.{Order, Root, Mkdir, Entry, Started, Turned, 
 use Rattle.cell_runs.specs.LineAnswers.{answer_said}
 use Rattle.cell_runs.specs.OrderSteps.{ArePosts, Carries, order_step}
 
--- octets are the image of the house x of the model: its number, its node, its floor, and what it has of each directory (own)
+-- octets are the image of the house x of the model: its number, its node, its floor, and what it
+-- has of each directory (own)
 pub record IsImageOf (x : ℕ) (now : House) (octets : List ℕ) : Type 0 where
   pub image : Image
   pub octets_are : octets ≡ image_octets image
@@ -21,7 +22,8 @@ pub record IsImageOf (x : ℕ) (now : House) (octets : List ℕ) : Type 0 where
   pub floor : image.floor ≡ now.floor
   pub dirs : (d : DirId) → get image.dirs d ≡ kept_in (now.slots d.0)
 
--- an entry is a turn of the house x: its posts are the turn's, its answer is, and its image is that of the house after it (own)
+-- an entry is a turn of the house x: its posts are the turn's, its answer is, and its image is that
+-- of the house after it (own)
 pub record IsTurnOf (x : ℕ) (e : TurnEntry) (step : HouseStep) (t : Turn) : Type 0 where
   pub step_is : step ≡ Turns t
   pub posts : ArePosts e.posts t.posts
@@ -32,21 +34,22 @@ pub record IsTurnOf (x : ℕ) (e : TurnEntry) (step : HouseStep) (t : Turn) : Ty
 abbrev pub at_clock : House → ℕ → House
 at_clock now clock = record now { clock = clock }
 
--- a new directory has no house twice, and not more than a member list can have (own, after C705, replica sets)
+-- a new directory has no house twice, and not more than a member list can have (own, after C705,
+-- replica sets)
 abbrev pub HasGoodList : (x : ℕ) → Order → Type 0
 HasGoodList x (Root rs ss) = is_bad_list (x ∷ rs) ≡ false
 HasGoodList x (Mkdir d n made rs ss) = is_bad_list (x ∷ rs) ≡ false
 HasGoodList x other = Unit {0}
 
 -- a house that crashed and started again (own)
-abbrev pub restarted : House → House
-restarted now = started_house (crashed_house now)
+abbrev pub restarted_house : House → House
+restarted_house now = started_house (crashed_house now)
 
--- entries of the house x from this house of the model on: whichever message of the model the octets were that it took, each turn is the step of
--- the model (own)
+-- entries of the house x from this house of the model on: whichever message of the model the octets
+-- were that it took, each turn is the step of the model (own)
 abbrev pub IsHonest : (x : ℕ) → House → List Entry → Type 0
 IsHonest x now [] = Unit {0}
-IsHonest x now (Started image ∷ es) = IsImageOf x (restarted now) image × IsHonest x (restarted now) es
+IsHonest x now (Started image ∷ es) = IsImageOf x (restarted_house now) image × IsHonest x (restarted_house now) es
 IsHonest x now (Turned e ∷ es) =
     HasGoodList x e.order
     × ((m : Message) → Carries x (at_clock now e.clock) e.order m

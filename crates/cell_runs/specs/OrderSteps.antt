@@ -23,7 +23,8 @@ abbrev pub with_number : (d : ℕ) → Answer → Answer
 with_number d (Stamped s ns) = Made d s ns
 with_number d other = other
 
--- a turn, and a new directory in the same turn: its Joins are posted after the others (own, after C705, creating a directory)
+-- a turn, and a new directory in the same turn: its Joins are posted after the others (own, after
+-- C705, creating a directory)
 abbrev pub then_found : (x d : ℕ) → List Member → HouseStep → HouseStep
 then_found x d ms (Stays answer) = Stays answer
 then_found x d ms (Turns t) =

@@ -1,4 +1,5 @@
--- Orders of the entries of houses, by octets and numbers alone, and the commands that such an order is (own).
+-- Orders of the entries of houses, by octets and numbers alone, and the commands that such an order
+-- is (own).
 use Rattle.std.specs.Prelude.{◌≡◌, ℕ, zero, suc, ◌+◌, true, false, ◌&&◌, ◌==◌, if◌then◌else◌, List, [], ◌∷◌, ◌++◌, map}
 use Rattle.std.specs.Str.{bytes_eq}
 use Rattle.cds_stamps.specs.Members.{Member, is_listed, others_of, secondaries_of}
@@ -13,8 +14,9 @@ use Rattle.cell_runs.specs.HonestRuns.{IsHonest}
 
 -- ---- what is known
 
--- what is known after some entries: the houses that there are, the messages that were posted, and what the console gave: the last epoch of each
--- directory, its members, and the number of the next directory (own)
+-- what is known after some entries: the houses that there are, the messages that were posted, and
+-- what the console gave: the last epoch of each directory, its members, and the number of the next
+-- directory (own)
 pub record Seen : Type 0 where
   pub made : List ℕ
   pub posts : List Post
@@ -48,8 +50,8 @@ after s x (Turned e) = record (order_seen s x e.order) { posts = s.posts ++ e.po
 abbrev pub AreMade : Seen → List ℕ → Type 0
 AreMade s hs = (h : ℕ) → In h hs → has h s.made ≡ true
 
--- the console gives this epoch to the house x: the one after the last, to a house that is listed, with the members that follow from those of
--- the last one (own, after C705, new epochs)
+-- the console gives this epoch to the house x: the one after the last, to a house that is listed,
+-- with the members that follow from those of the last one (own, after C705, new epochs)
 pub record IsGiven (s : Seen) (x d k : ℕ) (ms : List Member) (left : List ℕ) : Type 0 where
   pub next : k ≡ s.top d + 1
   pub listed : is_listed x (s.present d) ≡ true
@@ -58,7 +60,8 @@ pub record IsGiven (s : Seen) (x d k : ℕ) (ms : List Member) (left : List ℕ)
   pub members : ms ≡ member_list_of (s.present d) k x (others_of x ms) (secondaries_of ms)
   pub leaving : left ≡ left_members (s.present d) ms
 
--- the order of the house x can follow: what it takes was posted to it, and the console numbers directories and epochs one after the other (own)
+-- the order of the house x can follow: what it takes was posted to it, and the console numbers
+-- directories and epochs one after the other (own)
 abbrev pub CanFollow : Seen → (x : ℕ) → Order → Type 0
 CanFollow s x (Root rs ss) = (s.top root_dir ≡ 0) × AreMade s rs
 CanFollow s x (Mkdir d n made rs ss) = (s.next_dir ≡ made) × AreMade s rs
@@ -84,7 +87,8 @@ entries_of x (e ∷ line) = if e.0 == x then e.1 ∷ entries_of x line else entr
 
 -- ---- commands
 
--- where the first message of these octets to the house x is among those that were posted, from 0 (own)
+-- where the first message of these octets to the house x is among those that were posted, from 0
+-- (own)
 abbrev pub place_of : (x : ℕ) → (octets : List ℕ) → List Post → ℕ
 place_of x octets [] = zero
 place_of x octets (p ∷ ps) = if (p.to == x) && bytes_eq octets p.octets then zero else suc (place_of x octets ps)
@@ -98,7 +102,8 @@ command_of s x (Skulk d) = commands.Skulk x d
 command_of s x (Epoch d k ms left) = commands.Epoch d x (others_of x ms) (secondaries_of ms)
 command_of s x (Take octets) = commands.Deliver (suc (place_of x octets s.posts))
 
--- the commands that an entry is: a crash and a start; or the clock, and the command of its order (own)
+-- the commands that an entry is: a crash and a start; or the clock, and the command of its order
+-- (own)
 abbrev pub entry_commands : Seen → (x : ℕ) → Entry → List Command
 entry_commands s x (Started image) = commands.Crash x ∷ commands.Start x ∷ []
 entry_commands s x (Turned e) = commands.Clock x e.clock ∷ command_of s x e.order ∷ []
@@ -127,7 +132,8 @@ new_house node = record { node = node; clock = 0; floor = 0; up = true; slots = 
 abbrev pub house_commands : List MadeHouse → List Command
 house_commands = map (λ h. commands.House h.house h.node)
 
--- the entries of houses: no number and no node is twice; each house does as the model does; and no other house has any (own)
+-- the entries of houses: no number and no node is twice; each house does as the model does; and no
+-- other house has any (own)
 pub record AreRuns (houses : List MadeHouse) (logs : ℕ → List Entry) : Type 0 where
   pub numbers : stands_twice (numbers_in houses) ≡ false
   pub nodes : stands_twice (map (λ h. h.node) houses) ≡ false

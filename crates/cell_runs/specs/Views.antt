@@ -59,13 +59,15 @@ abbrev pub start_seen : (x : ℕ) → Cell → Answer → Option (ℕ × Entry)
 start_seen x g commands.Done = Some (x, Started (image_in g x))
 start_seen x g other = None
 
--- an epoch, with the members that the console gives it, and those that leave (own, after C705, new epochs)
+-- an epoch, with the members that the console gives it, and those that leave (own, after C705, new
+-- epochs)
 abbrev pub epoch_order : Cell → (d : ℕ) → (k : ℕ) → (m : ℕ) → (rs ss : List ℕ) → Order
 epoch_order g d k m rs ss =
     Epoch d k (member_list_of (g.present d) k m rs ss) (left_members (g.present d) (member_list_of (g.present d) k m rs ss))
 
--- the entry that a command makes, and the house that makes it: none if the command is refused or in vain. A child whose directory has another
--- master is made by two houses, and no entry tells that (own)
+-- the entry that a command makes, and the house that makes it: none if the command is refused or in
+-- vain. A child whose directory has another master is made by two houses, and no entry tells that
+-- (own)
 abbrev pub seen_at : Cell → Command → Option (ℕ × Entry)
 seen_at g (commands.Root m rs ss) = turn_seen g m (Root rs ss) (outcome g (commands.Root m rs ss))
 seen_at g (commands.Mkdir h d n m rs ss) =

@@ -1,4 +1,5 @@
-//! Runs of houses are runs of the cell, in logic alone: what houses did, each as its journal has it, is what commands of the model do.
+//! Runs of houses are runs of the cell, in logic alone: what houses did, each as its journal has
+//! it, is what commands of the model do.
 #![tactic(auto)]
 
 mod laws;
