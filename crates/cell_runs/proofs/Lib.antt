@@ -1,0 +1,9 @@
+pub mod OrderTurns
+pub mod Posted
+pub mod Worked
+pub mod RunSteps
+pub mod Runs
+pub mod Making
+pub mod Examples
+pub mod Given
+pub mod Goings

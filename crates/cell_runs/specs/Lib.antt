@@ -1,0 +1,6 @@
+pub mod Entries
+pub mod LineAnswers
+pub mod OrderSteps
+pub mod HonestRuns
+pub mod Views
+pub mod Orders
