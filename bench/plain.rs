@@ -19,6 +19,8 @@ mod inquiries;
 mod journal;
 #[path = "plain/load.rs"]
 mod load;
+#[path = "plain/mend.rs"]
+mod mend;
 #[path = "plain/names.rs"]
 mod names;
 #[path = "plain/records.rs"]
@@ -191,6 +193,11 @@ fn serve(words: &[&str], source: impl Read, sink: impl Write) -> Option<io::Resu
         ["audit", dir] => {
             let dir = number_to(u32::MAX, dir)?;
             whole(source).and_then(|input| audit::audit(dir, input, sink))
+        }
+        ["mend", dir] => mend::mend(number_to(u32::MAX, dir)?, &[], source, sink),
+        ["mend", dir, "-", ref houses @ ..] if !houses.is_empty() => {
+            let without: Option<Vec<u8>> = houses.iter().map(|it| Some(number_to(255, it)? as u8)).collect();
+            mend::mend(number_to(u32::MAX, dir)?, &without?, source, sink)
         }
         _ => return None,
     })

@@ -51,6 +51,7 @@ TABLE = (
     ("the name of a script", "./cdsreplay run in 2>&1 | tail -n 1", 0, "cdsreplay: the input is read from standard input: ./cdsreplay run <in\n", ""),
     ("the name of a script after a number", "./cdsreplay clerk 9 in 2>&1 | tail -n 1", 0, "cdsreplay: the input is read from standard input: ./cdsreplay clerk 9 <in\n", ""),
     ("the name of a script of cdsmend", "./cdsmend 1 in 2>&1 | tail -n 1", 0, "cdsmend: the script is read from standard input: ./cdsmend 1 <in\n", ""),
+    ("the name of a script of cdsmend after houses", "./cdsmend 1 - 3 in 2>&1 | tail -n 1", 0, "cdsmend: the script is read from standard input: ./cdsmend 1 - 3 <in\n", ""),
     ("a link", "ln -s ../cdsreplay links/replay; echo 0 1 ok | links/replay run", 0, "1 ok\n", ""),
     ("the folder itself", "echo 0 1 ok | sh cdsreplay run", 0, "1 ok\n", ""),
     ("the path", "cd links; echo 0 1 ok | PATH=$PWD/..:$PATH cdsreplay run", 0, "1 ok\n", ""),

@@ -3,12 +3,13 @@
 
     tools/fuzzing/mend.py SECONDS [--inputs N] [--seed N] [--program PATH] [--mender PATH]
 
-Without --program and --mender `tools/build` builds the proved programs first, where that has to be. With --inputs it ends after so many
-scripts. Each script makes a few houses and directories, loses messages, delivers some late or twice, crashes houses, and changes epochs;
-then `cdsmend` mends one of its directories. What it has to write is computed here from the answers of `cdsreplay`: who is listed, who is
-up, which epoch each house holds, which number comes next, and the floor of the master. Then the script followed by these lines is run: no
-added line may be refused or in vain, and the last has to be answered `complete`. After the Advances that this answer names, each listed
-house holds one epoch, and their dumps are the same.
+Without --program and --mender `tools/build` builds the proved programs first, where that has to be; PATH may have words behind it, as that
+of the plain program, whose form `mend` does the same. With --inputs it ends after so many scripts. Each script makes a few houses and
+directories, loses messages, delivers some late or twice, crashes houses, and changes epochs; then `cdsmend` mends one of its directories,
+now and then without some of the houses. What it has to write is computed here from the answers of `cdsreplay`: who is listed, who is up,
+which epoch each house holds, which number comes next, and the floors. Then the script followed by these lines is run: no added line may be
+refused or in vain, and the last has to be answered `complete`. After the Advances that this answer names, each house of the list holds one
+epoch, and their dumps are the same.
 
 Script number K is made from the seed N + K, where N is 1 if it is not given. At the first script that is not mended its seed is printed;
 it stands in out/fuzz-input. The last line is `N cells, all mended`, with how many were in which trouble before it, or `N cells, 1 not`,
@@ -19,6 +20,7 @@ import argparse
 import os
 import random
 import re
+import shlex
 import subprocess
 import sys
 import time
@@ -102,6 +104,7 @@ class Directory:
     def __init__(self, epoch, words):
         self.epoch, self.master = epoch, int(words[0])
         self.listed = sorted([(self.master, ""), *((int(it.lstrip("s")), "s" if it[0] == "s" else "") for it in words[1:])])
+        self.since = {it: epoch for it, _ in self.listed}
 
 
 class Cell:
@@ -125,7 +128,13 @@ class Cell:
         elif line[0] == "mkdir":
             self.directories[int(said.split()[1])] = Directory(1, line[4:])
         elif line[0] == "epoch":
-            self.directories[int(line[1])] = Directory(int(said.split()[1]), line[2:])
+            self.take_epoch(int(line[1]), Directory(int(said.split()[1]), line[2:]))
+
+    def take_epoch(self, number, directory):
+        """A new epoch: a house that was listed before keeps its `since`."""
+        before = self.directories[number].since
+        directory.since = {it: before.get(it, directory.epoch) for it, _ in directory.listed}
+        self.directories[number] = directory
 
     def choose(self, source):
         """Chooses one of the directories, or now and then a number that none has."""
@@ -134,50 +143,89 @@ class Cell:
         return source.choice(sorted(self.directories))
 
 
+def houses_left_out(source, cell, number):
+    """Chooses the houses that are left out: mostly none, else some of the listed ones, and now and then another one."""
+    directory = cell.directories.get(number)
+    if source.random() < 0.5 or not directory:
+        return []
+    listed = [it for it, _ in directory.listed]
+    most = len(listed) if source.random() < 0.1 else max(1, len(listed) - 1)
+    chosen = source.sample(listed, min(source.randint(1, most), source.randint(1, most)))
+    return chosen + ([source.randint(1, 255)] if source.random() < 0.1 else [])
+
+
 def state_of(program, lines, number, directory):
-    """Returns which of the listed houses are down, whether all are ready, and whether the master has a stamp left."""
-    asked = [f"dump {it} {number}" for it, _ in directory.listed] + [f"octets house {directory.master}"]
+    """Returns which of the listed houses are down, the epoch that each holds, and which of them have a stamp left."""
+    houses = [it for it, _ in directory.listed]
+    asked = [f"{line} {it}" for it in houses for line in ("start", "octets house")] + [f"dump {it} {number}" for it in houses]
     answers, _ = run(program, ["run"], lines + asked)
     told = {}
     for answer in answers:
         line, said = answer.split(" ", 1)
         told.setdefault(int(line) - len(lines) - 1, said)
-    dumps = [told[at] for at in range(len(directory.listed))]
-    down = {house for (house, _), said in zip(directory.listed, dumps) if said == "refused Down"}
-    ready = all(said.startswith(f"dump epoch {directory.epoch} ") for said in dumps)
-    image = bytes.fromhex(told[len(directory.listed)].split()[2])
-    return down, ready, int.from_bytes(image[9:17], "big") < LAST_TIME
+    down = {house for at, house in enumerate(houses) if told[2 * at].startswith("ok")}
+    images = {house: bytes.fromhex(told[2 * at + 1].split()[2]) for at, house in enumerate(houses)}
+    left = {house for house, image in images.items() if int.from_bytes(image[9:17], "big") < LAST_TIME}
+    held = {}
+    for at, house in enumerate(houses):
+        said = told[2 * len(houses) + at].split()
+        if said[:2] == ["dump", "epoch"]:
+            held[house] = int(said[2])
+    return down, held, left
 
 
-def wanted(program, lines, cell, number):
+def master_without(directory, held, without):
+    """Returns the master of a directory once these houses are left out, if any house can be."""
+    if directory.master not in without:
+        return directory.master
+    able = [it for it, _ in directory.listed if it not in without and held.get(it, 0) >= directory.since[it]]
+    return max(able, key=lambda it: (held[it], -it), default=None)
+
+
+def wanted(program, lines, cell, number, without):
     """Returns the lines that `cdsmend` has to write, and the name of the trouble."""
     directory = cell.directories.get(number)
     if not directory:
         return ["refused NoDirectory"], "no directory"
-    down, ready, stamp = state_of(program, lines, number, directory)
-    if not stamp:
+    down, held, left = state_of(program, lines, number, directory)
+    master = master_without(directory, held, without)
+    if master is None:
+        return ["refused NoReplica"], "no replica"
+    if master not in left:
         return ["refused StampsSpent"], "no stamp"
-    others = [f"{kind}{house}" for house, kind in directory.listed if house != directory.master]
+    stay = [(house, kind) for house, kind in directory.listed if house not in without]
+    others = [f"{kind}{house}" for house, kind in stay if house != master]
+    ready = not without and not down and all(held.get(it) == directory.epoch for it, _ in directory.listed)
     first, found = cell.posted, []
     if not ready:
-        found += [f"start {house}" for house, _ in directory.listed if house in down]
-        found.append(" ".join(["epoch", str(number), str(directory.master), *others]))
+        found += [f"start {house}" for house, _ in stay if house in down]
+        found.append(" ".join(["epoch", str(number), str(master), *others]))
         found += [f"deliver {first + it}" for it in range(1, len(others) + 1)]
-        first += len(others)
-    found.append(f"skulk {directory.master} {number}")
+        first += len(directory.listed) - 1
+    found.append(f"skulk {master} {number}")
     found += [f"deliver {first + it}" for it in range(1, 4 * len(others) + 1)]
-    return found, "ready" if ready else "down" if down else "in trouble"
+    return found, trouble_of(directory, master, without, ready, down)
 
 
-def fault_of(program, mender, lines, cell, number):
-    """Returns what is wrong with what mends the directory, if anything, and the name of the trouble."""
-    due, trouble = wanted(program, lines, cell, number)
-    added, status = run(mender, [str(number)], lines)
+def trouble_of(directory, master, without, ready, down):
+    """Returns the name of the trouble of a directory that is mended."""
+    if without:
+        return "without houses" if master == directory.master else "another master"
+    return "ready" if ready else "down" if down else "in trouble"
+
+
+def fault_of(program, mender, lines, cell, number, without):
+    """Returns what is wrong with what mends the directory without these houses, if anything, and the name of the trouble."""
+    due, trouble = wanted(program, lines, cell, number, without)
+    words = [str(number), *(["-", *map(str, without)] if without else [])]
+    tool, *first = [mender] if os.path.isfile(mender) else shlex.split(mender)
+    added, status = run(tool, [*first, *words], lines)
     if status or added != due:
-        return f"cdsmend {number} ends with status {status} and {added}, not {due}", trouble
+        return f"cdsmend {' '.join(words)} ends with status {status} and {added}, not {due}", trouble
     if due[0].startswith("refused "):
         return None, trouble
-    return vain_in(program, lines, added, [f"dump {it} {number}" for it, _ in cell.directories[number].listed]), trouble
+    listed = [it for it, _ in cell.directories[number].listed if it not in without]
+    return vain_in(program, lines, added, [f"dump {it} {number}" for it in listed]), trouble
 
 
 def vain_in(program, lines, added, asked):
@@ -215,7 +263,9 @@ def mend_all(words):
         source = random.Random(seed)
         lines = Maker(source).script()
         cell = Cell(words.program, lines)
-        fault, trouble = fault_of(words.program, words.mender, lines, cell, cell.choose(source))
+        number = cell.choose(source)
+        without = houses_left_out(source, cell, number)
+        fault, trouble = fault_of(words.program, words.mender, lines, cell, number, without)
         troubles[trouble] += 1
         if fault:
             os.makedirs(os.path.dirname(FOUND), exist_ok=True)

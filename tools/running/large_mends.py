@@ -1,18 +1,19 @@
-"""Cells of 64 houses, and long scripts, that `cdsmend` mends; the lines that it writes are those that docs/SCRIPT.md says."""
+"""Cells of 64 houses, and long scripts, that `cdsmend` mends; the lines that it writes are those that docs/FORMS.md says."""
 
 from running.runs import Mending
 
 HOUSES = 64
 
 
-def mending(posted, down, master, others, words, directory=1):
-    """Returns the lines that mend a directory after so many messages, as text. `words` are the houses as `epoch` has them."""
+def mending(posted, down, master, others, words, directory=1, leaves=0):
+    """Returns the lines that mend a directory after so many messages, as text. `words` are the houses as `epoch` has them, and so many
+    Leaves come after its Joins."""
     many, lines = len(others), [f"start {it}" for it in sorted(down)]
     lines.append(f"epoch {directory} {master} {' '.join(words)}".rstrip())
     lines += [f"deliver {posted + 1 + i}" for i in range(many)]
     lines.append(f"skulk {master} {directory}")
     # each of the others gets two messages, and answers each of them
-    lines += [f"deliver {posted + many + 1 + i}" for i in range(4 * many)]
+    lines += [f"deliver {posted + many + leaves + 1 + i}" for i in range(4 * many)]
     return "".join(f"{it}\n" for it in lines).encode()
 
 
@@ -21,9 +22,10 @@ def houses(numbers):
     return [f"house {it} {it:012x}" for it in numbers]
 
 
-def run_of(name, lines, output):
-    """Returns the run of `cdsmend 1` over a script of these lines."""
-    return Mending(f"large, {name}", ["1"], "".join(f"{it}\n" for it in lines).encode(), output, 0)
+def run_of(name, lines, output, without=()):
+    """Returns the run of `cdsmend 1`, without these houses, over a script of these lines."""
+    words = ["1", *(["-", *map(str, without)] if without else [])]
+    return Mending(f"large, {name}", words, "".join(f"{it}\n" for it in lines).encode(), output, 0)
 
 
 def all_down():
@@ -45,6 +47,17 @@ def ready():
     return run_of("64 houses that hold the last epoch", lines, skulk)
 
 
+def half_left_out():
+    """64 houses of all numbers, which are down: the master and 31 others are left out, and the first one that stays becomes the master."""
+    numbers = [1 + 4 * i for i in range(HOUSES - 1)] + [255]
+    without, stay = numbers[::2], numbers[1::2]
+    lines = [*houses(numbers), f"root {without[9]} {' '.join(str(it) for it in numbers if it != without[9])}"]
+    lines += [*(f"deliver {it + 1}" for it in range(HOUSES - 1)), f"create {without[9]} 1 lone", *(f"crash {it}" for it in numbers)]
+    words = [str(it) for it in stay[1:]]
+    output = mending(2 * (HOUSES - 1), stay, stay[0], stay[1:], words, leaves=len(without))
+    return run_of("32 of 64 houses that are left out", lines, output, without)
+
+
 def long_script():
     """2,000 lines, and then a master is down whose image has more than 100,000 octets."""
     lines = [*houses((1, 2, 3)), "root 1", "create 1 1 e", *(f"add 1 1 e A {i:02x}{'00' * 1023}" for i in range(120))]
@@ -55,4 +68,4 @@ def long_script():
 
 def runs():
     """Returns all of these."""
-    return [all_down(), ready(), long_script()]
+    return [all_down(), ready(), half_left_out(), long_script()]

@@ -415,6 +415,11 @@ module _ (all : List Command) (d : ℕ) (some : (replay all).top d ≢ 0) where
         let then = delivering_count (4 * n) q in
         omega (arith, starts, stay, size, a, b, first, then)
 
+-- whoever is chosen is in the list, and stays
+pub chosen_stays : (all : List Command) (d : ℕ) (hs : List ℕ) (m : ℕ) → 1 ≤ (replay all).top d → new_master (replay all) d hs ≡ Some m
+    → (is_listed m ((replay all).present d) ≡ true) × (has m hs ≡ false)
+chosen_stays all d hs m known is = let lead = chosen_leads all d (some_epoch ((replay all).top d) known) hs m is in (lead.listed, lead.stays)
+
 -- in every run
 pub leaving_lem : (all : List Command) (d : ℕ) (hs : List ℕ) → LeavesOut all d hs
 leaving_lem all d hs m t known is stamp =

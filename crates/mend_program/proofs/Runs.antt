@@ -1,7 +1,8 @@
 -- What a run of `cdsmend` wrote that ended Ok.
 use Rattle.std.proofs.Common.{◌≡◌, ℕ, ◌≤◌, Bool, true, false, List, [], ◌∷◌, ◌++◌, refl, sym, ◌∙◌, ap, subst, arith, if◌then◌else◌}
-use Rattle.std.specs.Prelude.{Option, None, Some, ◌&&◌, nat_le}
+use Rattle.std.specs.Prelude.{Option, None, Some, ◌&&◌, nat_le, codes}
 use Rattle.std.specs.Option.{option_and_then}
+use Rattle.std.specs.Str.{bytes_eq}
 use Rattle.std.specs.Io.KnownBytes.{Consumes, Appends}
 use Rattle.std.proofs.lemmas.Bool.Decides.{nat_tests}
 use Rattle.std.proofs.lemmas.Bool.{and_parts}
@@ -12,16 +13,16 @@ use Rattle.cell_script.specs.Words.{most_directory, number_of, number_to}
 use Rattle.script_replay.specs.Dialogues.{transcript_by}
 use Rattle.mend_replay.specs.Quiet.{running_quietly}
 use Rattle.script_replay.specs.Replies.{Numbered, steps_of}
-use Rattle.cell_replay.specs.Demand.{Demand, Sound, line_demand}
-use Rattle.cell_replay.specs.Forms as forms
-use Rattle.cell_replay.specs.Headline.{cell_after_script, commands_from}
-use Rattle.cell_replay.specs.LineStates.{Mending}
-use Rattle.cell_replay.specs.Runs.{IsWhole, Run, Wrote}
-use Rattle.cell_replay.specs.JournalRuns.{state_after_lines}
-use Rattle.cell_replay.proofs.Scripts.{faultless_script, script_due, told_with}
+use Rattle.line_forms.specs.Demand.{Demand, Sound, line_demand}
+use Rattle.mend_program.specs.MendForm.{mend_form}
+use Rattle.mend_replay.specs.MendRules.{mend_rule, mending}
+use Rattle.script_replay.specs.Headline.{cell_after_script, commands_from}
+use Rattle.line_forms.specs.Runs.{IsWhole, Run, Wrote}
+use Rattle.script_replay.specs.Scripts.{state_after_lines}
+use Rattle.script_replay.proofs.Scripts.{faultless_script, script_due, told_with}
 use Rattle.mend_replay.specs.SayableCommands.{IsDirectory}
 use Rattle.mend_program.specs.Mended.{IsMending}
-use Rattle.mend_program.specs.ProgramWords.{directory_named}
+use Rattle.mend_program.specs.ProgramWords.{are_houses, directory_named}
 use Rattle.mend_replay.specs.MendLines.{mend_text}
 use Rattle.mend_program.proofs.Mendings.{is_mended}
 
@@ -55,24 +56,28 @@ directory_range w d is = by_number (number_of w) is
 pub named_directory : (ws : List (List ℕ)) (d : ℕ) → directory_named ws ≡ Some d → IsDirectory d
 named_directory [] d is = absurd (cc (is))
 named_directory (w ∷ []) d is = directory_range w d is
-named_directory (w ∷ v ∷ ws) d is = absurd (cc (is))
+named_directory (w ∷ dash ∷ houses) d is = by_test (bytes_eq dash (codes "-") && are_houses houses) is
+  where
+    by_test : (b : Bool) → (if b then number_to most_directory w else None) ≡ Some d → IsDirectory d
+    by_test true is = directory_range w d is
+    by_test false is = absurd (cc (is))
 
 -- what was written, of a whole input in which nothing is faulty, is what mends the directory behind the script that was read
-pub is_mending : (d : ℕ) (run : Run) → IsDirectory d → Wrote (forms.mend_form d) run IsWhole → IsMending d run
-is_mending d run dir wrote =
-    let script = faultless_script running_quietly (Mending d) (λ number g line. refl) empty_cell wrote.read
+pub is_mending : (d : ℕ) (hs : List ℕ) (run : Run) → IsDirectory d → Wrote (mend_form d hs) run IsWhole → IsMending d hs run
+is_mending d hs run dir wrote =
+    let script = faultless_script mend_rule running_quietly (mending d hs) (λ number g line. refl) empty_cell wrote.read
     (subst (λ (x : Demand). x.verdict ≡ Sound) (sym wrote.demands) wrote.due.0) in
-    let text : List ℕ = mend_text d (cell_after_script script.1) in
+    let text : List ℕ = mend_text d hs (cell_after_script script.1) in
     let is_demand : wrote.demand ≡ told_with [] text =
-    sym wrote.demands ∙ ap (line_demand (Mending d empty_cell)) script.2
-    ∙ script_due running_quietly (Mending d) (λ number g line. refl) empty_cell script.0 script.1 script.3
-    ∙ ap (λ (body : List ℕ). told_with body (mend_text d (state_after_lines running_quietly empty_cell script.1))) (quiet_transcript empty_cell script.1)
-    ∙ ap (λ (g : Cell). told_with [] (mend_text d g)) (quiet_cell empty_cell script.1) in
+    sym wrote.demands ∙ ap (line_demand mend_rule (mending d hs empty_cell)) script.2
+    ∙ script_due mend_rule running_quietly (mending d hs) (λ number g line. refl) empty_cell script.0 script.1 script.3
+    ∙ ap (λ (body : List ℕ). told_with body (mend_text d hs (state_after_lines running_quietly empty_cell script.1))) (quiet_transcript empty_cell script.1)
+    ∙ ap (λ (g : Cell). told_with [] (mend_text d hs g)) (quiet_cell empty_cell script.1) in
     record {
       lines = script.0;
       said = script.1;
       script = script.3;
       taken = subst (Consumes run.left run.left') script.2 wrote.taken;
       written = subst (Appends run.held run.held') (wrote.due.1 ∙ ap (λ (x : Demand). x.body ++ x.end) is_demand) wrote.written;
-      mended = λ t known stamp. is_mended script.0 script.1 script.3 d dir t known stamp;
+      mended = λ m t known is stamp. is_mended script.0 script.1 script.3 d dir known hs m t is stamp;
     }

@@ -3,21 +3,25 @@ use Rattle.std.proofs.Common.{◌≡◌, ℕ, zero, suc, ◌+◌, ◌*◌, ◌<�
 use Rattle.std.proofs.Common.{arith, if◌then◌else◌}
 use Rattle.std.specs.Prelude.{◌==◌}
 use Rattle.std.specs.List.{AllByRecursion}
-use Rattle.cds_stamps.specs.Members.{Member, is_listed, master_of, most_members, others_of, secondaries_of}
+use Rattle.cds_stamps.specs.declared.members.MemberKind.TheVariants.{Master}
+use Rattle.cds_stamps.specs.Members.{Member, is_secondary, is_listed, master_of, most_members, others_of, secondaries_of}
 use Rattle.cell_model.specs.Cells.{Cell}
 use Rattle.cell_model.specs.Commands.{Command, Epoch, Start}
 use Rattle.cell_model.specs.Mending.{deliver_commands, mend_commands, skulk_commands, skulking_at, start_commands}
 use Rattle.cell_model.specs.Sets.{has}
 use Rattle.cell_model.specs.Steps.{is_down}
 use Rattle.cell_model.proofs.Lists.{eq_to, or_true}
-use Rattle.cell_model.proofs.PresentLists.{IsProper}
+use Rattle.cell_model.proofs.PresentLists.{IsProper, house_listed, listed_house}
 use Rattle.cell_model.proofs.Terms.{In-others_of}
 use Rattle.mend_replay.specs.Readiness.{is_ready}
 use Rattle.cell_script.specs.Words.{most_serial}
 use Rattle.mend_replay.specs.MendLines.{mends}
 use Rattle.mend_replay.specs.SayableCommands.{CanBeSaid, IsDirectory, IsHouse}
 use Rattle.mend_replay.proofs.ReadBack.{CanMend, can_mend}
-use Rattle.mend_replay.proofs.MemberKinds.{among_others, kinds_known, master_apart}
+use Rattle.mend_model.specs.Leaving.{kept_members, leaving_commands}
+use Rattle.mend_model.proofs.KeptMembers.{house_kept, kept_few, kept_house, kept_once}
+use Rattle.mend_replay.proofs.MemberKinds.{NotSecondary, among_others, kinds_known, master_apart}
+use Rattle.mend_replay.specs.PrivateLines.{led_member}
 
 abbrev pub AllSaid : List Command → Type 0
 AllSaid = AllByRecursion CanBeSaid
@@ -70,6 +74,15 @@ deliveries_mend first (suc n) = (tt, deliveries_mend (first + 1) n)
 delivering_count : (n first : ℕ) → length (deliver_commands first n) ≡ n
 delivering_count zero first = refl
 delivering_count (suc n) first = ap (λ (c : ℕ). suc c) (delivering_count n (first + 1))
+
+-- among the members that stay, the new master is not secondary
+led_apart : (hs : List ℕ) (m : ℕ) (ms : List Member) → NotSecondary m (kept_members hs m ms)
+led_apart hs m [] = tt
+led_apart hs m (y ∷ ys) = by_place (led_apart hs m ys) (has y.house hs)
+  where
+    by_place : NotSecondary m (kept_members hs m ys) → (b : Bool) → NotSecondary m (if b then kept_members hs m ys else led_member m y ∷ kept_members hs m ys)
+    by_place rest true = rest
+    by_place rest false = (λ same. ap (λ (b : Bool). is_secondary (if b then Master else y.kind)) same, rest)
 
 module _ (g : Cell) (d : ℕ) (dir : IsDirectory d) (some : 1 ≤ g.top d) (proper : IsProper g.made (g.top d) (g.present d))
     (houses : (x : ℕ) → has x g.made ≡ true → IsHouse x) where
@@ -143,3 +156,55 @@ module _ (g : Cell) (d : ℕ) (dir : IsDirectory d) (some : 1 ≤ g.top d) (prop
       let fewer = others_fewer m list headed in
       let count = delivering_count (4 * length (others_of m list)) (length g.bag) in
       omega (arith, fewer, count)
+
+  module _ (hs : List ℕ) (h : ℕ) (listed : is_listed h (g.present d) ≡ true) (stays : has h hs ≡ false) where
+    abbrev kept : List Member
+    kept = kept_members hs h (g.present d)
+
+    kept_houses : (x : ℕ) → is_listed x (kept_members hs h (g.present d)) ≡ true → IsHouse x
+    kept_houses x l = listed_houses x (house_listed x list (kept_house hs h x list (listed_house x kept l)).0)
+
+    kept_head : is_listed h (kept_members hs h (g.present d)) ≡ true
+    kept_head = house_listed h kept (house_kept hs h h list (listed_house h list listed) stays)
+
+    kept_others : length (others_of h (kept_members hs h (g.present d))) < most_members
+    kept_others =
+        let fewer = others_fewer h kept kept_head in
+        let part = kept_few hs h list in
+        let few = proper.few in omega (arith, fewer, part, few)
+
+    left_epoch_said : CanBeSaid (Epoch d h (others_of h (kept_members hs h (g.present d))) (secondaries_of (kept_members hs h (g.present d))))
+    left_epoch_said = (
+      dir,
+      kept_houses h kept_head,
+      λ x i. kept_houses x (In-others_of x h kept i).1,
+      among_others (secondaries_of kept) h kept (kinds_known kept (kept_once hs h list proper.once)) (led_apart hs h list),
+      kept_others,
+    )
+
+    -- each command that leaves houses out can be said
+    pub leaving_said : length g.bag + 315 ≤ most_serial → AllSaid (leaving_commands g d hs h)
+    leaving_said few =
+        let n : ℕ = length (others_of h kept) in
+        let q : ℕ = length g.bag + length (others_of h list) in
+        let less : n ≤ 63 = let fewer = kept_others in omega (arith, fewer) in
+        let posted : length (others_of h list) ≤ 63 =
+        let fewer = others_fewer h list listed in let most = proper.few in omega (arith, fewer, most) in
+        both CanBeSaid (start_commands g kept) (Epoch d h (others_of h kept) (secondaries_of kept) ∷ (deliver_commands (length g.bag) n ++ skulk_commands h d q n))
+        (starts_said g kept kept_houses) (
+          left_epoch_said,
+          both CanBeSaid (deliver_commands (length g.bag) n) (skulk_commands h d q n)
+              (deliveries_said (length g.bag) n (omega (arith, less, few)))
+              ((kept_houses h kept_head, dir), deliveries_said q (4 * n) (omega (arith, less, posted, few))),
+        )
+
+    -- and each of them mends, whatever the serials are
+    pub leaving_mend : AllByRecursion CanMend (leaving_commands g d hs h)
+    leaving_mend =
+        let n : ℕ = length (others_of h kept) in
+        let q : ℕ = length g.bag + length (others_of h list) in
+        both CanMend (start_commands g kept) (Epoch d h (others_of h kept) (secondaries_of kept) ∷ (deliver_commands (length g.bag) n ++ skulk_commands h d q n))
+        (starts_mend g kept) (
+          can_mend (Epoch d h (others_of h kept) (secondaries_of kept)) left_epoch_said,
+          both CanMend (deliver_commands (length g.bag) n) (skulk_commands h d q n) (deliveries_mend (length g.bag) n) (tt, deliveries_mend q (4 * n)),
+        )

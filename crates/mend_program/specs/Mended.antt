@@ -11,9 +11,11 @@ use Rattle.script_answers.specs.declared.answer.Answer.{Answer}
 use Rattle.script_answers.specs.declared.answer.Answer.TheVariants as answer
 use Rattle.cell_script.specs.Words.{most_serial}
 use Rattle.script_replay.specs.Replies.{Numbered, reply_to}
-use Rattle.cell_replay.specs.Headline.{cell_after_script, commands_of, line_place}
-use Rattle.cell_replay.specs.Runs.{Run}
-use Rattle.cell_replay.specs.Scripts.{IsScript, text_of}
+use Rattle.script_replay.specs.Headline.{cell_after_script, commands_of, line_place}
+use Rattle.line_forms.specs.Runs.{Run}
+use Rattle.script_replay.specs.Scripts.{IsScript}
+use Rattle.line_forms.specs.Leaving.{text_of}
+use Rattle.mend_model.specs.Leaving.{new_master, smaller_list}
 use Rattle.mend_replay.specs.MendLines.{mend_text}
 
 -- the answer to a line that was neither refused nor in vain: a house is up, a new epoch was taken, a message was taken, a skulk began, or
@@ -51,25 +53,30 @@ pub record MendsBehind (said : List Numbered) (dir : ℕ) (t : Stamp) (members :
 abbrev pub most_delivered : ℕ
 most_delivered = 315
 
--- A text is lines that mend a directory behind those of a script. Both together are a script, if they are not too many lines and no serial
--- number is too great; for n houses there are at most 6 n - 3 lines more (own)
-pub record IsMended (lines : List (List ℕ)) (said : List Numbered) (dir : ℕ) (t : Stamp) (text : List ℕ) : Type 0 where
+-- A text is lines that mend a directory with these members behind those of a script. Both together are a script, if they are not too many
+-- lines and no serial number is too great; for n members there are at most 6 n - 3 lines more (own)
+pub record IsMended (lines : List (List ℕ)) (said : List Numbered) (dir : ℕ) (t : Stamp) (members : List Member) (text : List ℕ) : Type 0 where
   pub more : List (List ℕ)
   pub added : List Numbered
   pub written : text ≡ text_of more
-  pub few : length more + 3 ≤ 6 * length ((cell_after_script said).present dir)
+  pub few : length more + 3 ≤ 6 * length members
   pub script : length lines + length more ≤ MOST_LINES → length (cell_after_script said).bag + most_delivered ≤ most_serial
       → IsScript 1 (lines ++ more) (said ++ added)
-  pub mends : MendsBehind said dir t ((cell_after_script said).present dir) added
+  pub mends : MendsBehind said dir t members added
 
--- A script was read, and what mends the directory behind it was written, or why nothing does. Where there is such a directory and its master
--- has a stamp left, these are lines that mend it (own)
-pub record IsMending (dir : ℕ) (run : Run) : Type 0 where
+-- the members of a directory that is mended without these houses, with the master m: those of the console's list, if no houses are named (own)
+abbrev pub members_without : Cell → (dir : ℕ) → (hs : List ℕ) → (m : ℕ) → List Member
+members_without g dir [] m = g.present dir
+members_without g dir (h ∷ hs) m = smaller_list g dir (h ∷ hs) m
+
+-- A script was read, and what mends the directory behind it without these houses was written, or why nothing does. If there is such a
+-- directory, a house that stays can be its master, and this one has a stamp left, these are lines that mend it (own)
+pub record IsMending (dir : ℕ) (hs : List ℕ) (run : Run) : Type 0 where
   pub lines : List (List ℕ)
   pub said : List Numbered
   pub script : IsScript 1 lines said
   pub taken : Consumes run.left run.left' (text_of lines)
-  pub written : Appends run.held run.held' (mend_text dir (cell_after_script said))
+  pub written : Appends run.held run.held' (mend_text dir hs (cell_after_script said))
   pub mended : (let g : Cell = cell_after_script said in
-      (t : Stamp) → 1 ≤ g.top dir → stamp_at (g.house (master_of (g.present dir))) ≡ Some t
-      → IsMended lines said dir t (mend_text dir g))
+      (m : ℕ) (t : Stamp) → 1 ≤ g.top dir → new_master g dir hs ≡ Some m → stamp_at (g.house m) ≡ Some t
+      → IsMended lines said dir t (members_without g dir hs m) (mend_text dir hs g))

@@ -1,22 +1,23 @@
 // The theorem of this crate: a function that does nothing, whose contract it is.
 ghost use Rattle.std.specs.Prelude.{◌≡◌, ◌≤◌, ℕ, List, Some};
 ghost use Rattle.cds_stamps.specs.declared.stamp.Stamp.{Stamp};
-ghost use Rattle.cds_stamps.specs.Members.{master_of};
 ghost use Rattle.cell_model.specs.Turns.{stamp_at};
 ghost use Rattle.script_replay.specs.Replies.{Numbered};
-ghost use Rattle.cell_replay.specs.Headline.{cell_after_script};
-ghost use Rattle.cell_replay.specs.Scripts.{IsScript};
+ghost use Rattle.script_replay.specs.Headline.{cell_after_script};
+ghost use Rattle.script_replay.specs.Scripts.{IsScript};
+ghost use Rattle.mend_model.specs.Leaving.{new_master};
 ghost use Rattle.mend_replay.specs.MendLines.{mend_text};
 ghost use Rattle.mend_replay.specs.SayableCommands.{IsDirectory};
-ghost use Rattle.mend_program.specs.Mended.{IsMended};
+ghost use Rattle.mend_program.specs.Mended.{IsMended, members_without};
 
-/// A script followed by the lines that mend a directory behind it mends it, wherever there is such a directory and its master has a stamp
-/// left.
+/// A script followed by the lines that mend a directory behind it mends it without the houses that are named, wherever there is such a
+/// directory, a house that stays can be its master, and this one has a stamp left.
 pub fn scripts_are_mended()
-    ensures { (lines : List (List ℕ)) (said : List Numbered) (d : ℕ) (t : Stamp)
+    ensures { (lines : List (List ℕ)) (said : List Numbered) (d : ℕ) (hs : List ℕ) (m : ℕ) (t : Stamp)
         → IsScript 1 lines said → IsDirectory d
         → 1 ≤ (cell_after_script said).top d
-        → stamp_at ((cell_after_script said).house (master_of ((cell_after_script said).present d)))
-        ≡ Some t
-        → IsMended lines said d t (mend_text d (cell_after_script said)) }
+        → new_master (cell_after_script said) d hs ≡ Some m
+        → stamp_at ((cell_after_script said).house m) ≡ Some t
+        → IsMended lines said d t (members_without (cell_after_script said) d hs m)
+        (mend_text d hs (cell_after_script said)) }
 {}

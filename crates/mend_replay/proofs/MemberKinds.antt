@@ -1,5 +1,5 @@
 -- The kinds of the members of a list: which words they have, and that the secondary ones are some of the others.
-use Rattle.std.proofs.Common.{◌≡◌, inl, inr, ⊎_elim, ℕ, ◌+◌, ◌≤◌, Bool, true, false, ◌||◌, List, [], ◌∷◌, ◌++◌, map, refl, sym, ◌∙◌, ap, subst}
+use Rattle.std.proofs.Common.{◌≡◌, inl, inr, ⊎_elim, ℕ, ◌+◌, ◌<◌, ◌≤◌, le_refl, Bool, true, false, ◌||◌, List, [], ◌∷◌, ◌++◌, map, refl, sym, ◌∙◌, ap, subst}
 use Rattle.std.proofs.Common.{arith, if◌then◌else◌}
 use Rattle.std.specs.Prelude.{None, Some, ◌==◌, nat_lt, filter}
 use Rattle.std.specs.List.{AllByRecursion}
@@ -14,7 +14,8 @@ use Rattle.cell_model.proofs.Answerings.{Once}
 use Rattle.cell_model.proofs.Lists.{eq_from, eq_to, or_cases}
 use Rattle.cell_model.proofs.PresentLists.{houses_of}
 use Rattle.mend_replay.specs.MendLines.{listed_word, words_behind}
-use Rattle.mend_replay.specs.PrivateLines.{listed_words, member_word}
+use Rattle.mend_model.specs.Leaving.{kept_members}
+use Rattle.mend_replay.specs.PrivateLines.{AreOrdered, led_member, listed_words, member_word}
 
 -- ---- houses that stand once
 
@@ -31,7 +32,8 @@ least_of place least (y ∷ ys) none x i =
     by_order behind false below none (inr i) =
         let low : least ≤ y.house = grind (arith, nat_tests, below) in let more = behind none i in omega (arith, low, more)
 
-once_ordered : (place least : ℕ) (ms : List Member) → first_unordered place least ms ≡ None → Once (houses_of ms)
+-- no house of a list in ascending order stands twice
+pub once_ordered : (place least : ℕ) (ms : List Member) → first_unordered place least ms ≡ None → Once (houses_of ms)
 once_ordered place least [] none = tt
 once_ordered place least (y ∷ ys) none =
     by_order (λ none. once_ordered (place + 1) (y.house + 1) ys none) (nat_lt y.house least) none
@@ -42,9 +44,49 @@ once_ordered place least (y ∷ ys) none =
     by_order behind false none =
         (λ i. let low = least_of (place + 1) (y.house + 1) ys none y.house i in absurd (omega (arith, low)), behind none)
 
--- no house of a member list stands twice
-pub once_members : (ms : List Member) → members_fault ms ≡ None → Once (houses_of ms)
-once_members ms lawful = once_ordered 1 0 ms (no_members_fault ms lawful).2
+-- a member list is in ascending order
+pub ordered_members : (ms : List Member) → members_fault ms ≡ None → AreOrdered ms
+ordered_members ms lawful = (no_members_fault ms lawful).2
+
+-- a list in ascending order from some house on is so from lower ones on, whatever its places
+ordered_lower : (place place' least least' : ℕ) (ms : List Member) → least' ≤ least → first_unordered place least ms ≡ None
+    → first_unordered place' least' ms ≡ None
+ordered_lower place place' least least' [] le none = refl
+ordered_lower place place' least least' (y ∷ ys) le none =
+    by_order (λ none. ordered_lower (place + 1) (place' + 1) (y.house + 1) (y.house + 1) ys (le_refl (y.house + 1)) none)
+    (nat_lt y.house least) refl (nat_lt y.house least') refl none
+  where
+    by_order : (first_unordered (place + 1) (y.house + 1) ys ≡ None → first_unordered (place' + 1) (y.house + 1) ys ≡ None)
+        → (a : Bool) → nat_lt y.house least ≡ a → (b : Bool) → nat_lt y.house least' ≡ b
+        → (if a then Some place else first_unordered (place + 1) (y.house + 1) ys) ≡ None
+        → (if b then Some place' else first_unordered (place' + 1) (y.house + 1) ys) ≡ None
+    by_order behind true ea b eb none = absurd (cc (none))
+    by_order behind false ea true eb none =
+        let high : least ≤ y.house = grind (arith, nat_tests, ea) in
+        let low : y.house < least' = grind (arith, nat_tests, eb) in absurd (omega (arith, high, low, le))
+    by_order behind false ea false eb none = behind none
+
+-- those that stay are in ascending order
+kept_in_order : (hs : List ℕ) (m place least : ℕ) (ms : List Member) → first_unordered place least ms ≡ None
+    → first_unordered place least (kept_members hs m ms) ≡ None
+kept_in_order hs m place least [] none = refl
+kept_in_order hs m place least (y ∷ ys) none =
+    by_place (λ none. kept_in_order hs m place least ys none) (λ none. kept_in_order hs m (place + 1) (y.house + 1) ys none)
+    (nat_lt y.house least) refl (has y.house hs) none
+  where
+    by_place : (first_unordered place least ys ≡ None → first_unordered place least (kept_members hs m ys) ≡ None)
+        → (first_unordered (place + 1) (y.house + 1) ys ≡ None → first_unordered (place + 1) (y.house + 1) (kept_members hs m ys) ≡ None)
+        → (a : Bool) → nat_lt y.house least ≡ a → (b : Bool) → (if a then Some place else first_unordered (place + 1) (y.house + 1) ys) ≡ None
+        → first_unordered place least (if b then kept_members hs m ys else led_member m y ∷ kept_members hs m ys) ≡ None
+    by_place here behind true ea b none = absurd (cc (none))
+    by_place here behind false ea true none =
+        let high : least ≤ y.house + 1 = (let le : least ≤ y.house = grind (arith, nat_tests, ea) in omega (arith, le)) in
+        here (ordered_lower (place + 1) place (y.house + 1) least ys high none)
+    by_place here behind false ea false none =
+        ap (λ (b : Bool). if b then Some place else first_unordered (place + 1) (y.house + 1) (kept_members hs m ys)) ea ∙ behind none
+
+pub ordered_kept : (hs : List ℕ) (m : ℕ) (ms : List Member) → AreOrdered ms → AreOrdered (kept_members hs m ms)
+ordered_kept hs m ms ordered = kept_in_order hs m 1 0 ms ordered
 
 -- ---- which are secondary
 

@@ -1,17 +1,17 @@
 -- Lines that are put behind others.
 use Rattle.std.proofs.Common.{◌≡◌, ℕ, suc, ◌+◌, ◌-◌, ◌<◌, Bool, true, false, List, [], ◌∷◌, ◌++◌, map, length, refl, sym, ◌∙◌, ap, arith, append_assoc}
-use Rattle.std.proofs.Common.{append-nil, if◌then◌else◌, subst}
-use Rattle.std.specs.Prelude.{None, codes, count_by, not, ◌==◌}
+use Rattle.std.proofs.Common.{append-nil, if◌then◌else◌}
+use Rattle.std.specs.Prelude.{codes, count_by, not, ◌==◌}
 use Rattle.std.specs.Fmt.{decimal}
 use Rattle.std.proofs.lemmas.List.Sums.{sum_by-cons}
-use Rattle.cds_stamps.specs.Members.{Member, is_secondary, master_of, members_fault, others_of, secondaries_of}
+use Rattle.cds_stamps.specs.Members.{Member, is_secondary, others_of, secondaries_of}
 use Rattle.cell_model.specs.Cells.{Cell}
 use Rattle.cell_model.specs.Commands.{Command, Deliver, Epoch, Start}
 use Rattle.cell_model.specs.Mending.{deliver_commands, start_commands}
 use Rattle.cell_model.specs.Steps.{is_down}
 use Rattle.mend_replay.specs.MendLines.{command_line, command_lines, command_words, line_of, listed_word, words_behind}
-use Rattle.mend_replay.specs.PrivateLines.{IsScriptWith, listed_words, member_word}
-use Rattle.mend_replay.proofs.MemberKinds.{kinds_known, once_members, words_match}
+use Rattle.mend_replay.specs.PrivateLines.{AreOrdered, IsScriptWith, listed_words, member_word}
+use Rattle.mend_replay.proofs.MemberKinds.{kinds_known, once_ordered, words_match}
 
 -- no line more
 pub put_none : (old : List ℕ) → IsScriptWith old old []
@@ -53,21 +53,19 @@ put_two old a b c' new c w m n words first second third fourth =
     ∙ ap (λ (l : List ℕ). (old ++ w) ++ ((32 ∷ decimal m) ++ l)) (sym (append-nil (32 ∷ decimal n)))))
 
 -- the line of an epoch
-pub put_epoch : (old a b c' e new : List ℕ) (d m : ℕ) (ms : List Member) → members_fault ms ≡ None → m ≡ master_of ms → a ≡ old ++ codes "epoch"
+pub put_epoch : (old a b c' e new : List ℕ) (d m : ℕ) (ms : List Member) → AreOrdered ms → a ≡ old ++ codes "epoch"
     → b ≡ a ++ (32 ∷ decimal d) → c' ≡ b ++ (32 ∷ decimal m) → e ≡ c' ++ listed_words m ms → new ≡ e ++ 10 ∷ []
-    → IsScriptWith old new (Epoch d (master_of ms) (others_of (master_of ms) ms) (secondaries_of ms) ∷ [])
-put_epoch old a b c' e new d m ms lawful head first second third fourth fifth =
+    → IsScriptWith old new (Epoch d m (others_of m ms) (secondaries_of ms) ∷ [])
+put_epoch old a b c' e new d m ms ordered first second third fourth fifth =
     let ss : List ℕ = secondaries_of ms in
     let others : List (List ℕ) = map (listed_word ss) (others_of m ms) in
-    let words : listed_words m ms ≡ words_behind others = words_match ss m ms (kinds_known ms (once_members ms lawful)) in
-    let line : IsScriptWith old new (Epoch d m (others_of m ms) ss ∷ []) =
+    let words : listed_words m ms ≡ words_behind others = words_match ss m ms (kinds_known ms (once_ordered 1 0 ms ordered)) in
     put_line old new (Epoch d m (others_of m ms) ss) (codes "epoch") (decimal d ∷ decimal m ∷ others) refl
     (fifth ∙ ap (λ (l : List ℕ). l ++ 10 ∷ [])
     (fourth ∙ ap (λ (l : List ℕ). c' ++ l) words
     ∙ ap (λ (l : List ℕ). l ++ words_behind others) (third ∙ ap (λ (l : List ℕ). l ++ (32 ∷ decimal m)) (second ∙ ap (λ (l : List ℕ). l ++ (32 ∷ decimal d)) first))
     ∙ append_assoc ((old ++ codes "epoch") ++ (32 ∷ decimal d)) (32 ∷ decimal m) (words_behind others)
-    ∙ append_assoc (old ++ codes "epoch") (32 ∷ decimal d) ((32 ∷ decimal m) ++ words_behind others))) in
-    subst (λ (x : ℕ). IsScriptWith old new (Epoch d x (others_of x ms) ss ∷ [])) head line
+    ∙ append_assoc (old ++ codes "epoch") (32 ∷ decimal d) ((32 ∷ decimal m) ++ words_behind others)))
 
 -- ---- one more of several
 

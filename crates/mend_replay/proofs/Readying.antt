@@ -1,5 +1,5 @@
 -- What a cell says of the houses of a directory is what the model says.
-use Rattle.std.proofs.Common.{◌≡◌, ◌≤◌, ◌+◌, ℕ, Bool, true, false, ◌&&◌, not, if◌then◌else◌, max, List, ◌∷◌, refl, sym, ◌∙◌, ap, subst, arith}
+use Rattle.std.proofs.Common.{◌≡◌, ◌≤◌, ◌+◌, ℕ, Bool, true, false, ◌&&◌, not, if◌then◌else◌, max, List, [], ◌∷◌, refl, sym, ◌∙◌, ap, subst, arith}
 use Rattle.std.specs.Prelude.{Option, Some, None, ◌==◌, codes, is_some, length}
 use Rattle.std.specs.FinMap.{get}
 use Rattle.std.specs.Option.{option_map}
@@ -26,7 +26,11 @@ use Rattle.cds_cell.specs.declared.house.CellHouse.{CellHouse}
 use Rattle.cds_cell.specs.declared.house.HouseState.{HouseState}
 use Rattle.cds_cell.specs.declared.house.HouseState.TheVariants as state
 use Rattle.cds_cell.specs.CellHouses.{StandsState, StandsUp}
-use Rattle.mend_replay.specs.MendLines.{command_lines, mend_text, mends, refusal_line}
+use Rattle.house_directory.specs.HouseMessages.{numbers_of}
+use Rattle.mend_model.specs.Leaving.{held_since, kept_members, leaving_commands, new_master}
+use Rattle.mend_replay.specs.MendLines.{command_lines, known_text, leaving_text, led_text, mend_text, mending_text, mends, refusal_line, text_led_by}
+use Rattle.mend_replay.specs.PrivateLines.{commands_without}
+use Rattle.mend_replay.specs.PrivateMasters.{epoch_since}
 use Rattle.mend_replay.specs.Readiness.{holds_at, is_held_at, is_held_by, is_ready}
 use Rattle.cds_cell.specs.ConsoleLists.{IsListed}
 use Rattle.cds_cell.specs.ModelCells.{MaybeStandsHouse, Stands, house_of}
@@ -55,26 +59,62 @@ mends_ready g d k p ms is posted held =
 pub mends_unready : (g : model.Cell) (d k : ℕ) (ms : List Member) → IsListed g d k ms → false ≡ is_held_by g d k ms → mend_commands g d ≡ mends g d
 mends_unready g d k ms is held = ap (λ (b : Bool). if b then skulking_at g d else mend_commands g d) (held ∙ ready_listed g d k ms is)
 
--- the text where there is no such directory, where its master has no stamp left, and else
-abbrev text_of : (unknown left : Bool) → model.Cell → ℕ → List ℕ
-text_of unknown left g d =
-    if unknown then refusal_line (codes "NoDirectory") else (if left then command_lines (mends g d) else refusal_line (codes "StampsSpent"))
-
-pub text_none : (g : model.Cell) (d : ℕ) → g.top d ≡ 0 → refusal_line (codes "NoDirectory") ≡ mend_text d g
-text_none g d none =
+-- the text where there is no such directory
+pub text_none : (g : model.Cell) (d : ℕ) (hs : List ℕ) → g.top d ≡ 0 → refusal_line (codes "NoDirectory") ≡ mend_text d hs g
+text_none g d hs none =
     let unknown : (g.top d == 0) ≡ true = grind (arith, nat_tests, none) in
-    ap (λ (b : Bool). text_of b (is_some (stamp_at (g.house (master_of (g.present d))))) g d) (sym unknown)
+    ap (λ (b : Bool). if b then refusal_line (codes "NoDirectory") else known_text d hs g) (sym unknown)
 
-pub text_known : (g : model.Cell) (d k : ℕ) (ms : List Member) (left : Bool) → IsListed g d k ms → left ≡ is_some (stamp_at (g.house (master_of ms)))
-    → (if left then command_lines (mends g d) else refusal_line (codes "StampsSpent")) ≡ mend_text d g
-text_known g d k ms left is same =
+-- where there is one
+pub text_there : (g : model.Cell) (d k : ℕ) (hs : List ℕ) (ms : List Member) → IsListed g d k ms → known_text d hs g ≡ mend_text d hs g
+text_there g d k hs ms is =
     let known : (g.top d == 0) ≡ false = some (g.top d) k is.top is.some in
-    ap (λ (b : Bool). if b then command_lines (mends g d) else refusal_line (codes "StampsSpent"))
-    (same ∙ ap (λ (l : List Member). is_some (stamp_at (g.house (master_of l)))) (sym is.present))
-    ∙ ap (λ (b : Bool). text_of b (is_some (stamp_at (g.house (master_of (g.present d))))) g d) (sym known)
+    ap (λ (b : Bool). if b then refusal_line (codes "NoDirectory") else known_text d hs g) (sym known)
   where
     some : (n k : ℕ) → n ≡ k → 1 ≤ k → (n == 0) ≡ false
     some n k is least = grind (arith, nat_tests, is, least)
+
+-- where its master has no stamp left, and else
+pub text_known : (g : model.Cell) (d k : ℕ) (ms : List Member) (left : Bool) → IsListed g d k ms → left ≡ is_some (stamp_at (g.house (master_of ms)))
+    → (if left then command_lines (mends g d) else refusal_line (codes "StampsSpent")) ≡ mending_text d g
+text_known g d k ms left is same =
+    ap (λ (b : Bool). if b then command_lines (mends g d) else refusal_line (codes "StampsSpent"))
+    (same ∙ ap (λ (l : List Member). is_some (stamp_at (g.house (master_of l)))) (sym is.present))
+
+-- where no houses are left out, and where some are
+pub text_whole : (g : model.Cell) (d k : ℕ) (without : List HouseNo) (ms : List Member) → IsListed g d k ms → (length without == 0) ≡ true
+    → mending_text d g ≡ mend_text d (numbers_of without) g
+text_whole g d k [] ms is none = text_there g d k [] ms is
+text_whole g d k (h ∷ hs) ms is none = let some : (length (h ∷ hs) == 0) ≡ false = grind (arith, nat_tests) in absurd (cc (sym some ∙ none))
+
+pub text_without : (g : model.Cell) (d k : ℕ) (without : List HouseNo) (ms : List Member) → IsListed g d k ms → (length without == 0) ≡ false
+    → leaving_text d (numbers_of without) g ≡ mend_text d (numbers_of without) g
+text_without g d k [] ms is some = let none : (0 == 0) ≡ true = grind (arith, nat_tests) in absurd (cc (sym none ∙ some))
+text_without g d k (h ∷ hs) ms is some = text_there g d k (numbers_of (h ∷ hs)) ms is
+
+-- the text where no house can be master, and with one
+pub text_headless : (g : model.Cell) (d : ℕ) (hs : List ℕ) (o : Option HouseNo) → o ≡ None → option_map (λ h. h.0) o ≡ new_master g d hs
+    → refusal_line (codes "NoReplica") ≡ leaving_text d hs g
+text_headless g d hs None is same = ap (text_led_by d hs g) same
+text_headless g d hs (Some h) is same = absurd (cc (is))
+
+pub text_headed : (g : model.Cell) (d : ℕ) (hs : List ℕ) (o : Option HouseNo) (h : HouseNo) → o ≡ Some h → option_map (λ h. h.0) o ≡ new_master g d hs
+    → led_text d hs g h.0 ≡ leaving_text d hs g
+text_headed g d hs None h is same = absurd (cc (is))
+text_headed g d hs (Some x) h is same = let e : x ≡ h = cc (is) in ap (λ (y : HouseNo). led_text d hs g y.0) (sym e) ∙ ap (text_led_by d hs g) same
+
+-- the lines with this master, or that it has no stamp left
+pub text_led : (g : model.Cell) (d : ℕ) (hs : List ℕ) (m posted : ℕ) (ms kept : List Member) → g.present d ≡ ms → kept ≡ kept_members hs m ms
+    → posted ≡ length (others_of m ms) → true ≡ is_some (stamp_at (g.house m)) → command_lines (commands_without g d m kept posted) ≡ led_text d hs g m
+text_led g d hs m posted ms kept is stay count left =
+    ap (λ (n : ℕ). command_lines (commands_without g d m kept n)) count
+    ∙ ap (λ (l : List Member). command_lines (commands_without g d m l (length (others_of m ms)))) stay
+    ∙ ap (λ (l : List Member). command_lines (commands_without g d m (kept_members hs m l) (length (others_of m l)))) (sym is)
+    ∙ ap (λ (b : Bool). if b then command_lines (leaving_commands g d hs m) else refusal_line (codes "StampsSpent")) left
+
+pub text_spent : (g : model.Cell) (d : ℕ) (hs : List ℕ) (m : ℕ) → false ≡ is_some (stamp_at (g.house m))
+    → refusal_line (codes "StampsSpent") ≡ led_text d hs g m
+text_spent g d hs m left = ap (λ (b : Bool). if b then command_lines (leaving_commands g d hs m) else refusal_line (codes "StampsSpent")) left
 
 -- ---- houses
 
@@ -101,6 +141,36 @@ pub held_where : (x : HouseNo) (c : Clearinghouse) (now : model.House) (d : DirI
 held_where x c now d k o stands is =
     ap (λ (p : Option DirState). state_holds p k) is
     ∙ slot_holds c.house.0 c.floor.time (get c.dirs d) (now.slots d.0) k (stands.stands.slots d.0)
+
+-- the epoch of what a house that is up holds, of this one or a later one
+abbrev pub state_since : Option DirState → ℕ → Option ℕ
+state_since None since = None
+state_since (Some (dir.Gone e)) since = None
+state_since (Some (dir.Held h)) since = epoch_since h.epoch.0 since
+
+slot_since : (me floor : ℕ) (o : Option DirState) (s : model.Slot) (since : ℕ) → StandsSlot me floor o s → state_since o since ≡ held_since s since
+slot_since me floor None model.Absent since stands = refl
+slot_since me floor None (model.Gone e) since stands = absurd stands
+slot_since me floor None (model.Held r) since stands = absurd stands
+slot_since me floor (Some (dir.Gone e)) model.Absent since stands = absurd stands
+slot_since me floor (Some (dir.Gone e)) (model.Gone f) since stands = refl
+slot_since me floor (Some (dir.Gone e)) (model.Held r) since stands = absurd stands
+slot_since me floor (Some (dir.Held h)) model.Absent since stands = absurd stands
+slot_since me floor (Some (dir.Held h)) (model.Gone f) since stands = absurd stands
+slot_since me floor (Some (dir.Held h)) (model.Held r) since stands = ap (λ (n : ℕ). epoch_since n since) (sym stands.looks.epoch)
+
+-- is what the model says
+pub since_where : (x : HouseNo) (c : Clearinghouse) (now : model.House) (d : DirId) (since : ℕ) (o : Option DirState) → StandsUp x c now → o ≡ get c.dirs d
+    → state_since o since ≡ held_since (now.slots d.0) since
+since_where x c now d since o stands is =
+    ap (λ (p : Option DirState). state_since p since) is
+    ∙ slot_since c.house.0 c.floor.time (get c.dirs d) (now.slots d.0) since (stands.stands.slots d.0)
+
+-- a house that was not made holds nothing
+pub unmade_since : (c : Cell) (g : model.Cell) (x d since : ℕ) → Stands c g → house_of c.houses.items x ≡ None → None ≡ held_since ((g.house x).slots d) since
+unmade_since c g x d since s none =
+    let unmade : has x g.made ≡ false = ap (has x) s.stands.made ∙ has_number c.houses.items x ∙ ap is_some none in
+    ap (λ (now : model.House). held_since (now.slots d) since) (sym ((on_reached NumbersHold numbers_lem g s.reached).unmade x unmade))
 
 -- a house of the cell that is up holds what it says
 pub up_where : (c : Cell) (g : model.Cell) (x : ℕ) (home : Clearinghouse) → Stands c g

@@ -1,5 +1,5 @@
 -- The commands that mend a directory, as lines of a script (own).
-use Rattle.std.specs.Prelude.{ℕ, if◌then◌else◌, List, [], ◌∷◌, ◌++◌, map, codes, is_some}
+use Rattle.std.specs.Prelude.{ℕ, if◌then◌else◌, List, [], ◌∷◌, ◌++◌, map, codes, is_some, Option, Some, None}
 use Rattle.std.specs.Fmt.{decimal}
 use Rattle.std.specs.List.{flat_map}
 use Rattle.cds_stamps.specs.Members.{master_of}
@@ -9,6 +9,7 @@ use Rattle.cell_model.specs.Mending.{mend_commands, skulking_at}
 use Rattle.cell_model.specs.Sets.{has}
 use Rattle.cell_model.specs.Steps.{is_unknown}
 use Rattle.cell_model.specs.Turns.{stamp_at}
+use Rattle.mend_model.specs.Leaving.{leaving_commands, new_master}
 use Rattle.mend_replay.specs.Readiness.{is_ready}
 
 -- ---- lines
@@ -52,9 +53,32 @@ mends g d = if is_ready g d then skulking_at g d else mend_commands g d
 abbrev pub refusal_line : List ℕ → List ℕ
 refusal_line why = codes "refused " ++ (why ++ 10 ∷ [])
 
--- the lines of these commands; or that there is no such directory, or that its master has no stamp left, without which none is mended (own)
-abbrev pub mend_text : (d : ℕ) → Cell → List ℕ
-mend_text d g =
-    if is_unknown g d then refusal_line (codes "NoDirectory")
-    else (if is_some (stamp_at (g.house (master_of (g.present d)))) then command_lines (mends g d)
-    else refusal_line (codes "StampsSpent"))
+-- the lines of these commands; or that its master has no stamp left, without which none is mended (own)
+abbrev pub mending_text : (d : ℕ) → Cell → List ℕ
+mending_text d g =
+    if is_some (stamp_at (g.house (master_of (g.present d)))) then command_lines (mends g d)
+    else refusal_line (codes "StampsSpent")
+
+-- the lines of the commands that leave houses out with the master m; or that this one has no stamp left (own)
+abbrev pub led_text : (d : ℕ) → (hs : List ℕ) → Cell → (m : ℕ) → List ℕ
+led_text d hs g m =
+    if is_some (stamp_at (g.house m)) then command_lines (leaving_commands g d hs m)
+    else refusal_line (codes "StampsSpent")
+
+-- the same with this master; or that no house that stays can be master (own)
+abbrev pub text_led_by : (d : ℕ) → (hs : List ℕ) → Cell → Option ℕ → List ℕ
+text_led_by d hs g (Some m) = led_text d hs g m
+text_led_by d hs g None = refusal_line (codes "NoReplica")
+
+-- the same with the master that such a list has (own)
+abbrev pub leaving_text : (d : ℕ) → (hs : List ℕ) → Cell → List ℕ
+leaving_text d hs g = text_led_by d hs g (new_master g d hs)
+
+-- what mends a directory, or leaves houses out of it if any are named (own)
+abbrev pub known_text : (d : ℕ) → (hs : List ℕ) → Cell → List ℕ
+known_text d [] g = mending_text d g
+known_text d (h ∷ hs) g = leaving_text d (h ∷ hs) g
+
+-- the same; or that there is no such directory (own)
+abbrev pub mend_text : (d : ℕ) → (hs : List ℕ) → Cell → List ℕ
+mend_text d hs g = if is_unknown g d then refusal_line (codes "NoDirectory") else known_text d hs g

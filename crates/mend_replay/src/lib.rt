@@ -2,8 +2,11 @@
 #![tactic(auto)]
 
 mod commands;
+mod form;
 pub mod laws;
+mod leaving;
 mod lines;
+mod masters;
 mod mender;
 mod readiness;
 

@@ -1,12 +1,12 @@
 // The lines of four commands. Each is put behind those that stand there.
 ghost use Rattle.std.specs.Prelude.{◌≡◌, ◌∷◌, [], ◌+◌, ◌<◌, ◌^◌, ◌++◌, decimal, IfOk, OnOk};
-ghost use Rattle.cds_stamps.specs.Members.{is_secondary, master_of, members_of, others_of, secondaries_of};
+ghost use Rattle.cds_stamps.specs.Members.{is_secondary, members_of, others_of, secondaries_of};
 ghost use Rattle.cell_model.specs.Commands.{Deliver, Epoch, Skulk, Start};
 ghost use Rattle.cell_model.specs.Mending.{deliver_commands};
 ghost use Rattle.mend_replay.specs.MendLines.{refusal_line};
-ghost use Rattle.mend_replay.specs.PrivateLines.{IsScriptWith, member_word, listed_words};
+ghost use Rattle.mend_replay.specs.PrivateLines.{AreOrdered, IsScriptWith, member_word, listed_words};
 
-use cds_stamps::{DirId, HouseNo, Member, MemberKind, Members};
+use cds_stamps::{DirId, HouseNo, Member, MemberKind};
 use script_answers::push_number;
 use std::alloc::{AllocError, Global};
 
@@ -20,20 +20,22 @@ pub(crate) fn push_start(script: &mut Vec<u8>, house: HouseNo) -> Result<(), All
     Ok(())
 }
 
-/// `epoch D M R..`, with the members of a list: its master, and each other house, a secondary one behind its letter.
+/// `epoch D M R..`, with this master and the other members of a list, a secondary one behind its letter.
 pub(crate) fn push_epoch(
     script: &mut Vec<u8>,
     dir: DirId,
-    members: &Members,
+    master: HouseNo,
+    members: &[Member],
 ) -> Result<(), AllocError>
+    requires { AreOrdered (members_of members.now) }
     ensures { OnOk result (let ms = members_of members.now in
         IsScriptWith script.old.items script.new.items
-        (Epoch dir.0 (master_of ms) (others_of (master_of ms) ms) (secondaries_of ms) ∷ [])) }
+        (Epoch dir.0 master.0 (others_of master.0 ms) (secondaries_of ms) ∷ [])) }
 {
     script.extend_from_slice(b"epoch")?;
     push_word(script, u64::from(dir.0))?;
-    push_word(script, u64::from(members.master().0))?;
-    push_others(script, members.master(), members.list())?;
+    push_word(script, u64::from(master.0))?;
+    push_others(script, master, members)?;
     script.push(b'\n')?;
     Ok(())
 }

@@ -1,47 +1,51 @@
-// A script that is replayed without answers, and the lines that mend a directory behind it.
-ghost use Rattle.std.specs.Prelude.{◌≡◌, ◌+◌, ◌<◌, ◌≤◌, IfOk};
+// The form of `cdsmend`: a script is replayed, and at its end comes what mends a directory.
+ghost use Rattle.std.specs.Prelude.{◌≤◌};
 ghost use Rattle.cds_base.specs.declared.scan.TheConstants.{MOST_LINES};
-ghost use Rattle.cell_model.specs.Cells as model;
-ghost use Rattle.cell_script.specs.Words.{words_of};
-ghost use Rattle.cell_script.specs.CommandRows.{said_in};
-ghost use Rattle.cds_cell.specs.ModelCells.{Stands};
-ghost use Rattle.script_replay.specs.Dialogues.{reply_of};
-ghost use Rattle.script_replay.specs.Replies.{cell_after};
-ghost use Rattle.mend_replay.specs.MendLines.{mend_text};
-ghost use Rattle.mend_replay.specs.Menders.{Mends, UnlessNoMemory};
-ghost use Rattle.mend_replay.specs.Quiet.{running_quietly};
 
 use crate::commands::mend_text;
-use cds_stamps::{AllocOr, DirId};
+use cds_stamps::{AllocOr, DirId, HouseNo};
 use cell_script::{ScriptLine, parse_line};
 use reply_buffer::{LineEnd, Waiting, reply_to_fault};
 use script_replay::Replayer;
 use std::alloc::{AllocError, Global};
 
-/// How many messages a cell posted at most of which lines are made. More would count as out of memory, but no script posts so many.
-const MOST_POSTED: u64 = 4_611_686_018_427_387_904;
-
-/// Replays a script, and answers no line of it; then it tells what mends a directory of the cell.
+/// What replays a script whose directory is to be mended.
 #[derive(Drop)]
 pub struct Mender {
     replayer: Replayer,
     dir: DirId,
+    without: Vec<HouseNo>,
+    ghost few: { replayer.steps ≤ MOST_LINES },
 }
 
 impl Mender {
-    /// Over a cell without houses. Takes no memory.
-    pub fn new(alloc: Global, dir: DirId) -> Mender
+    ghost use Rattle.std.specs.Prelude.{◌≡◌, ◌+◌, ◌<◌, ◌≤◌, IfOk};
+    ghost use Rattle.cell_model.specs.Cells as model;
+    ghost use Rattle.cell_script.specs.Words.{words_of};
+    ghost use Rattle.cell_script.specs.CommandRows.{said_in};
+    ghost use Rattle.cds_cell.specs.ModelCells.{Stands};
+    ghost use Rattle.house_directory.specs.HouseMessages.{numbers_of};
+    ghost use Rattle.script_replay.specs.Dialogues.{reply_of};
+    ghost use Rattle.script_replay.specs.Replies.{cell_after};
+    ghost use Rattle.mend_replay.specs.MendLines.{mend_text};
+    ghost use Rattle.mend_replay.specs.Menders.{Mends, UnlessNoMemory};
+    ghost use Rattle.mend_replay.specs.Quiet.{running_quietly};
+
+    /// Over a cell without houses; it mends this directory without those houses. Takes no memory.
+    pub fn new(alloc: Global, dir: DirId, without: Vec<HouseNo>) -> Mender
         ensures cell { Stands result.replayer.cell model.empty_cell }
         ensures dir { result.dir ≡ dir }
+        ensures without { result.without ≡ without }
         ensures steps { result.replayer.steps ≡ 0 }
     {
         Mender {
             replayer: Replayer::new(alloc),
             dir,
+            without,
         }
     }
 
-    /// Replays a line. Only a fault has a text, which waits behind the others.
+    /// Replays a line: the reply to a fault waits behind the others, and no other line is answered.
     pub fn take_line(
         &mut self,
         alloc: Global,
@@ -56,6 +60,7 @@ impl Mender {
             (reply_of running_quietly number g
             (said_in (words_of line.now))) waiting.old waiting.new self.new }
         ensures dir { self.new.dir ≡ self.old.dir }
+        ensures without { self.new.without ≡ self.old.without }
         ensures steps { self.new.replayer.steps ≤ number }
     {
         match parse_line(alloc, line) {
@@ -66,12 +71,13 @@ impl Mender {
         }
     }
 
-    // What a line says is done, and the answer is let go.
+    // The cell goes on.
     fn replay(&mut self, alloc: Global, line: ScriptLine) -> LineEnd
         requires few { self.old.replayer.steps < MOST_LINES }
         ensures done { (g : model.Cell) → Stands self.old.replayer.cell g
             → UnlessNoMemory result (Stands self.new.replayer.cell (cell_after g line)) }
         ensures dir { self.new.dir ≡ self.old.dir }
+        ensures without { self.new.without ≡ self.old.without }
         ensures steps { self.new.replayer.steps ≤ self.old.replayer.steps + 1 }
     {
         match self.replayer.reply(alloc, line) {
@@ -80,15 +86,16 @@ impl Mender {
         }
     }
 
-    /// The lines that mend the directory, or the line of the reason why none do.
+    /// The lines that mend the directory, or the line of the reason why none do. (A cell that is spent ran out of memory before.)
     pub fn print_lines(&self, alloc: Global) -> Result<Vec<u8>, AllocError>
         ensures { (g : model.Cell) → Stands self.now.replayer.cell g
-            → IfOk result (λ text. text.items ≡ mend_text self.now.dir.0 g) }
+            → IfOk result (λ text. text.items
+            ≡ mend_text self.now.dir.0 (numbers_of self.now.without.items) g) }
     {
         let cell = self.replayer.cell();
-        if cell.posted() > MOST_POSTED {
+        if cell.is_spent() {
             return Err(AllocError);
         }
-        mend_text(alloc, cell, self.dir)
+        mend_text(alloc, cell, self.dir, self.without.as_slice())
     }
 }
