@@ -85,7 +85,7 @@ fn end_of<K: Sink>(
     sink: &mut K,
 ) -> Result<Status, AllocError> {
     if form == MEND {
-        return Ok(mend(alloc, DirId(1), source, sink));
+        return Ok(mend(alloc, DirId(1), Vec::new(alloc), source, sink));
     }
     let words = words_of(alloc, form)?;
     Ok(run(alloc, &words, source, sink))
