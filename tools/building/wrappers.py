@@ -196,7 +196,7 @@ def without_rt():
 
 
 def handed_over(room, _):
-    """A program that was noted in one clone answers in another, without rt, once the files that the README names are copied there."""
+    """A program that was noted in one clone answers in another, without rt, once the files that docs/CHANGING.md names are copied there."""
     one, other = f"{room}/one", f"{room}/other"
     for clone in (one, other):
         os.mkdir(clone)

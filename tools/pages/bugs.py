@@ -23,9 +23,12 @@ def functions_in(path):
 
 
 def changed(crate, name):
-    """The functions that a planted bug changes; of a constant or a derived order those that name it."""
+    """The functions that a planted bug changes; of a constant or a derived order those that name it, and of a definition the crate's laws."""
     found = set()
     for path, line in changed_lines(crate, name):
+        if "/specs/" in path:
+            found |= set(functions_in(f"crates/{crate}/src/laws.rt"))
+            continue
         above = [it for it in functions_in(path) if it.line <= line]
         found |= {above[-1]} if above else users_of(crate, path, line)
     return found
