@@ -2,7 +2,7 @@
 #![tactic(auto)]
 
 use cds_base::{StdSink, StdSource, words_of};
-use cell_replay::Status;
+use line_forms::Status;
 use mend_program::run;
 use std::process::ExitCode;
 

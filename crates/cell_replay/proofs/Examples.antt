@@ -15,11 +15,15 @@ use Rattle.tower_codec.specs.declared.fault.TowerFault.TheVariants.{EmptyLeft, S
 use Rattle.cell_replay.specs.declared.towers.StreamFault.TheVariants as stream
 use Rattle.reply_buffer.specs.TowerTexts.{tower_text, floor_said, tower_said, SaysTower, NoTower}
 use Rattle.cell_replay.specs.TowerDemand.{AtFault, PartOf, TowersDemand}
-use Rattle.cell_replay.specs.LineStates.{Replaying, Checking, Spelling}
-use Rattle.cell_replay.specs.Demand.{Faulty, CutShort, ends_with, faulty_with, demand, line_demand}
+use Rattle.line_forms.specs.Demand.{Faulty, CutShort, ends_with, faulty_with, demand, line_demand}
 use Rattle.cell_replay.specs.WholeDemand.{Auditing, too_long_text}
 use Rattle.cell_replay.specs.AuditTexts.{verdict_text, pair_fault_text}
-use Rattle.cell_replay.specs.Forms.{audit_form, clerking_with, form_of, load_form, run_form}
+use Rattle.script_replay.specs.LineRules.{dialogue_rule}
+use Rattle.script_replay.specs.Replies.{run_dialogue}
+use Rattle.cell_replay.specs.Checking.{check_rule, counts}
+use Rattle.cell_replay.specs.FormReadings.{spelling_rule}
+use Rattle.cell_replay.specs.declared.forms.Form.TheVariants as form
+use Rattle.cell_replay.specs.Forms.{form_of}
 use Rattle.directory.specs.declared.entry.Kind.TheVariants.{Object}
 use Rattle.record_fields.specs.declared.fault.RecordFault.TheVariants.{Trailing}
 use Rattle.image_audit.specs.declared.fact.Fact.TheVariants.{Birth, Value}
@@ -33,13 +37,13 @@ a_line_fault = refl
 
 -- ---- whole inputs
 
-form_is : form_of (codes "run" ∷ []) ≡ Some run_form
+form_is : form_of (codes "run" ∷ []) ≡ Some form.Run
 form_is = refl
 
 no_form : form_of (codes "run" ∷ codes "run" ∷ []) ≡ None
 no_form = refl
 
-load_is : form_of (codes "load" ∷ codes "20000" ∷ []) ≡ Some (load_form 20000)
+load_is : form_of (codes "load" ∷ codes "20000" ∷ []) ≡ Some (form.Load 20000)
 unfolding number_of
 load_is = refl
 
@@ -55,7 +59,7 @@ too_many_rounds : form_of (codes "load" ∷ codes "20001" ∷ []) ≡ None
 unfolding number_of
 too_many_rounds = refl
 
-clerk_is : form_of (codes "clerk" ∷ codes "1000" ∷ []) ≡ Some (clerking_with 1000)
+clerk_is : form_of (codes "clerk" ∷ codes "1000" ∷ []) ≡ Some (form.Clerk 1000)
 unfolding number_of
 clerk_is = refl
 
@@ -67,7 +71,7 @@ too_much_room : form_of (codes "clerk" ∷ codes "1001" ∷ []) ≡ None
 unfolding number_of
 too_much_room = refl
 
-audit_is : form_of (codes "audit" ∷ codes "4294967295" ∷ []) ≡ Some (audit_form 4294967295)
+audit_is : form_of (codes "audit" ∷ codes "4294967295" ∷ []) ≡ Some (form.Audit 4294967295)
 unfolding number_of
 audit_is = refl
 
@@ -110,19 +114,19 @@ too_long = refl
 -- ---- scripts
 
 -- nothing is due for a comment, and no house is there yet; then the line is at fault, and nothing is due behind it
-three_lines : line_demand (Replaying empty_cell) (codes "#" ++ (10 ∷ (codes "root 1" ++ (10 ∷ (codes "rot 1" ++ (10 ∷ (codes "root 1" ++ 10 ∷ [])))))))
+three_lines : line_demand (dialogue_rule run_dialogue) empty_cell (codes "#" ++ (10 ∷ (codes "root 1" ++ (10 ∷ (codes "rot 1" ++ (10 ∷ (codes "root 1" ++ 10 ∷ [])))))))
     ≡ record { body = codes "2 refused NoHouse" ++ (10 ∷ (codes "3 fault UnknownCommand 1" ++ 10 ∷ [])); end = []; verdict = Faulty }
 unfolding digits fault_at demand number_of lines.said_by forms.check_count forms.take_words
 three_lines = refl
 
 -- the input ends within its second line: its fault is due where nothing follows
-open_end : line_demand (Replaying empty_cell) (codes "root 1" ++ (10 ∷ codes "root 1"))
+open_end : line_demand (dialogue_rule run_dialogue) empty_cell (codes "root 1" ++ (10 ∷ codes "root 1"))
     ≡ record { body = codes "1 refused NoHouse" ++ 10 ∷ []; end = codes "2 fault NoLineEnd 7" ++ 10 ∷ []; verdict = CutShort }
 unfolding digits fault_at demand number_of lines.said_by forms.check_count forms.take_words
 open_end = refl
 
 -- two lines, of which one has a command
-two_checked : line_demand (Checking 0 0) (codes "#" ++ (10 ∷ (codes "root 1" ++ 10 ∷ []))) ≡ ends_with (codes "ok 2 1" ++ 10 ∷ [])
+two_checked : line_demand check_rule (counts 0 0) (codes "#" ++ (10 ∷ (codes "root 1" ++ 10 ∷ []))) ≡ ends_with (codes "ok 2 1" ++ 10 ∷ [])
 unfolding digits fault_at demand number_of lines.said_by forms.check_count forms.take_words
 two_checked = refl
 
@@ -151,7 +155,7 @@ unfolding floor_said cut_at_mark decode_pairs
 spelled_back = refl
 
 -- a line that says no tower has no text; what stands before it is spelled
-one_spelled : line_demand Spelling (codes "-" ++ (10 ∷ (codes "0b" ++ (10 ∷ (codes "-" ++ 10 ∷ []))))) ≡ faulty_with (0 ∷ 0 ∷ [])
+one_spelled : line_demand spelling_rule tt (codes "-" ++ (10 ∷ (codes "0b" ++ (10 ∷ (codes "-" ++ 10 ∷ []))))) ≡ faulty_with (0 ∷ 0 ∷ [])
 unfolding digits fault_at demand floor_said cut_at_mark decode_pairs
 one_spelled = refl
 

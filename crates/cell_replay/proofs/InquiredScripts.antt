@@ -13,11 +13,12 @@ use Rattle.inquire_forms.specs.declared.inquire_line.InquireLine.TheVariants as 
 use Rattle.inquire_forms.specs.InquireLines.{inquired_by, inquired_in}
 use Rattle.inquire_replay.specs.Inquiring.{inquire_dialogue, plain_lines}
 use Rattle.script_replay.specs.Dialogues.{NumberedOf, transcript_by}
-use Rattle.script_replay.specs.Replies.{Numbered, transcript}
-use Rattle.cell_replay.specs.Demand.{line_demand, whole}
-use Rattle.cell_replay.specs.LineStates.{Inquiring, Replaying}
-use Rattle.cell_replay.specs.Scripts.{IsScript, IsScriptOf, Says, text_of}
-use Rattle.cell_replay.proofs.Scripts.{inquire_demanded, run_demanded}
+use Rattle.script_replay.specs.LineRules.{dialogue_rule}
+use Rattle.script_replay.specs.Replies.{Numbered, run_dialogue, transcript}
+use Rattle.script_replay.specs.Scripts.{IsScript, IsScriptOf, Says}
+use Rattle.script_replay.proofs.Scripts.{dialogue_demanded}
+use Rattle.line_forms.specs.Demand.{line_demand, whole}
+use Rattle.line_forms.specs.Leaving.{text_of}
 
 -- words that say something say no more than that
 says_some : (r : Result ScriptLine ParseFault) → some_line r ≡ Ok None → ⊥
@@ -61,6 +62,7 @@ module _ (plain : (words : List (List ℕ)) (l : ScriptLine) → said_in words �
   -- so they demand the same
   pub demands_the_same : (answers : (g : Cell) (said : List Numbered) → transcript_by inquire_dialogue g (plain_lines said) ≡ transcript g said)
       → (g : Cell) (lines : List (List ℕ)) (said : List Numbered) → IsScript 1 lines said
-      → line_demand (Inquiring g) (text_of lines) ≡ line_demand (Replaying g) (text_of lines)
+      → line_demand (dialogue_rule inquire_dialogue) g (text_of lines) ≡ line_demand (dialogue_rule run_dialogue) g (text_of lines)
   demands_the_same answers g lines said is =
-      inquire_demanded g lines (plain_lines said) (plain_script lines 1 said is) ∙ ap whole (answers g said) ∙ sym (run_demanded g lines said is)
+      dialogue_demanded inquire_dialogue g lines (plain_lines said) (plain_script lines 1 said is) ∙ ap whole (answers g said)
+      ∙ sym (dialogue_demanded run_dialogue g lines said is)

@@ -9,15 +9,16 @@ use Rattle.journal_forms.specs.JournalLines.{said_in}
 use Rattle.journal_forms.specs.declared.journal_line.JournalLine.{JournalLine}
 use Rattle.reply_buffer.specs.Responses.{Fills, in_state}
 use Rattle.script_replay.specs.Dialogues.{NumberedOf, reply_of}
+use Rattle.line_forms.specs.Readings.{by_lines}
+use Rattle.journal_replay.specs.JournalRules.{journal_rule}
 use Rattle.journal_replay.specs.Journaled.{journal_said}
 use Rattle.journal_replay.specs.CellJournals.{JournaledCell, empty_state, journal_dialogue, lacks_room, puts_by}
-use Rattle.cell_replay.specs.Forms.{ByLines}
-use Rattle.cell_replay.specs.Headline.{commands_from}
-use Rattle.cell_replay.specs.JournalRuns.{IsJournalReplay, effective, state_after_lines}
-use Rattle.cell_replay.specs.LineStates.{Journaling, response}
-use Rattle.cell_replay.specs.Runs.{IsWhole, Run, Wrote}
-use Rattle.cell_replay.proofs.HeadlineLaws.{import_finds}
-use Rattle.cell_replay.proofs.Scripts.{is_filling_replay}
+use Rattle.script_replay.specs.Headline.{commands_from}
+use Rattle.cell_replay.specs.JournalRuns.{IsJournalReplay, effective}
+use Rattle.script_replay.specs.Scripts.{state_after_lines}
+use Rattle.line_forms.specs.Runs.{IsWhole, Run, Wrote}
+use Rattle.script_replay.proofs.HeadlineLaws.{import_finds}
+use Rattle.script_replay.proofs.Scripts.{is_filling_replay, same_state}
 
 -- ---- commands
 
@@ -34,20 +35,20 @@ cells_behind s (l ∷ ls) =
 
 -- a line is answered, or finds no room
 responds : (number : ℕ) (s : JournaledCell) (line : List ℕ)
-    → (response number (Journaling s) line ≡ in_state Journaling (reply_of journal_dialogue number s (said_in (words_of line))))
-    ⊎ (response number (Journaling s) line ≡ Fills)
+    → (journal_rule.response number s line ≡ in_state (λ s. s) (reply_of journal_dialogue number s (said_in (words_of line))))
+    ⊎ (journal_rule.response number s line ≡ Fills)
 responds number s line = by (lacks_room s.lists (puts_by s (said_in (words_of line)))) refl
   where
     by : (b : Bool) → lacks_room s.lists (puts_by s (said_in (words_of line))) ≡ b
-        → (response number (Journaling s) line ≡ in_state Journaling (reply_of journal_dialogue number s (said_in (words_of line))))
-        ⊎ (response number (Journaling s) line ≡ Fills)
+        → (journal_rule.response number s line ≡ in_state (λ s. s) (reply_of journal_dialogue number s (said_in (words_of line))))
+        ⊎ (journal_rule.response number s line ≡ Fills)
     by true lacks = inr (rw lacks refl)
-    by false has = inl (rw has refl)
+    by false has = inl (rw has (same_state (reply_of journal_dialogue number s (said_in (words_of line)))))
 
 -- what was written, of a whole input in which nothing is faulty, is the transcript of the effective commands
-pub is_journal_replay : (run : Run) → Wrote (ByLines (Journaling empty_state)) run IsWhole → IsJournalReplay run
+pub is_journal_replay : (run : Run) → Wrote (by_lines journal_rule empty_state) run IsWhole → IsJournalReplay run
 is_journal_replay run wrote =
-    let replay = is_filling_replay journal_dialogue Journaling responds (λ s. refl) empty_state run wrote in
+    let replay = is_filling_replay journal_rule journal_dialogue (λ s. s) responds (λ s. refl) empty_state run wrote in
     record {
       replay = replay;
       cells = λ front rest split. cells_behind empty_state front;

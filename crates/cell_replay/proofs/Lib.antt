@@ -1,19 +1,10 @@
-pub mod Scanning
-pub mod Demands
-pub mod Progress
-pub mod Turns
-pub mod LinesLeft
-pub mod FormsKept
 pub mod NewDisks
-pub mod FullJournals
 pub mod Streams
 pub mod TowerTurns
 pub mod TowerLaws
 pub mod WholeTurns
 pub mod AllForms
 pub mod RoundTrip
-pub mod HeadlineLaws
-pub mod Scripts
 pub mod JournalReplays
 mod Examples
 pub mod WithoutJournals

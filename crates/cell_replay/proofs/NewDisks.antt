@@ -8,8 +8,7 @@ use Rattle.disk_journals.specs.KeptJournals.{Holds, IsNew}
 use Rattle.disk_journals.proofs.Leaving.{new_holds, no_images}
 use Rattle.journal_replay.specs.CellDisks.{AreNew}
 use Rattle.journal_replay.specs.CellJournals.{empty_state}
-use Rattle.cell_replay.specs.JournalRuns.{AreOnDisks}
-use Rattle.cell_replay.specs.LineStates.{Journaling}
+use Rattle.journal_replay.specs.JournalRules.{AreOnDisks}
 
 -- so many new disks so far
 pub record AreNewSo (disks : List MemState) (n : ℕ) : Type 0 where
@@ -48,8 +47,8 @@ nothing_held : (m : MemState) → IsNew m → Holds m []
 nothing_held m new = subst (λ list. Holds m list) (ap images new.octets ∙ no_images) (new_holds m new)
 
 -- so new disks are those of a cell without houses
-pub new_on_disks : (disks disks' : List MemState) → AreNew disks → disks' ≡ disks → AreOnDisks disks' (Journaling empty_state)
-new_on_disks disks disks' new same = subst (λ ds. AreOnDisks ds (Journaling empty_state)) (sym same) (hold, λ i less. refl)
+pub new_on_disks : (disks disks' : List MemState) → AreNew disks → disks' ≡ disks → AreOnDisks disks' empty_state
+new_on_disks disks disks' new same = subst (λ ds. AreOnDisks ds empty_state) (sym same) (hold, λ i less. refl)
   where
     hold : (i : ℕ) → IfSome (slice_get disks i) (λ m. Holds m [])
     hold i = by (slice_get disks i) (new.each i)

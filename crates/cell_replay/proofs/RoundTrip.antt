@@ -23,12 +23,12 @@ use Rattle.tower_codec.proofs.Cuts.{lacks, cut_again}
 use Rattle.cell_script.specs.Words.{words_of}
 use Rattle.reply_buffer.specs.TowerTexts.{floor_text, floors_text, floor_of_parts, floor_said, floors_said, is_dash, TowerLine, SaysNothing, SaysTower}
 use Rattle.reply_buffer.specs.TowerTexts.{short_tower, tower_in, tower_said}
-use Rattle.cell_replay.specs.Demand.{Demand, Sound, then_rest, with_front, line_demand, whole}
-use Rattle.reply_buffer.specs.Responses.{in_state, spell_response}
-use Rattle.cell_replay.specs.LineStates.{Spelling}
+use Rattle.line_forms.specs.Demand.{Demand, Sound, then_rest, with_front, line_demand, whole}
+use Rattle.reply_buffer.specs.Responses.{spell_response}
+use Rattle.cell_replay.specs.FormReadings.{spelling_rule}
 use Rattle.cell_replay.specs.TowerDemand.{Rest, Nothing, AtFault, PartOf, AreTowers, towers_demand, TowersDemand}
-use Rattle.cell_replay.proofs.Scanning.{scanned, demanded_scanned}
-use Rattle.cell_replay.proofs.Demands.{demand_line, demand_part}
+use Rattle.line_forms.proofs.Scanning.{scanned, demanded_scanned}
+use Rattle.line_forms.proofs.Demands.{demand_line, demand_part}
 use Rattle.cell_replay.proofs.Streams.{IsBytes-front}
 use Rattle.reply_buffer.proofs.TowerLines.{short}
 use Rattle.cell_replay.proofs.TowerTurns.{taken_short}
@@ -327,8 +327,8 @@ readable fs octets bytes tower =
 -- ---- all towers
 
 lines_again : (number : ℕ) (octets : List ℕ) (ts : List (List Floor)) → IsBytes octets → AreTowers number octets ts Nothing
-    → scanned number Spelling [] (towers_demand number ts Nothing).body ≡ whole octets
-lines_again number octets [] bytes none = demand_part number Spelling [] tt ∙ ap whole (sym none)
+    → scanned spelling_rule number tt [] (towers_demand number ts Nothing).body ≡ whole octets
+lines_again number octets [] bytes none = demand_part spelling_rule number tt [] tt ∙ ap whole (sym none)
 lines_again number octets (f ∷ ts) bytes are =
     let front : List ℕ = are.0 in
     let behind : List ℕ = are.1 in
@@ -338,9 +338,9 @@ lines_again number octets (f ∷ ts) bytes are =
     let all = readable f front (bytes_front front behind split_bytes) taken.2 in
     let spelling = (tower_spelled f front taken.2).1 in
     let few = taken_short number f front taken in
-    let later : scanned (number + 1) Spelling [] rest ≡ whole behind = lines_again (number + 1) behind ts (IsBytes-rest front behind split_bytes) are.4 in
-    demand_line number Spelling (floors_text f) rest (tower_is_line number f taken.0 all few)
-    ∙ ap (λ (t : TowerLine). then_rest (in_state (λ _. Spelling) (spell_response t)) (λ next. scanned (number + 1) next [] rest)) (says_again f all few)
+    let later : scanned spelling_rule (number + 1) tt [] rest ≡ whole behind = lines_again (number + 1) behind ts (IsBytes-rest front behind split_bytes) are.4 in
+    demand_line spelling_rule number tt (floors_text f) rest (tower_is_line number f taken.0 all few)
+    ∙ ap (λ (t : TowerLine). then_rest (spell_response t) (λ next. scanned spelling_rule (number + 1) next [] rest)) (says_again f all few)
     ∙ ap (with_front (tower_octets f)) later
     ∙ ap (λ (l : List ℕ). whole (l ++ behind)) (sym spelling)
     ∙ ap whole (sym are.2)
@@ -357,13 +357,13 @@ no_end number (t ∷ ts) = no_end (number + 1) ts
 
 -- `untowers` gives back the octets whose text `towers` wrote
 pub towers_again : (octets : List ℕ) (d : Demand) → IsBytes octets → TowersDemand 1 octets d → d.verdict ≡ Sound
-    → line_demand Spelling (d.body ++ d.end) ≡ whole octets
+    → line_demand spelling_rule tt (d.body ++ d.end) ≡ whole octets
 towers_again octets d bytes demands sound =
     let none : demands.1 ≡ Nothing = sound_rest 1 demands.0 demands.1 (ap (λ (x : Demand). x.verdict) demands.3 ∙ sound) in
     let are : AreTowers 1 octets demands.0 Nothing = subst (AreTowers 1 octets demands.0) none demands.2 in
     let is : towers_demand 1 demands.0 Nothing ≡ d = ap (towers_demand 1 demands.0) (sym none) ∙ demands.3 in
-    demanded_scanned Spelling (d.body ++ d.end)
-    ∙ ap (λ (x : Demand). scanned 1 Spelling [] (x.body ++ x.end)) (sym is)
-    ∙ ap (λ (l : List ℕ). scanned 1 Spelling [] ((towers_demand 1 demands.0 Nothing).body ++ l)) (no_end 1 demands.0)
-    ∙ ap (scanned 1 Spelling []) (append-nil (towers_demand 1 demands.0 Nothing).body)
+    demanded_scanned spelling_rule tt (d.body ++ d.end)
+    ∙ ap (λ (x : Demand). scanned spelling_rule 1 tt [] (x.body ++ x.end)) (sym is)
+    ∙ ap (λ (l : List ℕ). scanned spelling_rule 1 tt [] ((towers_demand 1 demands.0 Nothing).body ++ l)) (no_end 1 demands.0)
+    ∙ ap (scanned spelling_rule 1 tt []) (append-nil (towers_demand 1 demands.0 Nothing).body)
     ∙ lines_again 1 octets demands.0 bytes are

@@ -16,7 +16,7 @@ use Rattle.cell_replay.specs.declared.towers.StreamFault.TheVariants as stream
 use Rattle.cell_replay.specs.declared.towers.Seen.TheVariants as seen
 use Rattle.reply_buffer.specs.TowerTexts.{tower_text}
 use Rattle.cell_replay.specs.TowerDemand.{in_sight, ShowsFault, EndsWithin, Rest, Nothing, AtFault, PartOf, IsRest, rest_demand, TowersDemand}
-use Rattle.cell_replay.specs.Demand.{Demand, with_front}
+use Rattle.line_forms.specs.Demand.{Demand, with_front}
 use Rattle.cell_replay.specs.PrivateSights.{Sees, part_seen, seen_fault}
 
 -- one number is at most the other, or above it

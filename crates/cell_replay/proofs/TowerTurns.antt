@@ -14,19 +14,19 @@ use Rattle.tower_codec.specs.Spelling.{tower_octets}
 use Rattle.tower_codec.proofs.SpellingLaws.{tower_spelled}
 use Rattle.cell_replay.specs.declared.towers.StreamFault.{StreamFault}
 use Rattle.cell_replay.specs.declared.towers.StreamFault.TheVariants as stream
-use Rattle.cell_replay.specs.declared.endings.Status.{Status}
-use Rattle.cell_replay.specs.declared.endings.Status.TheVariants.{Ok as AllRead, BadInput, ReadFault, WriteFault, OutOfMemory}
+use Rattle.line_forms.specs.declared.endings.Status.{Status}
+use Rattle.line_forms.specs.declared.endings.Status.TheVariants.{Ok as AllRead, BadInput, ReadFault, WriteFault, OutOfMemory}
 use Rattle.reply_buffer.specs.TowerTexts.{tower_text}
 use Rattle.cell_replay.specs.TowerDemand.{IsTaken, Nothing, AtFault, PartOf, TowersDemand, stream_fault_text}
-use Rattle.cell_replay.specs.Demand.{Demand, IsUnbroken, whole, with_front, faulty_with, ends_with, cut_short_with}
-use Rattle.cell_replay.specs.Forms.{ByTowers}
+use Rattle.line_forms.specs.Demand.{Demand, IsUnbroken, whole, with_front, faulty_with, ends_with, cut_short_with}
+use Rattle.cell_replay.specs.FormReadings.{by_towers}
 use Rattle.cell_replay.specs.PrivateSights.{TellsFault, IsUnended}
 use Rattle.cell_replay.specs.Fillings.{LeavesPart, BeginsFilling, AtFirst, Behind}
-use Rattle.cell_replay.specs.Runs.{AnswersFront}
-use Rattle.cell_replay.specs.PrivateEndings.{IsDue, Finishes, StopsWith, side, EndsBetween}
+use Rattle.line_forms.specs.Runs.{AnswersFront}
+use Rattle.line_forms.specs.Endings.{IsDue, Finishes, StopsWith, side, EndsBetween}
 use Rattle.cell_replay.proofs.Streams.{total, le_or_lt}
-use Rattle.cell_replay.proofs.Progress.{Pending, Reached, StopsHere, Turn, moved, started, all_out, goes_on, reached_more, more_read, write_failed}
-use Rattle.cell_replay.proofs.Progress.{finishes, stops_with, read_failed, answers_taken}
+use Rattle.line_forms.proofs.Progress.{Pending, Reached, StopsHere, Turn, moved, started, all_out, goes_on, reached_more, more_read, write_failed}
+use Rattle.line_forms.proofs.Progress.{finishes, stops_with, read_failed, answers_taken}
 
 -- what the octets behind the towers so far demand
 abbrev pub BehindTowers : ℕ → List ℕ → Demand → Type 0
@@ -38,7 +38,7 @@ towers_stop number = record { demand = ends_with []; behind = ([], Nothing, refl
 -- the towers so far were told; nothing follows what is held where the input has ended; and no call failed
 pub record IsAmong (first left old new : Option (List ℕ)) (reads reads' writes writes' : ℕ) (window : WindowOctets) (number : ℕ) (ended : Bool)
     (waits : List ℕ) : Type 0 where
-  pub reached : Reached ByTowers first left old new window.octets waits (BehindTowers number)
+  pub reached : Reached by_towers first left old new window.octets waits (BehindTowers number)
   pub filled : ended ≡ false → BeginsFilling ((reached.pending.front ++ reached.pending.since) ++ window.octets)
   pub stopped : ended ≡ true → IsAtEnd left
   pub room : window.room ≡ 1025
@@ -51,7 +51,7 @@ pub first_tower : (first old : Option (List ℕ)) (reads writes : ℕ) (window :
     → waits ≡ []
     → IsAmong first first old old reads reads writes writes window 1 false waits
 first_tower first old reads writes window waits none room nothing = record {
-  reached = started ByTowers first old window.octets waits (BehindTowers 1) none nothing (λ r d behind. behind) (towers_stop 1);
+  reached = started by_towers first old window.octets waits (BehindTowers 1) none nothing (λ r d behind. behind) (towers_stop 1);
   filled = λ goes. subst BeginsFilling (sym none) AtFirst;
   stopped = λ is. cc (is);
   room = room;
@@ -116,13 +116,13 @@ module _ (first left old new : Option (List ℕ)) (reads reads' writes writes' :
   abbrev held : List ℕ
   held = window.octets
 
-  abbrev now : Pending ByTowers first left old new held
+  abbrev now : Pending by_towers first left old new held
   now = b.reached.pending
 
   -- with what waits, the towers so far are answered
-  answered : AnswersFront ByTowers first left (now.out ++ waits)
+  answered : AnswersFront by_towers first left (now.out ++ waits)
   answered =
-      answers_taken ByTowers first left old new held waits (BehindTowers number) b.reached left [] held (towers_stop number) now.taken (inl refl) now.few
+      answers_taken by_towers first left old new held waits (BehindTowers number) b.reached left [] held (towers_stop number) now.taken (inl refl) now.few
 
   -- a tower is told, and taken off
   pub tower_told : (floors : List Floor) (n : ℕ) (window' : WindowOctets) (waits' : List ℕ) → n ≤ length held → IsTaken number floors (take n held)
@@ -136,7 +136,7 @@ module _ (first left old new : Option (List ℕ)) (reads reads' writes writes' :
       ap (λ (l : List ℕ). (now.front ++ now.since) ++ l) (sym whole_held) ∙ sym (append_assoc (now.front ++ now.since) (take n held) window'.octets)
       ∙ ap (λ (c : List ℕ). c ++ window'.octets) (append_assoc now.front now.since (take n held)) in
       record {
-        reached = goes_on ByTowers first left old new held waits (BehindTowers number) b.reached left window'.octets (take n held) (number, floors, taken)
+        reached = goes_on by_towers first left old new held waits (BehindTowers number) b.reached left window'.octets (take n held) (number, floors, taken)
             (record { read = []; taken = consumes_self left; grown = split })
             (subst (λ (l : List ℕ). length l ≤ 1025) (sym octets) (omega (arith, now.few, length-drop n held))) (inr refl)
             (tower_text floors) waits' (BehindTowers (number + 1))
@@ -154,26 +154,26 @@ module _ (first left old new : Option (List ℕ)) (reads reads' writes writes' :
   module _ (d : Demand) (behind : BehindTowers number held d) where
     -- what is due goes out with a last text
     pub tells : (new' : Option (List ℕ)) (mid writes'' : ℕ) (text : List ℕ) (status result : Status)
-        → IsDue (AnswersFront ByTowers first left) (IsAtEnd left) status (with_front (now.out ++ waits) d) (now.out ++ (waits ++ text))
+        → IsDue (AnswersFront by_towers first left) (IsAtEnd left) status (with_front (now.out ++ waits) d) (now.out ++ (waits ++ text))
         → StopsWith (side new writes') (side new' writes'') status text waits result
-        → EndsBetween ByTowers (side first reads) (side left reads') (side old writes) (side new' writes'') result
+        → EndsBetween by_towers (side first reads) (side left reads') (side old writes) (side new' writes'') result
     tells new' mid writes'' text status result due stops =
-        stops_with ByTowers first left old new held now (with_front (now.out ++ waits) d) (b.reached.so_far held d behind) new' text waits status
+        stops_with by_towers first left old new held now (with_front (now.out ++ waits) d) (b.reached.so_far held d behind) new' text waits status
         result reads reads' writes writes' writes'' due answered stops b.calm b.quiet
 
     -- what is due goes out
     pub stops : (new' : Option (List ℕ)) (writes'' : ℕ) (status result : Status)
-        → IsDue (AnswersFront ByTowers first left) (IsAtEnd left) status (with_front (now.out ++ waits) d) (now.out ++ waits)
+        → IsDue (AnswersFront by_towers first left) (IsAtEnd left) status (with_front (now.out ++ waits) d) (now.out ++ waits)
         → Finishes (side new writes') (side new' writes'') waits status result
-        → EndsBetween ByTowers (side first reads) (side left reads') (side old writes) (side new' writes'') result
+        → EndsBetween by_towers (side first reads) (side left reads') (side old writes) (side new' writes'') result
     stops new' writes'' status result due finished =
-        finishes ByTowers first left old new held now (with_front (now.out ++ waits) d) (b.reached.so_far held d behind) new' waits status result
+        finishes by_towers first left old new held now (with_front (now.out ++ waits) d) (b.reached.so_far held d behind) new' waits status result
         reads reads' writes writes' writes'' due finished b.calm b.quiet
 
   -- there was no memory for the text
   pub tower_without_memory : IsBytes held → (new' : Option (List ℕ)) (writes'' : ℕ) (waits' : List ℕ) (result : Status) → waits' ≡ waits
       → Finishes (side new writes') (side new' writes'') waits' OutOfMemory result
-      → EndsBetween ByTowers (side first reads) (side left reads') (side old writes) (side new' writes'') result
+      → EndsBetween by_towers (side first reads) (side left reads') (side old writes) (side new' writes'') result
   tower_without_memory bytes new' writes'' waits' result same finished =
       let d = total number held bytes in
       stops d.0 d.1 new' writes'' OutOfMemory result (inl (d.0.body, refl), answered)
@@ -182,7 +182,7 @@ module _ (first left old new : Option (List ℕ)) (reads reads' writes writes' :
   -- the input ends behind the last tower
   pub towers_end : ended ≡ true → held ≡ [] → (new' : Option (List ℕ)) (writes'' : ℕ) (result : Status)
       → Finishes (side new writes') (side new' writes'') waits AllRead result
-      → EndsBetween ByTowers (side first reads) (side left reads') (side old writes) (side new' writes'') result
+      → EndsBetween by_towers (side first reads) (side left reads') (side old writes) (side new' writes'') result
   towers_end end none new' writes'' result finished =
       stops (ends_with []) ([], Nothing, none, refl) new' writes'' AllRead result
       (b.stopped end, (refl, sym (append-nil ((now.out ++ waits) ++ []) ∙ append-nil (now.out ++ waits)))) finished
@@ -190,7 +190,7 @@ module _ (first left old new : Option (List ℕ)) (reads reads' writes writes' :
   -- the next tower is at fault
   pub tower_at_fault : (fault : StreamFault) → TellsFault number held ended fault → (new' : Option (List ℕ)) (writes'' : ℕ) (result : Status)
       → StopsWith (side new writes') (side new' writes'') BadInput (stream_fault_text number fault) waits result
-      → EndsBetween ByTowers (side first reads) (side left reads') (side old writes) (side new' writes'') result
+      → EndsBetween by_towers (side first reads) (side left reads') (side old writes) (side new' writes'') result
   tower_at_fault fault (inl shows) new' writes'' result stops =
       tells (faulty_with (stream_fault_text number fault)) ([], AtFault fault, shows, refl) new' writes' writes''
       (stream_fault_text number fault) BadInput result
@@ -209,20 +209,20 @@ module _ (first left old new : Option (List ℕ)) (reads reads' writes writes' :
 
   -- a write failed
   pub text_unwritten : IsBytes held → (new' : Option (List ℕ)) (k writes'' : ℕ) → (k < length waits) × Appends new new' (take k waits)
-      → Rose writes' writes'' → EndsBetween ByTowers (side first reads) (side left reads') (side old writes) (side new' writes'') WriteFault
+      → Rose writes' writes'' → EndsBetween by_towers (side first reads) (side left reads') (side old writes) (side new' writes'') WriteFault
   text_unwritten bytes new' k writes'' went rose =
       let d = total number held bytes in
-      write_failed ByTowers first left old new held now (with_front (now.out ++ waits) d.0)
+      write_failed by_towers first left old new held now (with_front (now.out ++ waits) d.0)
       (b.reached.so_far held d.0 d.1) new' waits k writes writes'' reads reads' went
       (inl (d.0.body, refl)) (subst (λ n. Rose n writes'') b.quiet rose) b.calm
 
   -- all texts went out, and the window is filled
   module _ (new' left' : Option (List ℕ)) (window' : WindowOctets) (going : ended ≡ false) (unended : IsUnended number held)
       (went : Appends new new' waits) (grows : GrowsByReading left left' held window'.octets) (within : length window'.octets ≤ 1025) where
-    abbrev way : Turn ByTowers first left old new' held [] (BehindTowers number) ⊥
-    way = all_out ByTowers first left old new held waits (BehindTowers number) b.reached new' waits ⊥ went refl (towers_stop number)
+    abbrev way : Turn by_towers first left old new' held [] (BehindTowers number) ⊥
+    way = all_out by_towers first left old new held waits (BehindTowers number) b.reached new' waits ⊥ went refl (towers_stop number)
 
-    abbrev sent : Pending ByTowers first left old new' held
+    abbrev sent : Pending by_towers first left old new' held
     sent = way.reached.pending
 
     abbrev told : List ℕ
@@ -250,7 +250,7 @@ module _ (first left old new : Option (List ℕ)) (reads reads' writes writes' :
       text = sent.out;
       demand = demand;
       split = refl;
-      told = moved ByTowers (told ++ []) told (with_front (sent.out ++ []) (ends_with [])) (whole sent.out) (append-nil told)
+      told = moved by_towers (told ++ []) told (with_front (sent.out ++ []) (ends_with [])) (whole sent.out) (append-nil told)
           (ap whole (append-nil (sent.out ++ []) ∙ append-nil sent.out)) (way.reached.so_far [] (ends_with []) ([], Nothing, refl, refl));
       demands = demands;
       no_more = body;
@@ -269,7 +269,7 @@ module _ (first left old new : Option (List ℕ)) (reads reads' writes writes' :
         → reads'' ≡ reads' → writes'' ≡ writes' → IsAmong first left' old new' reads reads'' writes writes'' window' number ended' waits'
     window_filled reads'' writes'' waits' ended' none room end full calm quiet =
         subst (λ (w : List ℕ). IsAmong first left' old new' reads reads'' writes writes'' window' number ended' w) (sym none) (record {
-          reached = reached_more ByTowers first left old new' held [] (BehindTowers number) way.reached left' window'.octets grows within (inl none_waits);
+          reached = reached_more by_towers first left old new' held [] (BehindTowers number) way.reached left' window'.octets grows within (inl none_waits);
           filled = λ goes. subst BeginsFilling joined (Behind held grows.read begins leaves (ap length (sym grows.grown) ∙ full goes));
           stopped = end;
           room = room ∙ b.room;
@@ -280,11 +280,11 @@ module _ (first left old new : Option (List ℕ)) (reads reads' writes writes' :
 
     -- a read failed while the window was filled
     pub fill_fails : IsBytes window'.octets → length window'.octets < 1025 → (reads'' writes'' : ℕ) → Rose reads' reads'' → writes'' ≡ writes'
-        → EndsBetween ByTowers (side first reads) (side left' reads'') (side old writes) (side new' writes'') ReadFault
+        → EndsBetween by_towers (side first reads) (side left' reads'') (side old writes) (side new' writes'') ReadFault
     fill_fails bytes few reads'' writes'' rose quiet =
         let d = total number window'.octets bytes in
-        read_failed ByTowers first left' old new' window'.octets
-        (more_read ByTowers first left old new' held [] (BehindTowers number) way.reached left' window'.octets grows within (inl none_waits))
+        read_failed by_towers first left' old new' window'.octets
+        (more_read by_towers first left old new' held [] (BehindTowers number) way.reached left' window'.octets grows within (inl none_waits))
         reads reads'' writes writes''
         (record {
           octets = told ++ held;
@@ -308,7 +308,7 @@ module _ (first left old new : Option (List ℕ)) (reads reads' writes writes' :
         (subst (λ n. Rose n reads'') b.calm rose) (quiet ∙ b.quiet)
 
 -- nothing is read and nothing written
-pub unread_towers : (left old : Option (List ℕ)) (reads writes : ℕ) → EndsBetween ByTowers (side left reads) (side left reads) (side old writes)
+pub unread_towers : (left old : Option (List ℕ)) (reads writes : ℕ) → EndsBetween by_towers (side left reads) (side left reads) (side old writes)
     (side old writes) OutOfMemory
 unread_towers left old reads writes = (
   record {

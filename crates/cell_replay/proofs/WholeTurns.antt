@@ -10,15 +10,15 @@ use Rattle.cds_base.specs.SourceReading.{GrowsByReading}
 use Rattle.cds_base.proofs.KnownOctets.{appends_none}
 use Rattle.cell_replay.specs.declared.whole.Said.{Said}
 use Rattle.cell_replay.specs.declared.whole.Said.TheVariants as says
-use Rattle.cell_replay.specs.declared.endings.Status.{Status}
-use Rattle.cell_replay.specs.declared.endings.Status.TheVariants.{Ok as AllRead, BadInput, ReadFault, OutOfMemory}
-use Rattle.cell_replay.specs.Demand.{Demand, Faulty, IsUnbroken, ends_with, faulty_with, cut_short_with}
+use Rattle.line_forms.specs.declared.endings.Status.{Status}
+use Rattle.line_forms.specs.declared.endings.Status.TheVariants.{Ok as AllRead, BadInput, ReadFault, OutOfMemory}
+use Rattle.line_forms.specs.Demand.{Demand, Faulty, IsUnbroken, ends_with, faulty_with, cut_short_with}
 use Rattle.cell_replay.specs.WholeDemand.{WholeTask, said_of, told_whole, too_long_text, whole_demand}
-use Rattle.cell_replay.specs.Forms.{ByWhole}
-use Rattle.cell_replay.specs.Runs.{AnswersFront, IsFront}
-use Rattle.cell_replay.specs.PrivateEndings.{EndsBetween, Finishes, IsDue, Side, side}
+use Rattle.cell_replay.specs.FormReadings.{by_whole}
+use Rattle.line_forms.specs.Runs.{AnswersFront, IsFront}
+use Rattle.line_forms.specs.Endings.{EndsBetween, Finishes, IsDue, Side, side}
 use Rattle.cell_replay.specs.PrivateWholes.{IsSaid, SaysEnd}
-use Rattle.cell_replay.proofs.Progress.{Pending, finishes, read_failed, wrote_all}
+use Rattle.line_forms.proofs.Progress.{Pending, finishes, read_failed, wrote_all}
 use Rattle.cell_replay.proofs.Streams.{le_or_lt}
 
 -- ---- what is demanded
@@ -96,7 +96,7 @@ has_many ended held room goes_on means is = by_size (le_or_lt 16777217 held)
 module _ (task : WholeTask) (first left' old : Option (List ℕ)) (octets : List ℕ) (taken : Consumes first left' octets)
     (few : length octets ≤ 16777217) where
   -- these were read, and nothing was written
-  abbrev all_read : Pending (ByWhole task) first left' old old octets
+  abbrev all_read : Pending (by_whole task) first left' old old octets
   all_read = record {
     front = [];
     since = [];
@@ -111,7 +111,7 @@ module _ (task : WholeTask) (first left' old : Option (List ℕ)) (octets : List
   }
 
   -- nothing answers that nothing was read
-  answers_none : AnswersFront (ByWhole task) first left' []
+  answers_none : AnswersFront (by_whole task) first left' []
   answers_none = record {
     front = [];
     one = [];
@@ -127,36 +127,36 @@ module _ (task : WholeTask) (first left' old : Option (List ℕ)) (octets : List
   module _ (reads reads' writes writes' : ℕ) (new' : Option (List ℕ)) (result : Status) (calm : reads' ≡ reads) where
     -- a text goes out, and it is all that is due
     text_ends : (d : Demand) (text : List ℕ) (status : Status) → whole_demand task octets ≡ d
-        → IsDue (AnswersFront (ByWhole task) first left') (IsAtEnd left') status d text
+        → IsDue (AnswersFront (by_whole task) first left') (IsAtEnd left') status d text
         → Finishes (side old writes) (side new' writes') text status result
-        → EndsBetween (ByWhole task) (side first reads) (side left' reads') (side old writes) (side new' writes') result
+        → EndsBetween (by_whole task) (side first reads) (side left' reads') (side old writes) (side new' writes') result
     text_ends d text status demands due finished =
-        finishes (ByWhole task) first left' old old octets all_read d demands new' text status result reads reads' writes writes writes' due finished
+        finishes (by_whole task) first left' old old octets all_read d demands new' text status result reads reads' writes writes writes' due finished
         calm refl
 
     -- there are too many octets
     pub too_long_ends : 16777216 < length octets → (text : List ℕ) → text ≡ too_long_text task
         → Finishes (side old writes) (side new' writes') text BadInput result
-        → EndsBetween (ByWhole task) (side first reads) (side left' reads') (side old writes) (side new' writes') result
+        → EndsBetween (by_whole task) (side first reads) (side left' reads') (side old writes) (side new' writes') result
     too_long_ends many text is finished =
         text_ends (faulty_with text) text BadInput (many_demand task octets many ∙ ap faulty_with (sym is)) (inl (refl, refl)) finished
 
     module _ (short : length octets ≤ 16777216) (ended : IsAtEnd left') where
       -- what is said goes out
       pub said_ends : (text : List ℕ) → said_of task octets ≡ Ok text → Finishes (side old writes) (side new' writes') text AllRead result
-          → EndsBetween (ByWhole task) (side first reads) (side left' reads') (side old writes) (side new' writes') result
+          → EndsBetween (by_whole task) (side first reads) (side left' reads') (side old writes) (side new' writes') result
       said_ends text is finished =
           text_ends (ends_with text) text AllRead (few_demand task octets short ∙ ap told_whole is) (ended, (refl, refl)) finished
 
       -- what is said of a fault goes out
       pub fault_ends : (text : List ℕ) → said_of task octets ≡ Err text → Finishes (side old writes) (side new' writes') text BadInput result
-          → EndsBetween (ByWhole task) (side first reads) (side left' reads') (side old writes) (side new' writes') result
+          → EndsBetween (by_whole task) (side first reads) (side left' reads') (side old writes) (side new' writes') result
       fault_ends text is finished =
           text_ends (cut_short_with text) text BadInput (few_demand task octets short ∙ ap told_whole is) (inr (refl, ended, refl)) finished
 
   -- there was no memory
   pub nothing_said : (reads reads' writes : ℕ) → reads' ≡ reads
-      → EndsBetween (ByWhole task) (side first reads) (side left' reads') (side old writes) (side old writes) OutOfMemory
+      → EndsBetween (by_whole task) (side first reads) (side left' reads') (side old writes) (side old writes) OutOfMemory
   nothing_said reads reads' writes calm =
       text_ends reads reads' writes writes old OutOfMemory calm (whole_demand task octets) [] OutOfMemory refl
       (inl ((whole_demand task octets).body, refl), answers_none) (inl (refl, appends_none old, refl))
@@ -165,7 +165,7 @@ module _ (task : WholeTask) (first left' old : Option (List ℕ)) (octets : List
   pub too_long_said : (said : Result Said AllocError) → IfOk said (λ s. IsSaid s (Err (too_long_text task))) → 16777216 < length octets
       → (reads reads' writes writes' : ℕ) (new' : Option (List ℕ)) (result : Status) → reads' ≡ reads
       → SaysEnd said (side old writes) (side new' writes') result
-      → EndsBetween (ByWhole task) (side first reads) (side left' reads') (side old writes) (side new' writes') result
+      → EndsBetween (by_whole task) (side first reads) (side left' reads') (side old writes) (side new' writes') result
   too_long_said (Ok (says.Text text)) is many reads reads' writes writes' new' result calm ends = absurd (cc (is))
   too_long_said (Ok (says.Fault text)) is many reads reads' writes writes' new' result calm ends =
       too_long_ends reads reads' writes writes' new' result calm many text.items (fault_is (too_long_text task) text.items is) ends
@@ -173,16 +173,16 @@ module _ (task : WholeTask) (first left' old : Option (List ℕ)) (octets : List
       fault_is : (due octets : List ℕ) → ◌≡◌ {A = Result (List ℕ) (List ℕ)} (Err due) (Err octets) → octets ≡ due
       fault_is due octets e = cc (e)
   too_long_said (Err e) is many reads reads' writes writes' new' result calm ends =
-      subst (λ (s : Status). EndsBetween (ByWhole task) (side first reads) (side left' reads') (side old writes) (side new' writes') s) (sym ends.0)
-      (subst (λ (k : Side). EndsBetween (ByWhole task) (side first reads) (side left' reads') (side old writes) k OutOfMemory) (sym ends.1)
+      subst (λ (s : Status). EndsBetween (by_whole task) (side first reads) (side left' reads') (side old writes) (side new' writes') s) (sym ends.0)
+      (subst (λ (k : Side). EndsBetween (by_whole task) (side first reads) (side left' reads') (side old writes) k OutOfMemory) (sym ends.1)
       (nothing_said reads reads' writes calm))
 
   -- a read failed
   pub whole_unread : length octets ≤ 16777216 → (reads reads' writes : ℕ) → Rose reads reads'
-      → EndsBetween (ByWhole task) (side first reads) (side left' reads') (side old writes) (side old writes) ReadFault
+      → EndsBetween (by_whole task) (side first reads) (side left' reads') (side old writes) (side old writes) ReadFault
   whole_unread short reads reads' writes rose =
-      read_failed (ByWhole task) first left' old old octets all_read reads reads' writes writes
-      (wrote_all (ByWhole task) first left' old old octets all_read (told_whole (said_of task octets)) (few_demand task octets short) refl
+      read_failed (by_whole task) first left' old old octets all_read reads reads' writes writes
+      (wrote_all (by_whole task) first left' old old octets all_read (told_whole (said_of task octets)) (few_demand task octets short) refl
       (sym (no_body (said_of task octets)), unbroken (said_of task octets)) reads reads' writes writes)
       rose refl
 
@@ -190,12 +190,12 @@ module _ (task : WholeTask) (first left' old : Option (List ℕ)) (octets : List
   pub saying_ends : (said : Result Said AllocError) → IfOk said (λ s. IsSaid s (said_of task octets)) → length octets ≤ 16777216 → IsAtEnd left'
       → (reads reads' writes writes' : ℕ) (new' : Option (List ℕ)) (result : Status) → reads' ≡ reads
       → SaysEnd said (side old writes) (side new' writes') result
-      → EndsBetween (ByWhole task) (side first reads) (side left' reads') (side old writes) (side new' writes') result
+      → EndsBetween (by_whole task) (side first reads) (side left' reads') (side old writes) (side new' writes') result
   saying_ends (Ok (says.Text text)) is short ended reads reads' writes writes' new' result calm ends =
       said_ends reads reads' writes writes' new' result calm short ended text.items is ends
   saying_ends (Ok (says.Fault text)) is short ended reads reads' writes writes' new' result calm ends =
       fault_ends reads reads' writes writes' new' result calm short ended text.items is ends
   saying_ends (Err e) is short ended reads reads' writes writes' new' result calm ends =
-      subst (λ (s : Status). EndsBetween (ByWhole task) (side first reads) (side left' reads') (side old writes) (side new' writes') s) (sym ends.0)
-      (subst (λ (k : Side). EndsBetween (ByWhole task) (side first reads) (side left' reads') (side old writes) k OutOfMemory) (sym ends.1)
+      subst (λ (s : Status). EndsBetween (by_whole task) (side first reads) (side left' reads') (side old writes) (side new' writes') s) (sym ends.0)
+      (subst (λ (k : Side). EndsBetween (by_whole task) (side first reads) (side left' reads') (side old writes) k OutOfMemory) (sym ends.1)
       (nothing_said reads reads' writes calm))

@@ -1,7 +1,7 @@
 -- The fillings of the window through which `towers` reads (own).
 use Rattle.std.specs.Prelude.{◌≡◌, ℕ, ◌<◌, List, [], ◌++◌, length}
 use Rattle.cell_replay.specs.declared.limits.TheConstants.{TOWER_SIGHT}
-use Rattle.cell_replay.specs.Demand.{Demand, IsUnbroken, whole}
+use Rattle.line_forms.specs.Demand.{Demand, IsUnbroken, whole}
 use Rattle.cell_replay.specs.TowerDemand.{TowersDemand}
 
 -- this stands behind the whole towers of the octets: no further tower is whole, and no fault shows (own)

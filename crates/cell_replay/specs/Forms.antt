@@ -1,83 +1,89 @@
--- The forms of the program, and what each demands (own).
-use Rattle.std.specs.Prelude.{◌≡◌, ℕ, if◌then◌else◌, List, [], ◌∷◌, codes, Option, Some, None}
+-- The forms of the program, and how each reads its input (own).
+use Rattle.std.specs.Prelude.{ℕ, if◌then◌else◌, List, [], ◌∷◌, codes, Option, Some, None}
 use Rattle.std.specs.Option.{option_map}
 use Rattle.std.specs.Str.{bytes_eq}
 use Rattle.cell_model.specs.Cells.{empty_cell}
 use Rattle.cell_script.specs.Words.{number_to}
-use Rattle.cell_replay.specs.declared.limits.TheConstants.{LAST_DIR, MOST_KEPT, MOST_ROUNDS}
-use Rattle.cell_replay.specs.LineStates.{LineState, Replaying, Checking, Spelling, Mending, Clerking, Inquiring, Journaling}
-use Rattle.journal_replay.specs.CellJournals.{empty_state}
+use Rattle.line_forms.specs.Readings.{Reading, by_lines}
+use Rattle.line_forms.specs.Runs.{Run}
+use Rattle.line_forms.specs.declared.endings.Status.{Status}
+use Rattle.line_forms.specs.declared.endings.Status.TheVariants.{Ok as AllRead, Usage, BadInput, ReadFault, WriteFault, OutOfMemory, JournalFull}
+use Rattle.script_replay.specs.LineRules.{dialogue_rule}
 use Rattle.script_replay.specs.Loading.{load_text}
-use Rattle.clerk_replay.specs.Clerking.{start}
-use Rattle.cell_replay.specs.Demand.{Demand, line_demand, ends_with}
-use Rattle.cell_replay.specs.TowerDemand.{TowersDemand}
-use Rattle.cell_replay.specs.WholeDemand.{WholeTask, Migrating, Auditing, whole_demand}
+use Rattle.script_replay.specs.Replies.{run_dialogue}
+use Rattle.clerk_replay.specs.Clerking.{clerk_dialogue, start}
+use Rattle.inquire_replay.specs.Inquiring.{inquire_dialogue}
+use Rattle.journal_replay.specs.CellJournals.{empty_state}
+use Rattle.journal_replay.specs.JournalRules.{journal_rule}
+use Rattle.cell_replay.specs.Checking.{check_rule, counts}
+use Rattle.cell_replay.specs.FormReadings.{HasReadFew, by_towers, by_whole, spelling_rule, without_input}
+use Rattle.cell_replay.specs.WholeDemand.{Migrating, Auditing}
+use Rattle.cell_replay.specs.declared.forms.Form.{Form}
+use Rattle.cell_replay.specs.declared.forms.Form.TheVariants as form
+use Rattle.cell_replay.specs.declared.limits.TheConstants.{LAST_DIR, MOST_KEPT, MOST_ROUNDS}
 
--- a form reads lines, or the octets of towers; or it reads its whole input and then says one thing; or it reads nothing and writes a
--- text (own)
-pub data FormState : Type 0 where
-  ByLines : (state : LineState) → FormState
-  ByTowers : FormState
-  ByWhole : (task : WholeTask) → FormState
-  WithoutInput : (text : List ℕ) → FormState
+-- how each reads, and what an input demands of it, from its start: a script is replayed on a cell without houses, by a clerk that keeps so many
+-- answers, or with empty journals; a script is counted; and `load` reads nothing (own)
+abbrev pub reading_of : Form → Reading
+reading_of form.Run = by_lines (dialogue_rule run_dialogue) empty_cell
+reading_of form.Check = by_lines check_rule (counts 0 0)
+reading_of (form.Load rounds) = without_input (load_text rounds)
+reading_of (form.Clerk room) = by_lines (dialogue_rule clerk_dialogue) (start room)
+reading_of form.Towers = by_towers
+reading_of form.Untowers = by_lines spelling_rule tt
+reading_of form.Migrate = by_whole Migrating
+reading_of form.Inquire = by_lines (dialogue_rule inquire_dialogue) empty_cell
+reading_of (form.Audit dir) = by_whole (Auditing dir)
+reading_of form.Journal = by_lines journal_rule empty_state
 
--- the form that replays a script on a cell without houses (own)
-abbrev pub run_form : FormState
-run_form = ByLines (Replaying empty_cell)
+-- a form that reads nothing (own)
+abbrev pub ReadsNothing : Option Form → Type 0
+ReadsNothing (Some (form.Load rounds)) = Unit {0}
+ReadsNothing other = ⊥
 
--- the form that replays a script with inquiries on a cell without houses (own)
-abbrev pub inquiring_form : FormState
-inquiring_form = ByLines (Inquiring empty_cell)
+-- a form that reads its whole input reads at most one octet more than it may have, whatever the ending (own)
+abbrev pub ReadsFew : Form → Run → Type 0
+ReadsFew form.Migrate run = HasReadFew run
+ReadsFew (form.Audit dir) run = HasReadFew run
+ReadsFew other run = Unit {0}
 
--- the form of `cdsmend`: it replays a script on such a cell, and writes what mends the directory d behind it, without the houses hs (own)
-abbrev pub mend_form : (d : ℕ) → (hs : List ℕ) → FormState
-mend_form d hs = ByLines (Mending d hs empty_cell)
+-- a form that keeps no journals (own)
+abbrev pub HasNoJournals : Form → Type 0
+HasNoJournals form.Journal = ⊥
+HasNoJournals other = Unit {0}
 
--- the form that replays a script on a cell without houses, and keeps their journals (own)
-abbrev pub with_journals : FormState
-with_journals = ByLines (Journaling empty_state)
+-- the endings of such a form that no failed call causes (own)
+abbrev pub IsCalmEnding : Status → Type 0
+IsCalmEnding AllRead = Unit {0}
+IsCalmEnding Usage = Unit {0}
+IsCalmEnding BadInput = Unit {0}
+IsCalmEnding ReadFault = ⊥
+IsCalmEnding WriteFault = ⊥
+IsCalmEnding OutOfMemory = Unit {0}
+IsCalmEnding JournalFull = ⊥
 
--- the form that a word names, at its start (own)
-abbrev pub form_named : List ℕ → Option FormState
+-- the form that a word names (own)
+abbrev pub form_named : List ℕ → Option Form
 form_named word =
-    if bytes_eq word (codes "run") then Some run_form
-    else (if bytes_eq word (codes "check") then Some (ByLines (Checking 0 0))
-    else (if bytes_eq word (codes "towers") then Some ByTowers
-    else (if bytes_eq word (codes "untowers") then Some (ByLines Spelling)
-    else (if bytes_eq word (codes "migrate") then Some (ByWhole Migrating)
-    else (if bytes_eq word (codes "inquire") then Some inquiring_form
-    else (if bytes_eq word (codes "journal") then Some with_journals else None))))))
-
--- a cell is loaded by the script with so many rounds, which nothing reads (own)
-abbrev pub load_form : (rounds : ℕ) → FormState
-load_form rounds = WithoutInput (load_text rounds)
-
--- the form that replays a script on a cell without houses, which a clerk that keeps so many answers reads (own)
-abbrev pub clerking_with : (room : ℕ) → FormState
-clerking_with room = ByLines (Clerking (start room))
-
--- the form that audits a directory (own)
-abbrev pub audit_form : (dir : ℕ) → FormState
-audit_form dir = ByWhole (Auditing dir)
+    if bytes_eq word (codes "run") then Some form.Run
+    else (if bytes_eq word (codes "check") then Some form.Check
+    else (if bytes_eq word (codes "towers") then Some form.Towers
+    else (if bytes_eq word (codes "untowers") then Some form.Untowers
+    else (if bytes_eq word (codes "migrate") then Some form.Migrate
+    else (if bytes_eq word (codes "inquire") then Some form.Inquire
+    else (if bytes_eq word (codes "journal") then Some form.Journal else None))))))
 
 -- the form that a word and a number name, which is at least one: `load` and how many rounds, `clerk` and its room, or `audit` and a
 -- directory (own)
-abbrev pub form_numbered : (word number : List ℕ) → Option FormState
+abbrev pub form_numbered : (word number : List ℕ) → Option Form
 form_numbered word number =
-    if bytes_eq word (codes "load") then option_map load_form (number_to MOST_ROUNDS number)
-    else (if bytes_eq word (codes "clerk") then option_map clerking_with (number_to MOST_KEPT number)
-    else (if bytes_eq word (codes "audit") then option_map audit_form (number_to LAST_DIR number) else None))
+    if bytes_eq word (codes "load") then option_map form.Load (number_to MOST_ROUNDS number)
+    else (if bytes_eq word (codes "clerk") then option_map form.Clerk (number_to MOST_KEPT number)
+    else (if bytes_eq word (codes "audit") then option_map form.Audit (number_to LAST_DIR number) else None))
 
 -- the form that the words of the command line name (own)
-abbrev pub form_of : List (List ℕ) → Option FormState
+abbrev pub form_of : List (List ℕ) → Option Form
 form_of [] = None
 form_of (word ∷ []) = form_named word
 form_of (word ∷ number ∷ []) = form_numbered word number
 form_of (word ∷ number ∷ third ∷ words) = None
-
--- what an input demands of a form that reads it, from its start. Of a form without input its text is due, whatever stands there (own)
-abbrev pub Demands : FormState → List ℕ → Demand → Type 0
-Demands (ByLines state) octets d = line_demand state octets ≡ d
-Demands ByTowers octets d = TowersDemand 1 octets d
-Demands (ByWhole task) octets d = whole_demand task octets ≡ d
-Demands (WithoutInput text) octets d = ends_with text ≡ d

@@ -1,38 +1,28 @@
--- What a run of the form `journal` wrote of a script, and what it leaves on the disks of its houses (own).
-use Rattle.std.specs.Prelude.{◌≡◌, ℕ, List, [], ◌∷◌, ◌++◌, Some}
-use Rattle.house_journal.specs.MemoryDisks.{MemState}
+-- What a run of the form `journal` wrote of a script (own).
+use Rattle.std.specs.Prelude.{◌≡◌, List, ◌∷◌, ◌++◌, Some}
 use Rattle.tower_codec.specs.declared.binding.StringBinding.{StringBinding}
 use Rattle.ns_import.specs.Imports.{IsImport}
 use Rattle.cell_model.specs.Agreement.{Converges}
 use Rattle.cell_model.specs.Cells.{empty_cell}
 use Rattle.cell_model.specs.Commands.{Command}
 use Rattle.cell_model.specs.Steps.{replay_from}
-use Rattle.cell_script.specs.Words.{words_of}
 use Rattle.cds_cell.specs.Readings.{cell_reader}
 use Rattle.script_answers.specs.declared.answer.Answer.TheVariants as answer
-use Rattle.journal_forms.specs.JournalLines.{said_in}
 use Rattle.journal_forms.specs.declared.journal_line.JournalLine.{JournalLine}
 use Rattle.journal_forms.specs.declared.journal_line.JournalLine.TheVariants as line
-use Rattle.script_replay.specs.Dialogues.{Dialogue, NumberedOf}
+use Rattle.script_replay.specs.Dialogues.{NumberedOf}
 use Rattle.script_replay.specs.Replies.{reply_to}
-use Rattle.journal_replay.specs.CellDisks.{ArePutting, GiveImages, HoldAll}
 use Rattle.journal_replay.specs.Journaled.{journal_said}
-use Rattle.journal_replay.specs.CellJournals.{empty_state, journal_dialogue, puts_by}
-use Rattle.cell_replay.specs.Headline.{Importing, commands_from, import_line}
-use Rattle.cell_replay.specs.LineStates.{LineState, Journaling}
-use Rattle.cell_replay.specs.Runs.{Run}
-use Rattle.cell_replay.specs.Scripts.{IsReplayBy}
+use Rattle.journal_replay.specs.CellJournals.{empty_state, journal_dialogue}
+use Rattle.script_replay.specs.Headline.{Importing, commands_from, import_line}
+use Rattle.line_forms.specs.Runs.{Run}
+use Rattle.script_replay.specs.Scripts.{IsReplayBy, state_after_lines}
 
 -- ---- what is written
 
 -- the effective commands of lines: those that the model has to do (own)
 abbrev pub effective : List (NumberedOf JournalLine) → List Command
 effective = commands_from (λ g l. (journal_said g l).steps) empty_cell
-
--- the state of a form behind lines (own)
-abbrev pub state_after_lines : {S L : Type 0} → Dialogue S L → S → List (NumberedOf L) → S
-state_after_lines d s [] = s
-state_after_lines d s (l ∷ ls) = state_after_lines d (d.after l.number s l.says) ls
 
 -- wherever one of these lines imports and is answered with bindings, these are those of exactly the entries that the search reaches, each once
 -- and in its order, by what the cell behind the effective commands tells (own, after C706, importing bindings)
@@ -51,15 +41,3 @@ pub record IsJournalReplay (run : Run) : Type 0 where
       → (state_after_lines journal_dialogue empty_state front).cell ≡ replay_from empty_cell (effective front)
   pub settled : (front rest : List (NumberedOf JournalLine)) → replay.said ≡ front ++ rest → Converges (effective front)
   pub found : JournalFinds replay.said
-
--- ---- what is on the disks
-
--- the journals of a state are on the disks, whatever a crash leaves, and each gives the image of its house in the cell; no other form has disks (own)
-abbrev pub AreOnDisks : List MemState → LineState → Type 0
-AreOnDisks disks (Journaling s) = HoldAll disks s.lists × GiveImages s
-AreOnDisks disks _ = Unit {0}
-
--- the same of a line that is under way: of the images that it puts, those up to one of them are on the disks, and this one perhaps (own)
-abbrev pub ArePut : List MemState → (number : ℕ) → LineState → (line : List ℕ) → Type 0
-ArePut disks number (Journaling s) line = ArePutting disks s.lists (puts_by s (said_in (words_of line))) × GiveImages s
-ArePut disks number _ line = Unit {0}

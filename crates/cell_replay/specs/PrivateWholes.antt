@@ -1,14 +1,14 @@
 -- Words of private contracts: what is said of a whole input (own).
 use Rattle.std.specs.Prelude.{◌≡◌, List, ℕ, Result, Ok, Err}
 use Rattle.std.specs.declared.alloc.AllocError.{AllocError}
-use Rattle.cell_replay.specs.declared.endings.Status.{Status}
-use Rattle.cell_replay.specs.declared.endings.Status.TheVariants as ends
+use Rattle.line_forms.specs.declared.endings.Status.{Status}
+use Rattle.line_forms.specs.declared.endings.Status.TheVariants as ends
 use Rattle.cell_replay.specs.declared.whole.Said.{Said}
 use Rattle.cell_replay.specs.declared.whole.Said.TheVariants as said
 use Rattle.cell_replay.specs.declared.whole.Whole.{Whole}
 use Rattle.cell_replay.specs.declared.whole.Whole.TheVariants as whole
 use Rattle.cell_replay.specs.WholeDemand.{WholeTask, Migrating, Auditing}
-use Rattle.cell_replay.specs.PrivateEndings.{Finishes, Side}
+use Rattle.line_forms.specs.Endings.{Finishes, Side}
 
 -- the form that is meant
 abbrev pub task_of : Whole → WholeTask

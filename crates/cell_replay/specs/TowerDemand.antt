@@ -9,7 +9,7 @@ use Rattle.cell_replay.specs.declared.towers.StreamFault.{StreamFault}
 use Rattle.cell_replay.specs.declared.towers.StreamFault.TheVariants as stream
 use Rattle.script_answers.specs.Texts.{fault_text}
 use Rattle.reply_buffer.specs.TowerTexts.{tower_text}
-use Rattle.cell_replay.specs.Demand.{Demand, faulty_with, ends_with, cut_short_with, with_front}
+use Rattle.line_forms.specs.Demand.{Demand, faulty_with, ends_with, cut_short_with, with_front}
 
 -- a tower of at most 1,024 octets, and there are at most 16,777,216 of them (own)
 abbrev pub IsTaken : ℕ → List Floor → List ℕ → Type 0

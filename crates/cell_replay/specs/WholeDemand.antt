@@ -8,7 +8,7 @@ use Rattle.image_audit.specs.declared.verdict.Verdict.{Verdict}
 use Rattle.image_audit.specs.Pairs.{audit_verdict}
 use Rattle.cell_replay.specs.AuditTexts.{verdict_text, pair_fault_text}
 use Rattle.cell_replay.specs.declared.limits.TheConstants.{MOST_WHOLE, WHOLE_SIGHT}
-use Rattle.cell_replay.specs.Demand.{Demand, faulty_with, ends_with, cut_short_with}
+use Rattle.line_forms.specs.Demand.{Demand, faulty_with, ends_with, cut_short_with}
 
 -- what such a form does with its input: an image becomes one of format 2, or a directory is audited in two images (own)
 pub data WholeTask : Type 0 where

@@ -1,7 +1,6 @@
 // The form `check`: lines and commands are counted, and nothing is replayed.
 ghost use Rattle.std.specs.Prelude.{◌≡◌, ◌++◌, ◌+◌, ◌<◌, ◌≤◌, if◌then◌else◌, IfOk};
-ghost use Rattle.cell_replay.specs.LineStates.{Checking};
-ghost use Rattle.cell_replay.specs.Demand.{end_text};
+ghost use Rattle.cell_replay.specs.Checking.{count_text};
 
 use std::alloc::{AllocError, Global};
 
@@ -41,7 +40,7 @@ impl Tally {
     /// The line that tells the counts.
     pub(crate) fn print(&self, alloc: Global) -> Result<Vec<u8>, AllocError>
         ensures { IfOk result
-            (λ text. text.items ≡ end_text (Checking self.now.lines self.now.commands)) }
+            (λ text. text.items ≡ count_text self.now.lines self.now.commands) }
     {
         let lines = self.lines;
         let commands = self.commands;

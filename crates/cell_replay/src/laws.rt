@@ -11,15 +11,18 @@ ghost use Rattle.inquire_forms.specs.InquireLines.{inquired_in};
 ghost use Rattle.inquire_replay.specs.Inquiring.{inquire_dialogue, plain_lines};
 ghost use Rattle.clerk_replay.specs.Clerking.{Clerked, clerk_dialogue};
 ghost use Rattle.script_replay.specs.Dialogues.{NumberedOf, transcript_by};
-ghost use Rattle.script_replay.specs.Replies.{LacksStampsAlone, Numbered, transcript, trusted_reader};
-ghost use Rattle.cell_replay.specs.Demand.{Demand, Sound, Faulty, Filled, line_demand, whole};
-ghost use Rattle.cell_replay.specs.LineStates.{Clerking, Inquiring, Replaying, Spelling};
-ghost use Rattle.cell_replay.specs.Forms.{FormState, ByLines, ByTowers, Demands};
-ghost use Rattle.cell_replay.specs.Runs.{Ended, HasNoJournals, IsCalmEnding, IsFront, NoCallFailed, Run};
-ghost use Rattle.cell_replay.specs.declared.endings.Status.{Status as Status'};
-ghost use Rattle.cell_replay.specs.declared.endings.Status.TheVariants as ends;
+ghost use Rattle.script_replay.specs.Replies.{LacksStampsAlone, Numbered, run_dialogue, transcript, trusted_reader};
+ghost use Rattle.script_replay.specs.LineRules.{dialogue_rule};
+ghost use Rattle.line_forms.specs.Demand.{Demand, Sound, Faulty, Filled, line_demand, whole};
+ghost use Rattle.cell_replay.specs.Forms.{HasNoJournals, IsCalmEnding, reading_of};
+ghost use Rattle.cell_replay.specs.declared.forms.Form.{Form as Form'};
+ghost use Rattle.cell_replay.specs.FormReadings.{by_towers, spelling_rule};
 ghost use Rattle.cds_base.specs.Counts.{Rose};
-ghost use Rattle.cell_replay.specs.Scripts.{IsScript, IsScriptOf, text_of};
+ghost use Rattle.line_forms.specs.Runs.{Ended, IsFront, NoCallFailed, Run};
+ghost use Rattle.line_forms.specs.declared.endings.Status.{Status as Status'};
+ghost use Rattle.line_forms.specs.declared.endings.Status.TheVariants as ends;
+ghost use Rattle.script_replay.specs.Scripts.{IsScript, IsScriptOf};
+ghost use Rattle.line_forms.specs.Leaving.{text_of};
 
 use crate::limits::{MOST_KEPT, MOST_ROUNDS, MOST_TOWERS, MOST_WHOLE, TOWER_SIGHT, WHOLE_SIGHT};
 use cds_cell::laws::{asked_houses_accept, masters_refuse_for_stamps_alone};
@@ -34,27 +37,29 @@ use server_entries::laws::server_updates_are_accepted;
 /// A script demands its transcript by the model, and nothing else.
 pub fn scripts_demand_transcripts()
     ensures run { (g : Cell) (lines : List (List ℕ)) (said : List Numbered) → IsScript 1 lines said
-        → line_demand (Replaying g) (text_of lines) ≡ whole (transcript g said) }
+        → line_demand (dialogue_rule run_dialogue) g (text_of lines) ≡ whole (transcript g said) }
     ensures inquire { (g : Cell) (lines : List (List ℕ)) (said : List (NumberedOf InquireLine))
         → IsScriptOf inquired_in 1 lines said
-        → line_demand (Inquiring g) (text_of lines)
+        → line_demand (dialogue_rule inquire_dialogue) g (text_of lines)
         ≡ whole (transcript_by inquire_dialogue g said) }
     ensures clerk { (s : Clerked) (lines : List (List ℕ)) (said : List Numbered)
         → IsScript 1 lines said
-        → line_demand (Clerking s) (text_of lines) ≡ whole (transcript_by clerk_dialogue s said) }
+        → line_demand (dialogue_rule clerk_dialogue) s (text_of lines)
+        ≡ whole (transcript_by clerk_dialogue s said) }
 {}
 
 /// An input in which nothing is faulty is a script.
 pub fn inputs_without_faults_are_scripts()
-    ensures run { (g : Cell) (octets : List ℕ) → (line_demand (Replaying g) octets).verdict ≡ Sound
+    ensures run { (g : Cell) (octets : List ℕ)
+        → (line_demand (dialogue_rule run_dialogue) g octets).verdict ≡ Sound
         → (lines : List (List ℕ)) × (said : List Numbered) × (octets ≡ text_of lines)
         × IsScript 1 lines said }
     ensures inquire { (g : Cell) (octets : List ℕ)
-        → (line_demand (Inquiring g) octets).verdict ≡ Sound
+        → (line_demand (dialogue_rule inquire_dialogue) g octets).verdict ≡ Sound
         → (lines : List (List ℕ)) × (said : List (NumberedOf InquireLine))
         × (octets ≡ text_of lines) × IsScriptOf inquired_in 1 lines said }
     ensures clerk { (s : Clerked) (octets : List ℕ)
-        → (line_demand (Clerking s) octets).verdict ≡ Sound
+        → (line_demand (dialogue_rule clerk_dialogue) s octets).verdict ≡ Sound
         → (lines : List (List ℕ)) × (said : List Numbered) × (octets ≡ text_of lines)
         × IsScript 1 lines said }
 {}
@@ -62,27 +67,27 @@ pub fn inputs_without_faults_are_scripts()
 /// Octets demand one thing of a form: they demand something, and nothing else. So it counts for nothing in
 /// which pieces they were read.
 pub fn one_demand()
-    ensures some { (state : FormState) (octets : List ℕ) → IsBytes octets
-        → (d : Demand) × Demands state octets d }
-    ensures only { (state : FormState) (octets : List ℕ) (d e : Demand) → Demands state octets d
-        → Demands state octets e → d ≡ e }
+    ensures some { (form : Form') (octets : List ℕ) → IsBytes octets
+        → (d : Demand) × (reading_of form).demands octets d }
+    ensures only { (form : Form') (octets : List ℕ) (d e : Demand)
+        → (reading_of form).demands octets d → (reading_of form).demands octets e → d ≡ e }
 {}
 
 /// What is due is due whatever follows.
 pub fn bodies_stay()
-    ensures { (state : FormState) (xs ys : List ℕ) (d e : Demand) → Demands state xs d
-        → Demands state (xs ++ ys) e → IsFront d.body e.body }
+    ensures { (form : Form') (xs ys : List ℕ) (d e : Demand) → (reading_of form).demands xs d
+        → (reading_of form).demands (xs ++ ys) e → IsFront d.body e.body }
 {}
 
 /// A fault that shows ends what is due.
 pub fn shown_faults_stay()
-    ensures { (state : FormState) (xs ys : List ℕ) (d : Demand) → Demands state xs d
-        → d.verdict ≡ Faulty → Demands state (xs ++ ys) d }
+    ensures { (form : Form') (xs ys : List ℕ) (d : Demand) → (reading_of form).demands xs d
+        → d.verdict ≡ Faulty → (reading_of form).demands (xs ++ ys) d }
 {}
 
 /// A run in which neither count of failures rose ends as one in which no call failed.
 pub fn calm_runs_meet_no_failed_call()
-    ensures { (form : FormState) (run : Run) (status : Status') → Ended form run status
+    ensures { (form : Form') (run : Run) (status : Status') → Ended (reading_of form) run status
         → ¬ (Rose run.reads run.reads')
         → ¬ (Rose run.writes run.writes') → NoCallFailed status }
 {}
@@ -90,12 +95,12 @@ pub fn calm_runs_meet_no_failed_call()
 /// Only `journal` finds no room: no input demands that of another form, and no run of another form ends so. So a run of it in which
 /// neither count of failures rose ends Ok, Usage, BadInput or OutOfMemory.
 pub fn journals_alone_lack_room()
-    ensures demands { (form : FormState) (octets : List ℕ) (d : Demand) → HasNoJournals form
-        → Demands form octets d → d.verdict ≢ Filled }
-    ensures runs { (form : FormState) (run : Run) → HasNoJournals form
-        → ¬ (Ended form run ends.JournalFull) }
-    ensures calm { (form : FormState) (run : Run) (status : Status') → HasNoJournals form
-        → Ended form run status → ¬ (Rose run.reads run.reads')
+    ensures demands { (form : Form') (octets : List ℕ) (d : Demand) → HasNoJournals form
+        → (reading_of form).demands octets d → d.verdict ≢ Filled }
+    ensures runs { (form : Form') (run : Run) → HasNoJournals form
+        → ¬ (Ended (reading_of form) run ends.JournalFull) }
+    ensures calm { (form : Form') (run : Run) (status : Status') → HasNoJournals form
+        → Ended (reading_of form) run status → ¬ (Rose run.reads run.reads')
         → ¬ (Rose run.writes run.writes') → IsCalmEnding status }
 {}
 
@@ -105,16 +110,17 @@ pub fn scripts_are_inquired_as_run()
         → IsScriptOf inquired_in 1 lines (plain_lines said) }
     ensures demand { (g : Cell) (lines : List (List ℕ)) (said : List Numbered)
         → IsScript 1 lines said
-        → line_demand (Inquiring g) (text_of lines) ≡ line_demand (Replaying g) (text_of lines) }
+        → line_demand (dialogue_rule inquire_dialogue) g (text_of lines)
+        ≡ line_demand (dialogue_rule run_dialogue) g (text_of lines) }
 {
     scripts_are_answered_as_before();
 }
 
 /// `untowers` gives back the octets whose text `towers` wrote.
 pub fn towers_come_back()
-    ensures { (octets : List ℕ) (d : Demand) → IsBytes octets → Demands ByTowers octets d
+    ensures { (octets : List ℕ) (d : Demand) → IsBytes octets → by_towers.demands octets d
         → d.verdict ≡ Sound
-        → Demands (ByLines Spelling) (d.body ++ d.end) (whole octets) }
+        → line_demand spelling_rule tt (d.body ++ d.end) ≡ whole octets }
 {}
 
 /// In a cell that commands lead to, a command of the name service meets no refusal of its updates but want of stamps.

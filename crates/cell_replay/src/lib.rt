@@ -4,20 +4,20 @@
 
 mod audits;
 mod check;
-mod endings;
+mod checking;
 mod forms;
 pub mod laws;
 mod limits;
 mod load;
-mod mending;
 mod replay;
 mod towers;
+mod untowers;
 mod whole;
 
-pub use endings::Status;
+pub use forms::Form;
 pub use limits::{
     LAST_DIR, MOST_KEPT, MOST_ROUNDS, MOST_TOWERS, MOST_WHOLE, TOWER_SIGHT, WHOLE_SIGHT,
 };
-pub use mending::mend;
+pub use line_forms::Status;
 pub use replay::{new_disks, run, run_journal};
 pub use reply_buffer::{LONGEST_TOWER, MOST_WAITING};

@@ -5,14 +5,14 @@ ghost use Rattle.hex.specs.Hex.{IsBytes};
 ghost use Rattle.cds_base.specs.Counts.{HasCause};
 ghost use Rattle.cds_base.specs.SourceReading.{GrowsByReading};
 ghost use Rattle.cell_replay.specs.TowerDemand.{stream_fault_text};
-ghost use Rattle.cell_replay.specs.Forms.{ByTowers};
-ghost use Rattle.cell_replay.specs.Runs.{Ended, run_of};
-ghost use Rattle.cell_replay.specs.PrivateEndings.{StopsWith, side_of};
+ghost use Rattle.cell_replay.specs.FormReadings.{by_towers};
+ghost use Rattle.line_forms.specs.Runs.{Ended, run_of};
+ghost use Rattle.line_forms.specs.Endings.{StopsWith, side_of};
 ghost use Rattle.cell_replay.specs.PrivateSights.{Sees, seen_fault};
 
-use crate::endings::{Status, finish, stop_with};
 use crate::limits::{MOST_TOWERS, TOWER_SIGHT};
 use cds_base::{Failed, Sink, Source, Window};
+use line_forms::{Status, finish, stop_with};
 use reply_buffer::{LONGEST_TOWER, Waiting};
 use script_answers::print_fault;
 use std::alloc::{AllocError, Global};
@@ -154,7 +154,7 @@ fn print_each<S: Source, K: Sink>(
 ) -> Status
     requires empty { window.octets ≡ [] }
     requires room { window.room ≡ TOWER_SIGHT }
-    ensures { Ended ByTowers
+    ensures { Ended by_towers
         (run_of S.left S.faults K.written K.faults source.old source.new sink.old sink.new) result }
 {
     let mut waiting = Waiting::new(alloc);
@@ -190,7 +190,7 @@ pub(crate) fn print_towers<S: Source, K: Sink>(
     source: &mut S,
     sink: &mut K,
 ) -> Status
-    ensures { Ended ByTowers
+    ensures { Ended by_towers
         (run_of S.left S.faults K.written K.faults source.old source.new sink.old sink.new) result }
 {
     match Window::new(alloc, TOWER_SIGHT) {

@@ -1,18 +1,18 @@
 // The forms that read their whole input and then say one thing.
 ghost use Rattle.std.specs.Prelude.{◌≡◌, [], IfOk, Err};
-ghost use Rattle.cell_replay.specs.Forms.{ByWhole};
+ghost use Rattle.cell_replay.specs.FormReadings.{HasReadFew, by_whole};
 ghost use Rattle.cell_replay.specs.WholeDemand.{Migrating, Auditing, said_of, too_long_text};
-ghost use Rattle.cell_replay.specs.Runs.{Ended, ReadsFew, run_of};
-ghost use Rattle.cell_replay.specs.PrivateEndings.{Finishes, side_of};
+ghost use Rattle.line_forms.specs.Runs.{Ended, run_of};
+ghost use Rattle.line_forms.specs.Endings.{Finishes, side_of};
 ghost use Rattle.cell_replay.specs.PrivateWholes.{IsSaid, SaysEnd, task_of};
 
 use crate::audits::{print_pair_fault, print_verdict};
-use crate::endings::Status;
 use crate::limits::WHOLE_SIGHT;
 use cds_base::{Sink, Source, Window, put_all};
 use cds_records::migrate_image;
 use cds_stamps::{AllocOr, DirId};
 use image_audit::audit_octets;
+use line_forms::Status;
 use script_answers::print_fault;
 use std::alloc::{AllocError, Global};
 
@@ -106,9 +106,9 @@ fn read_whole<S: Source, K: Sink>(
 ) -> Status
     requires empty { window.octets ≡ [] }
     requires room { window.room ≡ WHOLE_SIGHT }
-    ensures ends { Ended (ByWhole (task_of whole))
+    ensures ends { Ended (by_whole (task_of whole))
         (run_of S.left S.faults K.written K.faults source.old source.new sink.old sink.new) result }
-    ensures few { ReadsFew (ByWhole (task_of whole))
+    ensures few { HasReadFew
         (run_of S.left S.faults K.written K.faults source.old source.new sink.old sink.new) }
 {
     match window.fill(source) {
@@ -125,9 +125,9 @@ pub(crate) fn say_whole<S: Source, K: Sink>(
     source: &mut S,
     sink: &mut K,
 ) -> Status
-    ensures ends { Ended (ByWhole (task_of whole))
+    ensures ends { Ended (by_whole (task_of whole))
         (run_of S.left S.faults K.written K.faults source.old source.new sink.old sink.new) result }
-    ensures few { ReadsFew (ByWhole (task_of whole))
+    ensures few { HasReadFew
         (run_of S.left S.faults K.written K.faults source.old source.new sink.old sink.new) }
 {
     match Window::new(alloc, WHOLE_SIGHT) {

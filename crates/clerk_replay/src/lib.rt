@@ -2,6 +2,7 @@
 //! line to the cell alone.
 #![tactic(auto)]
 
+mod form;
 mod low_read;
 mod replayer;
 mod through;

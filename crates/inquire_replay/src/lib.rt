@@ -1,8 +1,9 @@
 //! What a line comes to where inquiries are answered: an inquiry asks the cell, and each other line is replayed as in a script.
 #![tactic(auto)]
 
+mod form;
 mod inquiries;
 pub mod laws;
 mod replies;
 
-pub use replies::replay_inquiry;
+pub use form::Inquirer;

@@ -20,7 +20,7 @@ use server_entries::Wanted;
 use std::alloc::{AllocError, Global};
 
 /// Replays a line, or answers its inquiry: the reply waits behind the others.
-pub fn replay_inquiry(
+pub(crate) fn replay_inquiry(
     alloc: Global,
     replayer: &mut Replayer,
     number: u32,

@@ -8,6 +8,7 @@ mod StopReplies
 mod Replied
 mod Reopening
 mod StopHouse
+pub mod LeftDisks
 pub mod Usable
 mod DiskUses
 mod FullTold

@@ -5,3 +5,4 @@ pub mod DiskCalls
 pub mod Keeping
 pub mod PrivateJournals
 pub mod KeptProofs
+pub mod JournalRules

@@ -1,6 +1,7 @@
 //! What a line of the form `journal` comes to: a cell answers it, and houses put their images into their journals.
 #![tactic(auto)]
 
+mod form;
 mod images;
 mod journals;
 mod keeper;

@@ -17,8 +17,8 @@ use Rattle.cell_model.proofs.PresentLists.{IsProper, tidy_lem}
 use Rattle.mend_replay.specs.Readiness.{is_ready}
 use Rattle.cell_script.specs.Words.{most_serial}
 use Rattle.script_replay.specs.Replies.{Numbered}
-use Rattle.cell_replay.specs.Headline.{cell_after_script, commands_of}
-use Rattle.cell_replay.specs.Scripts.{IsScript}
+use Rattle.script_replay.specs.Headline.{cell_after_script, commands_of}
+use Rattle.script_replay.specs.Scripts.{IsScript}
 use Rattle.mend_model.specs.Leaving.{leaving_commands, new_master, smaller_list}
 use Rattle.mend_model.proofs.LeftOut.{chosen_stays, leaving_lem}
 use Rattle.mend_replay.specs.MendLines.{command_line, command_lines, leaving_text, mend_text, mending_text, mends, refusal_line, text_led_by}

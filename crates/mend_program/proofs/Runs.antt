@@ -13,13 +13,13 @@ use Rattle.cell_script.specs.Words.{most_directory, number_of, number_to}
 use Rattle.script_replay.specs.Dialogues.{transcript_by}
 use Rattle.mend_replay.specs.Quiet.{running_quietly}
 use Rattle.script_replay.specs.Replies.{Numbered, steps_of}
-use Rattle.cell_replay.specs.Demand.{Demand, Sound, line_demand}
-use Rattle.cell_replay.specs.Forms as forms
-use Rattle.cell_replay.specs.Headline.{cell_after_script, commands_from}
-use Rattle.cell_replay.specs.LineStates.{Mending}
-use Rattle.cell_replay.specs.Runs.{IsWhole, Run, Wrote}
-use Rattle.cell_replay.specs.JournalRuns.{state_after_lines}
-use Rattle.cell_replay.proofs.Scripts.{faultless_script, script_due, told_with}
+use Rattle.line_forms.specs.Demand.{Demand, Sound, line_demand}
+use Rattle.mend_program.specs.MendForm.{mend_form}
+use Rattle.mend_replay.specs.MendRules.{mend_rule, mending}
+use Rattle.script_replay.specs.Headline.{cell_after_script, commands_from}
+use Rattle.line_forms.specs.Runs.{IsWhole, Run, Wrote}
+use Rattle.script_replay.specs.Scripts.{state_after_lines}
+use Rattle.script_replay.proofs.Scripts.{faultless_script, script_due, told_with}
 use Rattle.mend_replay.specs.SayableCommands.{IsDirectory}
 use Rattle.mend_program.specs.Mended.{IsMending}
 use Rattle.mend_program.specs.ProgramWords.{are_houses, directory_named}
@@ -63,14 +63,14 @@ named_directory (w ∷ dash ∷ houses) d is = by_test (bytes_eq dash (codes "-"
     by_test false is = absurd (cc (is))
 
 -- what was written, of a whole input in which nothing is faulty, is what mends the directory behind the script that was read
-pub is_mending : (d : ℕ) (hs : List ℕ) (run : Run) → IsDirectory d → Wrote (forms.mend_form d hs) run IsWhole → IsMending d hs run
+pub is_mending : (d : ℕ) (hs : List ℕ) (run : Run) → IsDirectory d → Wrote (mend_form d hs) run IsWhole → IsMending d hs run
 is_mending d hs run dir wrote =
-    let script = faultless_script running_quietly (Mending d hs) (λ number g line. refl) empty_cell wrote.read
+    let script = faultless_script mend_rule running_quietly (mending d hs) (λ number g line. refl) empty_cell wrote.read
     (subst (λ (x : Demand). x.verdict ≡ Sound) (sym wrote.demands) wrote.due.0) in
     let text : List ℕ = mend_text d hs (cell_after_script script.1) in
     let is_demand : wrote.demand ≡ told_with [] text =
-    sym wrote.demands ∙ ap (line_demand (Mending d hs empty_cell)) script.2
-    ∙ script_due running_quietly (Mending d hs) (λ number g line. refl) empty_cell script.0 script.1 script.3
+    sym wrote.demands ∙ ap (line_demand mend_rule (mending d hs empty_cell)) script.2
+    ∙ script_due mend_rule running_quietly (mending d hs) (λ number g line. refl) empty_cell script.0 script.1 script.3
     ∙ ap (λ (body : List ℕ). told_with body (mend_text d hs (state_after_lines running_quietly empty_cell script.1))) (quiet_transcript empty_cell script.1)
     ∙ ap (λ (g : Cell). told_with [] (mend_text d hs g)) (quiet_cell empty_cell script.1) in
     record {

@@ -34,8 +34,8 @@ use Rattle.ns_commands.specs.Asks.{Asks, add_element, add_member, delete_element
 use Rattle.cds_cell.specs.Accepting.{accept_in_turn}
 use Rattle.cds_cell.specs.Scripted.{step_of}
 use Rattle.script_replay.specs.Replies.{Numbered, does, question_said, steps_of, trusted_reader}
-use Rattle.cell_replay.specs.Headline.{commands_from}
-use Rattle.cell_replay.specs.Scripts.{IsScript, Says, IsScriptOf}
+use Rattle.script_replay.specs.Headline.{commands_from}
+use Rattle.script_replay.specs.Scripts.{IsScript, Says, IsScriptOf}
 use Rattle.mend_replay.specs.SayableCommands.{IsHouse}
 
 -- of what comes of something without a fault, this holds

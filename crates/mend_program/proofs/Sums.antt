@@ -20,9 +20,10 @@ use Rattle.cell_script.specs.CommandRows.{said_in}
 use Rattle.cell_script.specs.Words.{words_of}
 use Rattle.cds_cell.specs.Scripted.{answer_of, step_of}
 use Rattle.script_replay.specs.Replies.{Numbered, reply_to, steps_of}
-use Rattle.cell_replay.specs.Headline.{cell_after_script, commands_from, commands_of}
-use Rattle.cell_replay.specs.Scripts.{IsScript, IsScriptOf, Says, text_of}
-use Rattle.cell_replay.proofs.HeadlineLaws.{commands-append}
+use Rattle.script_replay.specs.Headline.{cell_after_script, commands_from, commands_of}
+use Rattle.script_replay.specs.Scripts.{IsScript, IsScriptOf, Says}
+use Rattle.line_forms.specs.Leaving.{text_of}
+use Rattle.script_replay.proofs.HeadlineLaws.{commands-append}
 use Rattle.mend_replay.specs.MendLines.{command_line, command_lines}
 use Rattle.mend_replay.proofs.ReadBack.{CanMend, as_command, is_as_command, line_fits, line_says_so}
 use Rattle.mend_program.specs.Mended.{AllLinesWork, LineWorks, MendsBehind}

@@ -1,2 +1,3 @@
 pub mod ProgramWords
 pub mod Mended
+pub mod MendForm

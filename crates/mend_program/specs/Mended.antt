@@ -11,9 +11,10 @@ use Rattle.script_answers.specs.declared.answer.Answer.{Answer}
 use Rattle.script_answers.specs.declared.answer.Answer.TheVariants as answer
 use Rattle.cell_script.specs.Words.{most_serial}
 use Rattle.script_replay.specs.Replies.{Numbered, reply_to}
-use Rattle.cell_replay.specs.Headline.{cell_after_script, commands_of, line_place}
-use Rattle.cell_replay.specs.Runs.{Run}
-use Rattle.cell_replay.specs.Scripts.{IsScript, text_of}
+use Rattle.script_replay.specs.Headline.{cell_after_script, commands_of, line_place}
+use Rattle.line_forms.specs.Runs.{Run}
+use Rattle.script_replay.specs.Scripts.{IsScript}
+use Rattle.line_forms.specs.Leaving.{text_of}
 use Rattle.mend_model.specs.Leaving.{new_master, smaller_list}
 use Rattle.mend_replay.specs.MendLines.{mend_text}
 

@@ -3,5 +3,7 @@
 
 pub mod laws;
 mod mend;
+mod mending;
 
 pub use mend::run;
+pub use mending::mend_directory;

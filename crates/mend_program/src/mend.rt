@@ -1,18 +1,19 @@
 // The whole program over a source and a sink.
 ghost use Rattle.std.specs.Prelude.{◌≡◌, ◌↔◌, None, Some, IfOk, IfSome, ℕ, map, string_bytes};
 ghost use Rattle.std.specs.Option.{option_map};
-ghost use Rattle.cell_replay.specs.Forms.{mend_form};
-ghost use Rattle.cell_replay.specs.Runs.{Ended, run_of};
-ghost use Rattle.cell_replay.specs.declared.endings.Status.{Status as Status'};
+ghost use Rattle.mend_program.specs.MendForm.{mend_form};
+ghost use Rattle.line_forms.specs.Runs.{Ended, run_of};
+ghost use Rattle.line_forms.specs.declared.endings.Status.{Status as Status'};
 ghost use Rattle.cell_script.specs.Words.{most_directory, most_house, number_to};
 ghost use Rattle.house_directory.specs.HouseMessages.{numbers_of};
 ghost use Rattle.mend_program.specs.Mended.{IsMending};
 ghost use Rattle.mend_program.specs.ProgramWords.{are_houses, directory_named, houses_named, numbers_in};
 
+use crate::mending::mend_directory;
 use cds_base::{Sink, Source};
 use cds_stamps::{DirId, HouseNo};
-use cell_replay::{Status, mend};
 use cell_script::number_up_to;
+use line_forms::Status;
 use std::alloc::{AllocError, Global};
 
 /// The directory that the words of the command line name: one number, as the lines of a script have it, alone or before a `-` and
@@ -126,7 +127,7 @@ fn mend_by_words<S: Source, K: Sink>(
         (run_of S.left S.faults K.written K.faults source.old source.new sink.old sink.new) result }
 {
     match houses_in(alloc, words) {
-        Ok(without) => mend(alloc, dir, without, source, sink),
+        Ok(without) => mend_directory(alloc, dir, without, source, sink),
         Err(AllocError) => Status::OutOfMemory,
     }
 }

@@ -5,5 +5,6 @@ pub mod PutLines
 pub mod ReadBack
 pub mod Readying
 pub mod Ready
+pub mod MendForms
 pub mod Choosing
 pub mod Rooms

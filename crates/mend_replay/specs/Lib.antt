@@ -4,4 +4,5 @@ pub mod SayableCommands
 pub mod Quiet
 pub mod PrivateLines
 pub mod Menders
+pub mod MendRules
 pub mod PrivateMasters

@@ -2,6 +2,7 @@
 #![tactic(auto)]
 
 mod commands;
+mod form;
 pub mod laws;
 mod leaving;
 mod lines;

@@ -8,7 +8,8 @@ use crate::scripts::{
 };
 use cds_base::{Failed, MemSink, MemSource, Sink};
 use cds_stamps::DirId;
-use cell_replay::{Status, mend, run};
+use cell_replay::{Status, run};
+use mend_program::mend_directory;
 use std::alloc::{AllocError, Global};
 use std::test::Fail;
 
@@ -85,7 +86,7 @@ fn end_of<K: Sink>(
     sink: &mut K,
 ) -> Result<Status, AllocError> {
     if form == MEND {
-        return Ok(mend(alloc, DirId(1), Vec::new(alloc), source, sink));
+        return Ok(mend_directory(alloc, DirId(1), Vec::new(alloc), source, sink));
     }
     let words = words_of(alloc, form)?;
     Ok(run(alloc, &words, source, sink))

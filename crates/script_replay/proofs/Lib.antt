@@ -3,3 +3,5 @@ pub mod SaidLaws
 mod RecordAnswers
 pub mod UpdateLaws
 pub mod LoadTurns
+pub mod HeadlineLaws
+pub mod Scripts

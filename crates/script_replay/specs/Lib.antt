@@ -9,3 +9,6 @@ pub mod QuestionReplies
 pub mod PrivateSaid
 pub mod PrivateRecords
 pub mod PrivateKinds
+pub mod LineRules
+pub mod Headline
+pub mod Scripts

@@ -2,6 +2,7 @@
 #![tactic(auto)]
 
 mod counts;
+mod form;
 mod kinds;
 mod limits;
 mod loader;

@@ -1,5 +1,6 @@
-use Rattle.cell_replay.proofs.Tasks.{ends_calmly}
+use Rattle.line_forms.proofs.Calm.{ends_calmly}
+use Rattle.cell_replay.specs.Forms.{reading_of}
 use Rattle.cell_replay.proofs.laws.calm_runs_meet_no_failed_call.Goals as goal
 
 pub returns : goal.returns
-returns c = ends_calmly
+returns c form = ends_calmly (reading_of form)

@@ -1,5 +1,5 @@
-use Rattle.cell_replay.proofs.AllForms.{fault_stays}
+use Rattle.cell_replay.proofs.AllForms.{all_lawful}
 use Rattle.cell_replay.proofs.laws.shown_faults_stay.Goals as goal
 
 pub returns : goal.returns
-returns c = fault_stays
+returns c form = (all_lawful form).fault_stays

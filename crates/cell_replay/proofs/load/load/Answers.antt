@@ -1,5 +1,5 @@
 use Rattle.script_replay.specs.Loading.{load_text}
-use Rattle.cell_replay.specs.PrivateEndings.{side_of}
+use Rattle.line_forms.specs.Endings.{side_of}
 use Rattle.cell_replay.proofs.Tasks.{writes}
 use Rattle.cell_replay.proofs.load.load.Goals as goal
 

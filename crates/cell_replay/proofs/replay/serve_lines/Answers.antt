@@ -1,4 +1,0 @@
-use Rattle.cell_replay.proofs.replay.serve_lines.Goals as goal
-
-pub returns : goal.returns
-returns g c state at = c.serve_form.ensures.ends state at

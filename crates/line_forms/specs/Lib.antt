@@ -1,0 +1,6 @@
+pub mod Demand
+pub mod Readings
+pub mod Runs
+pub mod Endings
+pub mod Leaving
+pub mod Lines

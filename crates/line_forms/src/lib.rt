@@ -1,0 +1,12 @@
+//! A form that answers line by line, by a trait: its lines are read, answered and written by one body, whatever the form. And how a run of
+//! any form ends.
+#![tactic(auto)]
+
+mod endings;
+pub mod laws;
+mod line_form;
+mod serving;
+
+pub use endings::{Status, finish, stop_with};
+pub use line_form::LineForm;
+pub use serving::{serve_form, serve_lines};
