@@ -10,7 +10,7 @@ ghost use Rattle.cds_records.specs.Records.{kind, entry, replica, delta};
 
 use attr_sets::AttrCell;
 use cds_stamps::{AttrName, SimpleName, Stamp};
-use directory::{AttrMap, EntryCell, Kind, Table};
+use directory::{AttrMap, EntryCell, Excerpt, Kind, Table};
 use purge_rule::{Delta, Replica};
 use record_fields::{Broken, ReadError, Reader, Rule};
 use std::alloc::{AllocError, Global};
@@ -153,6 +153,22 @@ fn read_table(
     Ok(table)
 }
 
+/// The excerpt of so many entries, ascending, in the same way.
+#[tactic(auto, unfolding(record_fields::specs::ListLayouts::map_of))]
+fn read_excerpt(
+    reader: &mut Reader<'_>,
+    alloc: Global,
+    above: &Option<Stamp>,
+    count: u64,
+) -> Result<Excerpt, ReadError>
+    ensures { Reads (λ x. x)
+        (map_of simple_name (entry above.now) count) reader.old reader.new result }
+{
+    let entries = read_entries(reader, alloc, above, count)?;
+    let excerpt = Excerpt::from_pairs(alloc, entries)?;
+    Ok(excerpt)
+}
+
 /// A replica: its AllUpTo and its entries.
 #[tactic(auto, unfolding(crate::specs::Records::replica))]
 pub(crate) fn read_replica(reader: &mut Reader<'_>, alloc: Global) -> Result<Replica, ReadError>
@@ -171,7 +187,7 @@ pub(crate) fn read_delta(reader: &mut Reader<'_>, alloc: Global) -> Result<Delta
 {
     let above = reader.optional_stamp(&None)?;
     let count = reader.u64()?;
-    let table = read_table(reader, alloc, &above, count)?;
+    let table = read_excerpt(reader, alloc, &above, count)?;
     Ok(Delta { table, above })
 }
 

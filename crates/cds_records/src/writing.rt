@@ -2,21 +2,23 @@
 // may stand there.
 ghost use Rattle.std.specs.Prelude.{◌≡◌, ◌+◌, ◌<◌, ◌++◌, None, IfSome, OnOk};
 ghost use Rattle.std.specs.FinMap.{entries};
+ghost use Rattle.std.specs.Int.{w64, to_be_bytes};
 ghost use Rattle.cds_stamps.specs.Names.{simple_name_fault, attr_fault};
 ghost use Rattle.directory.specs.Kinds.{rank};
-ghost use Rattle.record_fields.specs.FieldOctets.{name_octets, each_octets, cell_octets};
-ghost use Rattle.cds_records.specs.RecordOctets.{entry_octets, stamped_table_octets, replica_octets, delta_octets};
-ghost use Rattle.record_fields.specs.FieldRanges.{ItemsFit, FitsMap, FitsStamp, FitsCell};
+ghost use Rattle.record_fields.specs.FieldOctets.{optional_stamp_octets, name_octets, items_octets, each_octets, cell_octets};
+ghost use Rattle.cds_records.specs.RecordOctets.{entry_octets, replica_octets, delta_octets};
+ghost use Rattle.record_fields.specs.FieldRanges.{ItemsFit, FitsStamp, FitsCell};
 ghost use Rattle.cds_records.specs.RecordRanges.{FitsEntry, FitsReplica, FitsDelta};
 
 use attr_sets::AttrCell;
 use cds_stamps::{AttrName, SimpleName, Stamp};
-use directory::{AttrMap, EntryCell, Kind, Table};
+use directory::{AttrMap, EntryCell, Kind};
 use purge_rule::{Delta, Replica};
 use record_fields::{
     put_attr_name, put_cell, put_octet, put_optional_stamp, put_simple_name, put_stamp, put_u64,
 };
 use std::alloc::AllocError;
+use std::collections::btree_map::Iter;
 
 /// An attribute and its cell.
 fn put_attr(out: &mut Vec<u8>, name: &AttrName, cell: &AttrCell) -> Result<(), AllocError>
@@ -77,28 +79,33 @@ fn put_named(out: &mut Vec<u8>, name: &SimpleName, entry: &EntryCell) -> Result<
 }
 
 /// The entries of a table.
-fn put_entries(out: &mut Vec<u8>, table: &Table) -> Result<(), AllocError>
-    ensures octets { OnOk result
-        (out.new.items ≡ out.old.items ++ each_octets name_octets entry_octets table.now) }
-    ensures fits { OnOk result
-        (ItemsFit (λ n. simple_name_fault n ≡ None) FitsEntry (entries table.now)) }
+fn put_entries(out: &mut Vec<u8>, list: Iter<'_, SimpleName, EntryCell>) -> Result<(), AllocError>
+    ensures octets { OnOk result (out.new.items
+        ≡ out.old.items ++ items_octets name_octets entry_octets list) }
+    ensures fits { OnOk result (ItemsFit (λ n. simple_name_fault n ≡ None) FitsEntry list) }
 {
-    for (name, entry) in table.iter() {
+    for (name, entry) in list {
         put_named(out, name, entry)?;
     }
     Ok(())
 }
 
-/// A stamp or none, and the entries of a table behind their number.
-fn put_table(out: &mut Vec<u8>, stamp: &Option<Stamp>, table: &Table) -> Result<(), AllocError>
-    ensures octets { OnOk result
-        (out.new.items ≡ out.old.items ++ stamped_table_octets stamp.now table.now) }
+/// A stamp or none, and so many entries behind their number.
+fn put_table(
+    out: &mut Vec<u8>,
+    stamp: &Option<Stamp>,
+    count: usize,
+    list: Iter<'_, SimpleName, EntryCell>,
+) -> Result<(), AllocError>
+    ensures octets { OnOk result (out.new.items
+        ≡ out.old.items ++ (optional_stamp_octets stamp.now ++ to_be_bytes w64 count
+        ++ items_octets name_octets entry_octets list)) }
     ensures stamp { OnOk result (IfSome stamp.now FitsStamp) }
-    ensures table { OnOk result (FitsMap (λ n. simple_name_fault n ≡ None) FitsEntry table.now) }
+    ensures each { OnOk result (ItemsFit (λ n. simple_name_fault n ≡ None) FitsEntry list) }
 {
     put_optional_stamp(out, stamp)?;
-    put_u64(out, table.len() as u64)?;
-    put_entries(out, table)?;
+    put_u64(out, count as u64)?;
+    put_entries(out, list)?;
     Ok(())
 }
 
@@ -107,7 +114,8 @@ pub(crate) fn put_replica(out: &mut Vec<u8>, replica: &Replica) -> Result<(), Al
     ensures octets { OnOk result (out.new.items ≡ out.old.items ++ replica_octets replica.now) }
     ensures fits { OnOk result (FitsReplica replica.now) }
 {
-    put_table(out, &replica.all_up_to, &replica.table)?;
+    let table = &replica.table;
+    put_table(out, &replica.all_up_to, table.len(), table.iter())?;
     Ok(())
 }
 
@@ -116,6 +124,7 @@ pub(crate) fn put_delta(out: &mut Vec<u8>, delta: &Delta) -> Result<(), AllocErr
     ensures octets { OnOk result (out.new.items ≡ out.old.items ++ delta_octets delta.now) }
     ensures fits { OnOk result (FitsDelta delta.now) }
 {
-    put_table(out, &delta.above, &delta.table)?;
+    let table = &delta.table;
+    put_table(out, &delta.above, table.len(), table.iter())?;
     Ok(())
 }

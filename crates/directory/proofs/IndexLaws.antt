@@ -22,7 +22,7 @@ use Rattle.directory.specs.Deletions.{has_lost, is_lost, has_deletion, without, 
 use Rattle.directory.specs.Entries.{Entries, join_entries, join_tables, IsValidEntry, IsValidTable}
 use Rattle.directory.specs.EntryLawProofs.{table_join}
 use Rattle.directory.specs.Histories.{entry_of}
-use Rattle.directory.specs.IndexWords.{is_indexed, deletion_count, Keeps, AddsAt, KnowsAll, BeginsWell, BeginsWellElsewhere, IsSettled, IsIndexed}
+use Rattle.directory.specs.IndexWords.{is_indexed, deletion_count, Keeps, AddsAt, KnowsAll, BeginsWell, BeginsWellElsewhere, IsSettled, IsIndexed, IsKnown}
 use Rattle.directory.specs.Shown.{Shown, marks_of}
 use Rattle.directory.specs.Updates.{Change, changed_name}
 use Rattle.directory.proofs.DeletionLaws.{others_stay, raised_deletion, raised_valid, joined_deletion, update_lost, without_has, without_valid, purged_without}
@@ -40,14 +40,21 @@ index_same x y m same as_many room i = record {
   within = let a = i.within in omega (arith, a, as_many, room);
 }
 
--- what stands before the index settles: the entries are valid, and it knows of all their deletions
-pub record IsKnown (x : Deletions) (m : Entries) : Type 0 where
-  pub valid : IsValidTable m
-  pub all : KnowsAll x m
-
 -- a call that settles the index
 pub settled : (x y : Deletions) (m : Entries) → IsKnown x m → (KnowsAll x m → KnowsAll y m) → BeginsWell y m → IsSettled x y m → IsIndexed y m
 settled x y m known all first is = record { valid = known.valid; all = all known.all; first = first; within = is.within }
+
+-- an entry that is joined in, whose deletions the index knows then
+pub raised_known : (x y : Deletions) (m n : Entries) (k : List ℕ) (e : EntryCell) → Keeps x y
+    → ((s : Stamp) (w : What) → has_lost e s w ≡ true → is_indexed y (record { stamp = s; name = k; what = w }) ≡ true)
+    → IsValidEntry e → RaisesAt join_entries m n k e → IsKnown x m → IsKnown y n
+raised_known x y m n k e keeps adds valid raises i = record {
+  valid = raised_valid m n k e i.valid valid raises;
+  all = λ d h. ⊎_elim
+      (λ own. keeps d (i.all d own))
+      (λ new. subst (λ k. is_indexed y (record { stamp = d.stamp; name = k; what = d.what }) ≡ true) (sym new.0) (adds d.stamp d.what new.1))
+      (raised_deletion m n k e raises d h);
+}
 
 module _ (x y : Deletions) (m n : Entries) (keeps : Keeps x y) (i : IsIndexed x m) where
   -- entries that stay
@@ -61,13 +68,7 @@ module _ (x y : Deletions) (m n : Entries) (keeps : Keeps x y) (i : IsIndexed x 
   pub known_raised : (k : List ℕ) (e : EntryCell)
       → ((s : Stamp) (w : What) → has_lost e s w ≡ true → is_indexed y (record { stamp = s; name = k; what = w }) ≡ true)
       → IsValidEntry e → RaisesAt join_entries m n k e → IsKnown y n
-  known_raised k e adds valid raises = record {
-    valid = raised_valid m n k e i.valid valid raises;
-    all = λ d h. ⊎_elim
-        (λ own. keeps d (i.all d own))
-        (λ new. subst (λ k. is_indexed y (record { stamp = d.stamp; name = k; what = d.what }) ≡ true) (sym new.0) (adds d.stamp d.what new.1))
-        (raised_deletion m n k e raises d h);
-  }
+  known_raised k e adds valid raises = raised_known x y m n k e keeps adds valid raises (record { valid = i.valid; all = i.all })
 
   -- an update that is added
   pub known_update : (shown : Option Shown) (u : Change) (s : Stamp) → IfSome (deleted_by u s) (λ d. is_indexed y d ≡ true)

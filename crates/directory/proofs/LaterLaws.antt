@@ -1,9 +1,11 @@
 -- What is taken of another table up to a stamp: what is later of an entry changes nothing where the entry changes nothing; and the
--- loops that make a table of what is taken, and an index of its deletions.
+-- loops that take it in turn, that make an index of deletions, and a table of what is later.
 use Rattle.std.proofs.Common.{◌≡◌, Bool, true, false, cond, List, [], ◌∷◌, Option, Some, None, refl, sym, ap, subst, ◌∙◌, ◌⊎◌, inl, inr, ⊎_elim}
-use Rattle.std.proofs.Common.{is_eq, Result, Ok, Err, OnOk, OnErr}
-use Rattle.std.specs.Prelude.{ℕ, ◌++◌, ◌≢◌, IfSome, is_ok, if◌then◌else◌}
-use Rattle.std.specs.FinMap.{FinMap, IsAntisymmetric, get, empty, insert, entries, entries_sorted, from_entries}
+use Rattle.std.proofs.Common.{is_eq, arith, Result, Ok, Err, OnOk, OnErr}
+use Rattle.std.proofs.lemmas.Bool.{false≢true}
+use Rattle.std.proofs.lemmas.Bool.Decides.{nat_tests}
+use Rattle.std.specs.Prelude.{ℕ, ◌++◌, ◌≢◌, ◌==◌, ◌↔◌, IsTrue, IfSome, is_ok, if◌then◌else◌}
+use Rattle.std.specs.FinMap.{FinMap, IsAntisymmetric, get, empty, insert, len, len-empty, empty_of_len, entries, entries_sorted, from_entries}
 use Rattle.std.specs.FinMap.{get-entries, get-empty, get-insert, get-from_entries, same_map}
 use Rattle.std.specs.Option.{option_and_then}
 use Rattle.std.specs.declared.cmp.Ordering.{Ordering}
@@ -22,7 +24,8 @@ use Rattle.cds_stamps.specs.Semilattice.{maybe}
 use Rattle.cds_stamps.specs.Keyed.{ties_are_equal, map_some, get-map_some, get-merge}
 use Rattle.cds_stamps.specs.Joins.{EachValue, join_maps, get-join_maps}
 use Rattle.cds_stamps.specs.Stamps.{stamp_total, is_up_to, later_stamp, later_stamp_laws, earlier_stamp, earlier_stamp_laws}
-use Rattle.cds_stamps.specs.Octets.{octets_cmp, octets_exact}
+use Rattle.cds_stamps.specs.Octets.{octets_cmp, octets_exact, is_octets}
+use Rattle.cds_stamps.specs.Undos.{RaisesAt}
 use Rattle.cds_stamps.proofs.TreeViews.{get-view}
 use Rattle.attr_sets.specs.declared.mark.ValueMark.{ValueMark}
 use Rattle.attr_sets.specs.declared.cell.AttrCell.{AttrCell}
@@ -30,17 +33,19 @@ use Rattle.attr_sets.specs.Marks.{later, later_laws, mark_after_clear}
 use Rattle.attr_sets.specs.AttributeCells.{join_cells, IsValidCell}
 use Rattle.attr_sets.specs.CellLawProofs.{same_cell, get-join_cells}
 use Rattle.attr_sets.specs.CellPurges.{clear_left, mark_after, is_empty_cell, after_cell, cell_after}
+use Rattle.attr_sets.proofs.SomeCellLaws.{none_of-empty, some_of-other, empty_or_not}
 use Rattle.attr_sets.proofs.CellPurgeLaws.{get-after_cell}
 use Rattle.attr_sets.proofs.ShownLaws.{keys_rise}
 use Rattle.directory.specs.declared.entry.EntryCell.{EntryCell}
 use Rattle.directory.specs.declared.deletions.Deletion.{Deletion}
 use Rattle.directory.specs.declared.deletions.Deletions.{Deletions}
 use Rattle.directory.specs.declared.deletions.What.{What}
+use Rattle.directory.specs.Applied.{LeavesOthers}
 use Rattle.directory.specs.Deletions.{has_lost, is_lost, has_deletion}
 use Rattle.directory.specs.Entries.{Entries, join_entries, join_tables, IsHeldCell, IsValidEntry, IsValidTable}
 use Rattle.directory.specs.EntryLawProofs.{kinds, entry_join, table_join}
 use Rattle.directory.specs.IndexWords.{is_indexed, IsIndexed, Keeps, KnowsAll, insert_each}
-use Rattle.directory.specs.Purges.{after_entry, is_passed, taken_entry, take_entry, take_table, delta_entry, delta_table}
+use Rattle.directory.specs.Purges.{after_entry, is_passed, take_entry, take_table, delta_entry, delta_table}
 use Rattle.directory.proofs.DeletionLaws.{joined_deletion}
 use Rattle.directory.proofs.TakeLaws.{joined_equal, none_right}
 
@@ -111,11 +116,6 @@ known_taken t own e valid known = ⊎_elim passed (outdated own) known
         at true = refl
         at false = let same : join_entries o e ≡ o = cc (is) in ap Some (after_entry-outdated t o e valid same)
 
--- of any other entry what is later is joined in
-pub new_taken : (t : Stamp) (own : Option EntryCell) (e : EntryCell) → is_passed t own e ≡ false
-    → maybe join_entries own (Some (after_entry t e)) ≡ take_entry t own (Some e)
-new_taken t own e new = ap (λ b. maybe join_entries own (if b then None else Some (after_entry t e))) (sym new)
-
 -- a name that is given an entry has it, and every other has what it had
 pub put_here : (old new : Entries) (k l : List ℕ) (x y : EntryCell) → new ≡ insert old l y → l ≡ k → y ≡ x → get new k ≡ Some x
 put_here old new k l x y put name entry =
@@ -148,23 +148,23 @@ lookup-entries o same m q = sym (get-view o (entries m) q) ∙ ap (λ m. get m q
 
 -- ---- loops that give each key of a map something in turn, or nothing
 
-module _ {K X Y : Type 0} {R : K → K → Ordering} (o : IsTotalOrder R) (same : IsAntisymmetric R) (P : K → Option Y → Type 0) where
-  -- a key is still to come, and has nothing yet; or it has what it is to have
+module _ {K X Y : Type 0} {R : K → K → Ordering} (o : IsTotalOrder R) (same : IsAntisymmetric R) (base : FinMap R Y) (P : K → Option Y → Type 0) where
+  -- a key is still to come, and has what it had at first; or it has what it is to have
   abbrev Stands : FinMap R X → FinMap R Y → List (K × X) → K → Type 0
-  Stands m new es q = ((get new q ≡ None) × (lookup (is_at (R q)) es ≡ get m q)) ⊎ ((lookup (is_at (R q)) es ≡ None) × P q (get new q))
+  Stands m new es q = ((get new q ≡ get base q) × (lookup (is_at (R q)) es ≡ get m q)) ⊎ ((lookup (is_at (R q)) es ≡ None) × P q (get new q))
 
   -- each key of the new map stands so, beside the entries still to come
   abbrev pub InTurn : FinMap R X → FinMap R Y → List (K × X) → Type 0
   InTurn m new es = IsStrictlySortedBy R (keys_of es) × ((q : K) → Stands m new es q)
 
-  pub turns_start : (m : FinMap R X) (new : FinMap R Y) (items : List (K × X)) → items ≡ entries m → new ≡ empty → InTurn m new items
+  pub turns_start : (m : FinMap R X) (new : FinMap R Y) (items : List (K × X)) → items ≡ entries m → new ≡ base → InTurn m new items
   turns_start m new items all nothing = (
     subst (λ es. IsStrictlySortedBy R (keys_of es)) (sym all) (keys_rise R (entries m) (entries_sorted m)),
-    λ q. inl (ap (λ n. get n q) nothing ∙ get-empty R q, ap (lookup (is_at (R q))) all ∙ lookup-entries o same m q),
+    λ q. inl (ap (λ n. get n q) nothing, ap (lookup (is_at (R q))) all ∙ lookup-entries o same m q),
   )
 
   pub turns_step : (m : FinMap R X) (old new : FinMap R Y) (k : K) (x : X) (es rest : List (K × X)) → es ≡ (k, x) ∷ rest
-      → ((q : K) → q ≢ k → get new q ≡ get old q) → (get old k ≡ None → get m k ≡ Some x → P k (get new k)) → InTurn m old es → InTurn m new rest
+      → ((q : K) → q ≢ k → get new q ≡ get old q) → (get old k ≡ get base k → get m k ≡ Some x → P k (get new k)) → InTurn m old es → InTurn m new rest
   turns_step m old new k x es rest first others here before =
       (sorted_tail R k (keys_of rest) sorted, λ q. by_case q (eq_by_cmp R q k) refl)
     where
@@ -198,42 +198,89 @@ module _ {K X Y : Type 0} {R : K → K → Ordering} (o : IsTotalOrder R) (same 
           apart : {b : Bool} → b ≡ true → b ≡ false → ⊥
           apart p r = cc
 
-  pub turns_end : (m : FinMap R X) (new : FinMap R Y) (es : List (K × X)) → es ≡ [] → ((q : K) → get m q ≡ None → P q None) → InTurn m new es
+  -- the key that comes has what it had at first
+  pub turns_waits : (m : FinMap R X) (old : FinMap R Y) (k : K) (x : X) (es rest : List (K × X)) → es ≡ (k, x) ∷ rest → InTurn m old es
+      → get old k ≡ get base k
+  turns_waits m old k x es rest first is =
+      ⊎_elim (λ waits. waits.0) (λ done. absurd (let e : Some x ≡ None = sym found ∙ done.0 in cc)) (is.1 k)
+    where
+      found : lookup (is_at (R k)) es ≡ Some x
+      found = ap (λ es. lookup (is_at (R k)) es) first ∙ ap (λ b. cond b (Some x) (lookup (is_at (R k)) rest)) (ap is_eq (tied_itself o k))
+
+  pub turns_end : (m : FinMap R X) (new : FinMap R Y) (es : List (K × X)) → es ≡ [] → ((q : K) → get m q ≡ None → P q (get base q)) → InTurn m new es
       → (q : K) → P q (get new q)
   turns_end m new es none nothing is q = ⊎_elim
       (λ waits. subst (P q) (sym waits.0) (nothing q (sym waits.1 ∙ ap (lookup (is_at (R q))) none))) (λ done. done.1) (is.1 q)
 
--- ---- the table of what is taken
+-- ---- what is taken in turn
 
--- what a name has in it is valid, and joined with the own entry it is what is taken of the other
+-- a name has what is taken of the other table beside its own entry
 abbrev pub IsTaken : Stamp → Entries → Entries → List ℕ → Option EntryCell → Type 0
-IsTaken t own other q x = IfSome x IsValidEntry × (maybe join_entries (get own q) x ≡ take_entry t (get own q) (get other q))
+IsTaken t own other q x = x ≡ take_entry t (get own q) (get other q)
 
--- a table of what is taken, where the entries still to come are put
-abbrev pub TakesPart : Stamp → Entries → Entries → Entries → List (List ℕ × EntryCell) → Type 0
-TakesPart t own other = InTurn nat_list_cmp_total octets_exact (IsTaken t own other) other
+-- a table into which it is taken, where the entries still to come are not
+abbrev pub TakesInTurn : Stamp → Entries → Entries → Entries → List (List ℕ × EntryCell) → Type 0
+TakesInTurn t own other = InTurn nat_list_cmp_total octets_exact own (IsTaken t own other) other
 
--- a table of what is taken is so with one entry fewer to come, where the name of that one got what is taken of it
-pub part_step : (t : Stamp) (own other old new : Entries) (k : List ℕ) (e : EntryCell) (es rest : List (List ℕ × EntryCell)) → es ≡ (k, e) ∷ rest
-    → IsValidTable own → IsValidTable other → (get old k ≡ None → IsValidEntry e → IfSome (get new k) IsValidEntry)
-    → (get old k ≡ None → IfSome (get own k) IsValidEntry → IsValidEntry e → maybe join_entries (get own k) (get new k) ≡ take_entry t (get own k) (Some e))
-    → ((q : List ℕ) → q ≢ k → get new q ≡ get old q) → TakesPart t own other old es → TakesPart t own other new rest
-part_step t own other old new k e es rest first mine theirs valid joined others =
-    turns_step nat_list_cmp_total octets_exact (IsTaken t own other) other old new k e es rest first others (λ none found.
-    let entry : IsValidEntry e = subst (λ x. IfSome x IsValidEntry) found (theirs k) in
-    (valid none entry, joined none (mine k) entry ∙ ap (take_entry t (get own k)) (sym found)))
+-- what one name of a table gets where what is taken of an entry is joined in there
+abbrev pub TakesOne : Stamp → Entries → Entries → List ℕ → EntryCell → Type 0
+TakesOne t m n k e = IfSome (get m k) IsValidEntry → IsValidEntry e → (q : List ℕ) → get n q ≡ take_entry t (get m q) (if is_octets q k then Some e else None)
 
--- once no entry is still to come, each name has what is taken of the other table
-pub part_end : (t : Stamp) (own other new : Entries) (es : List (List ℕ × EntryCell)) → es ≡ [] → TakesPart t own other new es
-    → (q : List ℕ) → IsTaken t own other q (get new q)
-part_end t own other new es none = turns_end nat_list_cmp_total octets_exact (IsTaken t own other) other new es none (λ q absent.
-    (tt, ap (λ x. maybe join_entries (get own q) (option_and_then (taken_entry t (get own q)) x)) (sym absent)))
+-- each other name has what it had
+takes_leave : (t : Stamp) (m n : Entries) (k : List ℕ) (e : EntryCell)
+    → ((q : List ℕ) → get n q ≡ take_entry t (get m q) (if is_octets q k then Some e else None)) → LeavesOthers m n k
+takes_leave t m n k e takes q other = takes q ∙ at (is_octets q k) refl
+  where
+    at : (b : Bool) → is_octets q k ≡ b → take_entry t (get m q) (if b then Some e else None) ≡ get m q
+    at true same = absurd (other (ties_are_equal octets_exact q k same))
+    at false apart = none_right join_entries (get m q)
 
--- joined with the own table it is the table with what is taken
-pub part_joined_in : (t : Stamp) (own other new : Entries) → ((q : List ℕ) → IsTaken t own other q (get new q)) → join_tables own new ≡ take_table t own other
-part_joined_in t own other new taken = same_map nat_list_cmp_total octets_exact (join_tables own new) (take_table t own other) (λ q.
-    get-join_maps nat_list_cmp_total octets_exact join_entries own new q ∙ (taken q).1
+-- it is so with one entry fewer to come
+pub take_step : (t : Stamp) (own other old new : Entries) (k : List ℕ) (e : EntryCell) (es rest : List (List ℕ × EntryCell)) → es ≡ (k, e) ∷ rest
+    → IsValidTable own → TakesOne t old new k e → IsValidEntry e → TakesInTurn t own other old es → TakesInTurn t own other new rest
+take_step t own other old new k e es rest first mine takes entry is =
+    turns_step nat_list_cmp_total octets_exact own (IsTaken t own other) other old new k e es rest first others (λ waits found.
+    taken waits k ∙ ap (λ b. take_entry t (get old k) (if b then Some e else None)) (ap is_eq (tied_itself nat_list_cmp_total k))
+    ∙ ap (λ x. take_entry t x (Some e)) waits ∙ ap (take_entry t (get own k)) (sym found)) is
+  where
+    taken : get old k ≡ get own k → (q : List ℕ) → get new q ≡ take_entry t (get old q) (if is_octets q k then Some e else None)
+    taken waits = takes (subst (λ x. IfSome x IsValidEntry) (sym waits) (mine k)) entry
+
+    others : (q : List ℕ) → q ≢ k → get new q ≡ get old q
+    others = takes_leave t old new k e (taken (turns_waits nat_list_cmp_total octets_exact own (IsTaken t own other) other old k e es rest first is))
+
+-- once no entry is still to come, all is taken
+pub take_end : (t : Stamp) (own other new : Entries) (es : List (List ℕ × EntryCell)) → es ≡ [] → TakesInTurn t own other new es → new ≡ take_table t own other
+take_end t own other new es none is = same_map nat_list_cmp_total octets_exact new (take_table t own other) (λ q.
+    turns_end nat_list_cmp_total octets_exact own (IsTaken t own other) other new es none
+    (λ q absent. sym (ap (take_entry t (get own q)) absent ∙ none_right join_entries (get own q))) is q
     ∙ sym (get-merge nat_list_cmp_total octets_exact (take_entry t) refl own other q))
+
+-- an entry that is known already is taken
+pub known_stays : (t : Stamp) (m : Entries) (k : List ℕ) (e : EntryCell) → take_entry t (get m k) (Some e) ≡ get m k → (q : List ℕ)
+    → get m q ≡ take_entry t (get m q) (if is_octets q k then Some e else None)
+known_stays t m k e known q = at (is_octets q k) refl
+  where
+    at : (b : Bool) → is_octets q k ≡ b → get m q ≡ take_entry t (get m q) (if b then Some e else None)
+    at false apart = sym (none_right join_entries (get m q))
+    at true same = subst (λ k. get m k ≡ take_entry t (get m k) (Some e)) (sym (ties_are_equal octets_exact q k same)) (sym known)
+
+-- and so is any other of which what is later is joined in
+pub later_raised : (t : Stamp) (m n : Entries) (k : List ℕ) (e : EntryCell) → is_passed t (get m k) e ≡ false
+    → RaisesAt join_entries m n k (after_entry t e) → (q : List ℕ) → get n q ≡ take_entry t (get m q) (if is_octets q k then Some e else None)
+later_raised t m n k e stays raises q = raises q ∙ at (is_octets q k) refl
+  where
+    at : (b : Bool) → is_octets q k ≡ b
+        → maybe join_entries (get m q) (if b then Some (after_entry t e) else None) ≡ take_entry t (get m q) (if b then Some e else None)
+    at false apart = refl
+    at true same =
+        let here : is_passed t (get m q) e ≡ false = ap (λ k. is_passed t (get m k) e) (ties_are_equal octets_exact q k same) ∙ stays in
+        ap (λ b. maybe join_entries (get m q) (if b then None else Some (after_entry t e))) (sym here)
+
+-- what follows of an answer that is no error
+pub on_ok : {T E P Q : Type 0} (r : Result T E) → (P → Q) → OnOk r P → OnOk r Q
+on_ok (Ok x) f p = f p
+on_ok (Err e) f p = tt
 
 -- ---- the index of a table
 
@@ -290,6 +337,52 @@ module _ (x y : Deletions) (m n : Entries) (indexed : IsIndexed x m) (keeps : Ke
     λ d has. ⊎_elim (λ own. keeps d (indexed.all d own)) (λ other. knows d other) (joined_deletion m n d has),
   )
 
+-- ---- entries of which nothing is later
+
+module _ {K X Y : Type 0} {R : K → K → Ordering} (o : IsTotalOrder R) (same : IsAntisymmetric R) (f : X → Option Y) (m : FinMap R X) where
+  nothing_of : (x : Option X) → IfSome x (λ x. f x ≡ None) → option_and_then f x ≡ None
+  nothing_of None h = refl
+  nothing_of (Some x) h = h
+
+  of_nothing : (x : Option X) → option_and_then f x ≡ None → IfSome x (λ x. f x ≡ None)
+  of_nothing None h = tt
+  of_nothing (Some x) h = h
+
+  -- where no value gives anything, nothing is left
+  pub none_left : EachValue (λ x. f x ≡ None) m → map_some f m ≡ empty
+  none_left h = same_map o same (map_some f m) empty (λ q. get-map_some o same f m q ∙ nothing_of (get m q) (h q) ∙ sym (get-empty R q))
+
+  -- and the other way round
+  pub left_none : map_some f m ≡ empty → EachValue (λ x. f x ≡ None) m
+  left_none h q = of_nothing (get m q) (sym (get-map_some o same f m q) ∙ ap (λ n. get n q) h ∙ get-empty R q)
+
+-- of a cell nothing is later where neither its clear nor a mark is
+pub old_cell : (t : Stamp) (c : AttrCell) → option_and_then (clear_left t) c.cleared ≡ None → EachValue (λ m. mark_after t m ≡ None) c.values
+    → cell_after t c ≡ None
+old_cell t c clear marks =
+    let values = none_left nat_list_cmp_total octets_exact (mark_after t) c.values marks in
+    none_of-empty (after_cell t c) (λ i. record { cleared = clear i; values = values i })
+
+-- and the other way round
+pub cell_old : (t : Stamp) (c : AttrCell) → cell_after t c ≡ None
+    → (option_and_then (clear_left t) c.cleared ≡ None) × EachValue (λ m. mark_after t m ≡ None) c.values
+cell_old t c none = ⊎_elim
+    (λ is. (
+      ap (λ (c : AttrCell). c.cleared) is,
+      left_none nat_list_cmp_total octets_exact (mark_after t) c.values (ap (λ (c : AttrCell). c.values) is),
+    ))
+    (λ other. absurd (let some : Some (after_cell t c) ≡ None = sym (some_of-other (after_cell t c) other) ∙ none in cc)) (empty_or_not (after_cell t c))
+
+-- whether values give nothing, counted
+pub none_counted : {K X Y : Type 0} {R : K → K → Ordering} (o : IsTotalOrder R) (same : IsAntisymmetric R) (f : X → Option Y) (m : FinMap R X) (r : Bool)
+    → (IsTrue r ↔ EachValue (λ x. f x ≡ None) m) → r ≡ (len (map_some f m) == 0)
+none_counted {Y = Y} {R = R} o same f m true is = sym (ap (λ m. len m == 0) (none_left o same f m (is.0 refl)) ∙ ap (λ n. n == 0) (len-empty R Y))
+none_counted o same f m false is = at (len (map_some f m) == 0) refl
+  where
+    at : (b : Bool) → (len (map_some f m) == 0) ≡ b → false ≡ b
+    at false zero = refl
+    at true zero = absurd (false≢true (is.1 (left_none o same f m (empty_of_len (map_some f m) (grind (arith, zero, nat_tests))))))
+
 -- ---- the table of what is later
 
 -- a name has in it what is later of its entry
@@ -298,19 +391,19 @@ IsLater t own q x = x ≡ option_and_then (delta_entry t) (get own q)
 
 -- a table of what is later, where the entries still to come are put
 abbrev pub LeavesPart : Stamp → Entries → Entries → List (List ℕ × EntryCell) → Type 0
-LeavesPart t own = InTurn nat_list_cmp_total octets_exact (IsLater t own) own
+LeavesPart t own = InTurn nat_list_cmp_total octets_exact empty (IsLater t own) own
 
 -- it is so with one entry fewer to come
 pub delta_step : (t : Stamp) (own old new : Entries) (k : List ℕ) (e : EntryCell) (es rest : List (List ℕ × EntryCell)) → es ≡ (k, e) ∷ rest
     → (get old k ≡ None → get new k ≡ delta_entry t e) → ((q : List ℕ) → q ≢ k → get new q ≡ get old q) → LeavesPart t own old es → LeavesPart t own new rest
 delta_step t own old new k e es rest first here others =
-    turns_step nat_list_cmp_total octets_exact (IsLater t own) own old new k e es rest first others (λ none found.
-    here none ∙ ap (option_and_then (delta_entry t)) (sym found))
+    turns_step nat_list_cmp_total octets_exact empty (IsLater t own) own old new k e es rest first others (λ none found.
+    here (none ∙ get-empty octets_cmp k) ∙ ap (option_and_then (delta_entry t)) (sym found))
 
 -- once no entry is still to come, it is the whole
 pub delta_end : (t : Stamp) (own new : Entries) (es : List (List ℕ × EntryCell)) → es ≡ [] → LeavesPart t own new es → new ≡ delta_table (Some t) own
 delta_end t own new es none is =
     same_map nat_list_cmp_total octets_exact new (delta_table (Some t) own) (λ q.
-    turns_end nat_list_cmp_total octets_exact (IsLater t own) own new es none
-    (λ q gone. sym (ap (option_and_then (delta_entry t)) gone)) is q
+    turns_end nat_list_cmp_total octets_exact empty (IsLater t own) own new es none
+    (λ q gone. get-empty octets_cmp q ∙ sym (ap (option_and_then (delta_entry t)) gone)) is q
     ∙ sym (get-map_some nat_list_cmp_total octets_exact (delta_entry t) own q))

@@ -103,6 +103,11 @@ pub record IsIndexed (x : Deletions) (m : Entries) : Type 0 where
   pub first : BeginsWell x m
   pub within : deletion_count x ≤ x.most
 
+-- before the index settles: the entries are valid, and it knows of all their deletions (own)
+pub record IsKnown (x : Deletions) (m : Entries) : Type 0 where
+  pub valid : IsValidTable m
+  pub all : KnowsAll x m
+
 -- the table of these entries, inserted in turn (own)
 abbrev pub insert_each : List (List ℕ × EntryCell) → Entries
 insert_each = fold (λ m p. insert m p.0 p.1) empty

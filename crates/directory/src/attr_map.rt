@@ -10,14 +10,14 @@ ghost use Rattle.cds_stamps.specs.Joins.{join_maps, EachValue};
 ghost use Rattle.cds_stamps.specs.Undos.{RaisesAt, TakesBack, LogsChange, MendsAt, back_at};
 ghost use Rattle.attr_sets.specs.AttributeCells.{cell_of, join_cells};
 ghost use Rattle.attr_sets.specs.CellChanges.{change_marks};
-ghost use Rattle.attr_sets.specs.CellPurges.{is_empty_cell, cell_after};
+ghost use Rattle.attr_sets.specs.CellPurges.{is_empty_cell, clear_left, mark_after, cell_after};
 ghost use Rattle.attr_sets.specs.CellUndoWords.{undo_cell};
 ghost use Rattle.directory.specs.Deletions.{is_at, is_absent, change_at, cell_without};
 ghost use Rattle.directory.specs.declared.deletions.What.TheVariants.{Clear, Absent};
 ghost use Rattle.directory.specs.Entries.{IsHeldCell};
 ghost use Rattle.directory.specs.Applied.{JoinsCell, TakesMarks};
 
-use attr_sets::{AttrCell, CellChange, CellUndo, Value};
+use attr_sets::{AttrCell, CellChange, CellUndo, Value, ValueMap};
 use cds_stamps::{AttrName, Lattice, Stamp};
 use compact_map::{CompactMap, Iter};
 use std::alloc::{AllocError, Global};
@@ -515,6 +515,20 @@ impl AttrMap {
         Ok(())
     }
 
+    /// Whether nothing of any cell is later than t.
+    pub(crate) fn is_old(&self, t: Stamp) -> bool
+        ensures { IsTrue result ↔ EachValue (λ c. cell_after t c ≡ None) self.now }
+    {
+        let t = &t;
+        for (_, cell) in self.cells.iter() {
+            let old = is_old_cell(cell, *t);
+            if !old {
+                return false;
+            }
+        }
+        true
+    }
+
     /// Whether each cell has something, all of it later than t.
     pub(crate) fn is_after(&self, t: Stamp) -> bool
         ensures { IsTrue result ↔ (map_some (cell_after t) self.now ≡ self.now) }
@@ -534,6 +548,36 @@ fn is_held(cell: &AttrCell) -> bool
     ensures { IsTrue result ↔ IsHeldCell cell.now }
 {
     !cell.is_empty() && cell.is_valid()
+}
+
+/// Whether neither the clear of a cell nor a mark is later than t.
+fn is_old_cell(cell: &AttrCell, t: Stamp) -> bool
+    ensures { IsTrue result ↔ (cell_after t cell.now ≡ None) }
+{
+    let t = &t;
+    is_old_clear(cell.cleared, *t) && are_old_marks(&cell.values, *t)
+}
+
+/// Whether there is no clear later than t.
+fn is_old_clear(cleared: Option<Stamp>, t: Stamp) -> bool
+    ensures { IsTrue result ↔ (option_and_then (clear_left t) cleared ≡ None) }
+{
+    match cleared {
+        Some(clear) => !(t < clear),
+        None => true,
+    }
+}
+
+/// Whether no mark is later than t.
+fn are_old_marks(marks: &ValueMap, t: Stamp) -> bool
+    ensures { IsTrue result ↔ EachValue (λ m. mark_after t m ≡ None) marks.now }
+{
+    for (_, mark) in marks.iter() {
+        if t < mark.stamp {
+            return false;
+        }
+    }
+    true
 }
 
 /// Whether a value of a cell is absent since the stamp.

@@ -1,10 +1,10 @@
 // Entries.
-ghost use Rattle.std.specs.Prelude.{◌≡◌, ◌≢◌, ◌↔◌, IsTrue, min, true, Some, None, if◌then◌else◌, filter, is_some, option_copied};
+ghost use Rattle.std.specs.Prelude.{◌≡◌, ◌≢◌, ◌↔◌, ◌&&◌, IsTrue, min, true, Some, None, if◌then◌else◌, filter, is_some, option_copied};
 ghost use Rattle.std.specs.Prelude.{MatchBool, IsSome, IfSome, IsOk, IfOk, OnOk, OnErr};
 ghost use Rattle.std.specs.FinMap as map;
 ghost use Rattle.std.specs.Option.{option_and_then};
 ghost use Rattle.cds_stamps.specs.Semilattice.{maybe, greater};
-ghost use Rattle.cds_stamps.specs.Stamps.{earlier_stamp, is_earlier};
+ghost use Rattle.cds_stamps.specs.Stamps.{earlier_stamp, is_earlier, is_up_to};
 ghost use Rattle.directory.specs.Kinds.{kind_cmp, is_child};
 ghost use Rattle.directory.specs.Entries.{join_tied, join_entries, IsValidEntry};
 ghost use Rattle.directory.specs.EntryLawProofs.{entry_join};
@@ -457,6 +457,22 @@ impl EntryCell {
     {
         let t = &t;
         !self.is_dead_up_to(*t) && self.attrs.is_after(*t)
+    }
+
+    /// Whether neither its birth is later than t nor anything else of it. It takes no memory.
+    pub(crate) fn is_old(&self, t: Stamp) -> bool
+        ensures { result ≡ (is_up_to t self.now.birth && is_bare (after_entry t self.now)) }
+    {
+        let t = &t;
+        !(*t < self.birth) && self.is_bare_after(*t)
+    }
+
+    /// Whether nothing of it but its birth is later than t.
+    fn is_bare_after(&self, t: Stamp) -> bool
+        ensures { result ≡ is_bare (after_entry t self.now) }
+    {
+        let t = &t;
+        death_after(self.death, *t).is_none() && self.attrs.is_old(*t)
     }
 
     /// Whether it has nothing but its birth: neither a death nor an attribute.

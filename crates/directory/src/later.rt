@@ -1,17 +1,20 @@
 // What of a table is later than a stamp, and what of that another table takes.
-ghost use Rattle.std.specs.Prelude.{◌≡◌, ◌&&◌, IsTrue, IfSome, IfOk, OnOk, OnErr, Some, None, false, option_copied};
+ghost use Rattle.std.specs.Prelude.{◌≡◌, ℕ, List, IsTrue, IfSome, IfOk, OnOk, OnErr, Some, None, false, if◌then◌else◌, option_copied};
 ghost use Rattle.std.specs.FinMap as map;
 ghost use Rattle.cds_stamps.specs.Semilattice.{maybe};
-ghost use Rattle.cds_stamps.specs.Stamps.{is_up_to};
-ghost use Rattle.directory.specs.Applied.{LeavesOthers};
-ghost use Rattle.directory.specs.Entries.{join_entries, join_tables, IsValidEntry, IsValidTable};
-ghost use Rattle.directory.specs.IndexWords.{IsIndexed, Keeps, KnowsAll, insert_each};
-ghost use Rattle.directory.specs.Purges.{delta_entry, delta_table, holds, is_bare, is_passed, take_entry, take_table};
+ghost use Rattle.cds_stamps.specs.Octets.{is_octets};
+ghost use Rattle.cds_stamps.specs.Undos.{LogsChange};
+ghost use Rattle.directory.specs.Applied.{JoinsEntry, LeavesOthers};
+ghost use Rattle.directory.specs.Entries.{join_entries, IsValidEntry, IsValidTable};
+ghost use Rattle.directory.specs.EntryUndoWords.{undo_entry};
+ghost use Rattle.directory.specs.IndexWords.{IsIndexed, IsKnown, Keeps, KnowsAll, insert_each};
+ghost use Rattle.directory.specs.Purges.{delta_entry, delta_table, holds, is_passed, take_entry, take_table};
 
 use crate::deletions::Deletions;
 use crate::entry::EntryCell;
 use crate::entry_map::EntryMap;
-use cds_stamps::{Lattice, SimpleName, Stamp};
+use crate::undo::EntryUndo;
+use cds_stamps::{SimpleName, Stamp};
 use std::alloc::{AllocError, Global};
 
 /// Joins in what of other entries is later than t, and its deletions.
@@ -28,13 +31,111 @@ pub(crate) fn take_later(
     ensures err { OnErr result (entries.new ≡ entries.old) }
     ensures index { IsIndexed deletions.old entries.old → IsIndexed deletions.new entries.new }
 {
-    let later = later_part(alloc, entries, other, t)?;
-    let mut taken = add_deletions(deletions, alloc, &later);
-    if taken.is_ok() {
-        taken = entries.join(alloc, &later);
-    }
+    let taken = take_all(entries, deletions, alloc, other, t);
     deletions.settle(entries);
     taken
+}
+
+/// Joins in what of other entries is later than t, and adds its deletions. Where memory runs out the entries are as before.
+fn take_all(
+    entries: &mut EntryMap,
+    deletions: &mut Deletions,
+    alloc: Global,
+    other: &EntryMap,
+    t: Stamp,
+) -> Result<(), AllocError>
+    requires { IsValidTable other.now }
+    ensures ok { OnOk result (IsValidTable entries.old
+        → entries.new ≡ take_table t entries.old other.now) }
+    ensures knows { OnOk result (IsKnown deletions.old entries.old
+        → IsKnown deletions.new entries.new) }
+    ensures err { OnErr result (entries.new ≡ entries.old) }
+    ensures keeps { Keeps deletions.old deletions.new }
+    ensures room { deletions.new.most ≡ deletions.old.most }
+{
+    let mut log = Vec::new(alloc);
+    if let Err(error) = take_each(entries, deletions, alloc, other, t, &mut log) {
+        entries.take_back(log);
+        return Err(error);
+    }
+    Ok(())
+}
+
+/// Joins in what of each other entry is later than t, logged before the next one, and adds its deletions.
+fn take_each(
+    entries: &mut EntryMap,
+    deletions: &mut Deletions,
+    alloc: Global,
+    other: &EntryMap,
+    t: Stamp,
+    log: &mut Vec<(SimpleName, Option<EntryUndo>)>,
+) -> Result<(), AllocError>
+    ensures ok { OnOk result (IsValidTable entries.old → IsValidTable other.now
+        → entries.new ≡ take_table t entries.old other.now) }
+    ensures knows { OnOk result (IsValidTable other.now → IsKnown deletions.old entries.old
+        → IsKnown deletions.new entries.new) }
+    ensures back { LogsChange undo_entry entries.old entries.new log.old.items log.new.items }
+    ensures keeps { Keeps deletions.old deletions.new }
+    ensures room { deletions.new.most ≡ deletions.old.most }
+{
+    let t = &t;
+    for (name, entry) in other.iter() {
+        take_one(entries, deletions, alloc, name, entry, *t, log)?;
+    }
+    Ok(())
+}
+
+/// Joins in what of one other entry is later than t, unless it is passed by or changes nothing. A copy is made only where not all of
+/// it is later.
+fn take_one(
+    entries: &mut EntryMap,
+    deletions: &mut Deletions,
+    alloc: Global,
+    name: &SimpleName,
+    entry: &EntryCell,
+    t: Stamp,
+    log: &mut Vec<(SimpleName, Option<EntryUndo>)>,
+) -> Result<(), AllocError>
+    ensures ok { let own = map.get entries.old name.now in
+        OnOk result (IfSome own IsValidEntry → IsValidEntry entry.now → (q : List ℕ)
+        → map.get entries.new q
+        ≡ take_entry t (map.get entries.old q)
+        (if is_octets q name.now then Some entry.now else None)) }
+    ensures knows { OnOk result (IsKnown deletions.old entries.old → IsValidEntry entry.now
+        → IsKnown deletions.new entries.new) }
+    ensures back { LogsChange undo_entry entries.old entries.new log.old.items log.new.items }
+    ensures keeps { Keeps deletions.old deletions.new }
+    ensures room { deletions.new.most ≡ deletions.old.most }
+{
+    let t = &t;
+    if is_known(entries.get(name), entry, *t) {
+        return Ok(());
+    }
+    if entry.is_after(*t) {
+        return raise_known(entries, deletions, alloc, name, entry, log);
+    }
+    let later = entry.after(alloc, *t)?;
+    raise_known(entries, deletions, alloc, name, &later, log)
+}
+
+/// Joins one entry in, logged, and adds its deletions.
+fn raise_known(
+    entries: &mut EntryMap,
+    deletions: &mut Deletions,
+    alloc: Global,
+    name: &SimpleName,
+    entry: &EntryCell,
+    log: &mut Vec<(SimpleName, Option<EntryUndo>)>,
+) -> Result<(), AllocError>
+    ensures ok { OnOk result (JoinsEntry entries.old entries.new name.now entry.now) }
+    ensures knows { OnOk result (IsKnown deletions.old entries.old → IsValidEntry entry.now
+        → IsKnown deletions.new entries.new) }
+    ensures back { LogsChange undo_entry entries.old entries.new log.old.items log.new.items }
+    ensures keeps { Keeps deletions.old deletions.new }
+    ensures room { deletions.new.most ≡ deletions.old.most }
+{
+    deletions.add_entry(alloc, name, entry)?;
+    entries.raise_logged(alloc, name, entry, log)
 }
 
 /// Adds the deletions of all entries.
@@ -51,27 +152,6 @@ pub(crate) fn add_deletions(
         deletions.add_entry(alloc, name, entry)?;
     }
     Ok(())
-}
-
-/// What is later than t of each entry of the other map, but for those that are passed by and those that change nothing: a copy of
-/// that, and of nothing else.
-fn later_part(
-    alloc: Global,
-    own: &EntryMap,
-    other: &EntryMap,
-    t: Stamp,
-) -> Result<EntryMap, AllocError>
-    ensures valid { IfOk result (λ later. IsValidTable own.now → IsValidTable other.now
-        → IsValidTable later) }
-    ensures joined { IfOk result (λ later. IsValidTable own.now → IsValidTable other.now
-        → join_tables own.now later ≡ take_table t own.now other.now) }
-{
-    let t = &t;
-    let mut later = Vec::new(alloc);
-    for (name, entry) in other.iter() {
-        put_later(&mut later, alloc, own, name, entry, *t)?;
-    }
-    EntryMap::from_pairs(alloc, later)
 }
 
 /// What of each entry is later than t, with its birth: a copy of that, and of nothing else. Entries of which a birth up to t
@@ -101,42 +181,7 @@ fn put_delta(
         LeavesOthers (insert_each later.old.items) (insert_each later.new.items) name.now) }
 {
     let t = &t;
-    let after = entry.after(alloc, *t)?;
-    if !is_old_birth(&after, *t) {
-        later.push((name.copy(alloc)?, after))?;
-    }
-    Ok(())
-}
-
-/// Whether an entry is a birth up to t alone.
-fn is_old_birth(entry: &EntryCell, t: Stamp) -> bool
-    ensures { result ≡ (is_up_to t entry.now.birth && is_bare entry.now) }
-{
-    !(t < entry.birth) && entry.is_bare()
-}
-
-/// Puts what is later than t of the entry of a name behind that of other names, unless it is known.
-fn put_later(
-    later: &mut Vec<(SimpleName, EntryCell)>,
-    alloc: Global,
-    own: &EntryMap,
-    name: &SimpleName,
-    entry: &EntryCell,
-    t: Stamp,
-) -> Result<(), AllocError>
-    ensures valid { OnOk result (map.get (insert_each later.old.items) name.now ≡ None
-        → IsValidEntry entry.now →
-        IfSome (map.get (insert_each later.new.items) name.now) IsValidEntry) }
-    ensures joined { let own = map.get own.now name.now in
-        OnOk result (map.get (insert_each later.old.items) name.now ≡ None → IfSome own IsValidEntry
-        → IsValidEntry entry.now →
-        maybe join_entries own (map.get (insert_each later.new.items) name.now)
-        ≡ take_entry t own (Some entry.now)) }
-    ensures others { LeavesOthers (insert_each later.old.items)
-        (insert_each later.new.items) name.now }
-{
-    let t = &t;
-    if !is_known(own.get(name), entry, *t) {
+    if !entry.is_old(*t) {
         later.push((name.copy(alloc)?, entry.after(alloc, *t)?))?;
     }
     Ok(())

@@ -25,6 +25,7 @@ ghost use Rattle.directory.specs.Updates.{change_of, changed_name};
 use crate::deletions::Deletions;
 use crate::entry::{EntryCell, Fragment};
 use crate::entry_map::EntryMap;
+use crate::excerpt::Excerpt;
 use crate::later::{add_deletions, later_entries, take_later};
 use crate::update::{Update, UpdateRefusal};
 use attr_sets::Value;
@@ -325,14 +326,20 @@ impl Table {
 
     /// What of each entry is later than t, with its birth; entries of which a birth up to t alone is left are not in it.
     /// Nothing is copied but what is later.
-    pub fn later_than(&self, alloc: Global, t: Stamp) -> Result<Table, AllocError>
+    pub fn later_than(&self, alloc: Global, t: Stamp) -> Result<Excerpt, AllocError>
         ensures { IfOk result (λ d. d ≡ delta_table (Some t) self.now) }
     {
         let entries = later_entries(alloc, &self.entries, t)?;
-        let mut deletions = Deletions::new(alloc);
-        add_deletions(&mut deletions, alloc, &entries)?;
-        deletions.settle(&entries);
-        Ok(Table { entries, deletions })
+        Ok(Excerpt { entries })
+    }
+
+    /// All its entries.
+    pub fn excerpt(&self) -> Result<Excerpt, AllocError>
+        ensures { IfOk result (λ e. e ≡ self.now) }
+    {
+        Ok(Excerpt {
+            entries: self.entries.clone()?,
+        })
     }
 
     /// Takes of another table what is later than t, but no entry that was born up to t and is not the one that its name has. Of
@@ -347,6 +354,38 @@ impl Table {
             alloc,
             &other.entries,
             t,
+        )
+    }
+
+    /// The same of an excerpt.
+    pub fn take_excerpt_up_to(
+        &mut self,
+        alloc: Global,
+        other: &Excerpt,
+        t: Stamp,
+    ) -> Result<(), AllocError>
+        ensures ok { OnOk result (self.new ≡ take_table t self.old other.now) }
+        ensures err { OnErr result (self.new ≡ self.old) }
+    {
+        take_later(
+            &mut self.entries,
+            &mut self.deletions,
+            alloc,
+            &other.entries,
+            t,
+        )
+    }
+
+    /// Joins an excerpt in.
+    pub fn join_excerpt(&mut self, alloc: Global, other: &Excerpt) -> Result<(), AllocError>
+        ensures ok { OnOk result (self.new ≡ join_tables self.old other.now) }
+        ensures err { OnErr result (self.new ≡ self.old) }
+    {
+        join_entries(
+            &mut self.entries,
+            &mut self.deletions,
+            alloc,
+            &other.entries,
         )
     }
 }
@@ -472,6 +511,27 @@ fn join_all(
     ensures index { IsIndexed deletions.old entries.old → IsIndexed deletions.new entries.new }
 {
     let mut joined = deletions.add_all(others);
+    if joined.is_ok() {
+        joined = entries.join(alloc, other);
+    }
+    deletions.settle(entries);
+    joined
+}
+
+/// Joins other entries in, and adds their deletions.
+fn join_entries(
+    entries: &mut EntryMap,
+    deletions: &mut Deletions,
+    alloc: Global,
+    other: &EntryMap,
+) -> Result<(), AllocError>
+    requires { IsValidTable other.now }
+    ensures ok { OnOk result (IsValidTable entries.old
+        → entries.new ≡ join_tables entries.old other.now) }
+    ensures err { OnErr result (entries.new ≡ entries.old) }
+    ensures index { IsIndexed deletions.old entries.old → IsIndexed deletions.new entries.new }
+{
+    let mut joined = add_deletions(deletions, alloc, other);
     if joined.is_ok() {
         joined = entries.join(alloc, other);
     }

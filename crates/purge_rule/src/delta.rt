@@ -7,16 +7,16 @@ ghost use Rattle.purge_rule.specs.Latest.{DeltaUpTo, ReplicaUpTo, latest_in_delt
 ghost use Rattle.purge_rule.specs.Replicas.{replica_of, delta_in, delta_of, together, merged_table};
 
 use crate::latest::{latest_in, time_of};
-use crate::merging::merge_table;
+use crate::merging::merge_excerpt;
 use crate::replica::Replica;
 use cds_stamps::{Lattice, Stamp, later_of};
-use directory::Table;
+use directory::Excerpt;
 use std::alloc::{AllocError, Global};
 
 /// What a house sends of a replica in a skulk: what of its table is later than a stamp, if there is one, else the whole
 /// table.
 pub struct Delta {
-    pub table: Table,
+    pub table: Excerpt,
     pub above: Option<Stamp>,
 }
 
@@ -44,7 +44,7 @@ impl Delta {
     pub fn latest_time(&self) -> u64
         ensures { result ≡ latest_in_delta self.now }
     {
-        latest_in(&self.table).max(time_of(self.above))
+        latest_in(self.table.iter()).max(time_of(self.above))
     }
 }
 
@@ -55,7 +55,7 @@ impl Replica {
     {
         let table = match self.all_up_to {
             Some(t) => self.table.later_than(alloc, t)?,
-            None => self.table.copy(alloc)?,
+            None => self.table.excerpt()?,
         };
         Ok(Delta {
             table,
@@ -84,7 +84,7 @@ impl Replica {
         ensures err { OnErr result (self.new ≡ self.old) }
     {
         let up_to = &later_of(self.all_up_to, other.above);
-        merge_table(&mut self.table, alloc, &other.table, *up_to)?;
+        merge_excerpt(&mut self.table, alloc, &other.table, *up_to)?;
         self.all_up_to = *up_to;
         Ok(())
     }

@@ -1,17 +1,18 @@
 // The greatest time that stands in a table.
 ghost use Rattle.std.specs.Prelude.{◌≡◌};
-ghost use Rattle.purge_rule.specs.Latest.{latest_in, latest_in_entry, latest_in_cell, time_of};
+ghost use Rattle.purge_rule.specs.Latest.{greatest_of, latest_in_entry, latest_in_cell, time_of};
 
 use attr_sets::AttrCell;
-use cds_stamps::Stamp;
-use directory::{EntryCell, Table};
+use cds_stamps::{SimpleName, Stamp};
+use directory::EntryCell;
+use std::collections::btree_map::Iter;
 
-/// The greatest time in a table; 0 where there is none.
-pub(crate) fn latest_in(table: &Table) -> u64
-    ensures { result ≡ latest_in table.now }
+/// The greatest time in these entries; 0 where there is none.
+pub(crate) fn latest_in(entries: Iter<'_, SimpleName, EntryCell>) -> u64
+    ensures { result ≡ greatest_of (λ e. latest_in_entry e.1) entries }
 {
     let mut time = 0;
-    for (_, entry) in table.iter() {
+    for (_, entry) in entries {
         time = time.max(latest_in_entry(entry));
     }
     time

@@ -8,7 +8,7 @@ ghost use Rattle.directory.specs.Purges.{after_entry, purged_table, take_entry, 
 ghost use Rattle.purge_rule.specs.Replicas.{merged_table, merged_entry};
 
 use cds_stamps::{Lattice, Stamp};
-use directory::{Fragment, Table, is_passed};
+use directory::{Excerpt, Fragment, Table, is_passed};
 use std::alloc::{AllocError, Global};
 
 /// Merges another table in, up to a stamp, if there is one.
@@ -37,6 +37,39 @@ fn take_table(own: &mut Table, alloc: Global, other: &Table, t: Stamp) -> Result
     let t = &t;
     own.take_up_to(alloc, other, *t)?;
     own.drop_up_to(*t);
+    Ok(())
+}
+
+/// Merges an excerpt in, up to a stamp, if there is one.
+pub(crate) fn merge_excerpt(
+    own: &mut Table,
+    alloc: Global,
+    other: &Excerpt,
+    up_to: Option<Stamp>,
+) -> Result<(), AllocError>
+    ensures ok { OnOk result (IsValidTable own.old → IsValidTable other.now
+        → own.new ≡ merged_table up_to own.old other.now) }
+    ensures err { OnErr result (own.new ≡ own.old) }
+{
+    match up_to {
+        Some(t) => take_excerpt(own, alloc, other, t),
+        None => own.join_excerpt(alloc, other),
+    }
+}
+
+/// Takes of an excerpt what is later than t, and then drops deletions up to t, as `take_table` does.
+fn take_excerpt(
+    own: &mut Table,
+    alloc: Global,
+    other: &Excerpt,
+    t: Stamp,
+) -> Result<(), AllocError>
+    ensures ok { OnOk result (own.new ≡ purged_table t (take_table t own.old other.now)) }
+    ensures err { OnErr result (own.new ≡ own.old) }
+{
+    let t = &t;
+    own.take_excerpt_up_to(alloc, other, *t)?;
+    Table::drop_up_to(own, *t);
     Ok(())
 }
 

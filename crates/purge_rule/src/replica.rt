@@ -157,7 +157,7 @@ impl Replica {
     pub fn latest_time(&self) -> u64
         ensures { result ≡ latest_time self.now }
     {
-        latest_in(&self.table).max(time_of(self.all_up_to))
+        latest_in(self.table.iter()).max(time_of(self.all_up_to))
     }
 }
 

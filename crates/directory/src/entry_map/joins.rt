@@ -92,7 +92,7 @@ impl EntryMap {
 
     /// Joins one entry in, and logs the change, if it is one: one look-up of a name that is there, and two of a new one. Room in
     /// the log comes first.
-    fn raise_logged(
+    pub(crate) fn raise_logged(
         &mut self,
         alloc: Global,
         name: &SimpleName,
@@ -158,7 +158,7 @@ impl EntryMap {
     }
 
     /// Takes the changes of a log back, with no memory.
-    fn take_back(&mut self, log: Vec<(SimpleName, Option<EntryUndo>)>)
+    pub(crate) fn take_back(&mut self, log: Vec<(SimpleName, Option<EntryUndo>)>)
         ensures { (q : List ℕ)
             → map.get self.new q ≡ back_at octets_cmp undo_entry log.items q (map.get self.old q) }
     {

@@ -1,5 +1,4 @@
 use Rattle.std.proofs.Common.{◌≡◌, None}
-use Rattle.std.specs.FinMap.{entries}
 use Rattle.cds_stamps.specs.Names.{simple_name_fault}
 use Rattle.record_fields.specs.FieldOctets.{name_octets}
 use Rattle.cds_records.specs.RecordOctets.{entry_octets}
@@ -9,4 +8,4 @@ use Rattle.cds_records.proofs.writing.put_entries.Given as goal
 
 abbrev pub invariant-loop-name : goal.invariant-loop-name
 invariant-loop-name l =
-    Written name_octets entry_octets (λ n. simple_name_fault n ≡ None) FitsEntry (entries l.table) l.name-iterator l.fn.out.items l.out.items
+    Written name_octets entry_octets (λ n. simple_name_fault n ≡ None) FitsEntry l.fn.list l.name-iterator l.fn.out.items l.out.items

@@ -1,5 +1,6 @@
 use Rattle.std.proofs.Common.{ap, ◌≡◌, ◌∙◌}
 use Rattle.std.specs.Prelude.{Some}
+use Rattle.std.specs.FinMap.{empty}
 use Rattle.std.specs.Cmp.Lexicographic.{nat_list_cmp_total}
 use Rattle.std.proofs.lemmas.Result.{IfOk-weaker}
 use Rattle.cds_stamps.specs.Octets.{octets_exact}
@@ -10,7 +11,7 @@ use Rattle.directory.proofs.later.later_entries.Goals as goal
 
 pub loop-name-init : goal.loop-name-init
 loop-name-init c =
-    turns_start nat_list_cmp_total octets_exact (IsLater c.args.t c.args.own.now) c.args.own.now (insert_each c.new-later.result.items) _
+    turns_start nat_list_cmp_total octets_exact empty (IsLater c.args.t c.args.own.now) c.args.own.now (insert_each c.new-later.result.items) _
     (c.into_iter-name-iterator.ensures.into_iter_gives ∙ c.iter-name-items.ensures) (ap insert_each c.new-later.ensures.items)
 
 pub loop-name-preserved : goal.loop-name-preserved

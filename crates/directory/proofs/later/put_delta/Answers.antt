@@ -1,9 +1,7 @@
-use Rattle.std.proofs.Common.{◌≡◌, Some, None, false, ap, sym, ◌∙◌}
-use Rattle.std.specs.Prelude.{◌&&◌, if◌then◌else◌}
-use Rattle.cds_stamps.specs.Stamps.{is_up_to}
-use Rattle.directory.specs.declared.entry.EntryCell.{EntryCell}
+use Rattle.std.proofs.Common.{◌≡◌, Some, None, false, ap, sym, ◌∙◌, rules}
+use Rattle.std.specs.Prelude.{if◌then◌else◌}
 use Rattle.directory.specs.IndexWords.{insert_each}
-use Rattle.directory.specs.Purges.{after_entry, is_bare}
+use Rattle.directory.specs.Purges.{after_entry}
 use Rattle.directory.proofs.LaterLaws.{inserted_last, put_here, put_elsewhere}
 use Rattle.directory.proofs.later.put_delta.Goals as goal
 
@@ -11,16 +9,14 @@ pub returns-in_ok-push-clause-here : goal.returns-in_ok-push-clause-here
 returns-in_ok-push-clause-here c =
     let t = c.args.t in
     let e = c.args.entry.now in
-    let apart : (is_up_to t e.birth && is_bare (after_entry t e)) ≡ false =
-    ap (λ (a : EntryCell). is_up_to t a.birth && is_bare a) (sym c.in_ok-after.ensures)
-    ∙ sym c.is_old_birth.ensures ∙ c.if-not-is_old_birth.true in
+    let new : c.is_old.result ≡ false = search rules in
     λ none. put_here (insert_each c.args.later.now.items) (insert_each c.push.new.self.items) c.args.name.now c.in_ok-copy.field-0 (after_entry t e)
-    c.in_ok-after.after (inserted_last c.args.later.now.items c.push.new.self.items c.in_ok-copy.field-0 c.in_ok-after.after c.in_ok-push.ensures.items)
+    c.in_ok-after.field-0 (inserted_last c.args.later.now.items c.push.new.self.items c.in_ok-copy.field-0 c.in_ok-after.field-0 c.in_ok-push.ensures.items)
     c.in_ok-copy.ensures c.in_ok-after.ensures
-    ∙ ap (λ b. if b then None else Some (after_entry t e)) (sym apart)
+    ∙ ap (λ b. if b then None else Some (after_entry t e)) (sym new ∙ c.is_old.ensures)
 
 pub returns-in_ok-push-clause-others : goal.returns-in_ok-push-clause-others
 returns-in_ok-push-clause-others c =
-    put_elsewhere (insert_each c.args.later.now.items) (insert_each c.push.new.self.items) c.args.name.now c.in_ok-copy.field-0 c.in_ok-after.after
-    (inserted_last c.args.later.now.items c.push.new.self.items c.in_ok-copy.field-0 c.in_ok-after.after c.in_ok-push.ensures.items)
+    put_elsewhere (insert_each c.args.later.now.items) (insert_each c.push.new.self.items) c.args.name.now c.in_ok-copy.field-0 c.in_ok-after.field-0
+    (inserted_last c.args.later.now.items c.push.new.self.items c.in_ok-copy.field-0 c.in_ok-after.field-0 c.in_ok-push.ensures.items)
     c.in_ok-copy.ensures

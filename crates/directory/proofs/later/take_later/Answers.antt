@@ -1,22 +1,14 @@
-use Rattle.std.proofs.Common.{sym, subst, ◌∙◌}
-use Rattle.directory.specs.Entries.{IsValidTable}
-use Rattle.directory.specs.IndexWords.{KnowsAll}
-use Rattle.directory.proofs.LaterLaws.{when_ok, stays_known, joins_known}
+use Rattle.directory.proofs.DeletionSets.{on_result}
+use Rattle.directory.proofs.IndexLaws.{settled, known_still}
 use Rattle.directory.proofs.later.take_later.Goals as goal
-use Rattle.directory.proofs.later.take_later.Goals.{then-is_ok, else-is_ok}
 
 pub returns-clause-index : goal.returns-clause-index
-returns-clause-index c = λ indexed.
-    let later = c.in_ok-later.later in
-    let keeps = c.add_deletions-taken.ensures.keeps in
-    let known : IsValidTable c.if-is_ok.entries × KnowsAll c.add_deletions-taken.new.deletions c.if-is_ok.entries =
-    elim c.if-is_ok.branch [
-      | then-is_ok w ↦ subst (λ m. IsValidTable m × KnowsAll c.add_deletions-taken.new.deletions m) (sym w.entries-is)
-          (joins_known c.args.deletions.now c.add_deletions-taken.new.deletions c.args.entries.now later indexed keeps
-          w.join-taken.result w.join-taken.new.self (c.in_ok-later.ensures.valid indexed.valid c.requires)
-          (when_ok c.add_deletions-taken.result (sym c.is_ok.ensures.value ∙ w.if-is_ok.true) c.add_deletions-taken.ensures.ok)
-          w.join-taken.ensures.ok w.join-taken.ensures.err)
-      | else-is_ok w ↦ stays_known c.args.deletions.now c.add_deletions-taken.new.deletions c.args.entries.now later indexed keeps
-          c.if-is_ok.entries w.entries-is
-    ] in
-    record { valid = known.0; all = c.settle.ensures.all known.1; first = c.settle.ensures.first; within = c.settle.ensures.settled.within }
+returns-clause-index c = λ i.
+    let x = c.args.deletions.now in
+    let y = c.take_all-taken.new.deletions in
+    let m = c.args.entries.now in
+    let n = c.take_all-taken.new.entries in
+    settled y c.settle.new.self n
+    (on_result c.take_all-taken.result c.take_all-taken.ensures.knows c.take_all-taken.ensures.err
+    (λ knows. knows (record { valid = i.valid; all = i.all })) (known_still x y m n c.take_all-taken.ensures.keeps i))
+    c.settle.ensures.all c.settle.ensures.first c.settle.ensures.settled
