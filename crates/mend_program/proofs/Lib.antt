@@ -1,4 +1,8 @@
 mod ScriptHouses
+mod Values
+mod Posts
+mod ExportLines
+mod Serials
 mod Sayable
 mod Sums
 pub mod Mendings

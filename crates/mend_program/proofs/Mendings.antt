@@ -27,6 +27,7 @@ use Rattle.mend_replay.proofs.Ready.{ready_is}
 use Rattle.mend_program.specs.Mended.{IsMended, MendsBehind, members_without}
 use Rattle.mend_program.proofs.Sayable.{AllSaid, leaving_mend, leaving_said, mends_mend, mends_said, skulk_few}
 use Rattle.mend_program.proofs.ScriptHouses.{commands_make, run_made, script_ranged}
+use Rattle.mend_program.proofs.Serials.{serials_left}
 use Rattle.mend_program.proofs.Sums.{AllMend, commands_script, lines_text, numbered, script_append, settled_mends}
 
 -- ---- a script, and what mends a directory behind it
@@ -45,10 +46,10 @@ commands_mend lines said d t members cs text script is few can mends = record {
   added = numbered (1 + length lines) cs;
   written = is ∙ lines_text cs;
   few = let size = length_lines cs in omega (arith, size, few);
-  script = λ fits serials.
+  script = λ fits.
       let size = length_lines cs in
       script_append 1 lines (map command_line cs) said (numbered (1 + length lines) cs) script
-      (commands_script (1 + length lines) cs (can serials) (omega (arith, size, fits)));
+      (commands_script (1 + length lines) cs (can (serials_left lines said script)) (omega (arith, size, fits)));
   mends = mends;
 }
 

@@ -9,7 +9,6 @@ use Rattle.cell_model.specs.Mending.{IsAgreedBy, IsHeldBy, IsIdleBy}
 use Rattle.cell_model.specs.Turns.{stamp_at}
 use Rattle.script_answers.specs.declared.answer.Answer.{Answer}
 use Rattle.script_answers.specs.declared.answer.Answer.TheVariants as answer
-use Rattle.cell_script.specs.Words.{most_serial}
 use Rattle.script_replay.specs.Replies.{Numbered, reply_to}
 use Rattle.script_replay.specs.Headline.{cell_after_script, commands_of, line_place}
 use Rattle.line_forms.specs.Runs.{Run}
@@ -49,19 +48,14 @@ pub record MendsBehind (said : List Numbered) (dir : ℕ) (t : Stamp) (members :
   pub idle : IsIdleBy (cell_after_script (said ++ added)) dir members
   pub agreed : IsAgreedBy (commands_of (said ++ added)) dir t members
 
--- how far behind the last message the last one is that such lines deliver, at most (own)
-abbrev pub most_delivered : ℕ
-most_delivered = 315
-
 -- A text is lines that mend a directory with these members behind those of a script. Both together are a script, if they are not too many
--- lines and no serial number is too great; for n members there are at most 6 n - 3 lines more (own)
+-- lines; for n members there are at most 6 n - 3 lines more (own)
 pub record IsMended (lines : List (List ℕ)) (said : List Numbered) (dir : ℕ) (t : Stamp) (members : List Member) (text : List ℕ) : Type 0 where
   pub more : List (List ℕ)
   pub added : List Numbered
   pub written : text ≡ text_of more
   pub few : length more + 3 ≤ 6 * length members
-  pub script : length lines + length more ≤ MOST_LINES → length (cell_after_script said).bag + most_delivered ≤ most_serial
-      → IsScript 1 (lines ++ more) (said ++ added)
+  pub script : length lines + length more ≤ MOST_LINES → IsScript 1 (lines ++ more) (said ++ added)
   pub mends : MendsBehind said dir t members added
 
 -- the members of a directory that is mended without these houses, with the master m: those of the console's list, if no houses are named (own)
