@@ -1,0 +1,58 @@
+use Rattle.std.proofs.Common.{refl}
+use Rattle.std.specs.FinMap.{get}
+use Rattle.cds_records.specs.RecordOctets.{image_octets}
+use Rattle.clearinghouse.specs.HouseImages.{image_of}
+use Rattle.house_lines.specs.declared.line.HouseLine.TheVariants as line
+use Rattle.house_turns.specs.LineAnswers.{dump_said, look_said}
+use Rattle.house_turns.specs.Texts.{octets_lines}
+use Rattle.house_turns.proofs.Replies.{nothing_comes, told_only}
+use Rattle.house_turns.proofs.house.come_to.Goals as goal
+
+pub returns-in-Root : goal.returns-in-Root
+returns-in-Root c = rw c.in-Root.is (c.root.ensures c.args.clock)
+
+pub returns-in-Mkdir : goal.returns-in-Mkdir
+returns-in-Mkdir c = rw c.in-Mkdir.is c.mkdir.ensures
+
+pub returns-in-Repoint : goal.returns-in-Repoint
+returns-in-Repoint c = rw c.in-Repoint.is c.repoint.ensures
+
+pub returns-in-Update : goal.returns-in-Update
+returns-in-Update c = rw c.in-Update.is c.update.ensures
+
+pub returns-in-Skulk : goal.returns-in-Skulk
+returns-in-Skulk c = rw c.in-Skulk.is c.skulk.ensures
+
+pub returns-in-Epoch : goal.returns-in-Epoch
+returns-in-Epoch c = rw c.in-Epoch.is (c.epoch.ensures c.args.clock)
+
+pub returns-in-Take : goal.returns-in-Take
+returns-in-Take c = rw c.in-Take.is (c.take.ensures c.args.clock)
+
+pub returns-in-Dump : goal.returns-in-Dump
+returns-in-Dump c =
+    rw c.in-Dump.is (told_only c.dump.result c.args.number (dump_said (get c.args.home.now.dirs c.in-Dump.dir)) c.args.home.now c.dump.ensures)
+
+pub returns-in-Look : goal.returns-in-Look
+returns-in-Look c =
+    rw c.in-Look.is
+    (told_only c.look.result c.args.number (look_said c.in-Look.name c.in-Look.attr (get c.args.home.now.dirs c.in-Look.dir)) c.args.home.now c.look.ensures)
+
+pub returns-in-Image : goal.returns-in-Image
+returns-in-Image c =
+    rw c.in-Image.is (told_only c.image.result c.args.number (octets_lines (image_octets (image_of c.args.home.now))) c.args.home.now c.image.ensures)
+
+pub returns-in-House : goal.returns-in-House
+returns-in-House c =
+    rw c.in-House.is
+    (nothing_comes c.told.result c.args.number c.args.home.now c.args.clock (line.House c.in-House.field-0 c.in-House.field-1) (λ x now m. refl) c.told.ensures)
+
+pub returns-in-Clock : goal.returns-in-Clock
+returns-in-Clock c =
+    rw c.in-Clock.is
+    (nothing_comes c.told.result c.args.number c.args.home.now c.args.clock (line.Clock c.in-Clock.field-0) (λ x now m. refl) c.told.ensures)
+
+pub returns-in-More : goal.returns-in-More
+returns-in-More c =
+    rw c.in-More.is
+    (nothing_comes c.told.result c.args.number c.args.home.now c.args.clock (line.More c.in-More.field-0) (λ x now m. refl) c.told.ensures)

@@ -1,0 +1,35 @@
+use Rattle.std.proofs.Common.{◌≡◌, ◌+◌, ◌++◌, refl, Ok, Err}
+use Rattle.std.specs.Prelude.{codes, decimal}
+use Rattle.cds_stamps.specs.declared.alloc_or.AllocOr.TheVariants.{Fault}
+use Rattle.cds_records.specs.Records.{message}
+use Rattle.record_fields.specs.Decoding.{Decodes, decode_by}
+use Rattle.record_fields.proofs.OneDecoding.{answers_decoding}
+use Rattle.house_lines.specs.declared.line.HouseLine.TheVariants as line
+use Rattle.house_turns.specs.LineAnswers.{octets_refusal, refused}
+use Rattle.house_turns.proofs.Comes.{asked_model, refused_early, take_comes, take_fault, take_fine, take_trailing}
+use Rattle.house_turns.proofs.taking.take.Goals as goal
+
+pub returns-in-Err-Fault : goal.returns-in-Err-Fault
+returns-in-Err-Fault c clock =
+    let decodes : Decodes message c.args.octets.now (Err (Fault c.in-Err-Fault.fault)) = rw c.in-Err-Fault.field-0-is at c.in-Err-Fault.ensures.decodes in
+    let said : decode_by message c.args.octets.now ≡ Err c.in-Err-Fault.fault = answers_decoding message c.args.octets.now
+    (Err (Fault c.in-Err-Fault.fault)) decodes in
+    refused_early c.refused.result c.args.number c.args.home.now c.args.home.now clock (line.Take c.args.octets.now) (refused (octets_refusal c.in-Err-Fault.fault))
+    (take_fault c.args.home.now c.args.octets.now c.in-Err-Fault.fault said) refl (rw c.octets_refused.ensures at c.refused.ensures)
+
+pub returns-then-used-octets : goal.returns-then-used-octets
+returns-then-used-octets c clock =
+    let said : decode_by message c.args.octets.now ≡ Ok (c.in-Ok.message, c.in-Ok.used) = answers_decoding message c.args.octets.now
+    (Ok (c.in-Ok.message, c.in-Ok.used)) c.in-Ok.ensures.decodes in
+    refused_early c.trailing.result c.args.number c.args.home.now c.args.home.now clock (line.Take c.args.octets.now)
+    (codes "refused Trailing " ++ decimal (c.in-Ok.used + 1))
+    (take_trailing c.args.home.now c.args.octets.now c.in-Ok.message c.in-Ok.used said c.if-used-octets.true) refl c.trailing.ensures
+
+pub returns-in-Ok : goal.returns-in-Ok
+returns-in-Ok c clock =
+    let said : decode_by message c.args.octets.now ≡ Ok (c.in-Ok.message, c.in-Ok.used) = answers_decoding message c.args.octets.now
+    (Ok (c.in-Ok.message, c.in-Ok.used)) c.in-Ok.ensures.decodes in
+    asked_model c.take_message.result c.args.number c.args.home.now c.take_message.new.home clock (line.Take c.args.octets.now)
+    (take_fine c.args.home.now c.args.octets.now c.in-Ok.message c.in-Ok.used said c.if-used-octets.false)
+    (take_comes c.take_message.result c.args.number c.args.home.now c.take_message.new.home clock c.args.octets.now c.in-Ok.message c.in-Ok.used
+    c.in-Ok.ensures.decodes (c.take_message.ensures c.in-Ok.ensures.valid))

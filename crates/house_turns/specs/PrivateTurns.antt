@@ -1,0 +1,182 @@
+-- Words of private functions alone: what they come to, by the types that they answer with.
+use Rattle.std.specs.Prelude.{◌≡◌, ℕ, ◌+◌, List, [], ◌∷◌, ◌++◌, map, Option, None, Some, Result, Ok, Err, codes, if◌then◌else◌}
+use Rattle.script_answers.specs.Texts.{answer_line, lines_text}
+use Rattle.script_answers.specs.declared.answer.Answer.TheVariants as answer
+use Rattle.script_answers.specs.declared.answer.ScriptRefusal.{ScriptRefusal}
+use Rattle.script_answers.specs.declared.answer.ScriptRefusal.TheVariants as why
+use Rattle.std.specs.List.{flat_map}
+use Rattle.cds_stamps.specs.declared.numbers.EpochNo.{EpochNo}
+use Rattle.cds_stamps.specs.declared.numbers.HouseNo.{HouseNo}
+use Rattle.house_turns.specs.Texts.{piece_lines, pieces_of, post_line}
+use Rattle.cds_records.specs.RecordOctets.{message_octets}
+use Rattle.house_directory.specs.declared.epochs.EpochRefusal.{EpochRefusal}
+use Rattle.house_directory.specs.declared.epochs.EpochRefusal.TheVariants as epoch
+use Rattle.house_directory.specs.declared.posted.Posted.{Posted}
+use Rattle.house_directory.specs.declared.taking.Taken.{Taken}
+use Rattle.house_directory.specs.declared.taking.Taken.TheVariants as taken
+use Rattle.house_directory.specs.declared.states.DirState.{DirState}
+use Rattle.house_directory.specs.declared.states.DirState.TheVariants as state
+use Rattle.clearinghouse.specs.declared.house.Clearinghouse.{Clearinghouse}
+use Rattle.clearinghouse.specs.declared.letters.Letters.{Letters}
+use Rattle.house_lines.specs.declared.line.HouseLine.{HouseLine}
+use Rattle.house_lines.specs.declared.line.HouseLine.TheVariants as asks
+use Rattle.house_turns.specs.declared.said.Posts as posts
+use Rattle.house_turns.specs.declared.said.Said as said
+use Rattle.house_turns.specs.declared.said.Said.TheVariants.{Told, Turned}
+use Rattle.house_serving.specs.Turns as serving
+use Rattle.cds_stamps.specs.Members.{Member}
+use Rattle.cds_stamps.specs.declared.numbers.DirId.{DirId}
+use Rattle.directory.specs.Updates.{Change}
+use Rattle.cds_messages.specs.declared.message.Message.{Message}
+use Rattle.cell_model.specs.Cells as model
+use Rattle.cell_model.specs.Taking.{CanTake}
+use Rattle.cell_model.specs.Turns.{accept, take}
+use Rattle.house_directory.specs.DirectorySteps.{is_taken}
+use Rattle.house_directory.specs.HouseMessages.{StandsMessage}
+use Rattle.clearinghouse.specs.HouseImages.{start_of_octets}
+use Rattle.clearinghouse.specs.LawfulHouses.{IsLawful}
+use Rattle.clearinghouse.specs.ModelHouses.{StandsHouse}
+use Rattle.house_turns.specs.LineSteps.{then_found}
+use Rattle.house_turns.specs.declared.house.House.{House}
+use Rattle.house_turns.specs.HouseReplies.{ComesTo, IsOutcome, Outcome, Post, Posts, Tells, new_clearinghouse, turn_lines, turn_text}
+use Rattle.house_turns.specs.Openings.{body_at}
+use Rattle.house_turns.specs.LineAnswers.{early_refusal, question_said, refused}
+
+-- a message to each of its receivers, if there is one (own)
+abbrev pub posts_of_letters : Option Letters → List Post
+posts_of_letters None = []
+posts_of_letters (Some ls) = map (λ h. record { to = h.0; octets = ls.octets.items }) ls.receivers.items
+
+-- the messages that are posted (own)
+abbrev pub posts_in : posts.Posts → List Post
+posts_in ps = posts_of_letters ps.first ++ posts_of_letters ps.second
+
+-- the lines of these octets to each of these houses, in an answer (own)
+abbrev pub letters_text : (number : ℕ) → (octets : List ℕ) → List HouseNo → List ℕ
+letters_text number octets = flat_map (λ h. lines_text number (piece_lines h.0 (pieces_of 2000 octets)))
+
+-- and in a record (own)
+abbrev pub letters_kept : (octets : List ℕ) → List HouseNo → List ℕ
+letters_kept octets = flat_map (λ h. post_line (codes "post ") h.0 octets ++ 10 ∷ [])
+
+-- posted messages as octets (own)
+abbrev pub posts_said : List Posted → List Post
+posts_said = map (λ p. record { to = p.to.0; octets = message_octets p.message })
+
+-- the epoch in which a directory is held, if it is (own)
+abbrev pub epoch_of : Option DirState → Option EpochNo
+epoch_of None = None
+epoch_of (Some (state.Gone e)) = None
+epoch_of (Some (state.Held h)) = Some h.epoch
+
+-- why an epoch is refused (own)
+abbrev pub epoch_refusal_of : EpochRefusal → ScriptRefusal
+epoch_refusal_of epoch.NoReplica = why.NoReplica
+epoch_refusal_of (epoch.NotJoined held since) = why.NotJoined held since
+epoch_refusal_of (epoch.StaleEpoch held given) = why.NotAbove held.0
+
+-- what is said of a message, taken or not (own)
+abbrev pub taken_line : Taken → List ℕ
+taken_line taken.Taken = answer_line (answer.Taken [])
+taken_line (taken.Late k e) = answer_line (answer.Late k e)
+taken_line (taken.Early k e) = answer_line (answer.Early k e)
+taken_line (taken.Stale t r) = answer_line (answer.Stale t r)
+taken_line taken.NoReplica = answer_line answer.NoReplica
+taken_line taken.Foreign = codes "ok foreign"
+taken_line (taken.Complete t) = answer_line (answer.Complete t [])
+
+-- what a message comes to that is taken, or not (own)
+abbrev pub taken_outcome : Taken → List Post → Outcome
+taken_outcome t posts = if is_taken t then Posts posts (taken_line t) else Tells (taken_line t ∷ [])
+
+-- what is said is an outcome: these lines, with the number of theirs; or these posts, and this answer (own)
+abbrev pub Says : (number : ℕ) → said.Said → Outcome → Type 0
+Says number (Told text) (Tells lines) = text.items ≡ lines_text number lines
+Says number (Turned ps octets) (Posts posts answer) = (posts_in ps ≡ posts) × (octets.items ≡ answer)
+Says number _ _ = ⊥
+
+-- a line comes to what is said (own)
+pub record Comes (number : ℕ) (old new : Clearinghouse) (clock : ℕ) (line : HouseLine) (s : said.Said) : Type 0 where
+  pub outcome : Outcome
+  pub says : Says number s outcome
+  pub comes : ComesTo old clock line outcome new
+
+-- a line is refused before the model is asked (own)
+abbrev pub ComesUnless : Option (List ℕ) → (number : ℕ) → (old new : Clearinghouse) → (clock : ℕ) → HouseLine → said.Said → Type 0
+ComesUnless (Some refusal) number old new clock line s = Says number s (Tells (refusal ∷ [])) × (new ≡ old)
+ComesUnless None number old new clock line s = Comes number old new clock line s
+
+-- what is said to a line at a clearinghouse, which is so before it and so after it (own)
+abbrev pub Does : (number : ℕ) → (old new : Clearinghouse) → (clock : ℕ) → HouseLine → said.Said → Type 0
+Does number old new clock line s = ComesUnless (early_refusal old line) number old new clock line s
+
+-- the same of a question, or another line (own)
+abbrev pub DoesOrTells : Option (List (List ℕ)) → (number : ℕ) → (old new : Clearinghouse) → (clock : ℕ) → HouseLine → said.Said → Type 0
+DoesOrTells (Some lines) number old new clock line s = Says number s (Tells lines) × (new ≡ old)
+DoesOrTells None number old new clock line s = Does number old new clock line s
+
+-- what a message comes to: whichever house of the model the clearinghouse stands for, and whichever message, it is that house's step (own)
+pub record TakesMessage (number : ℕ) (old new : Clearinghouse) (message : Message) (s : said.Said) : Type 0 where
+  pub outcome : Outcome
+  pub says : Says number s outcome
+  pub step : (now : model.House) (m : model.Message) → StandsHouse old now → StandsMessage old.house.0 message m → CanTake now m
+      → IsOutcome (take now m) outcome old new
+  pub house : new.house ≡ old.house
+  pub node : new.node ≡ old.node
+  pub lawful : IsLawful old → IsLawful new
+
+-- what an update comes to that makes a child, and its directory (own)
+pub record MakesChild (number : ℕ) (old new : Clearinghouse) (clock : ℕ) (dir : DirId) (change : Change) (child : DirId) (members : List Member)
+    (s : said.Said) : Type 0 where
+  pub outcome : Outcome
+  pub says : Says number s outcome
+  pub step : (now : model.House) → StandsHouse old now → now.clock ≡ clock
+      → IsOutcome (then_found old.house.0 child.0 members (accept old.house.0 now dir.0 change)) outcome old new
+  pub house : new.house ≡ old.house
+  pub node : new.node ≡ old.node
+  pub lawful : IsLawful old → IsLawful new
+
+-- what is said to a line that the clearinghouse is asked, if there is one, and the house after it (own)
+abbrev pub AsksHome : Option Clearinghouse → (number : ℕ) → (old new : House) → HouseLine → said.Said → Type 0
+AsksHome None number old new says s = Says number s (Tells (refused why.NoHouse ∷ [])) × (new ≡ old)
+AsksHome (Some c) number old new says s =
+    (c' : Clearinghouse) × DoesOrTells (question_said c says) number c c' old.clock says s × (new ≡ record old { home = Some c' })
+
+-- what is said to a line where there is a clearinghouse, and the house after it (own)
+abbrev pub DoesAt : (c : Clearinghouse) → (number : ℕ) → (old new : House) → HouseLine → said.Said → Type 0
+DoesAt c number old new (asks.House x node) s = Says number s (Tells (refused why.HouseExists ∷ [])) × (new ≡ old)
+DoesAt c number old new (asks.Clock time) s = Says number s (Tells (answer_line answer.Done ∷ [])) × (new ≡ record old { clock = time })
+DoesAt c number old new says s =
+    (c' : Clearinghouse) × DoesOrTells (question_said c says) number c c' old.clock says s × (new ≡ record old { home = Some c' })
+
+-- where there is none (own)
+abbrev pub DoesAnew : (number : ℕ) → (old new : House) → HouseLine → said.Said → Type 0
+DoesAnew number old new (asks.House x node) s =
+    Says number s (Posts [] (answer_line answer.Done)) × (new ≡ record old { home = Some (new_clearinghouse x node); node = node })
+DoesAnew number old new says s = Says number s (Tells (refused why.NoHouse ∷ [])) × (new ≡ old)
+
+-- by what there is (own)
+abbrev pub DoesBy : Option Clearinghouse → (number : ℕ) → (old new : House) → HouseLine → said.Said → Type 0
+DoesBy None number old new says s = DoesAnew number old new says s
+DoesBy (Some c) number old new says s = DoesAt c number old new says s
+
+-- ---- replies
+
+-- the reply that a turn gives, and the house after it, which did the turn already (own)
+pub record TurnReply (h : House) (number : ℕ) (line : List ℕ) (posts : List Post) (answer : List ℕ) (reply : serving.Said) (h' : House) : Type 0 where
+  pub text : reply.text ≡ lines_text number (turn_lines posts answer)
+  pub body : reply.body ≡ Some (body_at (record h { entry = h.entry + 1 }) (turn_text line posts answer))
+  pub after : h' ≡ record h { entry = h.entry + 1; last = turn_text line posts answer }
+
+-- the reply that what is said gives, and the house after it (own)
+abbrev pub ReplyOf : House → (number : ℕ) → (line : List ℕ) → said.Said → serving.Said → House → Type 0
+ReplyOf h number line (Told text) reply h' = (reply ≡ record { text = text.items; body = None }) × (h' ≡ h)
+ReplyOf h number line (Turned ps octets) reply h' = TurnReply h number line (posts_in ps) octets.items reply h'
+
+-- ---- starts
+
+-- a house that starts of an image, after so many entries, the last turn of which has this text (own)
+pub record StartsFrom (entry : ℕ) (turn image : List ℕ) (h : House) : Type 0 where
+  pub home : Clearinghouse
+  pub starts : start_of_octets image ≡ Ok home
+  pub is : h ≡ record { home = Some home; node = home.node; clock = 0; entry = entry; last = turn; more = [] }

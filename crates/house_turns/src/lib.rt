@@ -1,0 +1,18 @@
+//! One house of a clearinghouse program: a line to its turn, its answer and its record.
+#![tactic(auto)]
+
+mod asking;
+mod founding;
+mod house;
+mod lists;
+mod octets;
+mod opening;
+mod posts;
+mod said;
+mod taking;
+mod texts;
+mod turns;
+
+pub use house::{House, MOST_MESSAGE};
+pub use octets::OctetBuffer;
+pub use opening::open;

@@ -1,0 +1,218 @@
+// How a house goes on from the last record of its folder, and what it says first.
+ghost use Rattle.std.specs.Prelude.{◌≡◌, ℕ, List, [], ◌∷◌, ◌++◌, codes, IfOk, IfSome, OnOk, OnSome};
+ghost use Rattle.script_answers.specs.Texts.{line_text, lines_text};
+ghost use Rattle.house_turns.specs.HouseReplies.{Post, turn_text};
+ghost use Rattle.house_turns.specs.Openings as openings;
+ghost use Rattle.house_turns.specs.Openings.{GoesOn, HasNoEnd, after_start, body_at, first_lines, new_house, said_again, segment_text, start_text};
+ghost use Rattle.house_turns.specs.PrivateTurns.{StartsFrom};
+
+use crate::house::House;
+use crate::octets::OctetBuffer;
+use cds_records::whole_image;
+use cds_stamps::AllocOr;
+use clearinghouse::Clearinghouse;
+use house_entries::{Body, read_body};
+use script_answers::{push_hex, push_number};
+use std::alloc::{AllocError, Global};
+
+// The text of the last turn, out of a record's text; none, if that has no whole line.
+fn turn_in(text: &[u8]) -> Option<&[u8]>
+    ensures { IfSome result (λ t. t.now ≡ openings.turn_in text.now) }
+{
+    let end = text.iter().position(|octet| *octet == b'\n')?;
+    if text.starts_with(b"start\n") || text.starts_with(b"segment ") {
+        Some(&text[end + 1..])
+    } else {
+        Some(text)
+    }
+}
+
+// What a record without an image gives.
+fn open_new(alloc: Global, body: &Body<'_>) -> Option<House>
+    ensures house { IfSome result (λ h. h ≡ new_house) }
+    ensures number { OnSome result (body.now.number ≡ 0) }
+    ensures text { OnSome result (body.now.text.now ≡ codes "new" ++ 10 ∷ []) }
+{
+    if body.number == 0 && body.text == b"new\n".as_slice() {
+        Some(House::new(alloc))
+    } else {
+        None
+    }
+}
+
+/// The house of the last record of a folder, with the clock 0; none, if that is no record of one.
+pub fn open(alloc: Global, body: &[u8]) -> Result<Option<House>, AllocError>
+    ensures { IfOk result (λ o. IfSome o (GoesOn body.now)) }
+{
+    let Some(body) = read_body(body) else {
+        return Ok(None);
+    };
+    let Some(image) = body.image else {
+        return Ok(open_new(alloc, &body));
+    };
+    let Some(turn) = turn_in(body.text) else {
+        return Ok(None);
+    };
+    started(alloc, body.number, turn, image)
+}
+
+// The house that starts of an image, after so many entries, the last turn of which has this text.
+fn started(
+    alloc: Global,
+    entry: u64,
+    turn: &[u8],
+    image: &[u8],
+) -> Result<Option<House>, AllocError>
+    ensures { IfOk result (λ o. IfSome o (StartsFrom entry turn.now image.now)) }
+{
+    let node = match whole_image(alloc, image) {
+        Ok(image) => image.node,
+        Err(AllocOr::Fault(_)) => return Ok(None),
+        Err(AllocOr::OutOfMemory) => return Err(AllocError),
+    };
+    match Clearinghouse::start(alloc, image) {
+        Ok(home) => Ok(Some(House {
+            home: Some(home),
+            node,
+            clock: 0,
+            entry,
+            last: OctetBuffer::of(Vec::from_slice(alloc, turn)?),
+            more: OctetBuffer::new(alloc),
+        })),
+        Err(AllocOr::Fault(_)) => Ok(None),
+        Err(AllocOr::OutOfMemory) => Err(AllocError),
+    }
+}
+
+impl House {
+    /// The first record of a process. A start is an entry of its own, where there is a house.
+    pub fn start(&mut self, alloc: Global) -> Result<Vec<u8>, AllocError>
+        ensures body { IfOk result
+            (λ v. v.items ≡ body_at self.new (start_text self.old.home self.old.last)) }
+        ensures after { OnOk result (self.new ≡ after_start self.old self.old.home) }
+    {
+        if self.home.is_none() {
+            return self.body(alloc, b"new\n");
+        }
+        self.entry = self.entry.checked_add(1).ok_or(AllocError)?;
+        let mut text = Vec::from_slice(alloc, b"start\n")?;
+        text.extend_from_slice(self.last.list())?;
+        self.body(alloc, &text)
+    }
+
+    /// The first record of the next segment of the same process.
+    pub fn next_segment(&self, alloc: Global) -> Result<Vec<u8>, AllocError>
+        ensures { IfOk result (λ v. v.items ≡ body_at self.now (segment_text self.now self.now.home)) }
+    {
+        if self.home.is_none() {
+            return self.body(alloc, b"new\n");
+        }
+        let mut text = Vec::from_slice(alloc, b"segment ")?;
+        push_number(&mut text, self.entry)?;
+        text.push(b'\n')?;
+        text.extend_from_slice(self.last.list())?;
+        self.body(alloc, &text)
+    }
+
+    /// What the house says first: that there is none; or who it is, and its last turn again.
+    pub fn first_words(&self, alloc: Global) -> Result<Vec<u8>, AllocError>
+        ensures { (line : List ℕ) (posts : List Post) (answer : List ℕ)
+            → self.now.last ≡ turn_text line posts answer → HasNoEnd line → HasNoEnd answer
+            → IfOk result (λ v. v.items
+            ≡ lines_text 0 (first_lines self.now self.now.home line posts answer)) }
+    {
+        let Some(home) = &self.home else {
+            return Vec::from_slice(alloc, b"0 new\n");
+        };
+        let mut text = Vec::from_slice(alloc, b"0 house ")?;
+        push_number(&mut text, u64::from(home.number().0))?;
+        text.push(b' ')?;
+        push_hex(&mut text, &self.node.number().to_be_bytes()[2..])?;
+        text.push(b'\n')?;
+        push_again(&mut text, self.last.list())?;
+        Ok(text)
+    }
+}
+
+// How many hexadecimal digits a piece has.
+const DIGITS: usize = 4000;
+
+// The line of a turn as it is said again: of `take` the word alone.
+fn push_line(text: &mut Vec<u8>, line: &[u8]) -> Result<(), AllocError>
+    ensures { OnOk result (text.new.items ≡ text.old.items
+        ++ line_text 0 (codes "last " ++ said_again line.now)) }
+{
+    text.extend_from_slice(b"0 last ")?;
+    if line.starts_with(b"take ") {
+        text.extend_from_slice(b"take")?;
+    } else {
+        text.extend_from_slice(line)?;
+    }
+    text.push(b'\n')?;
+    Ok(())
+}
+
+// A message that was posted, in pieces: the house that it goes to, and its digits.
+fn push_pieces(text: &mut Vec<u8>, to: &[u8], digits: &[u8]) -> Result<(), AllocError> {
+    let mut rest = digits;
+    'pieces: while rest.len() > DIGITS {
+        let (piece, behind) = rest.split_at(DIGITS);
+        push_piece(text, b"0 more ", to, piece)?;
+        rest = behind;
+    }
+    push_piece(text, b"0 post ", to, rest)
+}
+
+// A piece of a message.
+fn push_piece(text: &mut Vec<u8>, word: &[u8], to: &[u8], digits: &[u8]) -> Result<(), AllocError> {
+    text.extend_from_slice(word)?;
+    text.extend_from_slice(to)?;
+    text.push(b' ')?;
+    text.extend_from_slice(digits)?;
+    text.push(b'\n')?;
+    Ok(())
+}
+
+// Where the first space is, or the end.
+fn space_in(octets: &[u8]) -> usize {
+    octets
+        .iter()
+        .position(|octet| *octet == b' ')
+        .unwrap_or(octets.len())
+}
+
+// A line after the first one of a turn: a message, or the answer.
+fn push_later(text: &mut Vec<u8>, line: &[u8]) -> Result<(), AllocError> {
+    if line.starts_with(b"post ") {
+        let (_, rest) = line.split_at(5);
+        let (to, digits) = rest.split_at(space_in(rest));
+        return match digits.split_first() {
+            Some((_, digits)) => push_pieces(text, to, digits),
+            None => Ok(()),
+        };
+    }
+    text.extend_from_slice(b"0 ")?;
+    text.extend_from_slice(line)?;
+    text.push(b'\n')?;
+    Ok(())
+}
+
+// A turn as it is said again.
+fn push_again(text: &mut Vec<u8>, turn: &[u8]) -> Result<(), AllocError> {
+    let mut rest = turn;
+    let mut first = true;
+    'lines: while let Some(at) = rest.iter().position(|octet| *octet == b'\n') {
+        let (line, behind) = rest.split_at(at);
+        if first {
+            push_line(text, line)?;
+        } else {
+            push_later(text, line)?;
+        }
+        first = false;
+        match behind.split_first() {
+            Some((_, behind)) => rest = behind,
+            None => return Ok(()),
+        }
+    }
+    Ok(())
+}

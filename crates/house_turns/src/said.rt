@@ -1,0 +1,143 @@
+// What a line comes to, and the texts of that.
+ghost use Rattle.std.specs.Prelude.{◌≡◌, ◌∷◌, [], ℕ, None, IfOk};
+ghost use Rattle.script_answers.specs.Texts.{answer_line, answer_lines, answer_text, lines_text};
+ghost use Rattle.script_answers.specs.declared.answer.ScriptRefusal.TheVariants as why;
+ghost use Rattle.house_turns.specs.HouseReplies as replies;
+ghost use Rattle.house_turns.specs.LineAnswers as lines;
+ghost use Rattle.house_turns.specs.LineAnswers.{octets_refusal, update_refusal_of};
+ghost use Rattle.house_turns.specs.PrivateTurns.{Says, posts_in, posts_of_letters};
+
+use cds_records::RecordFault;
+use cds_stamps::EpochNo;
+use clearinghouse::Letters;
+use directory::UpdateRefusal;
+use script_answers::{Answer, ScriptRefusal, Serials, append_answer, begin_line};
+use std::alloc::{AllocError, Global};
+
+/// The messages that a turn posts: one to some houses, and then another to some houses.
+#[derive(Drop)]
+pub(crate) struct Posts {
+    pub(crate) first: Option<Letters>,
+    pub(crate) second: Option<Letters>,
+}
+
+impl Posts {
+    /// No message.
+    pub(crate) fn none() -> Posts
+        ensures { posts_in result ≡ [] }
+    {
+        Posts {
+            first: None,
+            second: None,
+        }
+    }
+
+    /// These messages alone.
+    pub(crate) fn one(first: Option<Letters>) -> Posts
+        ensures { posts_in result ≡ posts_of_letters first }
+    {
+        Posts {
+            first,
+            second: None,
+        }
+    }
+}
+
+/// What a line comes to.
+#[derive(Drop)]
+pub(crate) enum Said {
+    /// No turn: these lines, with the number of the line that they answer.
+    Told(Vec<u8>),
+    /// A turn: what it posts, and its answer.
+    Turned(Posts, Vec<u8>),
+}
+
+/// No turn, with this answer.
+pub(crate) fn told(alloc: Global, number: u32, answer: &Answer) -> Result<Said, AllocError>
+    ensures { IfOk result (λ s. Says number s (replies.Tells (answer_lines answer.now))) }
+{
+    let mut text = Vec::new(alloc);
+    append_answer(alloc, &mut text, number, answer)?;
+    Ok(Said::Told(text))
+}
+
+/// No turn: a refusal.
+pub(crate) fn refused(
+    alloc: Global,
+    number: u32,
+    refusal: ScriptRefusal,
+) -> Result<Said, AllocError>
+    ensures { IfOk result (λ s. Says number s (replies.Tells (lines.refused refusal ∷ []))) }
+{
+    told(alloc, number, &Answer::Refused(refusal))
+}
+
+/// No turn: a line with these words.
+pub(crate) fn told_words(alloc: Global, number: u32, words: &[u8]) -> Result<Said, AllocError>
+    ensures { IfOk result (λ s. Says number s (replies.Tells (words.now ∷ []))) }
+{
+    let mut text = Vec::new(alloc);
+    begin_line(&mut text, number)?;
+    text.extend_from_slice(words)?;
+    text.push(b'\n')?;
+    Ok(Said::Told(text))
+}
+
+// An answer of one line, without the number and the end of that.
+fn octets_of(alloc: Global, answer: &Answer) -> Result<Vec<u8>, AllocError>
+    requires { answer_lines answer.now ≡ answer_line answer.now ∷ [] }
+    ensures { IfOk result (λ v. v.items ≡ answer_line answer.now) }
+{
+    let mut text = Vec::new(alloc);
+    append_answer(alloc, &mut text, 0, answer)?;
+    let (_, line) = text.split_at(2);
+    let (line, _) = line.split_at(line.len() - 1);
+    Vec::from_slice(alloc, line)
+}
+
+/// A turn with this answer.
+pub(crate) fn turned(alloc: Global, posts: Posts, answer: &Answer) -> Result<Said, AllocError>
+    requires { answer_lines answer.now ≡ answer_line answer.now ∷ [] }
+    ensures { (number : ℕ) → IfOk result
+        (λ s. Says number s (replies.Posts (posts_in posts) (answer_line answer.now))) }
+{
+    Ok(Said::Turned(posts, octets_of(alloc, answer)?))
+}
+
+/// Why an update is refused.
+pub(crate) fn update_refused(alloc: Global, refusal: UpdateRefusal) -> ScriptRefusal
+    ensures { result ≡ update_refusal_of refusal }
+{
+    match refusal {
+        UpdateRefusal::NoReplica => ScriptRefusal::NoReplica,
+        UpdateRefusal::NotMaster => ScriptRefusal::NotMaster,
+        UpdateRefusal::NoSuchEntry => ScriptRefusal::NoSuchEntry,
+        UpdateRefusal::EntryExists => ScriptRefusal::EntryExists,
+        UpdateRefusal::WrongKind => ScriptRefusal::WrongKind,
+        UpdateRefusal::StampsSpent => ScriptRefusal::StampsSpent(None, Serials::new(alloc)),
+    }
+}
+
+/// That an epoch is not above the one that is held: both have 64 bits.
+pub(crate) fn not_above(held: EpochNo) -> ScriptRefusal
+    ensures { result ≡ why.NotAbove held.0 }
+{
+    ScriptRefusal::NotAbove(held.0 as usize)
+}
+
+/// Why octets are no message.
+pub(crate) fn octets_refused(fault: RecordFault) -> ScriptRefusal
+    ensures { result ≡ octets_refusal fault }
+{
+    match fault {
+        RecordFault::Short(place) => ScriptRefusal::Short(place),
+        RecordFault::BadTag(place) => ScriptRefusal::BadTag(place),
+        RecordFault::BadLength(place) => ScriptRefusal::BadLength(place),
+        RecordFault::BadName(place) => ScriptRefusal::BadName(place),
+        RecordFault::OutOfOrder(place) => ScriptRefusal::OutOfOrder(place),
+        RecordFault::BadFlag(place) => ScriptRefusal::BadFlag(place),
+        RecordFault::NotAbove(place) => ScriptRefusal::NotAbove(place),
+        RecordFault::BadHeld(place) => ScriptRefusal::BadLength(place),
+        RecordFault::Trailing(place) => ScriptRefusal::BadLength(place),
+    }
+}
