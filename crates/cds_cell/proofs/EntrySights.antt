@@ -1,12 +1,13 @@
 -- What is seen of an entry of a table by where it leads.
 use Rattle.std.proofs.Common.{◌≡◌, ◌∙◌, ℕ, Bool, true, false, ◌==◌, List, [], ◌∷◌, length, refl, sym, ap}
-use Rattle.std.specs.Prelude.{◌&&◌, Option, Some, None, is_none, is_some, if◌then◌else◌}
+use Rattle.std.specs.Prelude.{◌&&◌, Option, Some, None, IfSome, is_none, is_some, if◌then◌else◌}
 use Rattle.cds_stamps.specs.declared.stamp.Stamp.{Stamp}
 use Rattle.directory.specs.declared.entry.Kind.{Kind}
 use Rattle.directory.specs.declared.entry.Kind.TheVariants as kind
 use Rattle.directory.specs.declared.entry.EntryCell.{EntryCell}
 use Rattle.directory.specs.Kinds.{link_target, replicas}
-use Rattle.directory.specs.Shown.{Shown, entry_values, face_of, lead_of, leads, only_one, pointers, shown_entry, targets}
+use Rattle.directory.specs.Shown.{Shown, entry_values, face_of, is_readable, lead_of, leads, only_one, pointers, shown_entry, targets}
+use Rattle.directory.proofs.Leads.{lead_reads}
 use Rattle.cds_cell.specs.Readings.{led_sight, shown_sight}
 
 not_one : (vs : List (List ℕ)) → (length vs == 1) ≡ false → only_one vs ≡ None
@@ -47,3 +48,13 @@ module _ (e : EntryCell) (house : ℕ) where
       alive : (o : Option Stamp) → is_some o ≡ false → is_none o ≡ true
       alive None none = refl
       alive (Some s) none = absurd cc
+
+-- where an entry leads reads as what its kind needs
+pub lead_readable : (e : Shown) (lead : Option (List ℕ)) → lead ≡ lead_of e → IfSome lead (λ v. is_readable e.kind v ≡ true)
+lead_readable e None is = tt
+lead_readable e (Some v) is = lead_reads e v (sym is)
+
+-- what has no fault
+pub no_fault : {A : Type 0} (fault : Option A) → is_none fault ≡ true → fault ≡ None
+no_fault None none = refl
+no_fault (Some fault) none = absurd cc

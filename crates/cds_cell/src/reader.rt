@@ -1,10 +1,11 @@
 // What the cell tells a reader.
-ghost use Rattle.std.specs.Prelude.{◌≡◌, ℕ, ◌∷◌, not, ◌||◌, ◌==◌, Option, Some, None, IfOk, option_copied};
+ghost use Rattle.std.specs.Prelude.{◌≡◌, ℕ, ◌∷◌, not, ◌||◌, ◌==◌, true, Option, Some, None, IfOk, IfSome, option_copied};
 ghost use Rattle.std.specs.Option.{option_map};
 ghost use Rattle.cds_stamps.specs.Firsts.{first_some};
 ghost use Rattle.cds_stamps.specs.Members.{master_of, members_fault, members_of, others_of};
-ghost use Rattle.cell_names.specs.ChildPointers.{pointer_of};
-ghost use Rattle.directory.specs.Shown.{shown_entry, shown_in};
+ghost use Rattle.cell_names.specs.ChildPointers.{is_child_pointer, pointer_of};
+ghost use Rattle.cell_names.specs.FullNames.{is_full_name};
+ghost use Rattle.directory.specs.Shown.{is_readable, shown_entry, shown_in};
 ghost use Rattle.cell_model.specs.Sets.{has};
 ghost use Rattle.resolver.specs.Readers.{sight_of};
 ghost use Rattle.house_directory.specs.HouseMessages.{numbers_of};
@@ -215,13 +216,14 @@ fn see_entry(alloc: Global, house: HouseNo, entry: &EntryCell) -> Result<Seen, A
     }
 }
 
-// What a house shows of an entry of this kind that leads there.
+// What a house shows of an entry of this kind that leads there, where it is known to read so.
 fn see_led(
     alloc: Global,
     house: HouseNo,
     kind: Kind,
     lead: Option<&Value>,
 ) -> Result<Seen, AllocError>
+    requires { IfSome (option_copied lead.entry) (λ v. is_readable kind v ≡ true) }
     ensures { IfOk result
         (λ seen. sight_of seen ≡ led_sight kind house.0 (option_copied lead.entry)) }
 {
@@ -234,24 +236,20 @@ fn see_led(
     }
 }
 
+// What a house shows of a link to this full name.
 fn see_link(alloc: Global, house: HouseNo, value: &Value) -> Result<Seen, AllocError>
+    requires { is_full_name value.now ≡ true }
     ensures { IfOk result (λ seen. sight_of seen ≡ link_sight house.0 value.now) }
 {
-    match FullName::parse(alloc, value.octets()) {
-        Ok(target) => Ok(Seen::Link(house, target)),
-        Err(AllocOr::Fault(_)) => Ok(Seen::Absent(house)),
-        Err(AllocOr::OutOfMemory) => Err(AllocError),
-    }
+    Ok(Seen::Link(house, FullName::known(alloc, value.octets())?))
 }
 
+// What a house shows of a child with this pointer.
 fn see_child(alloc: Global, house: HouseNo, value: &Value) -> Result<Seen, AllocError>
+    requires { is_child_pointer value.now ≡ true }
     ensures { IfOk result (λ seen. sight_of seen ≡ child_sight house.0 (pointer_of value.now)) }
 {
-    match ChildPointer::read(alloc, value.octets()) {
-        Ok(child) => Ok(Seen::Child(house, child)),
-        Err(AllocOr::Fault(_)) => Ok(Seen::Absent(house)),
-        Err(AllocOr::OutOfMemory) => Err(AllocError),
-    }
+    Ok(Seen::Child(house, ChildPointer::known(alloc, value.octets())?))
 }
 
 // The values of an attribute that show of a name.

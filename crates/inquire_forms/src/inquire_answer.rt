@@ -3,7 +3,9 @@ ghost use Rattle.std.specs.Prelude.{◌≡◌, ◌≤◌, List, Some, map, IfOk}
 ghost use Rattle.tower_codec.specs.declared.binding.StringBinding.{StringBinding};
 ghost use Rattle.resolver.specs.declared.seen.Found.{Found};
 ghost use Rattle.resolver.specs.Readers.{ShowsOnly};
+ghost use Rattle.ns_profiles.specs.Profiles.{profile};
 ghost use Rattle.ns_inquire.specs.Batches.{batches};
+ghost use Rattle.ns_inquire.specs.Inquiries.{elements_of};
 ghost use Rattle.inquire_forms.specs.Inquired.{batches_listed, elements_in, elements_listed, entry_in, entry_listed, inquired_answer, members_in, members_listed, inquired_refusal};
 
 use cds_stamps::AllocOr;
@@ -12,7 +14,7 @@ use ns_commands::{object, refusal_of_walk, values_of};
 use ns_groups::{GROUP, members};
 use ns_import::ImportFault;
 use ns_inquire::laws::batches_cut_a_list;
-use ns_inquire::{Inquiry, Lookup, elements, interfaces, objects};
+use ns_inquire::{Inquiry, Lookup, elements, elements_by, interfaces, objects};
 use ns_profiles::{Element, PROFILE};
 use resolver::{EntryReader, Found};
 use script_answers::{Answer, ScriptRefusal};
@@ -139,8 +141,26 @@ fn elements_in<R: EntryReader>(
     ensures { IfOk result
         (λ a. inquired_answer a ≡ elements_in (R.tells reader.now) inquiry.now entry.now) }
 {
-    let values = values_of(alloc, reader, entry, PROFILE)?;
-    Ok(InquireAnswer::Elements(elements(alloc, &values, inquiry)?))
+    Ok(InquireAnswer::Elements(elements_read(alloc, reader, entry, inquiry)?))
+}
+
+// The same as a list. The values are read in place, where the reader keeps them.
+fn elements_read<R: EntryReader>(
+    alloc: Global,
+    reader: &R,
+    entry: &Found,
+    inquiry: &Inquiry,
+) -> Result<Vec<Element>, AllocError>
+    ensures { IfOk result (λ v. v.items
+        ≡ elements_of inquiry.now ((R.tells reader.now).values entry.now profile)) }
+{
+    match reader.attributes(entry) {
+        Some(cells) => elements_by(alloc, cells, inquiry),
+        None => {
+            let values = values_of(alloc, reader, entry, PROFILE)?;
+            elements(alloc, &values, inquiry)
+        }
+    }
 }
 
 /// The bindings for a client, in the order of the search that begins at the entry of a name, in batches of at most so many;

@@ -1,6 +1,7 @@
 // The text of what inquiries are answered.
 ghost use Rattle.std.specs.Prelude.{◌≡◌, ◌++◌, ◌∷◌, [], map, decimal, IfOk, OnOk};
 ghost use Rattle.std.specs.List.{flat_map};
+ghost use Rattle.uuid.specs.Text.{hyphenated_text, lower};
 ghost use Rattle.tower_codec.specs.InterfaceTexts.{interface_text};
 ghost use Rattle.script_answers.specs.Texts.{line_text, lines_text, binding_line, import_end};
 ghost use Rattle.inquire_forms.specs.Inquired.{inquired_answer};
@@ -51,55 +52,54 @@ fn push_member(text: &mut Vec<u8>, number: u32, member: &FullName) -> Result<(),
     Ok(text.push(b'\n')?)
 }
 
-// An interface as scripts have it.
-fn print_interface(alloc: Global, interface: &Interface) -> Result<Vec<u8>, AllocError>
-    ensures { IfOk result (λ text. text.items ≡ interface_text interface.now) }
+// A UUID: 36 characters.
+fn push_uuid(text: &mut Vec<u8>, uuid: Uuid) -> Result<(), AllocError>
+    ensures { OnOk result (text.new.items ≡ text.old.items ++ hyphenated_text lower uuid) }
 {
-    Ok(format!(in alloc; "{interface}")?.into_bytes())
+    let mut characters = Uuid::encode_buffer();
+    let digits = uuid.hyphenated().encode_lower(&mut characters);
+    text.extend_from_slice(digits.as_bytes())
+}
+
+// An interface as scripts have it.
+fn append_interface(text: &mut Vec<u8>, interface: &Interface) -> Result<(), AllocError>
+    ensures { OnOk result (text.new.items ≡ text.old.items ++ interface_text interface.now) }
+{
+    push_uuid(text, interface.uuid)?;
+    text.push(b':')?;
+    push_number(text, u64::from(interface.major))?;
+    text.push(b'.')?;
+    push_number(text, u64::from(interface.minor))
 }
 
 // The line of an interface.
-fn push_interface(
-    alloc: Global,
-    text: &mut Vec<u8>,
-    number: u32,
-    interface: &Interface,
-) -> Result<(), AllocError>
+fn push_interface(text: &mut Vec<u8>, number: u32, interface: &Interface) -> Result<(), AllocError>
     ensures { OnOk result
         (text.new.items ≡ text.old.items ++ line_text number (interface_line interface.now)) }
 {
     begin(text, number, b"interface")?;
-    text.extend_from_slice(&print_interface(alloc, interface)?)?;
+    append_interface(text, interface)?;
     Ok(text.push(b'\n')?)
 }
 
 // The line of an object.
-fn push_object(
-    alloc: Global,
-    text: &mut Vec<u8>,
-    number: u32,
-    object: &Uuid,
-) -> Result<(), AllocError>
+fn push_object(text: &mut Vec<u8>, number: u32, object: &Uuid) -> Result<(), AllocError>
     ensures { OnOk result
         (text.new.items ≡ text.old.items ++ line_text number (object_line object.now)) }
 {
     begin(text, number, b"object")?;
-    text.extend_from_slice(format!(in alloc; "{object}")?.as_bytes())?;
+    push_uuid(text, *object)?;
     Ok(text.push(b'\n')?)
 }
 
 // The interface of an element, or `default`.
-fn push_element_interface(
-    alloc: Global,
-    text: &mut Vec<u8>,
-    element: &Element,
-) -> Result<(), AllocError>
+fn push_element_interface(text: &mut Vec<u8>, element: &Element) -> Result<(), AllocError>
     ensures { OnOk result (text.new.items ≡ text.old.items ++ element_interface element.now) }
 {
     if element.is_default() {
         return text.extend_from_slice(b"default");
     }
-    text.extend_from_slice(&print_interface(alloc, &element.interface)?)
+    append_interface(text, &element.interface)
 }
 
 // An annotation in hexadecimal digits, or `-` for none.
@@ -113,12 +113,12 @@ fn push_note(text: &mut Vec<u8>, note: &[u8]) -> Result<(), AllocError>
 }
 
 // What the line of an element says after its word.
-fn push_element_said(alloc: Global, text: &mut Vec<u8>, element: &Element) -> Result<(), AllocError>
+fn push_element_said(text: &mut Vec<u8>, element: &Element) -> Result<(), AllocError>
     ensures { OnOk result (text.new.items ≡ text.old.items ++ element_said element.now) }
 {
     push_number(text, u64::from(element.priority))?;
     text.push(b' ')?;
-    push_element_interface(alloc, text, element)?;
+    push_element_interface(text, element)?;
     text.push(b' ')?;
     element.member.append_spelling(text)?;
     text.push(b' ')?;
@@ -126,17 +126,12 @@ fn push_element_said(alloc: Global, text: &mut Vec<u8>, element: &Element) -> Re
 }
 
 // The line of an element.
-fn push_element(
-    alloc: Global,
-    text: &mut Vec<u8>,
-    number: u32,
-    element: &Element,
-) -> Result<(), AllocError>
+fn push_element(text: &mut Vec<u8>, number: u32, element: &Element) -> Result<(), AllocError>
     ensures { OnOk result
         (text.new.items ≡ text.old.items ++ line_text number (element_line element.now)) }
 {
     begin(text, number, b"element")?;
-    push_element_said(alloc, text, element)?;
+    push_element_said(text, element)?;
     Ok(text.push(b'\n')?)
 }
 
@@ -198,7 +193,6 @@ fn push_members(text: &mut Vec<u8>, number: u32, members: &[FullName]) -> Result
 
 // The lines of interfaces.
 fn push_interfaces(
-    alloc: Global,
     text: &mut Vec<u8>,
     number: u32,
     interfaces: &[Interface],
@@ -207,39 +201,29 @@ fn push_interfaces(
         (text.new.items ≡ text.old.items ++ lines_text number (map interface_line interfaces.now)) }
 {
     for interface in interfaces {
-        push_interface(alloc, text, number, interface)?;
+        push_interface(text, number, interface)?;
     }
     Ok(())
 }
 
 // The lines of objects.
-fn push_objects(
-    alloc: Global,
-    text: &mut Vec<u8>,
-    number: u32,
-    objects: &[Uuid],
-) -> Result<(), AllocError>
+fn push_objects(text: &mut Vec<u8>, number: u32, objects: &[Uuid]) -> Result<(), AllocError>
     ensures { OnOk result
         (text.new.items ≡ text.old.items ++ lines_text number (map object_line objects.now)) }
 {
     for object in objects {
-        push_object(alloc, text, number, object)?;
+        push_object(text, number, object)?;
     }
     Ok(())
 }
 
 // The lines of elements.
-fn push_elements(
-    alloc: Global,
-    text: &mut Vec<u8>,
-    number: u32,
-    elements: &[Element],
-) -> Result<(), AllocError>
+fn push_elements(text: &mut Vec<u8>, number: u32, elements: &[Element]) -> Result<(), AllocError>
     ensures { OnOk result
         (text.new.items ≡ text.old.items ++ lines_text number (map element_line elements.now)) }
 {
     for element in elements {
-        push_element(alloc, text, number, element)?;
+        push_element(text, number, element)?;
     }
     Ok(())
 }
@@ -292,13 +276,13 @@ fn push_answer(
             push_end(text, number, names.len() as u64)
         }
         InquireAnswer::Entries(interfaces, objects) => {
-            push_interfaces(alloc, text, number, interfaces)?;
-            push_objects(alloc, text, number, objects)?;
+            push_interfaces(text, number, interfaces)?;
+            push_objects(text, number, objects)?;
             let count = (interfaces.len() as u64).checked_add(objects.len() as u64);
             push_end(text, number, count.ok_or(AllocError)?)
         }
         InquireAnswer::Elements(elements) => {
-            push_elements(alloc, text, number, elements)?;
+            push_elements(text, number, elements)?;
             push_end(text, number, elements.len() as u64)
         }
         InquireAnswer::Batches(batches) => {

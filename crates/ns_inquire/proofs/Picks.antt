@@ -4,7 +4,11 @@ use Rattle.std.specs.Prelude.{◌↔◌, Option, Some, None, if◌then◌else◌
 use Rattle.std.specs.List.{Contains, filter_map, cons_option}
 use Rattle.std.specs.Option.{option_and_then}
 use Rattle.cds_stamps.specs.Ascending.{in_ascending_order}
+use Rattle.cds_stamps.proofs.AscendingLaws.{ascending-kept}
 use Rattle.cds_stamps.proofs.ListMembers.{Contains-filter, filter-Contains}
+use Rattle.attr_sets.specs.declared.cell.AttrCell.{AttrCell}
+use Rattle.attr_sets.specs.AttributeCells.{cell_values}
+use Rattle.attr_sets.proofs.ShownLaws.{cell_values-ascending}
 use Rattle.ns_profiles.specs.declared.element.Element.{Element}
 use Rattle.ns_profiles.specs.Elements.{element_of}
 use Rattle.ns_profiles.specs.Profiles.{elements_in}
@@ -30,6 +34,11 @@ picked_all q (x ∷ xs) = by_read (element_of x) (picked_all q xs)
 -- those among ascending values are those of the inquiry
 pub picked_in_order : (q : Inquiry) (values : List (List ℕ)) → filter_map (picked_in q) (in_ascending_order values) ≡ elements_of q values
 picked_in_order q values = picked_all q (in_ascending_order values) ∙ filter_by_priority (is_picked q) values
+
+-- and so are those among the values of a cell, which ascend
+pub picked_in_cell : (q : Inquiry) (c : AttrCell) → filter_map (picked_in q) (cell_values c) ≡ elements_of q (cell_values c)
+picked_in_cell q c =
+    ap (filter_map (picked_in q)) (sym (ascending-kept (cell_values c) (cell_values-ascending c))) ∙ picked_in_order q (cell_values c)
 
 -- what an inquiry lists are the elements that it asks for
 pub picked_exactly : (q : Inquiry) (values : List (List ℕ)) (e : Element)

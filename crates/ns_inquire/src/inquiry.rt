@@ -2,14 +2,18 @@
 ghost use Rattle.std.specs.Prelude.{◌≡◌, ◌++◌, map, Ok, None, IfOk, IfSome, OnOk};
 ghost use Rattle.std.specs.Option.{option_to_list};
 ghost use Rattle.std.specs.List.{filter_map};
+ghost use Rattle.attr_sets.specs.AttributeCells.{cell_values};
+ghost use Rattle.resolver.specs.Readers.{values_by};
 ghost use Rattle.ns_profiles.specs.Elements.{element_fault};
+ghost use Rattle.ns_profiles.specs.Profiles.{profile};
 ghost use Rattle.ns_inquire.specs.Inquiries.{elements_of, is_offered, is_picked, picked_in};
 
 use crate::version::Version;
-use attr_sets::{Value, all_in_order};
-use cds_stamps::AllocOr;
+use attr_sets::{AttrCell, Value, all_in_order};
+use cds_stamps::AttrName;
 use cell_names::FullName;
-use ns_profiles::Element;
+use directory::AttrMap;
+use ns_profiles::{Element, LentElement, PROFILE};
 use std::alloc::{AllocError, Global};
 use tower_codec::Interface;
 
@@ -42,26 +46,26 @@ impl Drop for Inquiry {
 
 impl Inquiry {
     /// Whether it asks for an element.
-    pub fn picks(&self, element: &Element) -> bool
+    pub fn picks(&self, element: &LentElement<'_>) -> bool
         ensures { result ≡ is_picked self.now element.now }
     {
         match self {
             Inquiry::AllElements => true,
             Inquiry::Default => element.is_default(),
             Inquiry::ByInterface(asked, version) => is_offered(asked, *version, element),
-            Inquiry::ByMember(member) => element.member == *member,
+            Inquiry::ByMember(member) => element.is_for_member(member),
             Inquiry::ByBoth(asked, version, member) => {
-                is_offered(asked, *version, element) && element.member == *member
+                is_offered(asked, *version, element) && element.is_for_member(member)
             }
         }
     }
 }
 
 // Whether it is an element for this interface, in a version that is meant.
-fn is_offered(asked: &Interface, version: Version, element: &Element) -> bool
+fn is_offered(asked: &Interface, version: Version, element: &LentElement<'_>) -> bool
     ensures { result ≡ is_offered asked.now version element.now }
 {
-    !element.is_default() && version.allows(asked, &element.interface)
+    !element.is_default() && version.allows(asked, &element.interface())
 }
 
 /// The elements among values that an inquiry asks for: by priority, and those of one priority by
@@ -76,6 +80,38 @@ pub fn elements(
 {
     let sorted = all_in_order(alloc, values)?;
     picked_of(alloc, &sorted, inquiry)
+}
+
+/// The same of the values of the profile that show by these cells of attributes, which are read in
+/// place.
+pub fn elements_by(
+    alloc: Global,
+    cells: &AttrMap,
+    inquiry: &Inquiry,
+) -> Result<Vec<Element>, AllocError>
+    ensures { IfOk result (λ v. v.items ≡ elements_of inquiry.now (values_by cells.now profile)) }
+{
+    match cells.get(&AttrName::known(alloc, PROFILE)?) {
+        Some(cell) => elements_shown(alloc, cell, inquiry),
+        None => elements(alloc, &[], inquiry),
+    }
+}
+
+// The elements among the values that show of an attribute that an inquiry asks for.
+fn elements_shown(
+    alloc: Global,
+    cell: &AttrCell,
+    inquiry: &Inquiry,
+) -> Result<Vec<Element>, AllocError>
+    ensures { IfOk result (λ v. v.items ≡ elements_of inquiry.now (cell_values cell.now)) }
+{
+    let mut found = Vec::new(alloc);
+    for (value, mark) in cell.values.iter() {
+        if mark.present {
+            push_some(&mut found, picked(alloc, value, inquiry)?)?;
+        }
+    }
+    Ok(found)
 }
 
 // The elements among these values that an inquiry asks for, in the order of the values.
@@ -109,15 +145,8 @@ fn picked(alloc: Global, value: &Value, inquiry: &Inquiry) -> Result<Option<Elem
     ensures picked { IfOk result (λ e. e ≡ picked_in inquiry.now value.now) }
     ensures faulty { IfSome (element_fault value.now) (λ _. result ≡ Ok None) }
 {
-    match Element::read(alloc, value) {
-        Ok(element) => {
-            if inquiry.picks(&element) {
-                Ok(Some(element))
-            } else {
-                Ok(None)
-            }
-        }
-        Err(AllocOr::Fault(_)) => Ok(None),
-        Err(AllocOr::OutOfMemory) => Err(AllocError),
+    match LentElement::of(value) {
+        Some(element) if inquiry.picks(&element) => Ok(Some(element.copy(alloc)?)),
+        _ => Ok(None),
     }
 }

@@ -9,7 +9,7 @@ mod lookup;
 mod servers;
 mod version;
 
-pub use inquiry::{Inquiry, elements};
+pub use inquiry::{Inquiry, elements, elements_by};
 pub use lookup::Lookup;
 pub use servers::{interfaces, objects};
 pub use version::Version;

@@ -4,7 +4,7 @@ ghost use Rattle.std.specs.List.{slice_range, list_all};
 ghost use Rattle.cds_stamps.specs.Outcomes.{ok_unless};
 ghost use Rattle.cds_stamps.specs.declared.alloc_or.AllocOr.TheVariants.{Fault, OutOfMemory};
 ghost use Rattle.std.specs.Int.{from_be_bytes, w16};
-ghost use Rattle.cell_names.specs.FullNames.{name_fault, components_of};
+ghost use Rattle.cell_names.specs.FullNames.{name_fault, components_of, is_name};
 ghost use Rattle.ns_profiles.specs.Elements.{default_priority, is_annotation_octet, first_fault, field_fault, priority_field, interface_field};
 ghost use Rattle.ns_profiles.specs.Elements.{length_field, member_field, annotation_field, is_default, name_length, interface_in, member_octets};
 ghost use Rattle.ns_profiles.specs.Elements.{annotation_octets, element_fault, element_of_octets, element_of, IsElementOf};
@@ -128,6 +128,65 @@ impl Element {
     }
 }
 
+/// An element whose octets are kept elsewhere: it takes no memory of its own.
+#[derive(Debug, Drop)]
+pub struct LentElement<'a> {
+    octets: &'a [u8],
+}
+
+impl<'a> Model for LentElement<'a> {
+    ghost use Rattle.std.specs.Prelude.{◌≡◌, None};
+    ghost use Rattle.ns_profiles.specs.declared.element.Element.{Element};
+    ghost use Rattle.ns_profiles.specs.Elements.{element_fault, element_of_octets};
+
+    ghost Value = { Element };
+
+    ghost view = { λ e. element_of_octets e.octets.now };
+
+    ghost invariant = { λ e. element_fault e.octets.now ≡ None };
+}
+
+impl<'a> LentElement<'a> {
+    /// The element of a value, if it is one. Takes no memory.
+    pub fn of(value: &'a Value) -> Option<LentElement<'a>>
+        ensures { result ≡ element_of value.now }
+    {
+        let octets = value.octets();
+        match check(octets) {
+            Ok(()) => Some(LentElement { octets }),
+            Err(_) => None,
+        }
+    }
+
+    /// Whether it is a default element, which is for no interface.
+    pub fn is_default(&self) -> bool
+        ensures { result ≡ (self.now.priority == default_priority) }
+    {
+        priority_of(self.octets) == DEFAULT
+    }
+
+    /// The interface; the nil UUID and version 0.0 in a default element.
+    pub fn interface(&self) -> Interface
+        ensures { result ≡ self.now.interface }
+    {
+        interface_of(self.octets)
+    }
+
+    /// Whether it leads to this member.
+    pub fn is_for_member(&self, member: &FullName) -> bool
+        ensures { result ≡ is_name self.now.member member.now }
+    {
+        is_member(self.octets, member)
+    }
+
+    /// The same element, with memory of its own.
+    pub fn copy(&self, alloc: Global) -> Result<Element, AllocError>
+        ensures { IfOk result (λ e. e ≡ self.now) }
+    {
+        Element::of_octets(alloc, self.octets)
+    }
+}
+
 // The priority of the octets of an element.
 pub(crate) fn priority_of(octets: &[u8]) -> u8
     requires { element_fault octets.now ≡ None }
@@ -164,6 +223,14 @@ pub(crate) fn member_of(octets: &[u8]) -> &[u8]
     ensures lawful { name_fault result.now ≡ None }
 {
     &octets[NAME..name_end(octets)]
+}
+
+// Whether the element of these octets has this member.
+pub(crate) fn is_member(octets: &[u8], member: &FullName) -> bool
+    requires { element_fault octets.now ≡ None }
+    ensures { result ≡ is_name (element_of_octets octets.now).member member.now }
+{
+    member.is_spelled(member_of(octets))
 }
 
 // The octets of the annotation of an element.

@@ -10,7 +10,7 @@ pub mod laws;
 mod search;
 mod updates;
 
-pub use element::{Annotation, Element};
+pub use element::{Annotation, Element, LentElement};
 pub use fault::ProfileFault;
 pub use search::{elements_for, elements_in_order};
 pub use updates::{PROFILE, add, check_new, delete};

@@ -1,11 +1,10 @@
 // The elements among the values of a profile, and the order in which a search takes them.
 ghost use Rattle.std.specs.Prelude.{◌≡◌, ◌∷◌, [], None, map, filter, not, true, false, ◌==◌, option_copied, IfOk, OnErr, vec_len};
 ghost use Rattle.std.specs.List.{All, list_any};
-ghost use Rattle.cell_names.specs.FullNames.{is_name};
 ghost use Rattle.ns_profiles.specs.Elements.{element_fault, element_of_octets};
 ghost use Rattle.ns_profiles.specs.Profiles.{is_for, is_meant, is_element, is_taken, is_sought, search_order};
 
-use crate::element::{DEFAULT, check, interface_of, member_of, priority_of};
+use crate::element::{DEFAULT, check, interface_of, is_member, member_of, priority_of};
 use attr_sets::{Value, all_in_order};
 use cell_names::{FullName, LentName};
 use std::alloc::{AllocError, Global};
@@ -142,14 +141,6 @@ fn is_meant(octets: &[u8], interface: Option<&Interface>, member: &FullName) -> 
         (element_of_octets octets.now) }
 {
     is_for(octets, interface) && is_member(octets, member)
-}
-
-// Whether the element of these octets has this member.
-fn is_member(octets: &[u8], member: &FullName) -> bool
-    requires { element_fault octets.now ≡ None }
-    ensures { result ≡ is_name (element_of_octets octets.now).member member.now }
-{
-    member.is_spelled(member_of(octets))
 }
 
 // Whether the octets of an element are for this interface, or of a default element where there is none.

@@ -1,6 +1,7 @@
 -- Links: whether the name to which one leads came up before.
-use Rattle.std.proofs.Common.{◌≡◌, ◌∙◌, ℕ, Bool, true, false, List, [], ◌∷◌, ◌++◌, length, take, drop, refl, sym, ap, subst}
-use Rattle.std.specs.Prelude.{None, nat_eq}
+use Rattle.std.proofs.Common.{◌≡◌, ◌∙◌, ℕ, suc, ◌-◌, Bool, true, false, List, [], ◌∷◌, ◌++◌, length, take, drop, refl, sym, ap, subst}
+use Rattle.std.proofs.Common.{append-nil, arith}
+use Rattle.std.specs.Prelude.{Option, Some, None, nat_eq, slice_get}
 use Rattle.std.specs.Cmp.Lexicographic.{pointwise}
 use Rattle.std.proofs.Math.Seq.{take-append_seam}
 use Rattle.std.proofs.lemmas.List.{take-append-drop}
@@ -35,3 +36,42 @@ begins_otherwise name front rest begins = by_test (is_name name (front ++ rest))
         let same : is_name (take (length front) name) front ≡ true =
         (is_name-Decides (take (length front) name) front).1 (ap (take (length front)) all ∙ take-append_seam front rest) in cc
     by_test false is = refl
+
+-- ---- the last component
+
+-- the same names end alike
+pub end_alike : (all other : List (List ℕ)) (own last : List ℕ) → is_name all other ≡ true → Some own ≡ slice_get all (length all - 1)
+    → Some last ≡ slice_get other (length other - 1) → pointwise nat_eq own last ≡ true
+end_alike all other own last same has_own has_last =
+    let is : all ≡ other = (is_name-Decides all other).0 same in
+    let at : Some own ≡ Some last = has_own ∙ ap (λ (n : List (List ℕ)). slice_get n (length n - 1)) is ∙ sym has_last in
+    (bytes_eq-Decides own last).1 (some_alike own last at)
+  where
+    some_alike : (a b : List ℕ) → Some a ≡ Some b → a ≡ b
+    some_alike a b e = cc (e)
+
+module _ {X : Type 0} where
+  in_front : (y : X) (ys : List X) (x : X) → Some x ≡ slice_get ys (length ys - 1) → Some x ≡ slice_get (y ∷ ys) (length (y ∷ ys) - 1)
+  in_front y [] x is = cc (is)
+  in_front y (z ∷ zs) x is =
+      let inner : length (z ∷ zs) - 1 ≡ length zs = omega arith in
+      let outer : length (y ∷ z ∷ zs) - 1 ≡ suc (length zs) = omega arith in
+      is ∙ ap (slice_get (z ∷ zs)) inner ∙ sym (ap (slice_get (y ∷ z ∷ zs)) outer)
+
+  -- the last of those after is the last of all
+  pub last_behind : (front rest : List X) (x : X) → Some x ≡ slice_get rest (length rest - 1) → Some x ≡ slice_get (front ++ rest) (length (front ++ rest) - 1)
+  last_behind [] rest x is = is
+  last_behind (y ∷ front) rest x is = in_front y (front ++ rest) x (last_behind front rest x is)
+
+  some_last : (x : X) (xs : List X) → None ≡ slice_get (x ∷ xs) (length (x ∷ xs) - 1) → ⊥
+  some_last x [] is = absurd (cc is)
+  some_last x (y ∷ ys) is =
+      let outer : length (x ∷ y ∷ ys) - 1 ≡ suc (length ys) = omega arith in
+      let inner : length (y ∷ ys) - 1 ≡ length ys = omega arith in
+      some_last y ys (is ∙ ap (slice_get (x ∷ y ∷ ys)) outer ∙ sym (ap (slice_get (y ∷ ys)) inner))
+
+  -- where none is after them, theirs is
+  pub last_in_front : (front rest : List X) → None ≡ slice_get rest (length rest - 1)
+      → slice_get front (length front - 1) ≡ slice_get (front ++ rest) (length (front ++ rest) - 1)
+  last_in_front front [] none = ap (λ (xs : List X). slice_get xs (length xs - 1)) (sym (append-nil front))
+  last_in_front front (x ∷ xs) none = absurd (some_last x xs none)

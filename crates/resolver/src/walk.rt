@@ -1,6 +1,7 @@
 //! The walk of a full name: between two of its look-ups, and to its end. A walk between look-ups knows
 //! no reader, so whoever looks up may have one of its own.
-ghost use Rattle.std.specs.Prelude.{◌≡◌, ◌+◌, ◌<◌, ◌≤◌, [], ◌∷◌, ◌++◌, true, Some, Ok, Err, length, drop};
+ghost use Rattle.std.specs.Prelude.{◌≡◌, ◌+◌, ◌-◌, ◌<◌, ◌≤◌, [], ◌∷◌, ◌++◌, true, Some, Ok, Err, length, drop};
+ghost use Rattle.std.specs.Prelude.{option_copied, slice_get};
 ghost use Rattle.std.specs.Prelude.{IfOk, IfNone, IfSome, OnErr};
 ghost use Rattle.std.specs.List.{list_any};
 ghost use Rattle.std.specs.Option.{option_map};
@@ -247,12 +248,48 @@ fn present<'a>(first: &'a FullName, later: &'a [FullName]) -> &'a FullName
 }
 
 // Whether a full name is this target with these components after it. If it is, they are no more
-// octets than a full name has.
+// octets than a full name has. Most names differ in their number of components, or in the last one.
 fn is_spliced(name: &FullName, target: &FullName, rest: &[SimpleName]) -> bool
     ensures value { result ≡ is_name name.now (target.now ++ rest.now) }
     ensures short { result ≡ true → splice_fault (target.now ++ rest.now) ≡ None }
 {
-    match name.components().strip_prefix(target.components()) {
+    let all = name.components();
+    let front = target.components();
+    if all.len() != front.len() + rest.len() {
+        return false;
+    }
+    if !ends_so(all, front, rest) {
+        return false;
+    }
+    begins_so(all, front, rest)
+}
+
+// Whether names end as these and those after them do, if there are any of both.
+fn ends_so(all: &[SimpleName], front: &[SimpleName], rest: &[SimpleName]) -> bool
+    ensures { is_name all.now (front.now ++ rest.now) ≡ true → result ≡ true }
+{
+    match (all.last(), last_of(front, rest)) {
+        (Some(own), Some(last)) => own == last,
+        (_, _) => true,
+    }
+}
+
+// The last of these names and those after them.
+fn last_of<'a>(front: &'a [SimpleName], rest: &'a [SimpleName]) -> Option<&'a SimpleName>
+    ensures { let all = front.now ++ rest.now in
+        option_copied result ≡ slice_get all (length all - 1) }
+{
+    match rest.last() {
+        Some(last) => Some(last),
+        None => front.last(),
+    }
+}
+
+// Whether names are these and those after them.
+fn begins_so(all: &[SimpleName], front: &[SimpleName], rest: &[SimpleName]) -> bool
+    ensures { result ≡ is_name all.now (front.now ++ rest.now) }
+{
+    match all.strip_prefix(front) {
         Some(end) => end == rest,
         None => false,
     }

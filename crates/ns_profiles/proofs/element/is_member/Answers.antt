@@ -2,7 +2,7 @@ use Rattle.std.proofs.Common.{ℕ, List, ap, ◌∙◌}
 use Rattle.cds_stamps.specs.Octets.{is_octets}
 use Rattle.cell_names.specs.FullNames.{full_name_octets}
 use Rattle.ns_profiles.proofs.MemberTests.{member_test}
-use Rattle.ns_profiles.proofs.search.is_member.Goals as goal
+use Rattle.ns_profiles.proofs.element.is_member.Goals as goal
 
 pub returns : goal.returns
 returns c =
