@@ -93,7 +93,7 @@ body_recorded (body.Join ms r) _ is = elim is [ ]
 body_recorded body.Leave _ is = elim is [ ]
 
 -- a message that stands for one of the model is that one as a record
-message_recorded : (to : ℕ) (m : Message) (n : model.Message) → StandsMessage to m n → message_of n ≡ Some m
+pub message_recorded : (to : ℕ) (m : Message) (n : model.Message) → StandsMessage to m n → message_of n ≡ Some m
 message_recorded to m n stands =
     rw (body_recorded m.body n.body stands.body) (ap Some (λ i. record {
       dir = ap (λ (d : ℕ). record { 0 = d }) stands.head.dir i;

@@ -5,58 +5,16 @@ use Rattle.std.specs.Option.{option_map}
 use Rattle.std.specs.Str.{bytes_eq}
 use Rattle.std.proofs.lemmas.Slice.Eq.{bytes_eq-Decides}
 use Rattle.std.proofs.lemmas.Bool.Decides.{nat_tests}
-use Rattle.directory.specs.Histories.{Mark, entry_of}
-use Rattle.directory.specs.declared.entry.Fragment.{Fragment}
-use Rattle.purge_rule.specs.Replicas.{IsFragmentOf}
 use Rattle.cds_records.specs.RecordOctets.{message_octets}
-use Rattle.cds_messages.specs.declared.message.Body.{Body}
-use Rattle.cds_messages.specs.declared.message.Body.TheVariants as body
 use Rattle.cds_messages.specs.declared.message.Message.{Message}
 use Rattle.cell_model.specs.Cells as model
 use Rattle.cell_model.specs.Sets.{In}
-use Rattle.house_directory.specs.HouseMessages.{StandsBody, StandsMessage}
-use Rattle.cds_cell.specs.Recorded.{body_of, message_of, octets_of, update_body}
-use Rattle.cds_cell.proofs.RecordedLaws.{stands_declared}
+use Rattle.cds_cell.specs.Recorded.{octets_of}
+use Rattle.cds_cell.proofs.RecordedLaws.{message_recorded}
 use Rattle.cell_runs.specs.Entries.{Post}
 use Rattle.cell_runs.specs.OrderSteps.{ArePosts, IsLetterOf}
 use Rattle.cell_runs.specs.Orders.{place_of}
 use Rattle.cell_runs.specs.Views.{or_none, post_of}
-
--- ---- a message that stands for one of the model is that one as a record
-
-update_recorded : (marks : List Mark) (f : Fragment) → IsFragmentOf marks f → update_body marks ≡ Some (body.Update f)
-update_recorded [] f is = absurd (cc (is.entry))
-update_recorded (m ∷ ms) f is =
-    ap (λ (n : List ℕ). option_map (λ e. body.Update (record { name = n; entry = e })) (entry_of (m ∷ ms) n)) is.named.0
-    ∙ ap (option_map (λ e. body.Update (record { name = f.name; entry = e }))) is.entry
-
-body_recorded : (b : Body) (n : model.Body) → StandsBody b n → body_of n ≡ Some b
-body_recorded (body.Update f) (model.Update marks) is = update_recorded marks f is
-body_recorded (body.Gather t) (model.Gather u) is = ap (λ s. Some (body.Gather s)) (sym is)
-body_recorded (body.Gathered t r) (model.Gathered u c) is = rw (is.0, is.1) refl
-body_recorded (body.Spread t r) (model.Spread u c) is = rw (is.0, is.1) refl
-body_recorded (body.SpreadAck t) (model.SpreadAck u) is = ap (λ s. Some (body.SpreadAck s)) (sym is)
-body_recorded (body.Advance t) (model.Advance u) is = ap (λ s. Some (body.Advance s)) (sym is)
-body_recorded (body.Join ms r) (model.Join ns c) is = rw (stands_declared ns ms (sym is.0), is.1) refl
-body_recorded body.Leave model.Leave is = refl
-body_recorded (body.Update f) _ is = elim is [ ]
-body_recorded (body.Gather t) _ is = elim is [ ]
-body_recorded (body.Gathered t r) _ is = elim is [ ]
-body_recorded (body.Spread t r) _ is = elim is [ ]
-body_recorded (body.SpreadAck t) _ is = elim is [ ]
-body_recorded (body.Advance t) _ is = elim is [ ]
-body_recorded (body.Join ms r) _ is = elim is [ ]
-body_recorded body.Leave _ is = elim is [ ]
-
-message_recorded : (to : ℕ) (m : Message) (n : model.Message) → StandsMessage to m n → message_of n ≡ Some m
-message_recorded to m n stands =
-    rw (body_recorded m.body n.body stands.body) (ap Some (λ i. record {
-      dir = ap (λ (d : ℕ). record { 0 = d }) stands.head.dir i;
-      from = ap (λ (h : ℕ). record { 0 = h }) stands.head.sender i;
-      epoch = ap (λ (e : ℕ). record { 0 = e }) stands.head.epoch i;
-      floor = stands.head.floor i;
-      body = m.body;
-    }))
 
 -- ---- posts
 

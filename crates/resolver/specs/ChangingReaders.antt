@@ -1,5 +1,5 @@
 -- Walks over a reader of which each look-up may change what it tells next, as a clerk with a cache is (after C705, caches of clerks).
-use Rattle.std.specs.Prelude.{◌≡◌, ◌⊎◌, ℕ, Bool, List, [], ◌∷◌, drop, Option, Some, None}
+use Rattle.std.specs.Prelude.{◌≡◌, ℕ, Bool, List, [], ◌∷◌, drop, Option, Some, None}
 use Rattle.std.specs.Option.{option_map, option_map_or}
 use Rattle.cell_names.specs.ChildPointers.{Pointer}
 use Rattle.resolver.specs.declared.walk.End.{End}
@@ -50,10 +50,3 @@ pub data ComesTo {S : Type 0} (reader : ChangingReader S) (last : Bool) (s₀ : 
   begins : ComesTo reader last s₀ w₀ s₀ w₀
   goes_on : {s : S} {w : Walker} → ComesTo reader last s₀ w₀ s w → (next : Walker) → step (reader.tells s) last w ≡ Goes next
       → ComesTo reader last s₀ w₀ (state_after reader s w) next
-
--- some of the look-ups of the walk of a name were made, each before the next: they lead to this state of the reader
-pub record IsPartWalked {S : Type 0} (reader : ChangingReader S) (last : Bool) (s : S) (name : List (List ℕ)) (part : S) : Type 0 where
-  pub state : S
-  pub walker : Walker
-  pub comes : ComesTo reader last s (start (reader.tells s) name) state walker
-  pub is : (part ≡ state) ⊎ (part ≡ state_after reader state walker)
